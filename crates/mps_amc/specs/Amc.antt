@@ -1,4 +1,4 @@
--- The words at hand of copying pools, and what a fix does.
+-- The tails of copying pools, and what a fix does.
 use Rattle.std.specs.Prelude.{ℕ, ◌≡◌, ◌<◌, true, false, Some, Result, Ok, Err, List, [], ◌∷◌, ◌++◌, length, map, replicate, get_or, slice_set, refl}
 use Rattle.mps_base.specs.Address.{Address}
 use Rattle.mps_base.specs.Segment.{Segment, segment_over}
@@ -24,11 +24,11 @@ pub record AmcState : Type 0 where
 abbrev pub no_pools : AmcState
 no_pools = record { tails = [] }
 
--- one pool more, with nothing at hand in its generations
+-- one pool more, with an empty tail for each of its generations
 abbrev pub with_pool : AmcState → (generations : ℕ) → AmcState
 with_pool amc generations = record { tails = amc.tails ++ replicate generations empty_buffer ∷ [] }
 
--- as many tails, with nothing at hand
+-- as many tails, all empty
 abbrev pub emptied_row : List Buffer → List Buffer
 emptied_row row = replicate (length row) empty_buffer
 
@@ -54,11 +54,11 @@ pub record HasTail (amc : AmcState) (pool generation : ℕ) : Type 0 where
 
 -- ---- where a block moves
 
--- to a prefix of the tail, where it fits there, else to a new segment
+-- to a prefix of the tail, if it fits there, else to a new segment
 abbrev pub placement_of_copy : AmcState → SegsState → (pool generation size : ℕ) → Placement
 placement_of_copy amc s pool generation size = placement_at_front s (tail_of amc pool generation) size
 
--- the segments with a new one, where the placement is one
+-- the segments with a new one, if the placement is one
 abbrev pub with_place : SegsState → (pool generation : ℕ) → Placement → SegsState
 with_place s pool generation placement = record s {
   segments = segments_after placement pool generation Exact s.segments;
@@ -71,7 +71,7 @@ abbrev pub tails_after : AmcState → (pool generation size : ℕ) → Placement
 tails_after amc pool generation size placement =
     with_tail amc pool generation (rest_at_hand (tail_of amc pool generation) placement size)
 
--- ---- a fix of a block that isn't kept yet. Where it is placed decides: it moves, or where no room was found it stays
+-- ---- a fix of a block that isn't kept yet. Where it is placed decides: it moves, or if no room was found it stays
 
 -- where it lies then
 abbrev pub answer_of_fix : Result Addr Refusal → (at : Addr) → Addr

@@ -42,7 +42,7 @@ impl Amc {
         }
     }
 
-    /// One more pool, whose blocks move to n generations, with nothing at hand.
+    /// One more pool, whose blocks move to n generations, with empty tails.
     pub fn add_pool(&mut self, alloc: Global, generations: u32) -> Result<(), AllocError>
         ensures { MatchResult result (λ _. self.new ≡ with_pool self.old generations) (λ _. self.new ≡ self.old) }
     {
@@ -52,7 +52,7 @@ impl Amc {
         Ok(())
     }
 
-    /// Nothing is at hand for any pool: what a collection moves after a flip goes to segments that it takes.
+    /// All tails are empty: what a collection moves after a flip goes to segments that it takes.
     pub fn flip(&mut self)
         ensures { self.new ≡ flipped self.old }
     {
@@ -70,7 +70,7 @@ impl Amc {
         }
     }
 
-    /// What is at hand for a generation of a pool.
+    /// The tail of a generation of a pool.
     fn tail(&self, pool: u32, generation: u32) -> Buffer
         requires { HasTail self.now pool generation }
         ensures { result ≡ tail_of self.now pool generation }
@@ -78,7 +78,7 @@ impl Amc {
         self.tails[pool as usize][generation as usize]
     }
 
-    /// Other words are at hand for a generation of a pool.
+    /// Sets the tail of a generation of a pool.
     fn set_tail(&mut self, pool: u32, generation: u32, tail: Buffer)
         requires { HasTail self.old pool generation }
         ensures { self.new ≡ with_tail self.old pool generation tail }
@@ -86,9 +86,8 @@ impl Amc {
         self.tails[pool as usize][generation as usize] = tail;
     }
 
-    /// Where the block at `at`, which a collection reaches, lies from now on. A block that has moved lies where it was moved to, and one
-    /// that is kept already lies where it is. Any other is kept: it moves to this generation of its pool, or where there is no room
-    /// it stays.
+    /// Fixes the block at `at` and returns its address: the forwarding address if it has moved, `at` if it is kept already. Any other
+    /// block is kept now: it moves to this generation of its pool, or stays if there is no space.
     pub fn fix<F: Format>(
         &mut self,
         segs: &mut Segs,
@@ -121,7 +120,7 @@ impl Amc {
         self.keep_block(segs, trail, format, at, pool, generation, words)
     }
 
-    /// Keeps the block of `words` words at `at`, which isn't kept yet: it moves to a generation of its pool, or where there is no room
+    /// Keeps the block of `words` words at `at`, which isn't kept yet: it moves to a generation of its pool, or if there is no room
     /// it stays. Returns where it then lies. It is grey.
     fn keep_block<F: Format>(
         &mut self,
@@ -184,7 +183,7 @@ fn pool_at(segs: &Segs, at: Addr) -> u32
     segs.segment(base).pool
 }
 
-/// Leaves nothing at hand in these rows of tails.
+/// Empties these rows of tails.
 fn empty_rows(rows: &mut [Vec<Buffer>])
     ensures { map (λ row. row.items) rows.new ≡ map emptied_row (map (λ row. row.items) rows.old) }
 {

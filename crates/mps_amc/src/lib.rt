@@ -1,4 +1,4 @@
-//! The copying pools: a collection keeps a block by moving it, or where there is no room, in its place.
+//! The copying pools: a collection keeps a block by moving it, or if there is no room, in its place.
 #![tactic(auto)]
 
 mod amc;

@@ -24,7 +24,7 @@ struct Block {
 }
 
 impl Amc {
-    /// Reclaims the segment at `base` at the end of a collection. Its blocks that weren't kept are freed, in ascending order. Where
+    /// Reclaims the segment at `base` at the end of a collection. Its blocks that weren't kept are freed, in ascending order. If
     /// nothing is left in it it is given back; else the words around its blocks become pads.
     pub fn reclaim_seg<F: Format>(&self, segs: &mut Segs, trail: &mut Trail, format: &F, base: Addr)
         requires aligned { base.0 % bytes_of_word ≡ 0 }

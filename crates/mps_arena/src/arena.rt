@@ -54,8 +54,8 @@ impl Arena {
         })
     }
 
-    /// Takes the lowest run of `grains` free grains and returns its address. Refuses `CommitLimit` where more grains would be held than
-    /// the limit allows, and `NoRun` where the limit allows them and no free run is that long.
+    /// Takes the lowest run of `grains` free grains and returns its address. Refuses `CommitLimit` if more grains would be held than
+    /// the limit allows, and `NoRun` if the limit allows them and no free run is that long.
     pub fn take_run(&mut self, grains: u32) -> Result<Addr, Refusal>
         requires { 0 < grains }
         ensures value { result ≡ answer_of_placement (placement_in self.old grains) }
@@ -93,7 +93,7 @@ impl Arena {
         self.committed -= grains;
     }
 
-    /// Sets the commit limit, in grains. Refuses `BelowCommitted` where more grains than that are held.
+    /// Sets the commit limit, in grains. Refuses `BelowCommitted` if more grains than that are held.
     pub fn set_limit(&mut self, limit: u32) -> Result<(), Refusal>
         ensures state { MatchResult result (λ _. self.new ≡ record self.old { limit = limit }) (λ _. self.new ≡ self.old) }
         ensures sound { OnOk result (total self.old.held ≤ limit) }
@@ -122,7 +122,7 @@ impl Arena {
         self.runs.len() as u32 - 1
     }
 
-    /// The word of a number, which is its address divided by 8; none where the arena has no such word.
+    /// The word of a number, which is its address divided by 8; none if the arena has no such word.
     #[inline(always)]
     pub fn item(&self, word: usize) -> Option<u64>
         ensures { result ≡ slice_get self.now.words word }

@@ -1,4 +1,4 @@
-// The table of held runs: the entry of a grain is the length of the run that begins there, or 0 where none does.
+// The table of held runs: the entry of a grain is the length of the run that begins there, or 0 if none does.
 #![tactic(auto)]
 
 ghost use Rattle.std.specs.Prelude.{◌≡◌, ◌+◌, ◌<◌, ◌≤◌, None, Some, length, slice_index, IfOk, IfErr, MatchResult};
@@ -6,7 +6,7 @@ ghost use Rattle.mps_base.specs.Run.{IsAscending, gaps, lowest_fitting, longest}
 ghost use Rattle.mps_arena.specs.Grains.{runs_in};
 ghost use Rattle.mps_base.specs.Address.{max_grains};
 
-/// Where the lowest run of `need` free grains begins. Where no free run is that long, the length of the longest one.
+/// Where the lowest run of `need` free grains begins. If no free run is that long, the length of the longest one.
 pub(crate) fn lowest_free(table: &[u32], need: u32) -> Result<u32, u32>
     requires nonzero { 0 < need }
     requires nonempty { 0 < length table.now }

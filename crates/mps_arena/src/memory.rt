@@ -65,7 +65,7 @@ impl Memory {
         self.grow(0, end);
     }
 
-    /// The word of a number; none where there is no such word.
+    /// The word of a number; none if there is no such word.
     #[inline(always)]
     pub(crate) fn item(&self, word: usize) -> Option<u64>
         ensures { result ≡ slice_get self.now.words word }

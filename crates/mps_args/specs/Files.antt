@@ -12,7 +12,7 @@ is_file (first ∷ _) = not (first == 45)
 abbrev pub is_file_to_read : List ℕ → Bool
 is_file_to_read word = bytes_eq word standard_input || is_file word
 
--- the log where none is named
+-- the log if none is named
 abbrev pub usual_log : List ℕ
 usual_log = codes "mpsio.log"
 

@@ -17,7 +17,7 @@ kind_named name =
     else (if bytes_eq name (codes "user") then Some 64
     else None))))))
 
--- the kinds of all of the names, where each is the name of a kind
+-- the kinds of all of the names, if each is the name of a kind
 abbrev pub all_named : List (List ℕ) → Option ℕ
 all_named [] = Some 0
 all_named (name ∷ names) = option_and_then (λ kind. option_map (bit_or kind) (all_named names)) (kind_named name)

@@ -1,10 +1,10 @@
 -- The meaning of the words of a command line after the program's name: this table, and no others. An option and its value
 -- are two words, stand before the operands, and come at most once.
 --
---   run [-o LOG] [SCRIPT]          LOG is `mpsio.log` and SCRIPT `-` where they are not given
---   cnv [-f LOG] [-k KINDS]        in either order; LOG is `mpsio.log` and KINDS all kinds where they are not given
---   txt [-l TEXT]                  TEXT is `-` where it is not given
---   blocks [-f LOG]                LOG is `mpsio.log` where it is not given
+--   run [-o LOG] [SCRIPT]          LOG is `mpsio.log` and SCRIPT `-` if they are not given
+--   cnv [-f LOG] [-k KINDS]        in either order; LOG is `mpsio.log` and KINDS all kinds if they are not given
+--   txt [-l TEXT]                  TEXT is `-` if it is not given
+--   blocks [-f LOG]                LOG is `mpsio.log` if it is not given
 --   gen SEED COUNT                 decimal numbers below 2^64; COUNT is at most 1,000,000
 use Rattle.std.specs.Prelude.{◌≡◌, ℕ, nat_le, ◌&&◌, if◌then◌else◌, codes, Option, Some, None, option_and_then, List, [], ◌∷◌, refl}
 use Rattle.std.specs.Str.{bytes_eq}
@@ -14,7 +14,7 @@ use Rattle.mps_desk.specs.Desk.{standard_input}
 use Rattle.mps_args.specs.Files.{is_file, is_file_to_read, usual_log}
 use Rattle.mps_args.specs.Kinds.{kinds_named, all_kinds}
 
--- ---- what is asked, where the files may be named so
+-- ---- what is asked, if the files may be named so
 abbrev pub running : (log script : List ℕ) → Option Meaning
 running log script = if is_file log && is_file_to_read script then Some (Runs log script) else None
 

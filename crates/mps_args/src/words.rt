@@ -15,7 +15,7 @@ use bitflags::Flags;
 use mps_event::Kinds;
 use mps_numerals::decimal_number;
 
-/// The log where none is named.
+/// The log if none is named.
 const USUAL_LOG: &str = "mpsio.log";
 
 /// Standard input.
@@ -24,7 +24,7 @@ const STANDARD_INPUT: &str = "-";
 /// The most steps of a generated script.
 const MAX_STEPS: u64 = 1_000_000;
 
-/// What the words after the program's name ask for. None where they have no meaning.
+/// What the words after the program's name ask for. None if they have no meaning.
 pub fn command_of(words: &[String]) -> Option<Command<'_>>
     ensures value { option_map meaning_of result ≡ meaning (texts words.now) }
     ensures runnable { IfSome result IsRunnable }
@@ -61,7 +61,7 @@ fn run_of(words: &[String]) -> Option<Command<'_>>
     }
 }
 
-/// A run, where the log and the script may be named so.
+/// A run, if the log and the script may be named so.
 fn running<'a>(log: &'a str, script: &'a str) -> Option<Command<'a>>
     ensures { option_map meaning_of result ≡ running log.now script.now }
 {
@@ -116,7 +116,7 @@ fn convert_by_both<'a>(
     }
 }
 
-/// A conversion, where the log may be named so.
+/// A conversion, if the log may be named so.
 fn converting(log: &str, kinds: Kinds) -> Option<Command<'_>>
     ensures { option_map meaning_of result ≡ converting log.now (Some (bits_of kinds)) }
 {
@@ -138,7 +138,7 @@ fn read_of(words: &[String]) -> Option<Command<'_>>
     }
 }
 
-/// A reading, where the text may be named so.
+/// A reading, if the text may be named so.
 fn reading(text: &str) -> Option<Command<'_>>
     ensures { option_map meaning_of result ≡ reading text.now }
 {
@@ -160,7 +160,7 @@ fn blocks_of(words: &[String]) -> Option<Command<'_>>
     }
 }
 
-/// A list of blocks, where the log may be named so.
+/// A list of blocks, if the log may be named so.
 fn listing(log: &str) -> Option<Command<'_>>
     ensures { option_map meaning_of result ≡ listing log.now }
 {
@@ -181,7 +181,7 @@ fn generate_of(words: &[String]) -> Option<Command<'_>>
     }
 }
 
-/// A generated script, where it has few enough steps.
+/// A generated script, if it has few enough steps.
 fn generating<'a>(seed: u64, count: u64) -> Option<Command<'a>>
     ensures { option_map meaning_of result ≡ generating (Some seed) (Some count) }
 {

@@ -15,7 +15,7 @@ abbrev pub target_generation : (generations : Option ℕ) (generation : ℕ) →
 target_generation None generation = 0
 target_generation (Some generations) generation = target_on_chain generations generation
 
--- the second where there is one, else the first
+-- the second if there is one, else the first
 abbrev pub later : Option ℕ → Option ℕ → Option ℕ
 later first None = first
 later first (Some n) = Some n
@@ -32,7 +32,7 @@ pub record Due : Type 0 where
   pub chain : ℕ
   pub generation : ℕ
 
--- this chain's generation where it has one, else what the later chains have
+-- this chain's generation if it has one, else what the later chains have
 abbrev pub due_or : (chain : ℕ) → Option ℕ → Option Due → Option Due
 due_or chain (Some generation) others = Some (record { chain = chain; generation = generation })
 due_or chain None others = others

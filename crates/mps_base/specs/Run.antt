@@ -25,7 +25,7 @@ IsAscending low high (r ∷ rs) = (low ≤ r.from) × (0 < r.count) × IsAscendi
 abbrev pub total : List Run → ℕ
 total rs = sum_by (λ r. r.count) rs
 
--- the run from `low` up to and without `high`, where there is anything between them
+-- the run from `low` up to and without `high`, if there is anything between them
 abbrev pub between : ℕ → ℕ → List Run
 between low high = if nat_lt low high then record { from = low; count = high - low } ∷ [] else []
 
@@ -39,7 +39,7 @@ abbrev pub lowest_fitting : ℕ → List Run → Option ℕ
 lowest_fitting count [] = None
 lowest_fitting count (r ∷ rs) = if nat_le count r.count then Some r.from else lowest_fitting count rs
 
--- the length of the longest run, 0 where there is none
+-- the length of the longest run, 0 if there is none
 abbrev pub longest : List Run → ℕ
 longest [] = 0
 longest (r ∷ rs) = max r.count (longest rs)

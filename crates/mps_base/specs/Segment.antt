@@ -14,7 +14,7 @@ pub record Segment : Type 0 where
   pub grains : ℕ
   pub pool : ℕ
   pub generation : ℕ
-  -- the rank of the point whose reserve took it; exact where no reserve took it
+  -- the rank of the point whose reserve took it; exact if no reserve took it
   pub rank : Rank
 
 -- the address after a segment

@@ -4,7 +4,7 @@ use Rattle.std.specs.Prelude.{◌≡◌, ℕ, ◌-◌, Bool, true, false, nat_le
 use Rattle.std.specs.List.{list_any}
 use Rattle.mps_base.specs.Zones.{zones_meet}
 
--- the flips that count for an epoch: those since it, where they are four at most, else all
+-- the flips that count for an epoch: those since it, if they are four at most, else all
 abbrev pub flips_that_count : (flips : List ℕ) (epoch : ℕ) → List ℕ
 flips_that_count flips epoch = if nat_le (length flips - epoch) 4 then drop epoch flips else flips
 

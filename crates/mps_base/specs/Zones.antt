@@ -1,4 +1,4 @@
--- Sets of zones as numbers: bit z is 1 where zone z is in the set.
+-- Sets of zones as numbers: bit z is 1 if zone z is in the set.
 use Rattle.std.specs.Prelude.{◌≡◌, ℕ, zero, suc, ◌+◌, ◌%◌, ◌^◌, Bool, true, false, not, ◌==◌, bit_and, bit_or, List, [], ◌∷◌, refl}
 use Rattle.mps_base.specs.Address.{zone_of}
 use Rattle.mps_base.specs.Run.{Run}

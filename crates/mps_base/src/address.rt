@@ -39,6 +39,6 @@ impl Addr {
     }
 }
 
-/// A set of the 64 zones: bit z is 1 where zone z is in it. The zone of an address is its grain modulo 64.
+/// A set of the 64 zones: bit z is 1 if zone z is in it. The zone of an address is its grain modulo 64.
 #[derive(Clone, Copy, Debug, PartialEq, Eq)]
 pub struct ZoneSet(pub u64);

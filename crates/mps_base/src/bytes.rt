@@ -7,7 +7,7 @@ ghost use Rattle.mps_base.specs.Name.{is_letter, is_name_byte, is_name};
 /// The most bytes of a name.
 pub const MAX_NAME_BYTES: usize = 16;
 
-/// The index of the first such byte, where there is one.
+/// The index of the first such byte, if there is one.
 pub fn find_byte(byte: u8, bytes: &[u8]) -> Option<usize>
     ensures index { result ≡ position (λ other. other == byte) bytes.now }
     ensures in_bounds { IfSome result (λ index. index < length bytes.now) }
@@ -15,7 +15,7 @@ pub fn find_byte(byte: u8, bytes: &[u8]) -> Option<usize>
     bytes.iter().position(|other| *other == byte)
 }
 
-/// How many bytes stand before the first such byte: all where there is none.
+/// How many bytes stand before the first such byte: all if there is none.
 pub fn length_before(byte: u8, bytes: &[u8]) -> usize
     ensures length { result ≡ position_or_len (λ other. other == byte) bytes.now }
     ensures at_most { result ≤ length bytes.now }

@@ -34,6 +34,6 @@ pub enum Kind {
 pub enum Rank {
     /// A reference keeps its target alive.
     Exact,
-    /// A reference is splatted where its target is not reached otherwise.
+    /// A reference is splatted if its target is not reached otherwise.
     Weak,
 }

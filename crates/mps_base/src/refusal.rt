@@ -22,7 +22,7 @@ pub enum Refusal {
     /// The cell is a reference cell or the head.
     #[error("NotANumber")]
     NotANumber,
-    /// The head is not valid for the pool's format, or has references where the pool allows none.
+    /// The head is not valid for the pool's format, or has references if the pool allows none.
     #[error("BadHead")]
     BadHead,
     /// The point has an open reservation.

@@ -1,4 +1,4 @@
--- What the segments of an arena at rest stand for before a flip of everything, and what a collector has to know of pools then.
+-- What the segments of an arena at rest represent before a full flip, and what a collector has to know of pools then.
 use Rattle.std.specs.Prelude.{◌≡◌, ℕ, ◌+◌, ◌*◌, ◌≤◌, false, IsTrue, [], length}
 use Rattle.mps_base.specs.Address.{Id, Grain}
 use Rattle.mps_base.specs.Generation.{target_generation}
@@ -55,7 +55,7 @@ pub record IsPlainAtRest (w : World) : Type 0 where
   pub shaped : AreShaped w.graph.objects (pool_layout w)
   pub targets_live : AreTargetsLive w.graph.objects w.addresses
 
--- all that a flip of everything needs: the reservations of the segments are those of points that no flip ended, and there is room for all
+-- all that a full flip needs: the reservations of the segments are those of points that no flip ended, and there is room for all
 -- moves of a collection
 pub record StandsBefore {F : Type 0} (layout : F → Layout) (t : TraceState F) (s : SegsState) (m : Moves) (points : PointsState) (w : World)
     : Type 0 where

@@ -1,4 +1,4 @@
--- What the begin of a collection of everything, in words, is to the abstract collector.
+-- What the begin of a full collection, in words, is to the abstract collector.
 use Rattle.std.specs.Prelude.{◌≡◌, ℕ, ◌+◌, ◌*◌, ◌≤◌, false, IsTrue, Option, Some, List, [], ◌∷◌, ◌++◌, map, length, slice_get, slice_index_or}
 use Rattle.std.specs.List.{flat_map}
 use Rattle.mps_base.specs.Address.{Id}
@@ -32,7 +32,7 @@ use Rattle.mps_begin_laws.specs.Before.{StandsBefore}
 
 -- ---- the flip and the nails
 
--- right after the flip, with the blocks nailed in which area words lie, the state stands for the abstract collector right after the
+-- right after the flip, with the blocks nailed in which area words lie, the state represents the abstract collector right after the
 -- model's flip
 pub record IsFlipStanding {F : Type 0} (layout : F → Layout) (t : TraceState F) (m : Moves) (w : World) (x : Traced) : Type 0 where
   pub traces : TracingStands layout t.formats t.chains w.addresses
@@ -43,7 +43,7 @@ pub record IsFlipStanding {F : Type 0} (layout : F → Layout) (t : TraceState F
   pub unreserved : AreCondemnedUnreserved x.segs (flipped w Everything []).world.graph.points (flipped w Everything []).world.point_memories
   pub trail : x.moves.moves ≡ m.moves ++ flip_of w Everything ∷ []
 
--- where something is condemned
+-- if something is condemned
 abbrev pub AFlipStands : (F : Type 0) → Type 0
 AFlipStands F =
     (layout : F → Layout) (t : TraceState F) (s : SegsState) (m : Moves) (points : PointsState) (roots : RootsState) (w : World)
@@ -68,7 +68,7 @@ RootsCanBeFixed F =
     → is_nothing (condemned_by w Everything) ≡ false
     → CanFixRoots layout t roots finals (nailed_at_flip t.formats points roots (traced t s m))
 
--- the act of the flip is done, by the moves of the trail: the state stands for the abstract collector before its first unit, and slots and
+-- the act of the flip is done, by the moves of the trail: the state represents the abstract collector before its first unit, and slots and
 -- messages hold where their objects are then
 pub record IsActDone {F : Type 0} (layout : F → Layout) (t : TraceState F) (m : Moves) (w : World) (rows : List (List (Option Id)))
     (roots roots' : RootsState) (finals' : FinalsState) (z : Traced) (run : RunningState) : Type 0 where
@@ -91,7 +91,7 @@ ACollectionBegins F =
     → Begins layout t.formats t.chains points roots finals (traced t s m) roots' finals' z run
     → IsActDone layout t m w rows roots roots' finals' z run
 
--- ---- where nothing is condemned
+-- ---- if nothing is condemned
 
 -- the collection is over at once, as in the model
 pub record IsOverAtOnce (m : Moves) (w : World) (z : Traced) : Type 0 where

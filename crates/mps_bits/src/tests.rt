@@ -2,7 +2,7 @@
 use crate::Bits;
 use std::alloc::AllocError;
 
-/// The highest set bit at or below an index, None where the table has no such index.
+/// The highest set bit at or below an index, None if the table has no such index.
 fn previous(bits: &Bits, at: usize) -> Option<usize> {
     if at < bits.len() {
         bits.previous_set(at)
@@ -11,7 +11,7 @@ fn previous(bits: &Bits, at: usize) -> Option<usize> {
     }
 }
 
-/// The lowest run of clear bits in a range, None where the table has no such range.
+/// The lowest run of clear bits in a range, None if the table has no such range.
 fn run(bits: &Bits, from: usize, to: usize, count: usize) -> Option<usize> {
     if count > 0 && to <= bits.len() {
         bits.lowest_clear_run(from, to, count)

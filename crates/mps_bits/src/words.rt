@@ -7,7 +7,7 @@ ghost use Rattle.mps_bits.specs.Row.{bit_in, sum_over, IsClear, IsLowestSet, IsH
 
 use crate::word::{bits_from, clear_run, highest_one, lowest_one, with_bits};
 
-/// How many bits lie between `at` and the end of its word, or `to` where that is nearer.
+/// How many bits lie between `at` and the end of its word, or `to` if that is nearer.
 fn width_at(at: usize, to: usize) -> usize
     requires { at < to }
     ensures nonzero { 0 < result }

@@ -38,11 +38,11 @@ run_of b = record { from = b.from; count = b.count }
 abbrev pub run_of_held : Held → Run
 run_of_held h = record { from = word_of h.at.0; count = h.words }
 
--- no words at hand
+-- no free words
 abbrev pub empty_buffer : Buffer
 empty_buffer = record { from = 0; count = 0 }
 
--- the words at hand, where there are any, lie in a segment, and nothing covers one of them
+-- the free words of the buffer, if there are any, lie in a segment, and nothing covers one of them
 abbrev pub IsAtHand : SegsState → Buffer → Type 0
 IsAtHand s b = 0 < b.count → CanCover s (run_of b)
 
@@ -54,7 +54,7 @@ CanCoverAfter s others r = IsOpenRun s.grains (held_runs s) (with_run others s.c
 abbrev pub AreApart : Run → Run → Type 0
 AreApart r q = (end_of r ≤ q.from) ⊎ (end_of q ≤ r.from)
 
--- a point with nothing at hand and no reservation
+-- a point with an empty buffer and no reservation
 abbrev pub new_point : (pool : ℕ) → Rank → (is_copying : Bool) → Point
 new_point pool rank is_copying =
     record { pool = pool; rank = rank; is_copying = is_copying; buffer = empty_buffer; reservation = None }
@@ -71,7 +71,7 @@ AllTaken points = (key : ℕ) → key < max_points → key < length points → i
 
 -- ---- where a reservation is placed
 
--- at a prefix of the words at hand, where there are enough, else in a new segment
+-- at a prefix of the free words of the buffer, if there are enough, else in a new segment
 abbrev pub placement_at_front : SegsState → Buffer → (words : ℕ) → Placement
 placement_at_front s b words = if nat_le words b.count then Place b.from else placement_for s words
 
@@ -87,7 +87,7 @@ is_place (NewSegment grain grains) = false
 is_place (OverLimit committed need limit) = false
 is_place (NoFreeRun need longest) = false
 
--- the segments with a new one, where the placement is one
+-- the segments with a new one, if the placement is one
 abbrev pub with_place : SegsState → Point → Placement → SegsState
 with_place s p placement = record s {
   segments = segments_after placement p.pool 0 p.rank s.segments;
@@ -95,7 +95,7 @@ with_place s p placement = record s {
   summaries = noted_for placement 0 s.summaries;
 }
 
--- what is at hand after a reservation of n words: the rest of what was, or of the new segment
+-- the free words of the buffer after a reservation of n words: the rest of them, or of the new segment
 abbrev pub rest_at_hand : Buffer → Placement → (words : ℕ) → Buffer
 rest_at_hand b (Place word) words = record { from = word + words; count = b.count - words }
 rest_at_hand b (NewSegment grain grains) words =
@@ -174,7 +174,7 @@ abbrev pub AreReserved : (flips : ℕ) → List (Option Point) → SegsState →
 AreReserved flips [] s = Unit {0}
 AreReserved flips (p ∷ ps) s = IsReservedAt flips p s × AreReserved flips ps (ended_at flips p s)
 
--- a point with no words at hand
+-- a point with an empty buffer
 abbrev pub emptied : Point → Point
 emptied p = record p { buffer = empty_buffer }
 
@@ -188,7 +188,7 @@ pub record WereMadeBefore (flips : ℕ) (s : PointsState) : Type 0 where
 
 -- ---- vectors
 
--- a point of a pool that moves blocks, with eight words at hand
+-- a point of a pool that moves blocks, with eight free words in its buffer
 abbrev a_point : Point
 a_point = record { pool = 0; rank = Exact; is_copying = true; buffer = record { from = 520; count = 8 }; reservation = None }
 

@@ -76,7 +76,7 @@ impl OpenPoints {
         self.points.reservations_are_past();
     }
 
-    /// Makes a point of a pool under a key that is free. Refuses `TooMany` where there are 256.
+    /// Makes a point of a pool under a key that is free. Refuses `TooMany` if there are 256.
     pub fn add(&mut self, pool: u32, rank: Rank, is_copying: bool) -> Result<u32, Refusal>
         ensures made { IfOk result (λ key. IsMade self.old self.new key (new_point pool rank is_copying)) }
         ensures refused { IfErr result (λ why. (why ≡ TooMany 256) × (self.new ≡ self.old) × AllTaken self.old.points) }
@@ -133,7 +133,7 @@ impl OpenPoints {
         Ok(at)
     }
 
-    /// The open reservation of a point becomes a block, whose address is returned. `Flipped` where a flip came since the reserve. The
+    /// The open reservation of a point becomes a block, whose address is returned. `Flipped` if a flip came since the reserve. The
     /// point has no reservation from now on.
     #[inline(always)]
     pub fn commit(&mut self, segs: &mut Segs, trail: &mut Trail, key: u32) -> Result<Addr, Flipped>
@@ -154,7 +154,7 @@ impl OpenPoints {
         self.points.commit(segs, trail, token)
     }
 
-    /// Gives up the open reservation of the point under a key, where there is one. Its words are free again, where no flip came since
+    /// Gives up the open reservation of the point under a key, if there is one. Its words are free again, if no flip came since
     /// the reserve.
     pub fn abandon(&mut self, segs: &mut Segs, key: u32)
         requires within { key < length self.old.points }
@@ -165,7 +165,7 @@ impl OpenPoints {
         self.abandon_at(segs, key as usize);
     }
 
-    /// A flip comes: all reservations end, and no point has words at hand.
+    /// A flip comes: all reservations end, and the buffer of each point is empty.
     pub fn flip(&mut self, segs: &mut Segs)
         requires fits { self.old.flips < 2 ^ 63 }
         requires reserved { AreReserved self.old.flips self.old.points segs.old }
@@ -197,7 +197,7 @@ impl OpenPoints {
         }
     }
 
-    /// Gives up the open reservation of the point at an index, where there is one.
+    /// Gives up the open reservation of the point at an index, if there is one.
     fn abandon_at(&mut self, segs: &mut Segs, key: usize)
         requires within { key < length self.old.points }
         requires reserved { IsReservedAt self.old.flips (point_at self.old key) segs.old }

@@ -81,7 +81,7 @@ impl Points {
         let _ = &self.points;
     }
 
-    /// Makes a point of a pool under a key that is free. Refuses `TooMany` where there are 256.
+    /// Makes a point of a pool under a key that is free. Refuses `TooMany` if there are 256.
     pub fn add(&mut self, pool: u32, rank: Rank, is_copying: bool) -> Result<u32, Refusal>
         ensures made { IfOk result (λ key. IsMade self.old self.new key (new_point pool rank is_copying)) }
         ensures refused { IfErr result (λ why. (why ≡ TooMany 256) × (self.new ≡ self.old) × AllTaken self.old.points) }
@@ -107,7 +107,7 @@ impl Points {
         self.points[point as usize] = None;
     }
 
-    /// Whether a reservation of `words` words fits in what is at hand at a point, or in a gap, so that it takes no new segment.
+    /// Whether a reservation of `words` words fits in the buffer of a point, or in a gap, so that it takes no new segment.
     pub fn fits(&self, segs: &Segs, point: u32, words: u32) -> bool
         requires nonzero { 0 < words }
         requires there { (p : Point) × (point_at self.now point ≡ Some p) × (point < length self.now.points) }
@@ -120,7 +120,7 @@ impl Points {
     }
 
     /// Reserves `words` words at a point that has no open reservation, for a block with this head. The words are 0 but for the head.
-    /// Refuses `CommitLimit` and `NoRun` as `Segs::take` does; a refusal changes nothing. What is then at hand can be covered, and so can
+    /// Refuses `CommitLimit` and `NoRun` as `Segs::take` does; a refusal changes nothing. The rest of the buffer can be covered, and so can
     /// other words that could be and lie apart from the reservation.
     pub fn reserve_words(
         &mut self,
@@ -207,7 +207,7 @@ impl Points {
         self.reserve_words(segs, trail, point, head, words)
     }
 
-    /// The reservation becomes a block, whose address is returned. `Flipped` where a flip came since the reserve.
+    /// The reservation becomes a block, whose address is returned. `Flipped` if a flip came since the reserve.
     #[inline(always)]
     pub fn commit(
         &mut self,
@@ -240,7 +240,7 @@ impl Points {
         Ok(held.at)
     }
 
-    /// Gives up the reservation. Its words are free again, where no flip came since the reserve.
+    /// Gives up the reservation. Its words are free again, if no flip came since the reserve.
     pub fn abandon(&mut self, segs: &mut Segs, token: Reserved)
         requires open { IsOpenAt self.old token.point token.held }
         requires reserved { token.held.flips ≡ self.old.flips → Contains segs.old.reservations (run_of_held token.held) }
@@ -255,7 +255,7 @@ impl Points {
         }
     }
 
-    /// A flip comes: all reservations end, and no point has words at hand.
+    /// A flip comes: all reservations end, and the buffer of each point is empty.
     pub fn flip(&mut self, segs: &mut Segs)
         requires fits { self.old.flips < 2 ^ 63 }
         requires reserved { AreReserved self.old.flips self.old.points segs.old }
@@ -293,7 +293,7 @@ fn free_key(points: &[Option<Point>]) -> Option<u32>
     None
 }
 
-/// Ends the reservation of a point, where it has one, and returns the number of its pool.
+/// Ends the reservation of a point, if it has one, and returns the number of its pool.
 #[inline(always)]
 fn close(place: &mut Option<Point>) -> u32
     requires { (p : Point) × (place.old ≡ Some p) }
@@ -359,7 +359,7 @@ fn end_all(points: &[Option<Point>], flips: u64, segs: &mut Segs)
     }
 }
 
-/// Ends the reservation of a point, where it has one that no flip has ended.
+/// Ends the reservation of a point, if it has one that no flip has ended.
 fn end_at(p: Option<Point>, flips: u64, segs: &mut Segs)
     requires { IsReservedAt flips p segs.old }
     ensures { segs.new ≡ ended_at flips p segs.old }
@@ -373,7 +373,7 @@ fn end_at(p: Option<Point>, flips: u64, segs: &mut Segs)
     }
 }
 
-/// Leaves no words at hand at these points.
+/// Empties the buffers of these points.
 fn empty_all(points: &mut [Option<Point>])
     ensures { points.new ≡ map (option_map emptied) points.old }
 {
@@ -382,7 +382,7 @@ fn empty_all(points: &mut [Option<Point>])
     }
 }
 
-/// A point with no words at hand.
+/// A point with an empty buffer.
 fn emptied_point(p: Option<Point>) -> Option<Point>
     ensures { result ≡ option_map emptied p }
 {

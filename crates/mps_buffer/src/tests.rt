@@ -17,7 +17,7 @@ struct Case {
 }
 
 /// What is asked of an arena of three grains with a limit of two, at a point of a pool that moves blocks. The rest of a segment that
-/// was at hand is lost where a new one is taken, and stays at hand after a refusal.
+/// was free in the buffer is lost if a new one is taken, and stays there after a refusal.
 const CASES: [Case; 5] = [
     Case {
         words: 4,

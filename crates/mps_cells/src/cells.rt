@@ -72,7 +72,7 @@ fn cell_at<F: Format>(segs: &Segs, b: &Block<F>, k: u64) -> Result<CellFound, Re
     Ok(CellFound { word, value })
 }
 
-/// Cell `k` of a block, where it is a number.
+/// Cell `k` of a block, if it is a number.
 #[inline(always)]
 pub fn number_cell_at<F: Format>(segs: &Segs, b: &Block<F>, k: u64) -> Result<CellFound, Refusal>
     requires { IsTrue ((F.layout b.now.format).is_valid b.now.head) }
@@ -85,7 +85,7 @@ pub fn number_cell_at<F: Format>(segs: &Segs, b: &Block<F>, k: u64) -> Result<Ce
     Ok(cell)
 }
 
-/// Cell `k` of a block, where it is a reference.
+/// Cell `k` of a block, if it is a reference.
 pub fn reference_cell_at<F: Format>(segs: &Segs, b: &Block<F>, k: u64) -> Result<CellFound, Refusal>
     requires { IsTrue ((F.layout b.now.format).is_valid b.now.head) }
     ensures { result ≡ reference_cell_at F.layout segs.now.words b.now k }
@@ -97,7 +97,7 @@ pub fn reference_cell_at<F: Format>(segs: &Segs, b: &Block<F>, k: u64) -> Result
     Ok(cell)
 }
 
-/// Writes a word, by its number; nothing where the arena has no such word.
+/// Writes a word, by its number; nothing if the arena has no such word.
 pub fn write_word(segs: &mut Segs, word: usize, value: u64)
     ensures { segs.new ≡ record segs.old { words = slice_set segs.old.words word value } }
 {

@@ -8,7 +8,7 @@ ghost use Rattle.mps_model.specs.Making.{refuse_at_limit};
 use mps_base::Refusal;
 use mps_buffer::{Held, Point};
 
-/// Refuses one more where a limit is reached.
+/// Refuses one more if a limit is reached.
 pub fn refuse_at_limit(count: usize, limit: u32) -> Result<(), Refusal>
     ensures value { result ≡ refuse_at_limit count limit }
     ensures few { OnOk result (count < limit) }
@@ -19,7 +19,7 @@ pub fn refuse_at_limit(count: usize, limit: u32) -> Result<(), Refusal>
     Ok(())
 }
 
-/// The open reservation of a point. Refuses `NotOpen` where it has none.
+/// The open reservation of a point. Refuses `NotOpen` if it has none.
 pub fn reservation_of(point: Point) -> Result<Held, Refusal>
     ensures value { result ≡ required point.reservation Refusal.NotOpen }
     ensures open { IfOk result (λ held. point.reservation ≡ Some held) }

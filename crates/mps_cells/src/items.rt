@@ -3,7 +3,7 @@
 
 ghost use Rattle.std.specs.Prelude.{◌≡◌, slice_get};
 
-/// The item at an index, where there is one.
+/// The item at an index, if there is one.
 #[inline(always)]
 pub fn item<T: Copy>(items: &[T], index: usize) -> Option<T>
     ensures { result ≡ slice_get items.now index }

@@ -1,4 +1,4 @@
-//! The blocks of a heap and their cells, as a client's calls find them, and checks that look at nothing else.
+//! Lookup of blocks and cells, and argument checks.
 #![tactic(auto)]
 
 mod blocks;

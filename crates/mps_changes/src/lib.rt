@@ -1,5 +1,5 @@
-//! What a call of the client changes of a world, as data: one case for each way. The function does nothing; what it shows is its
-//! contract.
+//! What a call of the client changes of a world, as data: one case for each way. The function is a theorem: its contract is
+//! the statement.
 #![tactic(auto)]
 
 ghost use Rattle.mps_changes.specs.Change.{EachCallChanges};

@@ -14,7 +14,7 @@ use Rattle.mps_outcome.specs.State.{HeapState}
 use Rattle.mps_refinement.specs.RightMoving.{IsRightMoving, KeepsRoom}
 use Rattle.mps_refinement.specs.StandsFor.{StandsFor}
 
--- a heap may collect everything: it stands for a world, its tables of marks have their sizes, and there is room for all moves
+-- a heap may collect everything: it represents a world, its tables of marks have their sizes, and there is room for all moves
 pub record MayCollect {F : Type 0} (layout : F → Layout) (h : HeapState F) (m : Moves) : Type 0 where
   pub can : IsTrue (can_collect h)
   pub world : World
@@ -22,7 +22,7 @@ pub record MayCollect {F : Type 0} (layout : F → Layout) (h : HeapState F) (m 
   pub marked : IsMarked h.segs.grains h.segs.marks h.segs.condemned h.segs.summaries
   pub room : most_moves h.segs.grains ≤ m.spare
 
--- then it can, whatever words are at hand for its pools
+-- then it can, whatever the tails of its pools are
 abbrev pub AHeapCanCollect : (F : Type 0) → Type 0
 AHeapCanCollect F = (layout : F → Layout) (h : HeapState F) (m : Moves) → MayCollect layout h m → CanCollectAll layout h m
 
@@ -31,8 +31,8 @@ pub record IsRightCollect {F : Type 0} (layout : F → Layout) (h : HeapState F)
   pub right : IsRightMoving layout h call.Collect m.moves m'.moves (Replied reply.Ok) h'
   pub room : KeepsRoom m m'
 
--- and where no reservation remembers a flip that is still to come, a collection of everything is right in each world for which the heap
--- stood, and its trail keeps its room
+-- and if no reservation remembers a flip that is still to come, a full collection is right in each world that the heap
+-- represented, and its trail keeps its room
 abbrev pub ACollectIsRight : (F : Type 0) → Type 0
 ACollectIsRight F =
     (layout : F → Layout) (h : HeapState F) (m : Moves) (h' : HeapState F) (m' : Moves) → MayCollect layout h m

@@ -1,4 +1,4 @@
--- What a whole collection leaves of the world, where nothing is registered and no object is weak.
+-- What a whole collection leaves of the world, if nothing is registered and no object is weak.
 use Rattle.std.specs.Prelude.{◌≡◌, ℕ, false, IsTrue, Option, None, List, [], ◌++◌}
 use Rattle.mps_base.specs.Address.{Id, Address}
 use Rattle.mps_base.specs.Segment.{Segment}
@@ -12,7 +12,7 @@ use Rattle.mps_colours.specs.Collecting.{Collecting}
 use Rattle.mps_colours.specs.Units.{Ends}
 use Rattle.mps_colours.specs.FlipLaws.{IsAtRest, flipped, FixesHeld}
 
--- a world is another one, but for where objects lie, in which segments, for the words at hand and for the collection
+-- a world is another one, but for where objects lie, in which segments, for buffers, tails and the collection
 pub record IsButMoved (before after : World) : Type 0 where
   pub addresses : List (Option Address)
   pub segments : List Segment
@@ -25,13 +25,13 @@ pub record IsPlain (w : World) : Type 0 where
   pub none_registered : w.graph.registered ≡ []
   pub none_weak : (id : Id) → object_is is_weak_object w id ≡ false
 
--- a world at rest after a flip of everything and all that follows: reservations are doomed, points have none, and there is one
+-- a world at rest after a full flip and all that follows: reservations are doomed, points have none, and there is one
 -- flip more. All else is as it was but for where objects lie
 pub record IsCollected (w after : World) : Type 0 where
   pub but_moved : IsButMoved (world_flipped w (condemned_zones w Everything)) after
   pub ended : after.collection ≡ None
 
--- which objects lie where they lay, where the act of the flip left this state
+-- which objects lie where they lay, if the act of the flip left this state
 pub record AreInPlace (w : World) (acted : Collecting) (after : World) : Type 0 where
   pub manual : (id : Id) → object_is is_automatic w id ≡ false → address_of after id ≡ address_of w id
   pub pinned : (id : Id) → IsTrue (contains (ids_of_area_words w) id) → address_of after id ≡ address_of w id
@@ -41,7 +41,7 @@ pub record AreInPlace (w : World) (acted : Collecting) (after : World) : Type 0 
   pub held : (id : Id) → IsTrue (contains (ids_in_slots w.graph ++ w.graph.messages) id) → address_of after id ≡ address_of acted.world id
   pub held_live : (id : Id) → IsTrue (contains (ids_in_slots w.graph ++ w.graph.messages) id) → IsTrue (is_live after id)
 
--- where something is condemned, and where nothing is
+-- if something is condemned, and if nothing is
 abbrev pub ACollectionMovesObjects : Type 0
 ACollectionMovesObjects =
     ((w : World) (first later : List Move) (y : Collecting) (count : ℕ) → IsAtRest w → is_nothing (condemned_by w Everything) ≡ false

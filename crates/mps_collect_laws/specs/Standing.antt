@@ -1,4 +1,4 @@
--- What is left of a heap by a collection of everything, in which no call comes between the flip and the end.
+-- What is left of a heap by a full collection, in which no call comes between the flip and the end.
 use Rattle.std.specs.Prelude.{◌≡◌, ℕ, false, IsSome, List, [], map, Option}
 use Rattle.mps_base.specs.Address.{Address}
 use Rattle.mps_base.specs.declared.moves.Move.{Move}
@@ -18,11 +18,11 @@ use Rattle.mps_refinement.specs.StandsFor.{AreSlots, Past, address_of_id}
 abbrev pub world_collected : World → List Move → World
 world_collected w ms = record (world_after_moves w ms) { state = Parked }
 
--- what the call has to leave of a heap that stood for a world, where the act of the flip left objects at these addresses, and this is
+-- what the call has to leave of a heap that represented a world, if the act of the flip left objects at these addresses, and this is
 -- the world after the call
 pub record IsCollectedHeap {F : Type 0} (past : Past) (w : World) (h after : HeapState F) (acted : List (Option Address))
     (v : World) : Type 0 where
-  -- the arena: segments, and words, marks and runs stand for the world after the call, no segment is condemned, and no block is kept
+  -- the arena: segments, and words, marks and runs represent the world after the call, no segment is condemned, and no block is kept
   pub grains : after.segs.grains ≡ h.segs.grains
   pub limit : after.segs.limit ≡ h.segs.limit
   pub segments : after.segs.segments ≡ v.segments

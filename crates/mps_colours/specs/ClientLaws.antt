@@ -27,7 +27,7 @@ use Rattle.mps_colours.specs.Collecting.{Collecting, Running, is_white_in}
 abbrev pub collected_world : World → Step → World
 collected_world w s = asking (units_asked w s.call) (world_after_moves w (moves_of_collector s.call s.moves))
 
--- the position of the registration that a call takes away, where it takes one
+-- the position of the registration that a call takes away, if it takes one
 abbrev pub position_taken : World → Call → Checked ℕ
 position_taken w (call.Definalize slot) = do
   from ← slot_in w slot
@@ -86,7 +86,7 @@ ClientsKeepRunning = (w : World) (x : Collecting) (s : Step) → Running x → I
 
 -- ---- vectors
 
--- the registration that is examined next stands one lower where one before it was taken away, and else where it stood
+-- the registration that is examined next stands one lower if one before it was taken away, and else where it stood
 pub one_before_the_next_was_taken : next_without (Ok 1) 3 ≡ 2
 one_before_the_next_was_taken = refl
 

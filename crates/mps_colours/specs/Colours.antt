@@ -1,11 +1,11 @@
--- The colours of objects while a collection runs, by ids. An object is white where it is condemned and not kept yet, grey
--- where its references are still to be scanned, and else black.
+-- The colours of objects while a collection runs, by ids. An object is white if it is condemned and not kept yet, grey
+-- if its references are still to be scanned, and else black.
 use Rattle.std.specs.Prelude.{◌≡◌, ◌⊎◌, ◌≤◌, Bool, true, false, not, ◌&&◌, ◌||◌, ◌==◌, IsTrue, Option, Some, List, [], ◌∷◌, length, filter, refl}
 use Rattle.mps_base.specs.Address.{Id, Address}
 use Rattle.mps_model.specs.Graph.{Graph, contains, entry_at, targets}
 use Rattle.mps_model.specs.Collection.{Collection, is_condemned, is_settled, is_kept_in_place, MaySurvive}
 
--- what a collector knows beside the world
+-- what a collector knows besides the world
 pub record Colours : Type 0 where
   -- the condemned objects that it keeps: pinned, moved, made to stay, or marked
   pub kept : List Id
@@ -125,6 +125,6 @@ a_scanned_object_is_black = refl
 pub keeping_makes_grey : is_to_scan (1 ∷ 2 ∷ []) (keeping some_kept 2) 2 ≡ true
 keeping_makes_grey = refl
 
--- where only an object that isn't weak is grey, the collection isn't drained
+-- if only an object that isn't weak is grey, the collection isn't drained
 pub a_grey_strong_object : AreColoursDrained (λ id. false) some_kept → ⊥
 a_grey_strong_object drained = let h : false ≡ true = drained 1 refl in absurd cc

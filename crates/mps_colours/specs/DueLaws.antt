@@ -19,7 +19,7 @@ use Rattle.mps_colours.specs.Units.{GoesOn, Ends, BarrierDone}
 
 -- what is shown of a running collection and the calls that work on it
 pub record AreDue (x : Collecting) : Type 0 where
-  -- n units of a `step`, or fewer where the collection ends in them
+  -- n units of a `step`, or fewer if the collection ends in them
   pub step : {y : Collecting} {asked : ℕ} {ms : List Move} → IsTrue (is_unclamped x.world) → GoesOn x asked ms y
       → AreMovesOfStep x.world asked ms
   pub last_step : {count asked : ℕ} {ms : List Move} → IsTrue (is_unclamped x.world) → Ends x count ms → count ≤ asked
@@ -40,12 +40,12 @@ WorkIsDue = (x : Collecting) → Running x → AreDue x
 abbrev pub IsMarkedRightly : Collecting → (word : ℕ) → Answer → Type 0
 IsMarkedRightly x word answer = IsTrue (is_block answer) → (id : Id) → block_of_word x.world word ≡ Some id → is_white_in x id ≡ false
 
--- what a legal step asks of the world that it leaves, where a collection runs
+-- what a legal step asks of the world that it leaves, if a collection runs
 pub record IsLeftRightly (x : Collecting) : Type 0 where
   pub held_live : IsTrue (list_all (is_live x.world) (ids_of_client x.world.graph))
   pub held_kept : IsTrue (are_held_kept x.world)
   pub units_are_left : IsTrue (has_units_left x.world)
-  -- and of a `poke` that is answered `block`, where the word lies in no white object
+  -- and of a `poke` that is answered `block`, if the word lies in no white object
   pub marked : (place : Slot) (word : ℕ) (answer : Answer) → IsMarkedRightly x word answer
       → IsPossiblyMarked x.world (call.Poke place word) answer
 

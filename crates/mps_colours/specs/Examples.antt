@@ -87,7 +87,7 @@ a_white_target_may_not_be_passed h = absurd cc
 pub no_weak_object_as_an_exact_one : object_is is_weak_object begun.world 2 ≡ false → ⊥
 no_weak_object_as_an_exact_one h = absurd cc
 
--- ---- the same in a pool that moves, where no more segments may be held
+-- ---- the same in a pool that moves, if no more segments may be held
 
 abbrev full_world : World
 full_world = record small_world { pools = record { kind = Collected kind.Amc; format = 1; chain = None } ∷ []; grains = 8; limit = 2 }

@@ -39,14 +39,14 @@ pub record IsUnused (w : World) (s : Segment) : Type 0 where
 pub data Keeps (w : World) (c : Collection) (id : Id) : List Move → Collection → Type 0 where
   -- in a pool that doesn't move it is marked
   marks : is_copying_object w id ≡ false → Keeps w c id [] c
-  -- else it moves to a place at hand
+  -- else it moves to a place in its tail
   moves_to_place : {word : ℕ} → IsTrue (is_copying_object w id) → placement_of w (ForMove id) ≡ Place word
       → IsUnoccupied w.addresses (address_of_word word) → Keeps w c id (moved_to w id (address_of_word word) ∷ []) (placing id c)
   -- or into a new segment
   moves_to_segment : {grain grains : ℕ} → IsTrue (is_copying_object w id) → placement_of w (ForMove id) ≡ NewSegment grain grains
       → IsUnused w (new_segment w id grain grains)
       → Keeps w c id (segment_for_move w id (address_of_grain grain) grains ∷ moved_to w id (address_of_grain grain) ∷ []) (placing id c)
-  -- or stays, where there is no room
+  -- or stays, if there is no room
   stays : IsTrue (is_copying_object w id) → IsTrue (has_no_room (placement_of w (ForMove id)))
       → Keeps w c id (stays_at w id ∷ []) (placing id c)
 

@@ -23,7 +23,7 @@ pub record IsAtRest (w : World) : Type 0 where
   -- only automatic pools are on chains
   pub on_chains : (chain pool : ℕ) → IsTrue (is_on_chain w chain pool) → IsTrue (pool_is is_automatic_kind w pool)
 
--- the numbers of a flip in the log mean what it condemns. No chain has the number that stands for everything
+-- the numbers of a flip in the log mean what it condemns. No chain has the number that represents everything
 abbrev pub IsNumbered : Condemnation → Type 0
 IsNumbered what = condemnation_of (chain_of what) (oldest_of what) ≡ what
 

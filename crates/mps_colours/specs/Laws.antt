@@ -51,7 +51,7 @@ pub record AreUnitsDone (x : Collecting) (count : ℕ) (ms : List Move) (y : Col
   pub are_units : AreUnits x.world count ms
   pub fewer : count + units_left y ≤ units_left x
   pub some_left : 0 < units_left y
-  -- also where a call asks for these units
+  -- also if a call asks for these units
   pub asked_running : Running (asked y count)
 
 -- and of n units in which it ends

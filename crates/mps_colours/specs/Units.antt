@@ -1,4 +1,4 @@
--- The steps of a collection: its units, the read barrier, and rows of units.
+-- The steps of a collection: its units, the read barrier, and sequences of units.
 use Rattle.std.specs.Prelude.{◌≡◌, ◌<◌, ◌≤◌, ◌+◌, ℕ, suc, Bool, false, ◌&&◌, IsTrue, Some, List, [], ◌∷◌, ◌++◌, slice_get}
 use Rattle.mps_base.specs.Address.{Id, Address, word_of, address_of_word}
 use Rattle.mps_base.specs.Segment.{Segment, is_in_segment}
@@ -121,7 +121,7 @@ pub data IsLastUnit (x : Collecting) : List Move → Type 0 where
   reclaims_last : {s : Segment} {freed : List Address} → IsReclaimedNext x s freed
       → IsTrue (is_last_condemned x.running s.base) → IsLastUnit x (reclaim_by x s.base freed)
 
--- ---- rows of units
+-- ---- sequences of units
 
 -- n units, after which the collection goes on
 pub data GoesOn (x : Collecting) : (count : ℕ) → List Move → Collecting → Type 0 where

@@ -19,7 +19,7 @@ use Rattle.mps_colours.specs.Collecting.{Collecting, Running, is_white_in}
 use Rattle.mps_colours.specs.Units.{Ends}
 use Rattle.mps_colours.specs.FlipLaws.{IsAtRest, flipped, FixesHeld}
 
--- ---- what such a collection keeps beside the invariant
+-- ---- what such a collection keeps besides the invariant
 
 -- where wide reachability begins, with the objects posted so far
 abbrev pub roots_of : World → (posted : List Id) → List Id
@@ -55,7 +55,7 @@ pub record IsWholeSoFar (flipped : World) (x : Collecting) : Type 0 where
   pub passed : List Id
   pub remaining : List Id
   pub in_turn : AreInTurn x passed remaining
-  -- where the posts of those that remain are exact, all are
+  -- if the posts of those that remain are exact, all are
   pub so_far : (later : List Id) → ArePostsExact flipped posted remaining later
       → ArePostsExact flipped [] flipped.graph.registered (posts ++ later)
   pub alike : IsAlike flipped.graph x.world.graph
@@ -77,7 +77,7 @@ pub record IsCollectDone (w : World) (moves : List Move) : Type 0 where
   pub legal : AreLegalMoves w None moves
 
 -- the act of a flip that condemns everything, and then units to the end. What is posted is exactly what the model asks, in
--- order, and what lives at the end is exactly what was widely reachable from the flip on, with what was posted. Where a
+-- order, and what lives at the end is exactly what was widely reachable from the flip on, with what was posted. If a
 -- collection runs, it goes on to its end first
 abbrev pub AWholeCollectionIsExact : Type 0
 AWholeCollectionIsExact =

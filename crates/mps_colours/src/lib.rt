@@ -1,5 +1,5 @@
 //! The abstract collector: what a collection in progress keeps, over the worlds of `mps_model` and the colours of objects,
-//! with no word, bit or forwarding in it. Each function does nothing; what it shows is its contract.
+//! with no word, bit or forwarding in it. Each function is a theorem: its contract is the statement.
 #![tactic(auto)]
 
 mod clients;
@@ -25,7 +25,7 @@ pub fn a_unit_keeps_running()
     ensures { AUnitKeepsRunning }
 {}
 
-/// A row of units is a row of the model's, and a collection takes at most as many as were left.
+/// A sequence of units is one of the model's, and a collection takes at most as many as were left.
 pub fn units_run_out()
     ensures { UnitsRunOut }
 {}
@@ -41,7 +41,7 @@ pub fn work_is_due()
     ensures { WorkIsDue }
 {}
 
-/// Where a collection runs, what the client holds is live and kept as a legal step asks, units are left, and `poke` answers
+/// If a collection runs, what the client holds is live and kept as a legal step asks, units are left, and `poke` answers
 /// `block` rightly.
 pub fn running_is_legal()
     ensures { RunningIsLegal }

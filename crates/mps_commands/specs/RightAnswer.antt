@@ -18,7 +18,7 @@ step_in line call moves answer = record { line = line; call = call; moves = move
 abbrev pub IsLegalIn : (stood : World → Type 0) → Call → List Move → Answer → Type 0
 IsLegalIn stood call moves answer = (w : World) (line : ℕ) → stood w → IsLegalStep w (step_in line call moves answer)
 
--- the machine stands for the world after the step
+-- the machine represents the world after the step
 abbrev pub StandsAfter : (stood stands : World → Type 0) → Call → List Move → Answer → Type 0
 StandsAfter stood stands call moves answer =
     (w : World) (line : ℕ) → stood w → stands (world_after w (step_in line call moves answer))
@@ -27,11 +27,11 @@ StandsAfter stood stands call moves answer =
 abbrev pub HasFewFlips : World → Type 0
 HasFewFlips w = length w.flips < 2 ^ 32
 
--- the reply is `unsupported` exactly where that is said of the call, in a world of few flips
+-- the reply is `unsupported` exactly if that is said of the call, in a world of few flips
 abbrev pub IsUnsupportedExactly : Built → (stood : World → Type 0) → Call → Reply → Type 0
 IsUnsupportedExactly built stood call given =
     (w : World) → stood w → HasFewFlips w → (given ≡ reply.Unsupported) ↔ IsTrue (built.is_unsupported w call)
 
--- the machine stands for what it stood for
+-- the machine represents what it represented before
 abbrev pub StandsStill : (stood stands : World → Type 0) → Type 0
 StandsStill stood stands = (w : World) → stood w → stands w

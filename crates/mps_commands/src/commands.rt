@@ -11,11 +11,11 @@ use mps_base::Move;
 use mps_model::{Call, Reply};
 use std::alloc::AllocError;
 
-/// A machine that answers commands, one after another, as the model says. It stands for worlds of the model, and after each
-/// answer for the worlds after that step.
+/// A machine that answers commands, one after another, as the model says. It represents worlds of the model, and after each
+/// answer the worlds after that step.
 ///
-/// Who runs commands on it needs no other promise: it is proved once for every machine. A machine may not be let go of but
-/// by `finish`.
+/// Who runs commands on it needs no other promise: it is proved once for every machine. A machine must be
+/// consumed by `finish`.
 pub trait Commands {
     /// The worlds for which the machine stands.
     ghost stands_for: { Self → World → Type 0 };
@@ -29,17 +29,17 @@ pub trait Commands {
     /// What is built, and what takes memory.
     ghost built: { Built };
 
-    /// Answers a call, and writes the reply where it is to stand. An `Err` says that memory is out: then nothing was done, and what
+    /// Answers a call, and writes the reply if it is to stand. An `Err` says that memory is out: then nothing was done, and what
     /// stands there is left open.
     fn answer(&mut self, call: &Call, reply: &mut Reply) -> Result<(), AllocError>
         requires { IsInRange call.now }
         // In each line the call with its moves and its answer is a legal step.
         ensures legal { OnOk result (IsLegalIn (stands_for self.old) call.now (moves self.new)
             (answer_of (words self.new) reply.new)) }
-        // The machine then stands for the world after that step.
+        // The machine then represents the world after that step.
         ensures stands { OnOk result (StandsAfter (stands_for self.old) (stands_for self.new) call.now (moves self.new)
             (answer_of (words self.new) reply.new)) }
-        // In a world of fewer than 2^32 flips the reply is `unsupported` exactly where that is said of the call.
+        // In a world of fewer than 2^32 flips the reply is `unsupported` exactly if that is said of the call.
         ensures unsupported { OnOk result (IsUnsupportedExactly built (stands_for self.old) call.now reply.new) }
         ensures unchanged { OnErr result (StandsStill (stands_for self.old) (stands_for self.new)) }
         ensures memory { OnErr result (IsTrue (built.takes_memory call.now)) };
@@ -48,7 +48,7 @@ pub trait Commands {
     fn moves(&self) -> &[Move]
         ensures { result.now ≡ moves self.now };
 
-    /// The word of a number, which is its address divided by 8; none where the arena has no such word. A reply `Words` names some words.
+    /// The word of a number, which is its address divided by 8; none if the arena has no such word. A reply `Words` names some words.
     fn word(&self, number: usize) -> Option<u64>
         ensures { result ≡ slice_get (words self.now) number };
 

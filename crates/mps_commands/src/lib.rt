@@ -1,4 +1,4 @@
-//! The seam between the run of a script and a heap: what a machine that answers commands promises.
+//! The trait `Commands`: what a machine that executes commands must guarantee.
 #![tactic(auto)]
 
 mod commands;

@@ -15,7 +15,7 @@ abbrev pub fields_in : (count : ℕ) → List ℕ → List ℕ
 fields_in zero bytes = []
 fields_in (suc count) bytes = little_number 8 bytes ∷ fields_in count (drop 8 bytes)
 
--- the record that whole bytes of one stand for
+-- the record that whole bytes of one represent
 abbrev pub record_in : List ℕ → Record
 record_in bytes =
     record {
@@ -29,7 +29,7 @@ record_in bytes =
 abbrev pub size_of_record : (count : ℕ) → ℕ
 size_of_record count = 8 + 8 * count
 
--- there is not enough: a fault where the bytes have ended, and else nothing yet
+-- there is not enough: a fault if the bytes have ended, and else nothing yet
 abbrev pub too_few : (ended : Bool) → Result (Option Record) LogFault
 too_few true = Err Cut
 too_few false = Ok None
@@ -49,7 +49,7 @@ abbrev pub coded_of : Option Event → (ended : Bool) → List ℕ → Result (O
 coded_of None ended bytes = Err UnknownCode
 coded_of (Some event) ended bytes = known_of event ended bytes
 
--- what `first` answers: nothing where the bytes are empty and ended, or have not ended and are too few
+-- what `first` answers: nothing if the bytes are empty and ended, or have not ended and are too few
 abbrev pub first_of : Version → (ended : Bool) → List ℕ → Result (Option Record) LogFault
 first_of version ended [] = Ok None
 first_of version ended (byte ∷ bytes) =

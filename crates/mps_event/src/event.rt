@@ -62,7 +62,7 @@ pub enum Event {
     Alloc,
     /// A block was moved: from where, and to where.
     Move,
-    /// A block stayed where it is, where there is no room: its address.
+    /// A block stayed where it is, if there is no room: its address.
     Stay,
     /// A registration became a message: the address of its block.
     Post,
@@ -77,7 +77,7 @@ pub enum Event {
 impl Event {
     ghost use Rattle.mps_event.specs.Event.{event_of, code_of, field_count_of};
 
-    /// The event that a code of a log of this version stands for. None exactly where it stands for none.
+    /// The event that a code of a log of this version represents. None exactly if it represents none.
     #[inline(always)]
     pub fn of_code(code: u16, version: Version) -> Option<Event>
         ensures { result ≡ event_of version code }

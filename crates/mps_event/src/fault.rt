@@ -7,7 +7,7 @@ use thiserror::Error;
 pub struct BadMagic;
 
 /// What is wrong with the record with which some bytes begin: the first of these that holds, but that `Cut` also comes
-/// first of all where there are fewer than 8 bytes.
+/// first of all if there are fewer than 8 bytes.
 #[derive(Clone, Copy, Debug, PartialEq, Eq, Error)]
 pub enum LogFault {
     /// The version has no record of this code.

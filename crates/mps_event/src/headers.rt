@@ -8,8 +8,8 @@ ghost use Rattle.mps_event.specs.Event.{number_of_version};
 use crate::fault::BadMagic;
 use crate::version::Version;
 
-/// The version of the log that begins with these bytes. `BadMagic` exactly where the first 8 bytes are no header, or
-/// where there are fewer.
+/// The version of the log that begins with these bytes. `BadMagic` exactly if the first 8 bytes are no header, or
+/// if there are fewer.
 pub fn header(bytes: &[u8]) -> Result<Version, BadMagic>
     ensures sound { IfOk result (λ version. bytes.now ≡ header_bytes (number_of_version version) ++ drop 8 bytes.now) }
     ensures complete { (version : TheVersion) (rest : List ℕ) →

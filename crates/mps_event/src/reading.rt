@@ -21,8 +21,8 @@ const HEAD: usize = 8;
 const INTERNED: usize = 16;
 
 /// Reads the record with which `bytes` begin, in a log of this version; `ended` says that no more bytes follow these.
-/// None exactly where there is no whole record yet: the bytes are empty, or they have not ended and are fewer than 8, or
-/// fewer than a known code with its number of fields needs. `Cut` comes only where the bytes have ended.
+/// None exactly if there is no whole record yet: the bytes are empty, or they have not ended and are fewer than 8, or
+/// fewer than a known code with its number of fields needs. `Cut` comes only if the bytes have ended.
 #[inline(always)]
 pub fn first<'a>(
     bytes: &'a [u8],
@@ -61,7 +61,7 @@ fn first_record<'a>(
     }
 }
 
-/// Where there are too few bytes: a fault where they have ended, and else nothing yet.
+/// If there are too few bytes: a fault if they have ended, and else nothing yet.
 fn too_few<'a>(ended: bool) -> Result<Option<RecordRef<'a>>, LogFault>
     ensures { result ≡ too_few ended }
 {

@@ -36,7 +36,7 @@ lists_of begins ends blocks = record {
   reservations = extents (minus begins blocks) ends;
 }
 
--- the tables fit together: they have one length, a bit of the first is set exactly where an extent has a word, and bits of
+-- the tables fit together: they have one length, a bit of the first is set exactly if an extent has a word, and bits of
 -- the others lie in extents
 pub record AreSoundTables (covered begins ends blocks : List Bool) : Type 0 where
   pub same_size : (length covered ≡ length begins) × (length ends ≡ length begins) × (length blocks ≡ length begins)

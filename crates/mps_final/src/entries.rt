@@ -90,7 +90,7 @@ pub(crate) fn position_in(entries: &[u64], at: u64) -> Option<usize>
     None
 }
 
-/// Makes room for one more entry: where there is none, the entries that were removed are taken out.
+/// Makes room for one more entry: if there is none, the entries that were removed are taken out.
 pub(crate) fn make_room(entries: &mut Vec<u64>, cursor: &mut Cursor)
     requires short { vec_len entries.old ≤ max_entries }
     requires few { length (live entries.old.items) < max_finals }

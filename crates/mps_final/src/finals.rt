@@ -59,7 +59,7 @@ impl Finals {
         self.messages.len()
     }
 
-    /// Registers the block at an address once more. Refuses `TooMany` where there are 65,536 registrations and messages.
+    /// Registers the block at an address once more. Refuses `TooMany` if there are 65,536 registrations and messages.
     pub fn register(&mut self, at: Addr) -> Result<(), Refusal>
         requires { 0 < at.0 }
         ensures state { MatchResult result (λ _. self.new ≡ with_registration self.old at.0) (λ _. self.new ≡ self.old) }
@@ -76,7 +76,7 @@ impl Finals {
         Ok(())
     }
 
-    /// Takes away the first registration of the block at an address. Refuses `NotRegistered` where it has none.
+    /// Takes away the first registration of the block at an address. Refuses `NotRegistered` if it has none.
     pub fn unregister(&mut self, at: Addr) -> Result<(), Refusal>
         requires { 0 < at.0 }
         ensures state { MatchOption (position_of self.old.registered at.0) (self.new ≡ self.old)
@@ -144,7 +144,7 @@ impl Finals {
         self.messages[position] = at.0;
     }
 
-    /// Takes the first message, where one waits.
+    /// Takes the first message, if one waits.
     pub fn take(&mut self) -> Option<Addr>
         ensures state { self.new ≡ record self.old { messages = drop 1 self.old.messages } }
         ensures value { MatchOption result (self.old.messages ≡ []) (λ at. slice_get self.old.messages 0 ≡ Some at.0) }

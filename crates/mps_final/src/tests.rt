@@ -1,4 +1,4 @@
-// Each call once, and 2,000 random steps beside plain lists.
+// Each call once, and 2,000 random steps compared with plain lists.
 use crate::Finals;
 use mps_base::{Addr, Refusal};
 use std::alloc::AllocError;
@@ -61,7 +61,7 @@ impl Lists {
     }
 }
 
-// Does the same to both where it can be done, and returns whether they answer the same.
+// Does the same to both if it can be done, and returns whether they answer the same.
 fn step(
     finals: &mut Finals,
     lists: &mut Lists,

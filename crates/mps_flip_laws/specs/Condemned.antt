@@ -1,4 +1,4 @@
--- What a flip of everything condemns, in words and in the model.
+-- What a full flip condemns, in words and in the model.
 use Rattle.std.specs.Prelude.{◌≡◌, ℕ, ◌<◌, Bool, true, false, ◌||◌, IsTrue, Option, Some, None, List, [], ◌∷◌, map, length, Contains, refl}
 use Rattle.std.proofs.Common.{arith, lit<}
 use Rattle.mps_base.specs.Address.{Address, address_of_grain, grain_of}
@@ -17,7 +17,7 @@ use Rattle.mps_trace.specs.Flip.{is_automatic, automatic_of, zones_of, at_flip}
 use Rattle.mps_trace.specs.Trace.{Traced}
 use Rattle.mps_trace.specs.declared.trace.Policy.{Policy}
 
--- a collector has the format of a pool exactly where the pool is automatic
+-- a collector has the format of a pool exactly if the pool is automatic
 abbrev pub AreFormatsOf : {F : Type 0} → (formats : List (Option (Policy F))) → (is_automatic_pool : ℕ → Bool) → Type 0
 AreFormatsOf formats is_automatic_pool = (pool : ℕ) → is_automatic formats pool ≡ is_automatic_pool pool
 
@@ -31,7 +31,7 @@ bases_of ts = map (λ (t : Segment). t.base) ts
 
 -- ---- the model's flip
 
--- a flip that condemns these segments is the model's flip of everything
+-- a flip that condemns these segments is the model's full flip
 pub record IsFlipOfEverything (ts : List Segment) (w : World) : Type 0 where
   pub segments : ts ≡ condemned_by w Everything
   -- in the model's order
@@ -39,7 +39,7 @@ pub record IsFlipOfEverything (ts : List Segment) (w : World) : Type 0 where
   pub zones : zones_of ts ≡ condemned_zones w Everything
   pub move : Flip (record { 0 = zones_of ts }) max_chains 0 ≡ flip_of w Everything
 
--- where segments are those of a world, formats are of its automatic pools alone, and all of these move blocks
+-- if segments are those of a world, formats are of its automatic pools alone, and all of these move blocks
 abbrev pub AFlipIsTheModels : (F : Type 0) → Type 0
 AFlipIsTheModels F =
     (formats : List (Option (Policy F))) (ts : List Segment) (w : World) → ts ≡ w.segments → AreFormatsOf formats (pool_is is_automatic_kind w)
@@ -59,7 +59,7 @@ pub record AreCondemnedToo (s after : SegsState) (bases : List Address) : Type 0
   pub bits : (t : Segment) → Contains after.segments t
       → bit after.condemned (grain_of t.base) ≡ (contains bases t.base || bit s.condemned (grain_of t.base))
   pub held : (base : Address) → IsTrue (contains bases base) → (t : Segment) × Contains after.segments t × (t.base ≡ base)
-  -- where none was condemned before, exactly these are
+  -- if none was condemned before, exactly these are
   pub exactly : ((t : Segment) → Contains s.segments t → bit s.condemned (grain_of t.base) ≡ false) → (t : Segment)
       → Contains after.segments t → bit after.condemned (grain_of t.base) ≡ contains bases t.base
 

@@ -21,11 +21,11 @@ pub record AreReadyToCondemn (s : SegsState) : Type 0 where
   pub ascending : AreAscending 0 s.segments
   pub none : (t : Segment) → Contains s.segments t → bit s.condemned (grain_of t.base) ≡ false
 
--- words are condemned where their segment is of an automatic pool
+-- words are condemned if their segment is of an automatic pool
 pub record AreWordsCondemned {F : Type 0} (formats : List (Option (Policy F))) (s after : SegsState) : Type 0 where
   pub words : (n : Word) (pool : ℕ) → pool_over_word s n ≡ Some pool → is_condemned_word after n ≡ is_automatic formats pool
   pub pools : (n : Word) → pool_over_word after n ≡ pool_over_word s n
-  -- so where objects lie in segments of their pools, each word of an object is condemned where its pool is automatic
+  -- so where objects lie in segments of their pools, each word of an object is condemned if its pool is automatic
   pub objects : (objects : List Object) (addresses : List (Option Address))
       → ((id k : ℕ) (o : Object) (n : Word) → Lies objects addresses id k o n → pool_over_word s n ≡ Some o.pool) → (id k : ℕ)
       (o : Object) (n : Word) → Lies objects addresses id k o n → is_condemned_word after n ≡ is_automatic formats o.pool

@@ -48,7 +48,7 @@ AFlipEndsReservations F =
     → AreCovered x.segs blocks (open_runs points.flips points.points) → BeginApart blocks (open_runs points.flips points.points)
     → AreCovered (at_flip formats points x).segs blocks []
 
--- where runs stand before a flip, what is covered ascends without overlap, and the reservations in words are those of points that no flip
+-- if runs stand before a flip, what is covered ascends without overlap, and the reservations in words are those of points that no flip
 -- ended, in whatever order these are, runs stand after it
 abbrev pub AFlipLeavesRuns : (F : Type 0) → Type 0
 AFlipLeavesRuns F =

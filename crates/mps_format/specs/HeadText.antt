@@ -1,4 +1,4 @@
--- Heads as texts: `f:SIZE:REFERENCES`, `m:SIZE:MASK` and `l:SIZE`, with decimal numbers, and the words that they stand for.
+-- Heads as texts: `f:SIZE:REFERENCES`, `m:SIZE:MASK` and `l:SIZE`, with decimal numbers, and the words that they represent.
 use Rattle.std.specs.Prelude.{◌≡◌, ℕ, Bool, ◌%◌, ◌^◌, ◌<◌, ◌==◌, nat_lt, nat_le, ◌&&◌, if◌then◌else◌, List, ◌∷◌, ◌++◌, codes, decimal, Option, Some, None, refl}
 use Rattle.std.proofs.Common.{lit<, lit≤}
 use Rattle.std.proofs.lemmas.Fmt.{decimal_digit, decimal_step}
@@ -31,7 +31,7 @@ IsInWords (Front size references) = (size < 2 ^ 64) × (references < 2 ^ 64)
 IsInWords (Mapped size mask) = (size < 2 ^ 64) × (mask < 2 ^ 64)
 IsInWords (Leaf size) = size < 2 ^ 64
 
--- ---- the word that a head stands for: 0, which is no head, where its numbers break the rules of its format
+-- ---- the word that a head represents: 0, which is no head, if its numbers break the rules of its format
 abbrev pub front_word : ℕ → ℕ → ℕ
 front_word size references =
     if nat_le 2 size && (nat_le size 65536 && nat_lt references size) then head_word 1 size references else 0

@@ -1,11 +1,11 @@
--- The format `mapped`: the tag of a head is 2, and cell k is a reference where bit k of its extra number is 1.
+-- The format `mapped`: the tag of a head is 2, and cell k is a reference if bit k of its extra number is 1.
 use Rattle.std.specs.Prelude.{◌≡◌, ℕ, ◌%◌, ◌^◌, Bool, true, false, ◌&&◌, ◌==◌, nat_lt, nat_le, refl}
 use Rattle.std.specs.Int.{bit_at}
 use Rattle.mps_format.specs.Layout.{Layout}
 use Rattle.mps_format.specs.Fields.{tag_field, size_field, extra_field, forwarded_word, pad_word}
 use Rattle.mps_format.specs.References.{target_of, with_target}
 
--- the size is 2 to 32, cell 0 is no reference, and no bit stands for a cell past the block
+-- the size is 2 to 32, cell 0 is no reference, and no bit represents a cell past the block
 abbrev pub is_mapped : ℕ → Bool
 is_mapped h =
     tag_field h == 2 && (nat_le 2 (size_field h) && (nat_le (size_field h) 32

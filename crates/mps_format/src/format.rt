@@ -47,7 +47,7 @@ pub trait Format: Copy {
         ensures forwarded { BeginsForwarded (layout self.now) block.new (length block.old) }
         ensures target { slice_index block.new 1 ≡ to.0 };
 
-    /// The target of the forwarded block that begins `mem`, or None exactly where no forwarded block begins it.
+    /// The target of the forwarded block that begins `mem`, or None exactly if no forwarded block begins it.
     fn forwarded(&self, mem: &[u64]) -> Option<Addr>
         ensures complete { (size : ℕ) → BeginsForwarded (layout self.now) mem.now size
             → result ≡ Some (record { 0 = slice_index mem.now 1 }) }

@@ -27,7 +27,7 @@ impl Head {
     /// The most bytes that a head text has.
     pub const MAX_TEXT_BYTES: usize = 43;
 
-    /// The head whose text this is, or None where it is no head text.
+    /// The head whose text this is, or None if it is no head text.
     pub fn parse(text: &[u8]) -> Option<Head>
         ensures sound { IfSome result (λ h. text.now ≡ text_of h) }
         ensures complete { (h : Head) → IsInWords h → text.now ≡ text_of h → result ≡ Some h }
@@ -44,7 +44,7 @@ impl Head {
         }
     }
 
-    /// The head word, or 0, which is no head, where the numbers break the rules of the format.
+    /// The head word, or 0, which is no head, if the numbers break the rules of the format.
     pub fn word(&self) -> u64
         ensures { result ≡ word_of self.now }
     {
@@ -55,7 +55,7 @@ impl Head {
         }
     }
 
-    /// The head that the word is, or None exactly where no format accepts it.
+    /// The head that the word is, or None exactly if no format accepts it.
     pub fn of_word(word: u64) -> Option<Head>
         ensures { result ≡ head_of_word word }
     {

@@ -8,7 +8,7 @@ use std::alloc::Global;
 use std::process::Abort;
 use std::test::Fail;
 
-/// The first reference from a cell on, where the format accepts the head.
+/// The first reference from a cell on, if the format accepts the head.
 fn first_reference<F: Format>(format: &F, head: u64, from: u32) -> Option<u32> {
     if format.accepts(head) {
         format.ref_from(head, from)

@@ -111,7 +111,7 @@ fn forward_and_skip<F: Format>(format: &F, block: &mut [u64], to: Addr) -> u32
     format.skip(block)
 }
 
-/// The words of a head, or 0 where the format doesn't accept it.
+/// The words of a head, or 0 if the format doesn't accept it.
 fn size_of<F: Format>(format: &F, head: u64) -> u32 {
     if format.accepts(head) {
         format.words(head)
@@ -147,7 +147,7 @@ fn check_moved<F: Format>(rt: &impl Abort, format: &F, block: &mut [u64])
     assert_eq!(rt; size_of(format, block[0]), 0);
 }
 
-/// The format accepts the head with this size and these references, or, where the size is 0, doesn't accept it.
+/// The format accepts the head with this size and these references, or, if the size is 0, doesn't accept it.
 fn check_head<F: Format>(
     rt: &impl Abort,
     format: &F,
@@ -174,7 +174,7 @@ fn memory(alloc: Global) -> Result<Vec<u64>, Fail>
     Ok(vec![in alloc; 0; 65_536]?)
 }
 
-/// A format's number, a head, its size or 0 where it is none, and its references.
+/// A format's number, a head, its size or 0 if it is none, and its references.
 const HEADS: [(u32, u64, u32, u64); 21] = [
     (1, 0x1_0000_0301, 3, 0b10),
     (1, 0x201, 2, 0),
@@ -215,7 +215,7 @@ fn heads_of_each_format(rt: HostRuntime) -> Result<(), Fail> {
     Ok(())
 }
 
-/// A head of 3 words with this tag is one of each format exactly where the tag is that format's.
+/// A head of 3 words with this tag is one of each format exactly if the tag is that format's.
 fn check_tag(rt: &impl Abort, memory: &mut [u64], tag: u64)
     requires fits { 65536 ≤ length memory.old }
     requires byte { tag < 256 }
@@ -283,7 +283,7 @@ fn words_of_forwarded_blocks_pads_and_references(rt: HostRuntime) {
     assert_eq!(rt; Mapped.retarget(0x2005, Addr(0)), 5);
 }
 
-/// A text, and the word that it stands for.
+/// A text, and the word that it represents.
 const HEAD_TEXTS: [(&[u8], u64); 9] = [
     (b"f:3:1", 4_294_968_065),
     (b"f:2:0", 0x201),
@@ -319,7 +319,7 @@ fn check_text(rt: &impl Abort, head: &Head, text: &[u8]) {
     assert_eq!(rt; out.get(..length), Some(text));
 }
 
-/// The word of a head has this text, where it is one.
+/// The word of a head has this text, if it is one.
 fn check_text_of_word(rt: &impl Abort, word: u64, text: &[u8]) {
     let mut out = [0; Head::MAX_TEXT_BYTES];
     if word != 0 {
@@ -328,7 +328,7 @@ fn check_text_of_word(rt: &impl Abort, word: u64, text: &[u8]) {
     }
 }
 
-/// A text is read as a head that stands for this word, and printed again.
+/// A text is read as a head that represents this word, and printed again.
 fn check_head_text(rt: &impl Abort, text: &[u8], word: u64) {
     let head = Head::parse(text).expect(rt, "a head text");
     assert_eq!(rt; head.word(), word);

@@ -48,8 +48,8 @@ impl FreeWords {
         self.words[index]
     }
 
-    /// From now on `words` words are free at an index. The greatest number of its group is looked for only where one that was above half of
-    /// the bound falls to half of it or less: so a row of blocks in one segment costs few searches, and a bound is less than twice the
+    /// From now on `words` words are free at an index. The greatest number of its group is looked for only if one that was above half of
+    /// the bound falls to half of it or less: so a sequence of blocks in one segment costs few searches, and a bound is less than twice the
     /// greatest number.
     #[inline(always)]
     pub fn set(&mut self, index: usize, words: u32)
@@ -67,7 +67,7 @@ impl FreeWords {
         }
     }
 
-    /// The lowest index from `from` on at which at least `words` words are free. Where no index of a group has enough, the whole group
+    /// The lowest index from `from` on at which at least `words` words are free. If no index of a group has enough, the whole group
     /// is one step.
     pub fn lowest_with(&self, words: u32, from: usize) -> Option<usize>
         ensures sound { IfSome result (λ index. IsLowestWith words from index self.now) }

@@ -13,7 +13,7 @@ max_generations = 8
 abbrev pub max_pools : ℕ
 max_pools = 64
 
--- The capacities of the generations of each chain, in grains, and the chain of each pool, where it is on one. Both stand in the
+-- The capacities of the generations of each chain, in grains, and the chain of each pool, if it is on one. Both stand in the
 -- order of making, so that a chain and a pool are known by their numbers.
 pub record ChainsState : Type 0 where
   pub chains : List (List ℕ)
@@ -22,21 +22,21 @@ pub record ChainsState : Type 0 where
 abbrev pub no_chains : ChainsState
 no_chains = record { chains = []; of_pool = [] }
 
--- the chain of a pool, where it is on one
+-- the chain of a pool, if it is on one
 abbrev pub chain_of : ChainsState → (pool : ℕ) → Option ℕ
 chain_of c pool = option_and_then (λ chain. chain) (slice_get c.of_pool pool)
 
--- how many generations the chain of a pool has, where it is on one
+-- how many generations the chain of a pool has, if it is on one
 abbrev pub generations_of : ChainsState → (pool : ℕ) → Option ℕ
 generations_of c pool = option_map length (option_and_then (slice_get c.chains) (chain_of c pool))
 
--- what the chains hold, where `held` has the grains of each generation of each chain
+-- what the chains hold, if `held` has the grains of each generation of each chain
 abbrev pub loads : (chains held : List (List ℕ)) → List Load
 loads [] held = []
 loads (capacities ∷ cs) [] = []
 loads (capacities ∷ cs) (grains ∷ hs) = record { capacities = capacities; held = grains } ∷ loads cs hs
 
--- the generation that is due, where the generations of the chains hold these grains
+-- the generation that is due, if the generations of the chains hold these grains
 abbrev pub due_in : ChainsState → (held : List (List ℕ)) → Option Due
 due_in c held = due_generation (loads c.chains held)
 

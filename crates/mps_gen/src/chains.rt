@@ -58,7 +58,7 @@ impl Chains {
         }
     }
 
-    /// Makes a chain whose generations have these capacities, in grains, and returns its number. Refuses `TooMany` where there are 16.
+    /// Makes a chain whose generations have these capacities, in grains, and returns its number. Refuses `TooMany` if there are 16.
     pub fn chain(&mut self, capacities: &[u32]) -> Result<u32, Refusal>
         requires nonempty { 0 < length capacities.now }
         requires at_most { length capacities.now ≤ max_generations }
@@ -92,7 +92,7 @@ impl Chains {
         number as u32
     }
 
-    /// The chain of a pool, where it is on one.
+    /// The chain of a pool, if it is on one.
     pub fn chain_of(&self, pool: u32) -> Option<u32>
         requires { pool < length self.now.of_pool }
         ensures { result ≡ chain_of self.now pool }
@@ -100,7 +100,7 @@ impl Chains {
         self.of_pool[pool as usize]
     }
 
-    /// How many generations the chain of a pool has, where it is on one.
+    /// How many generations the chain of a pool has, if it is on one.
     pub fn generations_of(&self, pool: u32) -> Option<u32>
         requires { pool < length self.now.of_pool }
         ensures value { result ≡ generations_of self.now pool }

@@ -13,7 +13,7 @@ use Rattle.mps_outcome.specs.State.{HeapState}
 use Rattle.mps_refinement.specs.StandsFor.{StandsFor}
 use Rattle.mps_refinement.specs.Storing.{AreRight, stores}
 
--- the words of the manual block in a place of a world, where there is one
+-- the words of the manual block in a place of a world, if there is one
 abbrev pub words_of_block : World → (place : Slot) → Checked (List ℕ)
 words_of_block w place = do
   from ← block_place_in w place
@@ -24,7 +24,7 @@ words_of_block w place = do
 abbrev pub is_leaf_pool : World → (number : ℕ) → Bool
 is_leaf_pool w number = option_map_or (λ (p : Pool). is_leaf_kind p.kind) (pool_at w number) false
 
--- the words after the head of the object in a slot of a world, where it is of a leaf pool
+-- the words after the head of the object in a slot of a world, if it is of a leaf pool
 abbrev pub words_of_leaf : World → (slot : Slot) → Checked (List ℕ)
 words_of_leaf w slot = do
   from ← slot_in w slot
@@ -33,13 +33,13 @@ words_of_leaf w slot = do
   Ok (drop 1 (image_of w object.number))
 
 module _ {F : Type 0} (layout : F → Layout) (h : HeapState F) where
-  -- in each world for which the heap stands, this comes to that
+  -- in each world that the heap represents, this has that outcome
   abbrev pub ComesToWords : (World → Checked (List ℕ)) → Checked (List ℕ) → Type 0
   ComesToWords words found = (w : World) → StandsFor layout h w → words w ≡ found
 
 module _ {F : Type 0} (layout : F → Layout) (h : HeapState F) (place : Slot) where
   -- these words of a block were borrowed and as many others left in them: in each world for which the heap stood, a store of each of these,
-  -- from word 0 of the block on, is legal, and the heap stands for the world after them
+  -- from word 0 of the block on, is legal, and the heap represents the world after them
   pub record AreStored (words left : List ℕ) (after : HeapState F) : Type 0 where
     pub borrowed : ComesToWords layout h (λ w. words_of_block w place) (Ok words)
     pub count : length left ≡ length words

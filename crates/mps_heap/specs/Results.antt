@@ -1,4 +1,4 @@
--- What is told of a result.
+-- What is said of a result.
 use Rattle.std.specs.Prelude.{ℕ, Result, Ok, Err}
 use Rattle.mps_base.specs.declared.refusal.Refusal.{Refusal}
 

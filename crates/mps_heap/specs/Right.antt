@@ -6,7 +6,7 @@ use Rattle.mps_outcome.specs.State.{HeapState}
 use Rattle.mps_refinement.specs.NewHeap.{arena_step}
 use Rattle.mps_refinement.specs.RightStep.{IsRightIn}
 
--- the heap of a new arena stands for the world that `arena` leaves, whatever the numbers of formats mean, as long as each meaning is lawful
+-- the heap of a new arena represents the world that `arena` leaves, whatever the numbers of formats mean, as long as each meaning is lawful
 abbrev pub IsNewHeap : {F : Type 0} → (layout : F → Layout) → (grains limit : ℕ) → HeapState F → Type 0
 IsNewHeap layout grains limit h =
     (formats : ℕ → Layout) → ((number : ℕ) → IsLawful (formats number)) → (line : ℕ)

@@ -22,8 +22,8 @@ use mps_state::State;
 use std::alloc::{AllocError, Global};
 use std::marker::Model;
 
-/// A heap, generic in the format of its objects. It stands for a world of the model, and after each call for the world after that call.
-/// It can't be let go but by `finish`, which ends its open reservations.
+/// A heap, generic in the format of its objects. It represents a world of the model, and after each call the world after that call.
+/// It must be consumed by `finish`, which ends its open reservations.
 pub struct Heap<F: Format> {
     state: State<F>,
 }
@@ -51,7 +51,7 @@ impl<F: Format> Heap<F> {
         Ok(Heap { state })
     }
 
-    /// The word of a number, which is its address divided by 8; none where the arena has no such word.
+    /// The word of a number, which is its address divided by 8; none if the arena has no such word.
     pub fn word(&self, number: usize) -> Option<u64>
         ensures { result ≡ slice_get self.now.segs.words number }
     {

@@ -66,7 +66,7 @@ pub fn pop(heap: &mut Heap<Tail>) -> Result<(), Refusal> {
     heap.get(first(), first(), NEXT)
 }
 
-/// Collects all that was dropped, where that can be done, with a trail that has room for it. Returns whether it was done.
+/// Collects all that was dropped, if that can be done, with a trail that has room for it. Returns whether it was done.
 pub fn collect(alloc: Global, heap: &mut Heap<Tail>) -> Result<bool, AllocError> {
     if !heap.can_collect() {
         return Ok(false);

@@ -1,4 +1,4 @@
--- The words that are at hand: those of the tails of copying pools and of the buffers of points, while a collection runs.
+-- The free words of the tails of copying pools and of the buffers of points, while a collection runs.
 use Rattle.std.specs.Prelude.{◌≡◌, ◌≢◌, ℕ, ◌+◌, ◌<◌, false, ◌&&◌, nat_le, nat_lt, if◌then◌else◌, Option, Some, None, List, [], ◌∷◌, refl}
 use Rattle.mps_base.specs.Address.{Address, Word}
 use Rattle.mps_base.specs.Run.{end_of}
@@ -6,19 +6,19 @@ use Rattle.mps_model.specs.Graph.{Object, Reservation}
 use Rattle.mps_model.specs.World.{Tail}
 use Rattle.mps_image.specs.Memory.{Setting, Lies, LiesReserved}
 
--- the pool for which a word is at hand, and the number of the tail or buffer to which it belongs
+-- the pool for which a word is free, and the number of the tail or buffer to which it belongs
 pub record Hand : Type 0 where
   pub pool : ℕ
   pub number : ℕ
 
--- what is at hand in tails: the first that covers the word
+-- the free words of tails: the first tail that covers the word
 abbrev pub hand_in_tails : List Tail → Word → Option Hand
 hand_in_tails [] n = None
 hand_in_tails (t ∷ ts) n =
     if nat_le t.words.from n && nat_lt n (end_of t.words) then Some
     (record { pool = t.pool; number = t.generation }) else hand_in_tails ts n
 
--- words at hand lie in segments of their pool that aren't condemned, and nothing lies there. Else a copy could be put where a
+-- free words of both lie in segments of their pool that aren't condemned, and nothing lies there. Else a copy could be put where a
 -- block was that has moved, which nothing covers
 pub record HandsStand (s : Setting) (hand : Word → Option Hand) (addresses : List (Option Address)) : Type 0 where
   pub within : (n : Word) (p : Hand) → hand n ≡ Some p → n < s.size
@@ -28,7 +28,7 @@ pub record HandsStand (s : Setting) (hand : Word → Option Hand) (addresses : L
   pub unreserved : (n : Word) (p : Hand) (point l : ℕ) (r : Reservation) → hand n ≡ Some p
       → LiesReserved s.points s.point_memories point l r n → ⊥
 
--- n words at hand were taken for a block
+-- n free words were taken for a block
 pub record AreTaken (hand hand' : Word → Option Hand) (from : Word) (size : ℕ) : Type 0 where
   pub was : (n : Word) (p : Hand) → hand' n ≡ Some p → hand n ≡ Some p
   pub gone : (n k : ℕ) (p : Hand) → hand' n ≡ Some p → k < size → n ≢ from + k

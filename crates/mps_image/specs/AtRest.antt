@@ -10,7 +10,7 @@ use Rattle.mps_seg.specs.Segs.{SegsState}
 use Rattle.mps_image.specs.Memory.{Lies, all_cells, memory_in, setting_at_rest, pool_layout}
 use Rattle.mps_image.specs.Image.{IsCellWord, Stands, no_colours}
 
--- each word of a live object is that of its cell, and no address of a flip is left
+-- each word of a live object encodes its cell, using current addresses only
 abbrev pub CellsHold : List Object → List (Option Address) → List ℕ → Type 0
 CellsHold objects addresses words =
     (id i : ℕ) (o : Object) (n : Word) (c : Cell) → Lies objects addresses id i o n → slice_get (all_cells o.body) i ≡ Some c
@@ -32,18 +32,18 @@ pub record AreSelfContained (objects : List Object) (addresses : List (Option Ad
   pub within : (id i : ℕ) (o : Object) (n : Word) → Lies objects addresses id i o n → n < length words
   pub live : AreTargetsLive objects addresses
 
--- where no collection runs, the words of each live object are its image exactly where its cells' words refer to addresses of now
+-- if no collection runs, the words of each live object are its image exactly if its cells' words refer to addresses of now
 abbrev pub RestingWordsAreImages : Type 0
 RestingWordsAreImages =
     (w : World) (words : List ℕ) → AreSelfContained w.graph.objects w.addresses words
     → CellsHold w.graph.objects w.addresses words ↔ HoldsImages w words
 
--- the segments of an arena in which no collection runs stand for a world
+-- the segments of an arena in which no collection runs represent a world
 abbrev pub StandsAtRest : SegsState → World → Type 0
 StandsAtRest s w =
     Stands (setting_at_rest s w.graph.objects w.graph.points w.point_memories (pool_layout w)) (memory_in s) w.addresses no_colours
 
--- so where no collection runs, the words of each live object are its image
+-- so if no collection runs, the words of each live object are its image
 abbrev pub RestingArenaHoldsImages : Type 0
 RestingArenaHoldsImages =
     (s : SegsState) (w : World) → StandsAtRest s w → AreTargetsLive w.graph.objects w.addresses → HoldsImages w s.words

@@ -1,4 +1,4 @@
--- What a flip changes of what the words stand for, and what the last band does.
+-- What a flip changes of what the words represent, and what the last band does.
 use Rattle.std.specs.Prelude.{◌≡◌, Bool, true, false, not, Option, Some, List, [], ◌∷◌, refl}
 use Rattle.mps_base.specs.Address.{Address, Id, Word}
 use Rattle.mps_model.specs.Graph.{Point}

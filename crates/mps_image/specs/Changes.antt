@@ -1,5 +1,5 @@
 -- What a client's call changes, by what it does: a cell is written, an object is made or goes, or reservations change. The memory
--- then stands for the objects as before.
+-- then represents the objects as before.
 use Rattle.std.specs.Prelude.{◌≡◌, ◌≢◌, ◌⊎◌, ℕ, ◌+◌, ◌<◌, Bool, false, IsTrue, Option, Some, None, List, [], ◌∷◌, ◌++◌, length, slice_get, slice_set, slice_index, refl}
 use Rattle.std.proofs.Common.{ap, arith, inl, inr, lit<, ◌∙◌}
 use Rattle.std.proofs.lemmas.Option.{none-some, same_Some}
@@ -100,7 +100,7 @@ pub record IsObjectMade (s : Setting) (m m' : Memory) (addresses : List (Option 
   pub not_white : is_white s.condemned k (length s.objects) ≡ false
   pub not_grey : is_grey k (length s.objects) ≡ false
   pub fresh : entry_at s.at_flip (length s.objects) ≡ None
-  -- its block is marked as kept where it lies in a condemned segment, and no other mark changes
+  -- its block is marked as kept if it lies in a condemned segment, and no other mark changes
   pub mark : is_white_over s.is_condemned_over m'.kept (word_of at) ≡ false
   pub kept_others : (n : Word) → n ≢ word_of at → m'.kept n ≡ m.kept n
   pub grey_same : (n : Word) → m'.grey n ≡ m.grey n

@@ -23,7 +23,7 @@ pub record AreCopied (f : Layout) (words words' : List ℕ) (from to : Address) 
   pub others : (n : Word) → ((k : ℕ) → k < size → n ≢ word_of from + k) → ((k : ℕ) → k < size → n ≢ word_of to + k)
       → slice_index words' n ≡ slice_index words n
 
--- n words at hand for a block of a pool
+-- n free words for a block of a pool
 pub record AreAtHand (s : Setting) (addresses : List (Option Address)) (to : Address) (size pool : ℕ) : Type 0 where
   pub address : IsAddress to
   pub within : word_of to + size ≤ s.size
@@ -123,7 +123,7 @@ pub data FixWord (s : Setting) (addresses : List (Option Address)) (f : Layout) 
 abbrev pub address_moved : List (Option Address) → Id → (to : Address) → List (Option Address)
 address_moved addresses id to = slice_set addresses id (Some to)
 
--- what happens to addresses and colours where a reference to null or to an object is fixed
+-- what happens to addresses and colours if a reference to null or to an object is fixed
 pub data FixesOne (condemned : List Id) (addresses : List (Option Address)) (k : Colours) : Option Id → List (Option Address) → Colours
     → Type 0
   where

@@ -1,4 +1,4 @@
--- When the words, marks and runs of an arena stand for objects, at rest and while a collection moves blocks: in five parts, over
+-- When the words, marks and runs of an arena represent objects, at rest and while a collection moves blocks: in five parts, over
 -- what each needs.
 use Rattle.std.specs.Prelude.{◌≡◌, ◌≢◌, ◌⊎◌, ℕ, ◌+◌, ◌%◌, ◌^◌, ◌<◌, ◌≤◌, Bool, true, false, not, ◌&&◌, ◌||◌, ◌==◌, IsTrue, Option, Some, None, List, [], ◌∷◌, ◌++◌, slice_get, slice_index, length, drop, refl}
 use Rattle.std.proofs.Common.{arith, inl, inr}
@@ -146,7 +146,7 @@ pub record RunsStand (s : Setting) (m : Memory) (addresses : List (Option Addres
 
 -- ---- all of it
 
--- the memory of an arena stands for objects with these addresses and colours, of whose cells these are fixed
+-- the memory of an arena represents objects with these addresses and colours, of whose cells these are fixed
 pub record ImageStands (s : Setting) (m : Memory) (addresses : List (Option Address)) (k : Colours) (done : CellSet) : Type 0 where
   pub placed : LieApart s addresses
   pub words : WordsStand s m.words addresses
@@ -154,11 +154,11 @@ pub record ImageStands (s : Setting) (m : Memory) (addresses : List (Option Addr
   pub marks : MarksStand s m.kept m.grey addresses k
   pub runs : RunsStand s m addresses
 
--- no colours, where no collection runs
+-- no colours, if no collection runs
 abbrev pub no_colours : Colours
 no_colours = record { kept = []; grey = [] }
 
--- between two calls: the cells of black objects are fixed. Where no collection runs all objects are black
+-- between two calls: the cells of black objects are fixed. If no collection runs all objects are black
 abbrev pub Stands : Setting → Memory → List (Option Address) → Colours → Type 0
 Stands s m addresses k = ImageStands s m addresses k (black_cells s.condemned k)
 

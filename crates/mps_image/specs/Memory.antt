@@ -1,4 +1,4 @@
--- What the words of an arena stand for, and what the arena has of them: its words, its marks by word, and its runs.
+-- What the words of an arena represent, and what the arena has of them: its words, its marks by word, and its runs.
 use Rattle.std.specs.Prelude.{◌≡◌, ℕ, ◌+◌, ◌*◌, ◌<◌, Bool, true, false, ◌||◌, if◌then◌else◌, Option, Some, None, option_map, option_and_then, List, [], ◌∷◌, map, length, slice_get, refl}
 use Rattle.std.specs.Option.{option_map_or}
 use Rattle.mps_base.specs.Address.{Address, Id, Word, word_of, address_of_word, words_of_grain}
@@ -12,7 +12,7 @@ use Rattle.mps_seg.specs.Collecting.{is_condemned_at, condemning, keeping, greyi
 use Rattle.mps_model.specs.Graph.{Cell, HeadCell, NumberCell, Body, Automatic, Manual, Object, Point, Reservation, entry_at, size_of, is_live_reservation}
 use Rattle.mps_model.specs.World.{World, PointMemory, pool_at}
 
--- ---- what the words stand for
+-- ---- what the words represent
 
 -- what a collector's fixes leave as it is
 pub record Setting : Type 0 where
@@ -21,7 +21,7 @@ pub record Setting : Type 0 where
   pub point_memories : List PointMemory
   -- the format of each pool's blocks
   pub layout : (pool : ℕ) → Layout
-  -- the address that each object had at the flip; none where no collection runs, and once blocks are freed
+  -- the address that each object had at the flip; none if no collection runs, and once blocks are freed
   pub at_flip : List (Option Address)
   -- the objects that the flip condemned
   pub condemned : List Id
@@ -86,7 +86,7 @@ setting_in s objects points memories layout at_flip condemned is_read = record {
   is_condemned_over = is_condemned_word s;
 }
 
--- the setting where no collection runs
+-- the setting if no collection runs
 abbrev pub setting_at_rest : SegsState → List Object → List (Option Point) → List PointMemory → (layout : ℕ → Layout) → Setting
 setting_at_rest s objects points memories layout = setting_in s objects points memories layout [] [] (λ id. true)
 

@@ -15,7 +15,7 @@ use Rattle.mps_image.specs.Fixing.{FixWord, FixesOne}
 abbrev pub setting_with_pools : Setting → (Word → Option ℕ) → Setting
 setting_with_pools s pools = record s { pool_over = pools }
 
--- where a segment is held, it still is
+-- if a segment is held, it still is
 abbrev pub HoldsMore : (pools more : Word → Option ℕ) → Type 0
 HoldsMore pools more = (n : Word) (pool : ℕ) → pools n ≡ Some pool → more n ≡ Some pool
 

@@ -4,7 +4,7 @@ use Rattle.std.proofs.Common.{◌≡◌, Bool, true, false, refl, subst, Option,
 use Rattle.mps_base.specs.declared.refusal.Refusal.{Refusal}
 use Rattle.mps_model.specs.Checked.{Checked, ◌>>=◌, ◌>>◌, required, refuse_when}
 
--- both come to something, and the two fit together; or both are refused, and alike
+-- both succeed with related values, or both fail with the same refusal
 pub data Same {A B : Type 0} (Fits : A → B → Type 0) : Checked A → Checked B → Type 0 where
   fits : {a : A} {b : B} → Fits a b → Same Fits (Ok a) (Ok b)
   refused : {why : Refusal} → Same Fits (Err why) (Err why)

@@ -64,7 +64,7 @@ abbrev pub blocks_of_dependency : (formats : ℕ → Layout) → History → Nam
 blocks_of_dependency formats history name =
     blocks_named (reached formats history) name (blocks_after_steps (empty_world_of formats) history [])
 
--- Where `ldstale` answers `no`, each block on which the dependency depends lies at the address beside it, unless it is live no more.
+-- If `ldstale` answers `no`, each block on which the dependency depends lies at the address beside it, unless it is live no more.
 abbrev pub FreshDependenciesHold : Type 0
 FreshDependenciesHold =
     (formats : ℕ → Layout) (steps later : History) (s : Step) (name : Name) → IsLegalHistoryOf formats (steps ++ s ∷ later)

@@ -15,7 +15,7 @@ use Rattle.mps_laws.specs.Replay.{reached}
 use Rattle.mps_model.specs.History.{IsLegalHistoryOf, HeldAreLive, world_after}
 
 -- After each step of a legal history: whatever stands in a slot, a hold, a message, a live reservation or a table of blocks is
--- live, and where no collection runs, so is whatever a live object refers to.
+-- live, and if no collection runs, so is whatever a live object refers to.
 abbrev pub HeldObjectsAreLive : Type 0
 HeldObjectsAreLive =
     (formats : ℕ → Layout) (steps later : History) → IsLegalHistoryOf formats (steps ++ later)
@@ -27,7 +27,7 @@ abbrev pub target_found : Checked (Found (Option ℕ)) → Option ℕ
 target_found (Ok found) = found.value
 target_found (Err why) = None
 
--- the object to which a slot refers. There is none where the slot is null, and where there is no such slot
+-- the object to which a slot refers. There is none if the slot is null, and if there is no such slot
 abbrev pub target_of_slot : World → Slot → Option ℕ
 target_of_slot w slot = target_found (slot_in w slot)
 

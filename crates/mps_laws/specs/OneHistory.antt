@@ -27,7 +27,7 @@ lines_of history = map (λ (s : Step). s.line) history
 abbrev pub is_line_by_line : History → Bool
 is_line_by_line history = is_ascending 0 (lines_of history)
 
--- two histories of the same commands and answers, each command on its line, are one where their logs are
+-- two histories of the same commands and answers, each command on its line, are one if their logs are
 abbrev pub LogTellsOneHistory : Type 0
 LogTellsOneHistory =
     (these those : History) → IsTrue (is_line_by_line these) → answered_commands these ≡ answered_commands those

@@ -32,7 +32,7 @@ abbrev pub IsThereWhileLive : World → (id : Id) → (at : Address) → Type 0
 IsThereWhileLive w id at = (address_of w id ≡ Some at) ⊎ (address_of w id ≡ None)
 
 -- What stands in a slot, a hold, a message or a live reservation at the end of a step stays where it is, for as long as it lives,
--- up to the next step that has a flip: also where the client drops it meanwhile, and a collection runs.
+-- up to the next step that has a flip: also if the client drops it meanwhile, and a collection runs.
 abbrev pub HeldBlocksStay : Type 0
 HeldBlocksStay =
     (formats : ℕ → Layout) (steps between later : History) (id : Id) (at : Address) → IsLegalHistoryOf formats ((steps ++ between) ++ later)

@@ -1,4 +1,4 @@
--- Worlds that legal histories reach are well-formed, where the arena is made once.
+-- Worlds that legal histories reach are well-formed, if the arena is made once.
 use Rattle.std.specs.Prelude.{◌≡◌, ℕ, Bool, true, false, not, IsTrue, List, [], ◌∷◌, replicate, refl}
 use Rattle.std.specs.List.{list_any}
 use Rattle.mps_base.specs.declared.address.Addr.{Addr}
@@ -25,7 +25,7 @@ abbrev pub is_arena_made_once : History → Bool
 is_arena_made_once [] = true
 is_arena_made_once (s ∷ ss) = not (list_any (λ (later : Step). makes_arena later.call) ss)
 
--- each world that a legal history reaches is well-formed, where the arena is made once
+-- each world that a legal history reaches is well-formed, if the arena is made once
 abbrev pub ReachedWorldsAreWellFormed : Type 0
 ReachedWorldsAreWellFormed =
     (formats : ℕ → Layout) (history : History) → IsTrue (is_arena_made_once history) → IsLegalHistoryOf formats history

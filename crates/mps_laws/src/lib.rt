@@ -1,5 +1,5 @@
-//! What is true of every history: laws of the definitions of `mps_model`. Each function does nothing; what it shows is its
-//! contract.
+//! What is true of every history: laws of the definitions of `mps_model`. Each function is a theorem: its
+//! contract is the statement.
 #![tactic(auto)]
 
 ghost use Rattle.mps_laws.specs.OneHistory.{LogTellsOneHistory};
@@ -23,19 +23,19 @@ pub fn a_log_replays_to_the_live_blocks()
 {}
 
 /// What a client holds is live, after each step: whatever stands in a slot, a hold of an area word, a message, a live
-/// reservation or a table of blocks; and where no collection runs, whatever a live object refers to.
+/// reservation or a table of blocks; and if no collection runs, whatever a live object refers to.
 pub fn held_objects_are_live()
     ensures { HeldObjectsAreLive }
 {}
 
-/// A `get` never reaches a freed block: where it is accepted the object that it reads is live, and its target slot is then
+/// A `get` never reaches a freed block: if it is accepted the object that it reads is live, and its target slot is then
 /// null or refers to a live object, the one in the cell.
 pub fn gets_reach_live_objects()
     ensures { GetsReachLiveObjects }
 {}
 
 /// What stands in a slot, a hold of an area word, a message or a live reservation at the end of a step stays where it is, for as
-/// long as it lives, up to the next step that has a flip: also while a collection runs, and where the client drops it meanwhile.
+/// long as it lives, up to the next step that has a flip: also while a collection runs, and if the client drops it meanwhile.
 /// What it holds at both ends lives, so it lies where it lay.
 pub fn held_blocks_stay()
     ensures while_live { HeldBlocksStay }
@@ -48,7 +48,7 @@ pub fn addresses_stay_right()
     ensures { AddressesStayRight }
 {}
 
-/// Where `ldstale` answers `no`, each block on which the dependency depends lies at the address where it was when it was added,
+/// If `ldstale` answers `no`, each block on which the dependency depends lies at the address where it was when it was added,
 /// unless it is live no more.
 pub fn fresh_dependencies_hold()
     ensures { FreshDependenciesHold }
@@ -60,7 +60,7 @@ pub fn a_step_flips_once_at_most()
     ensures history { FlipsAreNoMoreThanSteps }
 {}
 
-/// Each world that a legal history reaches is well-formed, where no command but the first makes an arena, as in any script:
+/// Each world that a legal history reaches is well-formed, if no command but the first makes an arena, as in any script:
 /// objects have the cells of their formats, whatever lies in the arena lies apart in held segments of its pool, and what the
 /// client holds is of the right kind. The premise is needed: in a legal history that makes the arena again, a segment lies
 /// outside the arena that it leaves.

@@ -1,4 +1,4 @@
--- Which flips epochs stand for.
+-- Which flips epochs represent.
 use Rattle.std.specs.Prelude.{ℕ, ◌≡◌, bit_or, List, [], ◌∷◌, length, drop, refl}
 use Rattle.mps_ld.specs.State.{EpochsState, flipped, no_flips}
 
@@ -11,7 +11,7 @@ all_zones (zones ∷ more) = bit_or zones (all_zones more)
 abbrev pub last_four : List ℕ → List ℕ
 last_four flips = drop (length flips) (0 ∷ 0 ∷ 0 ∷ 0 ∷ flips)
 
--- Epochs stand for each list of flips, each flip by its zones and the first one first, of which they keep the length, the last four
+-- Epochs represent each list of flips, each flip by its zones and the first one first, of which they keep the length, the last four
 -- and the union.
 pub record AreFlips (e : EpochsState) (flips : List ℕ) : Type 0 where
   pub count : e.count ≡ length flips

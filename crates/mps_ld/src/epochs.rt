@@ -62,7 +62,7 @@ impl Epochs {
         self.count += 1;
     }
 
-    /// Whether a flip that counts for an epoch may have moved what lies in these zones. Those since the epoch count, where they are four
+    /// Whether a flip that counts for an epoch may have moved what lies in these zones. Those since the epoch count, if they are four
     /// at most; else all.
     pub(crate) fn meets_since(&self, epoch: u64, zones: u64) -> bool
         ensures { (flips : List ℕ) → AreFlips self.now flips

@@ -1,4 +1,4 @@
-// Each call once, beside the list of all flips.
+// Each call once, compared with the list of all flips.
 use crate::{Epochs, Ld};
 use mps_base::{Addr, ZoneSet};
 

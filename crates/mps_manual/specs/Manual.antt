@@ -39,7 +39,7 @@ allocated s pool words at = record s {
   words = cleared_words s.words (word_of at.0) words;
 }
 
--- a new segment, where the placement is one, and then the block
+-- a new segment, if the placement is one, and then the block
 abbrev pub moves_allocated : SegsState → Moves → (pool words : ℕ) → Addr → Moves
 moves_allocated s moves pool words at = with_move (moves_after (placement_in_gaps s pool Exact words) pool 0 moves) (Alloc at words pool)
 
@@ -60,7 +60,7 @@ is_none (r ∷ rs) = false
 abbrev pub is_unused : (covered : List Run) → Segment → Bool
 is_unused covered s = is_none (runs_within (word_of s.base) (word_of (end_of_segment s)) covered)
 
--- a segment is given back where nothing is left in it
+-- a segment is given back if nothing is left in it
 abbrev pub given_back : SegsState → Option Segment → SegsState
 given_back s None = s
 given_back s (Some t) = if is_unused s.covered t then record s { segments = without_segment s.segments t.base } else s
@@ -70,7 +70,7 @@ moves_given_back covered None moves = moves
 moves_given_back covered (Some t) moves =
     if is_unused covered t then with_move moves (Unseg (record { 0 = t.base })) else moves
 
--- a block is freed; a segment of a pool of any sizes is given back where nothing is left in it
+-- a block is freed; a segment of a pool of any sizes is given back if nothing is left in it
 abbrev pub freed : (size : ℕ) → SegsState → Address → SegsState
 freed size s at =
     if size == any_size then given_back (block_removed s at) (segment_over s.segments at)

@@ -53,7 +53,7 @@ impl Manual {
         self.sizes.len()
     }
 
-    /// Whether the pool with a number has blocks of `words` words; None where no pool has the number.
+    /// Whether the pool with a number has blocks of `words` words; None if no pool has the number.
     pub fn takes(&self, pool: u32, words: u64) -> Option<bool>
         ensures { result ≡ option_map (λ size. has_blocks_of size words) (slice_get self.now pool) }
     {
@@ -61,7 +61,7 @@ impl Manual {
         Some(is_allowed(size, words))
     }
 
-    /// One more pool, whose blocks have `size` words, or any sizes where that is 0. A pool that isn't manual takes a number too; its
+    /// One more pool, whose blocks have `size` words, or any sizes if that is 0. A pool that isn't manual takes a number too; its
     /// size is never used.
     pub fn add(&mut self, size: u32) -> Result<(), AllocError>
         ensures { MatchResult result (λ _. self.new ≡ self.old ++ size ∷ []) (λ _. self.new ≡ self.old) }
@@ -80,7 +80,7 @@ impl Manual {
     }
 
     /// Makes a block of `words` words in the lowest gap of the pool that fits, else in a new segment, and returns where it begins. Its
-    /// words are 0. Refuses `BadSize` where the pool has no blocks of this size, and then `CommitLimit` and `NoRun` as
+    /// words are 0. Refuses `BadSize` if the pool has no blocks of this size, and then `CommitLimit` and `NoRun` as
     /// `Segs::take` does.
     pub fn alloc(
         &self,
@@ -130,7 +130,7 @@ impl Manual {
         segs.lend_mut(at, words)
     }
 
-    /// Frees the block that begins at `at`. In a pool of any sizes its segment is given back where nothing is left in it.
+    /// Frees the block that begins at `at`. In a pool of any sizes its segment is given back if nothing is left in it.
     pub fn free(&self, segs: &mut Segs, trail: &mut Trail, pool: u32, at: Addr)
         requires listed { pool < length self.now }
         requires block { (words : ℕ) × Contains segs.old.blocks (record { from = word_of at.0; count = words }) }
@@ -154,7 +154,7 @@ fn is_allowed(size: u32, words: u64) -> bool
     1 <= words && words <= MAX_BLOCK_WORDS && (size == ANY_SIZE || words == u64::from(size))
 }
 
-/// Gives back the segment in which an address lies, where nothing is left in it.
+/// Gives back the segment in which an address lies, if nothing is left in it.
 fn give_empty(segs: &mut Segs, trail: &mut Trail, at: Addr)
     requires { 0 < trail.old.spare }
     ensures state { segs.new ≡ given_back segs.old (segment_over segs.old.segments at.0) }

@@ -68,7 +68,7 @@ fn two_pools(alloc: Global, size: u32) -> Result<Manual, AllocError> {
     Ok(manual)
 }
 
-/// Allocates a block of a pool; BadName where there is no such pool.
+/// Allocates a block of a pool; BadName if there is no such pool.
 fn make_with(
     manual: &Manual,
     segs: &mut Segs,
@@ -96,7 +96,7 @@ fn make(
     make_with(manual, segs, &mut trail, pool, words)
 }
 
-/// Frees the block of a pool that lies over a byte, and returns where it began; None where there is none.
+/// Frees the block of a pool that lies over a byte, and returns where it began; None if there is none.
 fn free_with(manual: &Manual, segs: &mut Segs, trail: &mut Trail, pool: u32, n: u64) -> Option<Addr>
     requires { 1 < trail.old.spare }
 {
@@ -165,7 +165,7 @@ fn make_and_free(
     compare_freed(rt, alloc, manual, segs, 0, 0x101f, &first)
 }
 
-/// Fills the block over a byte with a word, and returns how many words it has; None where there is none.
+/// Fills the block over a byte with a word, and returns how many words it has; None if there is none.
 fn fill_with(segs: &mut Segs, n: u64, word: u64) -> Option<usize> {
     let at = segs.block_at(n)?;
     let words = Manual::lend_mut(segs, at);
@@ -173,7 +173,7 @@ fn fill_with(segs: &mut Segs, n: u64, word: u64) -> Option<usize> {
     Some(words.len())
 }
 
-/// The words of the block over a byte; None where there is none.
+/// The words of the block over a byte; None if there is none.
 fn words_of(segs: &Segs, n: u64) -> Option<&[u64]> {
     let at = segs.block_at(n)?;
     Some(Manual::lend(segs, at))

@@ -112,7 +112,7 @@ impl Marks {
         self.blacken(word);
     }
 
-    /// No block is kept. Its table is gone over only where one was.
+    /// No block is kept. Its table is gone over only if one was.
     #[tactic(auto, using(crate::proofs::Tally::cleared))]
     fn clear_kept(&mut self)
         ensures { self.new ≡ record self.old { kept = replicate (length self.old.kept) false } }
@@ -143,7 +143,7 @@ impl Marks {
         }
     }
 
-    /// The word at which a grey block of a rank begins; None where no block of that rank is grey. Which one it is is open.
+    /// The word at which a grey block of a rank begins; None if no block of that rank is grey. Which one it is is open.
     pub fn next_grey(&mut self, rank: Rank) -> Option<usize>
         ensures unchanged { self.new ≡ self.old }
         ensures sound { IfSome result (λ word. bit (grey_of rank self.old) word ≡ true) }

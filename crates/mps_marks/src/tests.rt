@@ -6,7 +6,7 @@ use mps_base::Rank;
 use std::alloc::AllocError;
 use std::process::Abort;
 
-/// The lowest grey block in a range, None where the table has no such range.
+/// The lowest grey block in a range, None if the table has no such range.
 fn lowest(marks: &Marks, rank: Rank, from: usize, to: usize) -> Option<usize> {
     if to <= marks.words() {
         marks.grey_in(rank, from, to)
@@ -23,7 +23,7 @@ struct Search {
     answer: Option<usize>,
 }
 
-/// What is asked where the blocks at 511 and 51,199 are grey of rank exact, and the block at 600 of rank weak.
+/// What is asked if the blocks at 511 and 51,199 are grey of rank exact, and the block at 600 of rank weak.
 const SEARCHES: [Search; 8] = [
     Search {
         rank: Rank::Exact,

@@ -105,7 +105,7 @@ pub data Poked : Type 0 where
   -- the fate of the object isn't decided yet: as the collector has marked it or not
   AsMarked : Poked
 
--- in a running collection: a number where the block is condemned, not settled, and of a copying pool
+-- in a running collection: a number if the block is condemned, not settled, and of a copying pool
 abbrev pub poked_in : World → (id : Id) → Option Collection → Poked
 poked_in w id None = AsBlock
 poked_in w id (Some c) =

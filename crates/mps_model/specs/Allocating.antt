@@ -54,7 +54,7 @@ check_reserve w name head = do
   refuse_when (is_some point.value.reservation) refusal.Open
   Ok (record { point = point; cells = new_cells (layout_of w pool) head })
 
--- refused where there is neither a place nor room for a new segment
+-- refused if there is neither a place nor room for a new segment
 abbrev pub refuse_without_place : Placement → Checked (Unit {0})
 refuse_without_place (Place word) = Ok tt
 refuse_without_place (NewSegment grain grains) = Ok tt
@@ -72,7 +72,7 @@ address_of_placement (NoFreeRun need longest) = 0
 abbrev pub without_front : Run → (count : ℕ) → Run
 without_front r count = record { from = r.from + count; count = r.count - count }
 
--- what is at hand at a point after a reservation of n words there
+-- the buffer of a point after a reservation of n words there
 abbrev pub buffer_after : World → (number : ℕ) → Point → (words : ℕ) → Run
 buffer_after w number p words =
     if is_copying_pool w p.pool then without_front (buffer_of w number) words else buffer_of w number
@@ -98,7 +98,7 @@ act_reserve judged after name head = do
 
 -- ---- init and commit
 
--- the cells of a reservation changed; nothing where a flip ended it
+-- the cells of a reservation changed; nothing if a flip ended it
 abbrev pub with_reserved_cells : World → Numbered Point → Reservation → List Cell → World
 with_reserved_cells w point r cells =
     if r.is_doomed then w else with_graph w (with_reservation w.graph point (Some (record r { cells = cells })))
@@ -142,7 +142,7 @@ world_committed w point r slot = record w {
   addresses = with_last w.addresses (Some (reserved_address w point.number));
 }
 
--- `flipped` exactly where a flip ended the reservation
+-- `flipped` exactly if a flip ended the reservation
 abbrev pub act_commit : World → Name → Slot → Checked Act
 act_commit w name target = do
   point ← point_named w name

@@ -12,7 +12,7 @@ pub data Answer : Type 0 where
   -- the words that a `dump` prints
   Dumped : (words : List ℕ) → Answer
 
--- the answer that a reply stands for, where the arena has these words, its word 0 at address 0
+-- the answer that a reply represents, if the arena has these words, its word 0 at address 0
 abbrev pub answer_of : (arena : List ℕ) → Reply → Answer
 answer_of arena (reply.Words at count) = Dumped (take count (drop (word_of at.0) arena))
 answer_of arena given = Replied given

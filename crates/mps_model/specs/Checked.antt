@@ -29,12 +29,12 @@ abbrev pub ◌>>◌ : {A B : Type 0} → Checked A → Checked B → Checked B
 (Ok x) >> next = next
 (Err e) >> next = Err e
 
--- the value, or this refusal where there is none
+-- the value, or this refusal if there is none
 abbrev pub required : {A : Type 0} → Option A → Refusal → Checked A
 required (Some x) why = Ok x
 required None why = Err why
 
--- this refusal exactly where the condition holds
+-- this refusal exactly if the condition holds
 abbrev pub refuse_when : Bool → Refusal → Checked ⊤
 refuse_when true why = Err why
 refuse_when false why = Ok tt
@@ -52,7 +52,7 @@ abbrev pub tells : Bool → World → Checked Act
 tells true w = says reply.Yes w
 tells false w = says reply.No w
 
--- ---- the things that a name may stand for
+-- ---- the things that a name may represent
 
 abbrev pub as_chain : Thing → Option ℕ
 as_chain (ChainThing number) = Some number

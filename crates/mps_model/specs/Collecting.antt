@@ -1,4 +1,4 @@
--- The commands of collection: what they answer and leave, beside what their moves do.
+-- The commands of collection: what they answer and leave, besides what their moves do.
 use Rattle.std.specs.Prelude.{ℕ, ◌+◌, ◌-◌, nat_lt, nat_le, if◌then◌else◌, Option, Some, option_map, List, [], ◌∷◌, length, sum_by, Ok}
 use Rattle.mps_base.specs.Address.{Address}
 use Rattle.mps_base.specs.declared.names.Name.{Name}
@@ -58,7 +58,7 @@ act_finalize w slot = do
   refuse_when (nat_le most_registrations (length w.graph.registered + length w.graph.messages)) (refusal.TooMany most_registrations)
   done (with_graph w (record w.graph { registered = with_last w.graph.registered object.number }))
 
--- one less where a position before it was taken away
+-- one less if a position before it was taken away
 abbrev pub without_position : (count position : ℕ) → ℕ
 without_position count position = if nat_lt position count then count - 1 else count
 

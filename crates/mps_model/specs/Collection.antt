@@ -31,7 +31,7 @@ pub record Collection : Type 0 where
   -- of the registrations, n from the front on were examined
   pub examined : ℕ
   pub phase : Phase
-  -- the segment that was reclaimed last; 0 where none was
+  -- the segment that was reclaimed last; 0 if none was
   pub reclaimed_to : ℕ
   -- how many units the collection may take: live automatic objects, registrations and segments of automatic pools at the flip
   pub units : ℕ

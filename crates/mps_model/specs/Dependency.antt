@@ -10,7 +10,7 @@ use Rattle.mps_model.specs.Checked.{Act, Checked, ◌>>=◌, ◌>>◌, done, tel
 use Rattle.mps_model.specs.Making.{refuse_taken, refuse_at_limit, most_dependencies}
 use Rattle.mps_model.specs.Accessing.{address_or_null}
 
--- a dependency is stale where something in its zones may have moved since its epoch
+-- a dependency is stale if something in its zones may have moved since its epoch
 abbrev pub IsStale : World → Dependency → Type 0
 IsStale w d = IsTrue (is_stale w.flips d.epoch d.zones)
 

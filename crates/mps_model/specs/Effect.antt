@@ -74,7 +74,7 @@ doomed (Some p) = Some (record p { reservation = option_map (λ (r : Reservation
 abbrev pub doomed_graph : Graph → Graph
 doomed_graph g = record g { points = map doomed g.points }
 
--- nothing is at hand any more at a point
+-- the buffer of a point is empty
 abbrev pub without_buffer : PointMemory → PointMemory
 without_buffer memory = record memory { buffer = empty_run }
 
@@ -104,7 +104,7 @@ collection_of w segments condemned = record (empty_collection w.graph) {
 abbrev pub collection_at_flip : World → Condemnation → Collection
 collection_at_flip w what = collection_of w (condemned_by w what) (condemned_ids w what)
 
--- the world without reservations and words at hand, after a flip of these zones
+-- the world without reservations, buffers and tails, after a flip of these zones
 abbrev pub world_flipped : World → (zones : ℕ) → World
 world_flipped w zones = record w {
   graph = doomed_graph w.graph;
@@ -122,14 +122,14 @@ after_flip w zones what = record (world_flipped w zones) { collection = Some (co
 abbrev pub holding : World → Segment → World
 holding w s = record w { segments = with_segment s w.segments }
 
--- a segment is taken for a block: in a copying pool, where a collection moves blocks, it is at hand for more of them
+-- a segment is taken for a block: in a copying pool, where a collection moves blocks, it is the tail for more of them
 abbrev pub after_segment : World → Segment → World
 after_segment w s =
     if is_copying_pool w s.pool then with_tail (holding w s) s.pool s.generation (words_of_segment s) else holding w s
 
 -- ---- what the running collection remembers of a move
 
--- the running collection changed, where one runs
+-- the running collection changed, if one runs
 abbrev pub with_collection : World → (Collection → Collection) → World
 with_collection w change = record w { collection = option_map change w.collection }
 
@@ -161,7 +161,7 @@ posting id position c = record c {
 
 -- ---- blocks
 
--- the world after something was done with an object, where there is one
+-- the world after something was done with an object, if there is one
 abbrev pub where_one : World → Option ℕ → ((id : Id) → World) → World
 where_one w found change = option_map_or change found w
 
@@ -177,7 +177,7 @@ rest_of_segment s address = record { from = word_of address; count = word_of (en
 abbrev pub words_after : World → (address words : ℕ) → Run
 words_after w address words = option_map_or (λ s. rest_of_segment s (address + 8 * words)) (segment_of w address) empty_run
 
--- an object moves from one generation of its pool to the next: what is after it there is at hand
+-- an object moves from one generation of its pool to the next: what is after it there is the tail
 abbrev pub after_moved : World → (id to : ℕ) → World
 after_moved w id to =
     with_tail (with_collection (with_address w id (Some to)) (placing id)) (pool_of w id) (target_generation_for w id)

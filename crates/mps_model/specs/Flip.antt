@@ -25,7 +25,7 @@ must_be_fixed w id = option_map_or (λ c. not (is_surely_kept c id)) w.collectio
 abbrev pub segment_for_move : World → (id : Id) → (base grains : ℕ) → Move
 segment_for_move w id base grains = moves.Seg (at_address base) grains (pool_of w id) (target_generation_for w id)
 
--- how an object at an address is kept, by its placement: it moves, where need be into a new segment, or it stays
+-- how an object at an address is kept, by its placement: it moves, if needed into a new segment, or it stays
 abbrev pub moves_to : World → (id : Id) → (from : Address) → Placement → List Move
 moves_to w id from (Place word) = moves.Moved (at_address from) (at_address (address_of_word word)) ∷ []
 moves_to w id from (NewSegment grain grains) =
@@ -33,7 +33,7 @@ moves_to w id from (NewSegment grain grains) =
 moves_to w id from (OverLimit committed need limit) = moves.Stay (at_address from) ∷ []
 moves_to w id from (NoFreeRun need longest) = moves.Stay (at_address from) ∷ []
 
--- the moves by which an object is fixed: none where it needn't be
+-- the moves by which an object is fixed: none if it needn't be
 abbrev pub fix : World → (id : Id) → List Move
 fix w id = if must_be_fixed w id then moves_to w id (address_or_null w id) (placement_of w (ForMove id)) else []
 
@@ -58,7 +58,7 @@ is_nothing (x ∷ xs) = false
 abbrev pub world_at_flip : World → Condemnation → World
 world_at_flip w what = world_after_move w (flip_of w what)
 
--- the act of a flip: it condemns, fixes what slots and then messages hold, and ends where nothing was condemned
+-- the act of a flip: it condemns, fixes what slots and then messages hold, and ends if nothing was condemned
 abbrev pub flip_act : World → Condemnation → List Move
 flip_act w what =
     flip_of w what

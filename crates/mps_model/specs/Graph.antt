@@ -11,7 +11,7 @@ use Rattle.mps_base.specs.Name.{same_name}
 
 -- a cell of an automatic object
 pub data Cell : Type 0 where
-  -- cell 0, which stands for the head
+  -- cell 0, which represents the head
   HeadCell : Cell
   NumberCell : (number : ℕ) → Cell
   -- a reference to null or to an object, with the client's tag, 0 to 7
@@ -47,7 +47,7 @@ pub data AreaWord : Type 0 where
   -- the address n bytes into an object, which the word keeps alive and in place
   Hold : (id offset : ℕ) → AreaWord
 
--- what a name stands for, by its number among the things of its kind
+-- what a name represents, by its number among the things of its kind
 pub data Thing : Type 0 where
   ChainThing : (number : ℕ) → Thing
   PoolThing : (number : ℕ) → Thing
@@ -89,26 +89,26 @@ pub record PoolFrames : Type 0 where
 pub record Graph : Type 0 where
   -- all objects that were ever made, by their ids
   pub objects : List Object
-  -- tables by their numbers, in the order of making; none where the table was dropped
+  -- tables by their numbers, in the order of making; none if the table was dropped
   pub tables : List (Option Slots)
-  -- areas by their numbers; none where the area was dropped
+  -- areas by their numbers; none if the area was dropped
   pub areas : List (Option (List AreaWord))
   -- tables of manual blocks by their numbers
   pub blocks : List Slots
-  -- allocation points by their numbers; none where the point was dropped
+  -- allocation points by their numbers; none if the point was dropped
   pub points : List (Option Point)
   -- the registrations for finalization, in order: an object may be registered more than once
   pub registered : List Id
   -- the finalization messages that wait, in order
   pub messages : List Id
-  -- what each live name stands for
+  -- what each live name represents
   pub names : List NamedThing
   -- No command that is built uses what follows.
   -- the labels of the log, in the order of making
   pub labels : List Name
   -- weak objects, each with the object whose references go with its own
   pub dependents : List (Id × Id)
-  -- transforms by their numbers, each with pairs of an old and a new object; none where the transform was dropped
+  -- transforms by their numbers, each with pairs of an old and a new object; none if the transform was dropped
   pub transforms : List (Option (List (Id × Id)))
   -- allocation caches by their numbers
   pub caches : List Cache
@@ -116,7 +116,7 @@ pub record Graph : Type 0 where
 
 -- ---- lists by number
 
--- the entry of a number, where there is one and it wasn't dropped
+-- the entry of a number, if there is one and it wasn't dropped
 abbrev pub entry_at : {X : Type 0} → List (Option X) → (number : ℕ) → Option X
 entry_at entries number = option_and_then (λ entry. entry) (slice_get entries number)
 
@@ -146,7 +146,7 @@ entries (Some n ∷ os) = n ∷ entries os
 
 -- ---- names
 
--- what a name stands for
+-- what a name represents
 abbrev pub thing_in : List NamedThing → Name → Option Thing
 thing_in [] name = None
 thing_in (n ∷ ns) name = if same_name n.name name then Some n.thing else thing_in ns name
@@ -168,7 +168,7 @@ without_name (n ∷ ns) name = if same_name n.name name then ns else n ∷ witho
 abbrev pub object_at : Graph → (id : Id) → Option Object
 object_at g id = slice_get g.objects id
 
--- what a function gives for an object, where there is one, and else this
+-- what a function gives for an object, if there is one, and else this
 abbrev pub for_object : {A : Type 0} → Graph → (id : Id) → (Object → A) → (otherwise : A) → A
 for_object g id f otherwise = option_map_or f (object_at g id) otherwise
 

@@ -48,7 +48,7 @@ last_move [] = []
 last_move (m ∷ []) = m ∷ []
 last_move (m ∷ ms) = last_move ms
 
--- a `reserve` takes its own segment by its last move, where that takes one
+-- a `reserve` takes its own segment by its last move, if that takes one
 abbrev pub own_segment : List Move → List Move
 own_segment moves = filter is_segment_taken (last_move moves)
 
@@ -59,13 +59,13 @@ moves_of_poll moves = take (length moves - length (own_segment moves)) moves
 abbrev pub rank_of_point : World → (point : ℕ) → Rank
 rank_of_point w point = option_map_or (λ p. p.rank) (entry_at w.graph.points point) rank.Exact
 
--- point memories, where one of them gets these words at hand
+-- point memories, where the buffer of one of them is these words
 abbrev pub with_buffer : List PointMemory → (point : ℕ) → Run → List PointMemory
 with_buffer memories point words =
     option_map_or (λ (memory : PointMemory). slice_set memories point (record memory { buffer = words }))
     (slice_get memories point) memories
 
--- the world with one more segment, which has the rank of the point that reserves, and in a copying pool is at hand there
+-- the world with one more segment, which has the rank of the point that reserves, and in a copying pool is the buffer there
 abbrev pub with_segment_for_point : World → Segment → (point : ℕ) → World
 with_segment_for_point w s point =
     if is_copying_pool w s.pool then record taken { point_memories = with_buffer w.point_memories point (words_of_segment s) } else taken
@@ -92,7 +92,7 @@ after_its_moves w (call.Reserve point head) moves =
     after_own_segment (world_after_moves w (moves_of_poll moves)) (own_segment moves) (number_named w point as_point)
 after_its_moves w _ moves = world_after_moves w moves
 
--- a running collection of which units were asked, where any were
+-- a running collection of which units were asked, if any were
 abbrev pub asking : Option ℕ → World → World
 asking None w = w
 asking (Some units) w = with_collection w (λ c. record c { spent = c.spent + units })
@@ -141,7 +141,7 @@ abbrev pub moves_of_commit : World → Checked (Numbered Point) → List Move
 moves_of_commit w (Ok p) = commit_of w p p.value.reservation
 moves_of_commit w (Err why) = []
 
--- a manual block at a placement, where need be in a new segment
+-- allocates a manual block at a placement, taking a new segment if needed
 abbrev pub alloc_at : (pool words : ℕ) → Placement → List Move
 alloc_at pool words placement = segment_taken pool placement ++ moves.Alloc (at_address (address_of_placement placement)) words pool ∷ []
 
@@ -149,7 +149,7 @@ abbrev pub moves_of_alloc : World → {A : Type 0} → Checked (Numbered A) → 
 moves_of_alloc w (Ok p) words = alloc_at p.number words (placement_of w (ForAlloc p.number words))
 moves_of_alloc w (Err why) words = []
 
--- the segment of a pool of any sizes is given back where nothing is left in it
+-- the segment of a pool of any sizes is given back if nothing is left in it
 abbrev pub give_back_empty : World → Option Segment → List Move
 give_back_empty w None = []
 give_back_empty w (Some s) =
@@ -158,7 +158,7 @@ give_back_empty w (Some s) =
 abbrev pub free_at : (address : Address) → List Move
 free_at address = moves.Free (at_address address) ∷ []
 
--- a manual block at an address is freed, and its segment given back where that is due
+-- a manual block at an address is freed, and its segment given back if that is due
 abbrev pub free_of : World → (address : Address) → List Move
 free_of w address = free_at address ++ give_back_empty (world_after_moves w (free_at address)) (segment_of w address)
 
@@ -170,13 +170,13 @@ moves_of_free w (Err why) = []
 abbrev pub unless_refused : Answer → List Move → List Move
 unless_refused answer moves = if is_refused answer then [] else moves
 
--- these moves, where the call was answered `ok`: else none
+-- these moves, if the call was answered `ok`: else none
 abbrev pub if_accepted : Answer → List Move → List Move
 if_accepted answer moves = if is_accepted answer then moves else []
 
 -- ---- the moves that are due
 
--- a poll where no collection runs: the flip of the generation that is due, where one is
+-- a poll if no collection runs: the flip of the generation that is due, if one is
 abbrev pub poll_at_rest : World → Option Due → List Move
 poll_at_rest w None = []
 poll_at_rest w (Some due) = flip_act w (Generations due.chain due.generation)
@@ -193,7 +193,7 @@ IsPollWhereDue w call moves = MatchBool (polls w call) (IsPoll w moves) (moves �
 abbrev pub segment_where_judged : World → (point : Name) → (head : ℕ) → List Move
 segment_where_judged w point head = segment_of_reserve w (check_reserve w point head)
 
--- a reserve polls where it is due, and then takes a segment where it needs one
+-- a reserve polls if it is due, and then takes a segment if it needs one
 pub record AreMovesOfReserve (w : World) (point : Name) (head : ℕ) (moves : List Move) : Type 0 where
   pub poll : IsPollWhereDue w (call.Reserve point head) (moves_of_poll moves)
   pub segment : own_segment moves ≡ segment_where_judged (world_after_moves w (moves_of_poll moves)) point head
@@ -203,7 +203,7 @@ abbrev pub segment_of_found : World → Checked (Found (Option ℕ)) → Option 
 segment_of_found w (Ok found) = option_and_then (segment_of w) (option_and_then (address_of w) found.value)
 segment_of_found w (Err why) = None
 
--- a read barrier in the segment of the object in a slot, where a collection runs and the call isn't refused
+-- a read barrier in the segment of the object in a slot, if a collection runs and the call isn't refused
 abbrev pub AreMovesOfGet : World → Slot → Answer → List Move → Type 0
 AreMovesOfGet w source answer moves =
     MatchBool (is_running w && not (is_refused answer))
@@ -214,7 +214,7 @@ abbrev pub flip_act_of_chain : World → Checked (Numbered (List ℕ)) → (gene
 flip_act_of_chain w (Ok chain) generation = flip_act w (Generations chain.number generation)
 flip_act_of_chain w (Err why) generation = []
 
--- units, where the arena is unclamped and a collection runs
+-- units, if the arena is unclamped and a collection runs
 abbrev pub AreMovesOfStep : World → (units : ℕ) → List Move → Type 0
 AreMovesOfStep w units moves = MatchBool (is_unclamped w && is_running w) (AreUnits w units moves) (moves ≡ [])
 
@@ -261,7 +261,7 @@ moves_of_collector _ moves = moves
 
 -- ---- what holds after a call
 
--- what the client holds is live, and so are the blocks in its tables of blocks. Where no collection runs, so is what a live
+-- what the client holds is live, and so are the blocks in its tables of blocks. If no collection runs, so is what a live
 -- object refers to
 pub record HeldAreLive (w : World) : Type 0 where
   pub client : IsTrue (list_all (is_live w) (ids_of_client w.graph))
@@ -275,11 +275,11 @@ is_held_rightly w c id = not (is_condemned c id && is_copying_object w id) || is
 abbrev pub are_held_kept : World → Bool
 are_held_kept w = option_map_or (λ c. list_all (is_held_rightly w c) (ids_of_client w.graph)) w.collection true
 
--- a collection still runs only where fewer units were asked of it than it may take
+-- a collection still runs only if fewer units were asked of it than it may take
 abbrev pub has_units_left : World → Bool
 has_units_left w = option_map_or (λ c. nat_lt c.spent c.units) w.collection true
 
--- a block whose fate isn't decided may survive, where `poke` says that it is marked
+-- a block whose fate isn't decided may survive, if `poke` says that it is marked
 abbrev pub OfPoked : World → (id : Id) → Poked → Type 0
 OfPoked w id AsMarked = ForOne w.collection (λ c. MaySurvive c id)
 OfPoked w id AsBlock = Unit {0}
@@ -321,11 +321,11 @@ abbrev pub world_after_steps : World → History → World
 world_after_steps w [] = w
 world_after_steps w (s ∷ ss) = world_after_steps (world_after w s) ss
 
--- a history is legal where its steps are, from the empty world on, whose numbers of formats mean these formats
+-- a history is legal if its steps are, from the empty world on, whose numbers of formats mean these formats
 abbrev pub IsLegalHistoryOf : (formats : ℕ → Layout) → History → Type 0
 IsLegalHistoryOf formats history = IsLegalFrom (empty_world_of formats) history
 
--- the same where the formats are the three numbered ones
+-- the same if the formats are the three numbered ones
 abbrev pub IsLegalHistory : History → Type 0
 IsLegalHistory history = IsLegalHistoryOf numbered_layout history
 

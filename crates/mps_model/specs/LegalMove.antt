@@ -16,7 +16,7 @@ use Rattle.mps_model.specs.Placement.{ForMove, placement_of}
 use Rattle.mps_model.specs.Checked.{cells_of_body}
 use Rattle.mps_model.specs.Effect.{condemnation_of, condemned_zones, world_after_move}
 
--- a fact for the value, where there is one; where there is none it is false
+-- a fact for the value, if there is one; if there is none it is false
 abbrev pub ForOne : {A : Type 0} → Option A → (A → Type 0) → Type 0
 ForOne None P = ⊥
 ForOne (Some x) P = P x
@@ -64,7 +64,7 @@ pub record IsLegalMoved (w : World) (c : Collection) (id to : ℕ) : Type 0 wher
   pub copying : IsTrue (is_copying_object w id)
   pub at_placement : IsPlaceAt (placement_of w (ForMove id)) to
 
--- it stays only where there is no room for it
+-- it stays only if there is no room for it
 pub record IsLegalStay (w : World) (c : Collection) (id : Id) : Type 0 where
   pub tracing : IsTrue (is_tracing c.phase)
   pub condemned : IsTrue (is_condemned c id)
@@ -113,7 +113,7 @@ abbrev pub target_in_cell : World → (id cell : ℕ) → Option ℕ
 target_in_cell w id cell =
     option_and_then target_of_cell (option_and_then (λ o. slice_get (cells_of_body o.body) cell) (object_at w.graph id))
 
--- a weak reference is splatted only where its target is gone
+-- a weak reference is splatted only if its target is gone
 pub record IsLegalSplat (w : World) (c : Collection) (holder cell : ℕ) : Type 0 where
   pub phase : IsTrue (may_splat c.phase)
   pub weak : IsTrue (object_is is_weak_object w holder)
@@ -164,7 +164,7 @@ live_condemned w c = filter (is_live w) c.condemned
 abbrev pub holds_something : World → (base : Address) → Bool
 holds_something w base = option_map_or (λ s. not (is_empty_segment w s)) (segment_at w base) false
 
--- a collection ends where all that must go is gone
+-- a collection ends if all that must go is gone
 pub record IsLegalEnd (w : World) (c : Collection) : Type 0 where
   -- what is left of the condemned objects is settled or may survive
   pub survivors : AllByRecursion (λ id. IsTrue (is_settled c id) ⊎ MaySurvive c id) (live_condemned w c)
@@ -175,7 +175,7 @@ pub record IsLegalEnd (w : World) (c : Collection) : Type 0 where
 
 -- ---- all moves
 
--- a collection begins where none runs, and records the zones of what it condemns in copying pools
+-- a collection begins if none runs, and records the zones of what it condemns in copying pools
 pub record IsLegalFlip (w : World) (zones chain generation : ℕ) : Type 0 where
   pub none_runs : IsTrue (not (is_running w))
   pub of_zones : zones ≡ condemned_zones w (condemnation_of chain generation)

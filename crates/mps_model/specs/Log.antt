@@ -48,7 +48,7 @@ records_of_accepted pools _ line = []
 abbrev pub records_of_command : (pools : ℕ) → Call → Answer → (line : ℕ) → List Record
 records_of_command pools call answer line = if is_accepted answer then records_of_accepted pools call line else []
 
--- how many pools a command makes where it is accepted
+-- how many pools a command makes if it is accepted
 abbrev pub pools_of_accepted : Call → ℕ
 pools_of_accepted (call.Pool pool kind format) = 1
 pools_of_accepted (call.PoolOnChain pool kind format chain) = 1

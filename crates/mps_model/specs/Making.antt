@@ -47,15 +47,15 @@ live_slots g = sum_by length_of g.tables + sum_by length_of g.areas + sum_by len
 abbrev pub live_points : Graph → ℕ
 live_points g = count_by is_some g.points
 
--- refused where this number is at its limit
+-- refused if this number is at its limit
 abbrev pub refuse_at_limit : (number limit : ℕ) → Checked (Unit {0})
 refuse_at_limit number limit = refuse_when (nat_le limit number) (refusal.TooMany limit)
 
--- refused where the name is taken
+-- refused if the name is taken
 abbrev pub refuse_taken : World → Name → Checked (Unit {0})
 refuse_taken w name = refuse_when (is_taken w.graph name) refusal.NameTaken
 
--- refused where one more root of n slots passes a limit
+-- refused if one more root of n slots passes a limit
 abbrev pub refuse_root : World → (slots : ℕ) → Checked (Unit {0})
 refuse_root w slots = do
   refuse_at_limit (live_roots w.graph) most_roots
@@ -92,7 +92,7 @@ act_chain w name count capacities = do
 abbrev pub with_pool : World → Name → Pool → World
 with_pool w name p = record w { graph = named w.graph name (PoolThing (length w.pools)); pools = with_last w.pools p }
 
--- makes a pool, where the limit allows it
+-- makes a pool, if the limit allows it
 abbrev pub make_pool : World → Name → Pool → Checked Act
 make_pool w name p = do
   refuse_at_limit (length w.pools) most_pools
@@ -182,7 +182,7 @@ is_weak_rank rank.Exact = false
 abbrev pub may_have_point : PoolKind → Rank → Bool
 may_have_point kind at_rank = is_automatic_kind kind && (not (is_weak_rank at_rank) || is_weak_kind kind)
 
--- the world with one more point of a pool, without reservation and with nothing at hand
+-- the world with one more point of a pool, without reservation and with an empty buffer
 abbrev pub with_point : World → Name → (pool : ℕ) → Rank → World
 with_point w name pool at_rank = record w {
   graph = record (named w.graph name (PointThing (length w.graph.points))) {
@@ -199,7 +199,7 @@ act_point w name pool at_rank = do
   refuse_at_limit (live_points w.graph) most_points
   done (with_point w name of.number at_rank)
 
--- drops a point; what was at hand there isn't used again
+-- drops a point; the free words of its buffer aren't used again
 abbrev pub without_point : World → Name → (number : ℕ) → World
 without_point w name number = record w {
   graph = record w.graph { points = slice_set w.graph.points number None; names = without_name w.graph.names name };

@@ -18,7 +18,7 @@ pub data Request : Type 0 where
   -- a block of n words of a manual pool
   ForAlloc : (pool words : ℕ) → Request
 
--- at the lowest free run of grains, where there is no place in what is held
+-- at the lowest free run of grains, if there is no place in what is held
 abbrev pub new_segment_for : World → (words : ℕ) → Placement
 new_segment_for w words = run_placement w.grains w.limit (held_grains w) (grains_needed words)
 
@@ -26,11 +26,11 @@ new_segment_for w words = run_placement w.grains w.limit (held_grains w) (grains
 abbrev pub placement_in_gaps : World → List Run → (words : ℕ) → Placement
 placement_in_gaps w free words = option_map_or Place (lowest_fitting words free) (new_segment_for w words)
 
--- at a prefix of the words at hand, where there are enough, else in a new segment
+-- at a prefix of the free words of the buffer, if there are enough, else in a new segment
 abbrev pub placement_at_front : World → Run → (words : ℕ) → Placement
 placement_at_front w at_hand words = if nat_le words at_hand.count then Place at_hand.from else new_segment_for w words
 
--- the words at hand at a point
+-- the buffer of a point
 abbrev pub buffer_of : World → (point : ℕ) → Run
 buffer_of w point = option_map_or (λ memory. memory.buffer) (slice_get w.point_memories point) empty_run
 

@@ -41,7 +41,7 @@ is_place (NewSegment grain grains) = false
 is_place (OverLimit committed need limit) = false
 is_place (NoFreeRun need longest) = false
 
--- whether a `reserve` that checked so far polls: where the arena is unclamped and there is no place in what is held
+-- whether a `reserve` that checked so far polls: if the arena is unclamped and there is no place in what is held
 abbrev pub polls_for : World → Checked Reserving → Bool
 polls_for w (Ok r) = is_unclamped w && not (is_place (placement_of w (ForReserve r.point.number (length r.cells))))
 polls_for w (Err why) = false
@@ -55,7 +55,7 @@ polls w _ = false
 abbrev pub units_of_poll : ℕ
 units_of_poll = 64
 
--- the units that a call asks of a running collection, where it asks for any
+-- the units that a call asks of a running collection, if it asks for any
 abbrev pub units_asked : World → Call → Option ℕ
 units_asked w (call.Step units) = if is_unclamped w then Some units else None
 units_asked w (call.Reserve point head) = if is_running w && polls w (call.Reserve point head) then Some units_of_poll else None

@@ -14,7 +14,7 @@ abbrev pub BeginsWithPost : (id : Id) → (posts : List ℕ) → (List ℕ → T
 BeginsWithPost id [] Rest = ⊥
 BeginsWithPost id (p ∷ ps) Rest = (p ≡ id) × Rest ps
 
--- the registrations are taken in order, and an object is posted exactly where it isn't widely reachable in the world that the
+-- the registrations are taken in order, and an object is posted exactly if it isn't widely reachable in the world that the
 -- flip leaves, with the objects posted so far as further roots
 abbrev pub ArePostsExact : World → (posted registered posts : List ℕ) → Type 0
 ArePostsExact w posted [] posts = posts ≡ []
@@ -26,7 +26,7 @@ ArePostsExact w posted (id ∷ ids) posts =
 abbrev pub AreWholePosts : World → (posts : List ℕ) → Type 0
 AreWholePosts w posts = ArePostsExact w [] w.graph.registered posts
 
--- an object is live afterwards exactly where it was widely reachable, the posted objects being roots too
+-- an object is live afterwards exactly if it was widely reachable, the posted objects being roots too
 abbrev pub IsDecided : (flipped after : World) → (posts : List ℕ) → (id : Id) → Type 0
 IsDecided flipped after posts id =
     MatchBool (is_live after id) (IsWidelyReachableWith flipped posts id) (¬ IsWidelyReachableWith flipped posts id)

@@ -32,12 +32,12 @@ abbrev pub without_block : Store → (address : Address) → Store
 without_block [] address = []
 without_block (b ∷ bs) address = if b.at == address then bs else b ∷ without_block bs address
 
--- a new block: none where one is live there already
+-- a new block: none if one is live there already
 abbrev pub after_making : Store → (at words pool : ℕ) → Option Store
 after_making store at words pool =
     if is_live store at then None else Some (with_block (record { at = at; words = words; pool = pool }) store)
 
--- a block moves: none where it isn't live, or where one is live at the new address already
+-- a block moves: none if it isn't live, or if one is live at the new address already
 abbrev pub after_moving : Store → (from to : Address) → Option Store
 after_moving store from to = if is_live store to then None else moved (block_at store from)
   where
@@ -45,15 +45,15 @@ after_moving store from to = if is_live store to then None else moved (block_at 
     moved None = None
     moved (Some b) = Some (with_block (record b { at = to }) (without_block store from))
 
--- a block stays as it is: none where it isn't live
+-- a block stays as it is: none if it isn't live
 abbrev pub after_touching : Store → (at : Address) → Option Store
 after_touching store at = if is_live store at then Some store else None
 
--- a block is freed: none where it isn't live
+-- a block is freed: none if it isn't live
 abbrev pub after_freeing : Store → (at : Address) → Option Store
 after_freeing store at = if is_live store at then Some (without_block store at) else None
 
--- the blocks after a record: none where the record is a bad replay. Records of other codes leave the blocks as they are
+-- the blocks after a record: none if the record is a bad replay. Records of other codes leave the blocks as they are
 abbrev pub store_after : Store → Record → Option Store
 store_after store r =
     if r.code == commit_code then after_making store (field 0) (field 1) (field 2)
@@ -67,12 +67,12 @@ store_after store r =
     field : ℕ → ℕ
     field i = slice_index r.fields i
 
--- the blocks after records, from some blocks on: none where a record is a bad replay
+-- the blocks after records, from some blocks on: none if a record is a bad replay
 abbrev pub replay_from : Store → List Record → Option Store
 replay_from store [] = Some store
 replay_from store (r ∷ rs) = option_and_then (λ after. replay_from after rs) (store_after store r)
 
--- the blocks that live after all records of a log: none where a record is a bad replay
+-- the blocks that live after all records of a log: none if a record is a bad replay
 abbrev pub replay : List Record → Option Store
 replay records = replay_from [] records
 

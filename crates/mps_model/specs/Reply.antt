@@ -1,6 +1,6 @@
 -- What each call replies, and the graph and world that it leaves.
 --
--- A call is judged in one world and takes effect in another. They differ only where the call makes moves: it is judged in
+-- A call is judged in one world and takes effect in another. They differ only if the call makes moves: it is judged in
 -- the world before them, and takes effect in the world after them. A `reserve` is judged after its poll, but before its new
 -- segment is taken.
 use Rattle.std.specs.Prelude.{Bool, true, false, Ok, Err}

@@ -46,7 +46,7 @@ pub record IsScannedByUnit (w : World) (id : Id) : Type 0 where
 
 -- ---- examining one registration
 
--- an examination that finds its object unreachable: it is kept first, where it moves or stays, and then posted
+-- an examination that finds its object unreachable: it is kept first, if it moves or stays, and then posted
 pub data IsExamination : List Move → Type 0 where
   posts : {at : Addr} → IsExamination (moves.Post at ∷ [])
   stays_and_posts : {at : Addr} → IsExamination (moves.Stay at ∷ moves.Post at ∷ [])
@@ -71,7 +71,7 @@ abbrev pub is_ascending : (above : ℕ) → List ℕ → Bool
 is_ascending above [] = true
 is_ascending above (n ∷ ns) = nat_lt above n && is_ascending n ns
 
--- the segment at a base is given back exactly where nothing is left in it
+-- the segment at a base is given back exactly if nothing is left in it
 abbrev pub give_back_where : (base : Address) → Bool → List Move
 give_back_where base true = moves.Unseg (at_address base) ∷ []
 give_back_where base false = []
@@ -120,7 +120,7 @@ pub data UnitsDone (w : World) : (count : ℕ) → List Move → Type 0 where
 abbrev pub ends_in : World → List Move → Bool
 ends_in w moves = not (is_running (world_after_moves w moves))
 
--- n units, or fewer where the collection ends in them
+-- n units, or fewer if the collection ends in them
 abbrev pub AreUnits : World → (count : ℕ) → List Move → Type 0
 AreUnits w count moves = UnitsDone w count moves ⊎ ((fewer : ℕ) × (fewer < count) × UnitsDone w fewer moves × IsTrue (ends_in w moves))
 

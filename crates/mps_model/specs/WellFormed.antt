@@ -61,7 +61,7 @@ are_right_cells w p head cells =
     (w.formats p.format).is_valid head && are_shaped (new_cells (w.formats p.format) head) cells
     && list_all (object_is is_automatic w) (targets_of_cells cells)
 
--- ---- objects, reservations and what is at hand
+-- ---- objects, reservations, buffers and tails
 
 abbrev pub is_right_body : World → Pool → Body → Bool
 is_right_body w p (Automatic head cells is_weak) =
@@ -75,7 +75,7 @@ is_right_object w o = option_map_or (λ p. is_right_body w p o.body) (pool_at w 
 abbrev pub is_right_place : World → (id : Id) → Bool
 is_right_place w id = is_live_and (λ at. is_home w (pool_of w id) (object_is is_weak_object w id) (extent at (words_of w id))) w id
 
--- the same of a reservation, and of what is at hand at a point
+-- the same of a reservation, and of the buffer of a point
 abbrev pub is_right_reservation : World → Point → PointMemory → Reservation → Bool
 is_right_reservation w p memory r =
     option_map_or (λ of. are_right_cells w of r.head r.cells) (pool_at w p.pool) false
@@ -94,7 +94,7 @@ are_right_points w (None ∷ ps) (memory ∷ memories) = are_right_points w ps m
 are_right_points w (Some p ∷ ps) (memory ∷ memories) = is_right_point w p memory && are_right_points w ps memories
 are_right_points w _ _ = false
 
--- the words at hand at points and for blocks that move
+-- the buffers of points, and the tails for blocks that move
 abbrev pub at_hand : World → List Run
 at_hand w = filter (λ r. nat_lt 0 r.count) (map (λ (m : PointMemory). m.buffer) w.point_memories ++ map (λ (t : Tail). t.words) w.tails)
 
@@ -120,7 +120,7 @@ pub record IsWellFormed (w : World) : Type 0 where
   pub segments : IsTrue (list_all (is_right_segment w) w.segments && are_apart (map grains_of_segment w.segments))
   -- each object has an entry for its address
   pub addresses : length w.addresses ≡ length w.graph.objects
-  -- what lies somewhere lies apart from all else, and from the words at hand
+  -- what lies somewhere lies apart from all else, and from buffers and tails
   pub apart : IsTrue (are_apart (in_order (covered w ++ at_hand w)))
   pub objects : IsTrue (list_all (is_right_object w) w.graph.objects)
   pub places : IsTrue (list_all (is_right_place w) (live_ids w))

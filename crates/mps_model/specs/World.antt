@@ -32,12 +32,12 @@ pub record Pool : Type 0 where
 
 -- what a point has in the arena
 pub record PointMemory : Type 0 where
-  -- the address of its open reservation, where it has one
+  -- the address of its open reservation, if it has one
   pub reserved_at : Address
-  -- the words at hand: what is left of the segment that its last new segment gave, in a copying pool
+  -- the buffer: what is left of the segment that its last new segment gave, in a copying pool
   pub buffer : Run
 
--- the words at hand for blocks that move to a generation of a pool: what is left of the last segment taken for them
+-- the tail for blocks that move to a generation of a pool: what is left of the last segment taken for them
 pub record Tail : Type 0 where
   pub pool : ℕ
   pub generation : ℕ
@@ -70,7 +70,7 @@ pub record World : Type 0 where
   pub chains : List (List ℕ)
   -- the held segments, in ascending order
   pub segments : List Segment
-  -- the address of each object, by its id; none where it isn't live
+  -- the address of each object, by its id; none if it isn't live
   pub addresses : List (Option Address)
   -- by the number of the point
   pub point_memories : List PointMemory
@@ -159,7 +159,7 @@ pool_is test w number = option_map_or (λ p. test p.kind) (pool_at w number) fal
 abbrev pub is_copying_pool : World → (number : ℕ) → Bool
 is_copying_pool w number = pool_is is_copying_kind w number
 
--- how many generations the chain of a pool has, where it is on one
+-- how many generations the chain of a pool has, if it is on one
 abbrev pub generations_of : World → (pool : ℕ) → Option ℕ
 generations_of w pool = option_map length (option_and_then (λ chain. slice_get w.chains chain)
     (option_and_then (λ p. p.chain) (pool_at w pool)))
@@ -188,7 +188,7 @@ committed w = sum_by (λ s. s.grains) w.segments
 
 -- ---- blocks and reservations
 
--- the address of an object, where it is live
+-- the address of an object, if it is live
 abbrev pub address_of : World → (id : Id) → Option ℕ
 address_of w id = entry_at w.addresses id
 
@@ -302,7 +302,7 @@ abbrev pub is_word_in : (is_copying : Bool) → (at words word : ℕ) → Bool
 is_word_in true at words word = nat_le at word && nat_lt word (at + bytes_of_word * words)
 is_word_in false at words word = word == at
 
--- whether a word lies in an object, where it is live. It never lies in a manual block or in a reservation
+-- whether a word lies in an object, if it is live. It never lies in a manual block or in a reservation
 abbrev pub lies_in : World → (word id : ℕ) → Bool
 lies_in w word id = object_is is_automatic w id && is_live_and (λ at. is_word_in (is_copying_object w id) at (words_of w id) word) w id
 
@@ -319,11 +319,11 @@ has_area_word w id = list_any (λ word. lies_in w word id) (area_words w)
 abbrev pub is_tail_of : (pool generation : ℕ) → Tail → Bool
 is_tail_of pool generation t = t.pool == pool && t.generation == generation
 
--- the words at hand for blocks that move to a generation of a pool
+-- the tail for blocks that move to a generation of a pool
 abbrev pub tail_of : World → (pool generation : ℕ) → Run
 tail_of w pool generation = option_map_or (λ t. t.words) (find (is_tail_of pool generation) w.tails) empty_run
 
--- these words are at hand for a generation of a pool, in place of what was
+-- the tail of a generation of a pool is these words, in place of what it was
 abbrev pub with_tail : World → (pool generation : ℕ) → Run → World
 with_tail w pool generation words = record w {
   tails = record { pool = pool; generation = generation; words = words } ∷ filter (λ t. not (is_tail_of pool generation t)) w.tails;

@@ -1,7 +1,7 @@
 // The client's calls, one for each command of a script.
 use mps_base::{Kind, Name, Rank, Slot};
 
-/// A command of a script. Numbers stand as the script gives them. A head is the word that its text stands for, 0 where
+/// A command of a script. Numbers stand as the script gives them. A head is the word that its text represents, 0 if
 /// its numbers break the rules of its format. A format is its number: 1 front, 2 mapped, 3 leaf.
 #[derive(Clone, Copy, Debug, PartialEq, Eq)]
 pub enum Call {
@@ -197,7 +197,7 @@ pub enum Call {
     },
 
     // Collection.
-    /// `start`: begins a collection of everything.
+    /// `start`: begins a full collection.
     Start,
     /// `start C I`: begins a collection of the generations 0 to I of a chain.
     StartChain {

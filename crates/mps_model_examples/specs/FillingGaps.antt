@@ -1,4 +1,4 @@
--- A pool that doesn't move: a block lies in the lowest gap that fits, and is refused only where none does.
+-- A pool that doesn't move: a block lies in the lowest gap that fits, and is refused only if none does.
 use Rattle.std.specs.Prelude.{ℕ, false, Option, Some, None, List, [], ◌∷◌, ◌++◌}
 use Rattle.mps_base.specs.declared.moves.Move.TheVariants as moves
 use Rattle.mps_base.specs.declared.names.Kind.TheVariants as kind

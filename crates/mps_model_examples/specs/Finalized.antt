@@ -70,7 +70,7 @@ finalized = registering ++ (first_message ++ (second_message ++ freeing))
 abbrev pub waiting : History
 waiting = registering ++ step 10 call.Collect (posting_moves 2 0x1000 0x2000) reply.Ok ∷ []
 
--- the dropped block at a place, with its registrations and messages, and with what is at hand and what collections left
+-- the dropped block at a place, with its registrations and messages, and with buffers, tails and what collections left
 abbrev pub dropped_block : (registered messages : List ℕ) → (place : ℕ) → (buffer : Run) → List Tail → (flips : List ℕ) → ArenaState → World
 dropped_block registered messages place buffer tails flips state = record {
   graph = record {

@@ -93,7 +93,7 @@ generations_graph = record {
       ∷ [];
 }
 
--- the world of the block, with its place, what is at hand, what flips left, and the running collection
+-- the world of the block, with its place, buffers and tails, what flips left, and the running collection
 abbrev pub generations_world : List Segment → (place : ℕ) → (buffer : Run) → List Tail → ArenaState → (flips : List ℕ) → Option Collection
     → World
 generations_world segments place buffer tails state flips collection = record {
@@ -113,7 +113,7 @@ generations_world segments place buffer tails state flips collection = record {
   collection = collection;
 }
 
--- n words at hand for blocks that move to the last generation
+-- a tail of n words for blocks that move to the last generation
 abbrev pub tail_of_last : (from : ℕ) → List Tail
 tail_of_last from = record { pool = 0; generation = 1; words = words from 510 } ∷ []
 

@@ -81,7 +81,7 @@ linked_graph second = record {
       ∷ [];
 }
 
--- the world of the two blocks, with their places, what is at hand, what flips left, and the running collection
+-- the world of the two blocks, with their places, buffers and tails, what flips left, and the running collection
 abbrev pub linked_world : (second : Option ℕ) → List Segment → (place of_first : ℕ) → (buffer : Run) → List Tail → (flips : List ℕ)
     → Option Collection → World
 linked_world second segments place of_first buffer tails flips collection = record {

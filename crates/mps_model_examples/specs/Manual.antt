@@ -21,7 +21,7 @@ two_blocks =
     ∷ step 5 (call.Alloc v 512 (at_index b 1)) (moves.Seg (address 0x2000) 1 0 0 ∷ moves.Alloc (address 0x2000) 512 0 ∷ []) reply.Ok
     ∷ []
 
--- a third block is refused by the commit limit, and, where the first segment was given back, for want of a run
+-- a third block is refused by the commit limit, and, if the first segment was given back, for want of a run
 abbrev pub first_freed : History
 first_freed =
     step 6 (call.Alloc v 1024 (at_index b 2)) [] (reply.Refused (refusal.CommitLimit 2 2 3))

@@ -8,7 +8,7 @@ use Rattle.mps_model_examples.specs.FillingGaps.{one_grain}
 use Rattle.mps_model_examples.specs.Incremental.{linked_started}
 
 -- in an empty arena at the first grain; after a block at a point, and after a block that was moved; in a gap of a pool that
--- doesn't move; and nowhere, where the commit limit is met
+-- doesn't move; and nowhere, if the commit limit is met
 pub record PlacementsCompute : Type 0 where
   pub in_empty_arena : placement_of (world_after_history prelude) (ForReserve 0 3) ≡ NewSegment 1 1
   pub after_a_block : placement_of (world_after_history one_block) (ForReserve 0 3) ≡ Place 515

@@ -1,4 +1,4 @@
--- When a `reserve` polls: not in a clamped arena, with a flip where a generation is due, and with units where a collection
+-- When a `reserve` polls: not in a clamped arena, with a flip if a generation is due, and with units if a collection
 -- runs.
 use Rattle.std.specs.Prelude.{ℕ, false, Option, Some, None, List, [], ◌∷◌, ◌++◌, replicate}
 use Rattle.mps_base.specs.declared.moves.Move.{Move}
@@ -106,7 +106,7 @@ polled_graph objects held reservation = record {
       ∷ [];
 }
 
--- the world of a graph, with where its blocks lie, what is at hand, and what flips left
+-- the world of a graph, with where its blocks lie, buffers and tails, and what flips left
 abbrev pub polled_world : Graph → List Segment → (addresses : List (Option ℕ)) → PointMemory → List Tail → ArenaState → (flips : List ℕ)
     → Option Collection → World
 polled_world graph segments addresses at_point tails state flips collection = record {

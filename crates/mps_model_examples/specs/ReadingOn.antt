@@ -90,7 +90,7 @@ row_world = record {
   collection = None;
 }
 
--- the world while the collection runs, with the places of the blocks, what is at hand after them, which were moved, which
+-- the world while the collection runs, with the places of the blocks, the buffers and tails after them, which were moved, which
 -- the client had, and the units asked of it
 abbrev pub row_collected : (addresses : List (Option ℕ)) → List Tail → (placed had : List ℕ) → (spent : ℕ) → World
 row_collected addresses tails placed had spent = record row_world {

@@ -69,6 +69,6 @@ grain_segment base pool = record { base = base; grains = 1; pool = pool; generat
 abbrev pub words : (from count : ℕ) → Run
 words from count = record { from = from; count = count }
 
--- these words are at hand for blocks of pool 0 that move
+-- these words are the tail for blocks of pool 0 that move
 abbrev pub tail : (from count : ℕ) → List Tail
 tail from count = record { pool = 0; generation = 0; words = words from count } ∷ []

@@ -89,7 +89,7 @@ weakly_graph held target = record {
 abbrev pub weak_segment : Segment
 weak_segment = record { base = 0x2000; grains = 1; pool = 1; generation = 0; rank = rank.Weak }
 
--- the world of a graph of the two while the collection runs, with the segments held, the block's place, what is at hand, what
+-- the world of a graph of the two while the collection runs, with the segments held, the block's place, buffers and tails, what
 -- was moved and held, and how far the collection is
 abbrev pub weakly_world : Graph → List Segment → (place : ℕ) → List Tail → (placed had : List ℕ) → Phase → World
 weakly_world graph segments place tails placed had phase = record {

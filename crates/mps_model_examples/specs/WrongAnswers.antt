@@ -26,7 +26,7 @@ reserved = prelude ++ step 5 (call.Reserve x 0x201) (moves.Seg (address 0x1000) 
 abbrev pub commit_flipped : Step
 commit_flipped = commit_step [] reply.Flipped
 
--- `commit` answers `flipped` where no flip came
+-- `commit` answers `flipped` if no flip came
 abbrev pub FlippedWithoutFlip : Type 0
 FlippedWithoutFlip = CannotFollow reserved commit_flipped
 
@@ -45,7 +45,7 @@ abbrev pub CommitAcrossFlip : Type 0
 CommitAcrossFlip =
     CannotFollow flipped_away commit_with_move × CannotFollow flipped_away commit_without_move
 
--- ---- refusals where there is no room
+-- ---- refusals if there is no room
 
 abbrev pub limit_beside_gap : Step
 limit_beside_gap = step 7 (call.Reserve x 0x403) [] (reply.Refused (refusal.CommitLimit 1 1 1))

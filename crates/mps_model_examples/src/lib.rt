@@ -1,5 +1,5 @@
 //! Histories that are legal, and histories that are not: what the definitions of `mps_model` accept and refuse. Each
-//! function does nothing; what it shows is its contract.
+//! function is a theorem: its contract is the statement.
 #![tactic(auto)]
 
 ghost use Rattle.mps_model_examples.specs.OneBlock.{OneBlockIsLegal};
@@ -80,7 +80,7 @@ pub fn incremental_is_legal()
     ensures { IncrementalIsLegal }
 {}
 
-/// A history in which a block stays where there is no room is legal: the arena's one grain is held. The script, beside
+/// A history in which a block stays if there is no room is legal: the arena's one grain is held. The script, beside
 /// `stay_beside_room`: `arena 1 1; table t 1; pool p amc leaf; ap x p exact; reserve x l:2; commit x t.0; collect; addr
 /// t.0`.
 pub fn staying_is_legal()
@@ -127,7 +127,7 @@ pub fn definalized_is_legal()
     ensures { DefinalizedIsLegal }
 {}
 
-/// Two histories are legal that differ in what the read barrier does at a weak reference, where nothing else leads to
+/// Two histories are legal that differ in what the read barrier does at a weak reference, if nothing else leads to
 /// its target: it moves the target, so that `null` answers `no`, or it splats the reference, so that it answers `yes`.
 /// The script, beside `weak_scanned_as_exact`: `arena 8 8; table t 4; pool p amc front; ap x p exact; pool w awl front;
 /// ap y w weak; reserve x f:2:0; commit x t.0; reserve y f:2:1; init y 1 t.0; commit y t.1; clear t.0; start; get t.0
@@ -213,7 +213,7 @@ pub fn stepping_is_legal()
     ensures { SteppingIsLegal }
 {}
 
-/// `commit` can't answer `flipped` where no flip came.
+/// `commit` can't answer `flipped` if no flip came.
 pub fn flipped_without_flip()
     ensures { FlippedWithoutFlip }
 {}
@@ -268,7 +268,7 @@ pub fn free_of_waiting()
     ensures { FreeOfWaiting }
 {}
 
-/// A block doesn't stay where there is room for it.
+/// A block doesn't stay if there is room for it.
 pub fn stay_beside_room()
     ensures { StayBesideRoom }
 {}
@@ -278,7 +278,7 @@ pub fn marked_in_place()
     ensures { MarkedInPlace }
 {}
 
-/// A collection tells of each block that it frees.
+/// A collection logs each block that it frees.
 pub fn unknown_free()
     ensures { UnknownFree }
 {}
@@ -298,7 +298,7 @@ pub fn start_does_all()
     ensures { StartDoesAll }
 {}
 
-/// Where one unit is asked, two segments aren't reclaimed.
+/// If one unit is asked, two segments aren't reclaimed.
 pub fn two_units_for_one()
     ensures { TwoUnitsForOne }
 {}
@@ -344,7 +344,7 @@ pub fn registered_without_post()
     ensures { RegisteredWithoutPost }
 {}
 
-/// A whole collection frees that block where it isn't registered.
+/// A whole collection frees that block if it isn't registered.
 pub fn dead_block_stays()
     ensures { DeadBlockStays }
 {}

@@ -29,7 +29,7 @@ pub record IsBlockWithWord (objects : List Object) (addresses : List (Option Add
   pub lies : LiesInBytes objects addresses word id at
   pub begins : n ≡ word_of at
 
--- the block over a word is that of the live object in which the word lies, and there is none where it lies in none
+-- the block over a word is that of the live object in which the word lies, and there is none if it lies in none
 pub record IsBlockOver (objects : List Object) (addresses : List (Option Address)) (blocks : List Run) (word : ℕ) : Type 0 where
   pub found : (id : Id) (at : Address) → LiesInBytes objects addresses word id at → run_over blocks (word_of word) ≡ Some (word_of at)
   pub only : (n : Word) → run_over blocks (word_of word) ≡ Some n → IsBlockWithWord objects addresses word n

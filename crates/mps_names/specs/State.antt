@@ -19,7 +19,7 @@ thing_in entries name = lookup (same_name name) entries
 abbrev pub thing_named : NamesState → Name → Option Thing
 thing_named n name = thing_in n.entries name
 
--- the same names stand for the same things
+-- the same names represent the same things
 abbrev pub IsSameMap : NamesState → NamesState → Type 0
 IsSameMap old new = (name : Name) → thing_named new name ≡ thing_named old name
 

@@ -1,4 +1,4 @@
-//! The names of a client's things. All names share one name space, and a name stands for at most one thing.
+//! The names of a client's things. All names share one name space, and a name represents at most one thing.
 #![tactic(auto)]
 
 mod key;

@@ -10,7 +10,7 @@ use std::alloc::{AllocError, Global};
 use std::collections::HashMap;
 use std::marker::Model;
 
-/// What a name stands for: the kind of the thing, and its number among those of its kind, or the key under which it is kept.
+/// What a name represents: the kind of the thing, and its number among those of its kind, or the key under which it is kept.
 #[derive(Clone, Copy, Debug, PartialEq, Eq)]
 pub enum Thing {
     Chain(u32),
@@ -22,7 +22,7 @@ pub enum Thing {
     Dependency(u32),
 }
 
-/// The names that are taken, and what each stands for.
+/// The names that are taken, and what each represents.
 #[derive(Drop)]
 pub struct Names {
     things: HashMap<Key, Thing>,
@@ -55,7 +55,7 @@ impl Names {
         self.things.reserve(1)
     }
 
-    /// What a name stands for.
+    /// What a name represents.
     #[inline(always)]
     pub fn get(&self, name: Name) -> Option<Thing>
         ensures { result ≡ thing_named self.now name }
@@ -63,7 +63,7 @@ impl Names {
         self.things.get(&Key { name }).copied()
     }
 
-    /// Refuses `NameTaken` where a name stands for something.
+    /// Refuses `NameTaken` if a name represents something.
     pub fn refuse_taken(&self, name: Name) -> Result<(), Refusal>
         ensures sound { OnOk result (thing_named self.now name ≡ None) }
         ensures refuses { IfErr result (λ why. (why ≡ Refusal.NameTaken) × IsSome (thing_named self.now name)) }
@@ -85,7 +85,7 @@ impl Names {
         };
     }
 
-    /// A name is free again; what it stood for.
+    /// A name is free again; what it represented.
     pub fn drop_name(&mut self, name: Name) -> Option<Thing>
         ensures value { result ≡ thing_named self.old name }
         ensures dropped { Updates self.old self.new name None }

@@ -2,7 +2,7 @@
 use Rattle.std.specs.Prelude.{ℕ, ◌≡◌, ◌+◌, ◌-◌, ◌*◌, ◌^◌, ◌==◌, nat_lt, Bool, true, false, not, if◌then◌else◌, codes, Option, Some, None, List, [], ◌∷◌, refl}
 use Rattle.std.specs.List.{list_all}
 
--- what a digit stands for, up to 15 for `f`; 16 for a byte that is no digit. The codes of the digits are 48 to 57 for `0` to `9`,
+-- what a digit represents, up to 15 for `f`; 16 for a byte that is no digit. The codes of the digits are 48 to 57 for `0` to `9`,
 -- and 97 to 102 for `a` to `f`.
 abbrev pub digit_of : ℕ → ℕ
 digit_of b = if nat_lt b 48 then 16 else (if nat_lt b 58 then b - 48
@@ -27,15 +27,15 @@ is_canonical [] = false
 is_canonical (b ∷ []) = true
 is_canonical (b ∷ _ ∷ _) = not (b == 48)
 
--- the number, where it is below 2^64
+-- the number, if it is below 2^64
 abbrev pub below_word : ℕ → Option ℕ
 below_word n = if nat_lt n (2 ^ 64) then Some n else None
 
--- the number that the bytes write, where they are digits of the base and it is below 2^64
+-- the number that the bytes write, if they are digits of the base and it is below 2^64
 abbrev pub value_in : ℕ → List ℕ → Option ℕ
 value_in base bytes = if are_digits base bytes then below_word (digits_value base bytes) else None
 
--- so it is where they are in the right form
+-- so it is if they are in the right form
 abbrev pub number_in : ℕ → List ℕ → Option ℕ
 number_in base bytes = if is_canonical bytes then value_in base bytes else None
 

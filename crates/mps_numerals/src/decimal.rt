@@ -5,7 +5,7 @@ ghost use Rattle.mps_numerals.specs.Decimal.{decimal_number as number_of};
 use crate::reading::number_in;
 use itoa::write_digits;
 
-/// The number that the text writes; None where it is no decimal number below 2^64.
+/// The number that the text writes; None if it is no decimal number below 2^64.
 pub fn decimal_number(text: &[u8]) -> Option<u64>
     ensures value { result ≡ number_of text.now }
     // What is read was written so.

@@ -73,7 +73,7 @@ pub fn put_hexadecimal(number: u64, out: &mut [u8], at: usize) -> usize
     end
 }
 
-/// The number that the text writes in lower case without leading zeros; None where it is in another form, or has more
+/// The number that the text writes in lower case without leading zeros; None if it is in another form, or has more
 /// than 16 digits.
 pub fn hexadecimal_number(text: &[u8]) -> Option<u64>
     ensures value { result ≡ number_of 16 text.now }

@@ -2,7 +2,7 @@
 ghost use Rattle.std.specs.Prelude.{◌≡◌, ◌≤◌, length};
 ghost use Rattle.mps_numerals.specs.Reading.{digit_of, is_canonical, value_in, number_in};
 
-/// What a digit stands for, by its byte: up to 15 for `f`; 16 for a byte that is no digit.
+/// What a digit represents, by its byte: up to 15 for `f`; 16 for a byte that is no digit.
 static DIGIT_VALUES: [u8; 256] = [
     16, 16, 16, 16, 16, 16, 16, 16, 16, 16, 16, 16, 16, 16, 16, 16, 16, 16, 16, 16, 16, 16, 16, 16,
     16, 16, 16, 16, 16, 16, 16, 16, 16, 16, 16, 16, 16, 16, 16, 16, 16, 16, 16, 16, 16, 16, 16, 16,
@@ -17,7 +17,7 @@ static DIGIT_VALUES: [u8; 256] = [
     16, 16, 16, 16, 16, 16, 16, 16, 16, 16, 16, 16, 16, 16,
 ];
 
-/// What a digit stands for, up to 15 for `f`; 16 for a byte that is no digit.
+/// What a digit represents, up to 15 for `f`; 16 for a byte that is no digit.
 fn digit_of(byte: u8) -> u64
     ensures value { result ≡ digit_of byte }
     ensures at_most { result ≤ 16 }
@@ -69,7 +69,7 @@ fn value_of_any(base: u64, digits: &[u8]) -> Option<u64>
     Some(n)
 }
 
-/// The number that digits of a base write; None where a byte is no digit, or the number is 2^64 or more.
+/// The number that digits of a base write; None if a byte is no digit, or the number is 2^64 or more.
 fn value_in(base: u64, digits: &[u8]) -> Option<u64>
     requires { 1 ≤ base }
     ensures { result ≡ value_in base digits.now }
@@ -81,7 +81,7 @@ fn value_in(base: u64, digits: &[u8]) -> Option<u64>
     }
 }
 
-/// The number that digits of a base write, where they are in the right form.
+/// The number that digits of a base write, if they are in the right form.
 pub fn number_in(base: u64, digits: &[u8]) -> Option<u64>
     requires { 1 ≤ base }
     ensures { result ≡ number_in base digits.now }

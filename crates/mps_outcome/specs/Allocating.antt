@@ -1,4 +1,4 @@
--- What `reserve`, `init` and `commit` come to.
+-- The outcomes of `reserve`, `init` and `commit`.
 use Rattle.std.specs.Prelude.{ℕ, ◌==◌, ◌&&◌, Bool, not, Some, option_and_then, is_some, Ok, slice_get, if◌then◌else◌}
 use Rattle.mps_arena.specs.Arena.{answer_of_placement}
 use Rattle.mps_base.specs.Trail.{Moves, with_move}
@@ -69,7 +69,7 @@ module _ {F : Type 0} (layout : F → Layout) where
     refuse_when (not ((layout format).is_valid held.head)) refusal.NotOpen
     Ok (record { at = held.at.0; format = format; head = held.head })
 
-  -- a word of a reservation is written; nothing where a flip ended it
+  -- a word of a reservation is written; nothing if a flip ended it
   abbrev pub with_reserved_word : HeapState F → Held → (word value : ℕ) → HeapState F
   with_reserved_word h held word value = if held.flips == h.points.flips then with_word h word value else h
 

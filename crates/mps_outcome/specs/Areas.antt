@@ -1,4 +1,4 @@
--- What the calls on areas come to.
+-- The outcomes of the calls on areas.
 use Rattle.std.specs.Prelude.{ℕ, ◌==◌, ◌&&◌, Bool, true, false, not, Option, Some, None, option_map, Ok, if◌then◌else◌}
 use Rattle.mps_base.specs.Address.{Address, word_of}
 use Rattle.mps_extents.specs.Extents.{run_over}
@@ -41,7 +41,7 @@ module _ {F : Type 0} where
   abbrev pub with_area_word : HeapState F → Entry Stored → Stored → HeapState F
   with_area_word h at word = record h { roots = record h.roots { areas = with_item h.roots.areas at.key at.index word } }
 
-  -- true where the word holds an object from then on
+  -- true if the word holds an object from then on
   abbrev pub poked : HeapState F → (place : Slot) → (word : ℕ) → Checked (Outcome F Bool)
   poked h place word = do
     at ← word_in h place

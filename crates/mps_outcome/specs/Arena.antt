@@ -1,4 +1,4 @@
--- What the calls on the arena come to, and the heap of a new one.
+-- The outcomes of the calls on the arena, and the heap of a new one.
 use Rattle.std.specs.Prelude.{ℕ, ◌≡◌, true, nat_lt, [], Contains}
 use Rattle.mps_base.specs.Address.{Address, word_of}
 use Rattle.mps_base.specs.Run.{total}

@@ -1,4 +1,4 @@
--- What a collection of everything comes to, and when a heap can do one.
+-- The outcome of a full collection, and when a heap can do one.
 use Rattle.std.specs.Prelude.{ℕ, ◌≡◌, ◌^◌, ◌<◌, Bool, true, false, not, ◌&&◌, ◌||◌, nat_lt, None, List, [], ◌∷◌, map, length, replicate, refl}
 use Rattle.std.specs.List.{list_all}
 use Rattle.mps_base.specs.Trail.{Moves}
@@ -32,19 +32,19 @@ module _ {F : Type 0} where
   abbrev pub can_collect : HeapState F → Bool
   can_collect h = list_all is_moved_or_manual h.pools && is_empty h.finals.registered && nat_lt h.points.flips most_flips
 
-  -- what a collector knows of pools: their policies, none is on a chain, and each has words at hand for its one generation
+  -- what a collector knows of pools: their policies, none is on a chain, and each has a tail for its one generation
   pub record IsTraceOf (pools : List (Pool F)) (t : TraceState F) : Type 0 where
     pub formats : t.formats ≡ map policy_of_pool pools
     pub chains : t.chains ≡ record { chains = []; of_pool = replicate (length pools) None }
     pub tails : (number : ℕ) → number < length pools → HasTail t.amc number 0
 
-  -- whatever words are at hand for its pools, a heap can do a collection of everything within this trail
+  -- whatever the tails of its pools are, a heap can do a full collection within this trail
   abbrev pub CanCollectAll : (F → Layout) → HeapState F → Moves → Type 0
   CanCollectAll layout h m =
       (t : TraceState F) → IsTraceOf h.pools t
       → CanCollect layout t h.points h.roots h.finals h.segs m (most_moves h.segs.grains)
 
-  -- a collection of everything was done, from its flip to its end, and the arena is parked
+  -- a full collection was done, from its flip to its end, and the arena is parked
   pub record IsCollected (layout : F → Layout) (h : HeapState F) (m : Moves) (h' : HeapState F) (m' : Moves) : Type 0 where
     pub before : TraceState F
     pub after : TraceState F

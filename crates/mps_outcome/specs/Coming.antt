@@ -1,4 +1,4 @@
--- What a call comes to: its answer and the state after it.
+-- The outcome of a call: its answer and the state after it.
 use Rattle.std.specs.Prelude.{◌≡◌, Ok, Err}
 use Rattle.mps_base.specs.Trail.{Moves}
 use Rattle.mps_model.specs.Checked.{Checked}
@@ -10,12 +10,12 @@ pub record Outcome (F A : Type 0) : Type 0 where
   pub state : HeapState F
 
 module _ {F A : Type 0} where
-  -- the answer of a call that came to this
+  -- the answer of a call with this outcome
   abbrev pub answered : Checked (Outcome F A) → Checked A
   answered (Ok outcome) = Ok outcome.answer
   answered (Err why) = Err why
 
-  -- the state after a call that came to this: a refused call changes nothing
+  -- the state after a call with this outcome: a refused call changes nothing
   abbrev pub state_from : HeapState F → Checked (Outcome F A) → HeapState F
   state_from h (Ok outcome) = outcome.state
   state_from h (Err why) = h

@@ -1,4 +1,4 @@
--- What the calls on dependencies come to.
+-- The outcomes of the calls on dependencies.
 use Rattle.std.specs.Prelude.{ℕ, Bool, Ok, List, slice_set}
 use Rattle.mps_base.specs.Staleness.{is_stale}
 use Rattle.mps_base.specs.declared.names.Name.{Name}

@@ -1,4 +1,4 @@
--- What the calls on registrations and messages come to.
+-- The outcomes of the calls on registrations and messages.
 use Rattle.std.specs.Prelude.{Bool, true, false, nat_le, Ok, List, [], ◌∷◌}
 use Rattle.mps_base.specs.Address.{Address}
 use Rattle.mps_base.specs.declared.names.Slot.{Slot}
@@ -16,7 +16,7 @@ module _ {F : Type 0} where
   abbrev pub with_finals : HeapState F → FinalsState → HeapState F
   with_finals h finals = record h { finals = finals }
 
-  -- the first message goes into a slot, where one waits
+  -- the first message goes into a slot, if one waits
   abbrev pub message_into : HeapState F → Entry Address → (messages : List Address) → Outcome F Bool
   message_into h into [] = record { answer = false; state = h }
   message_into h into (at ∷ rest) =

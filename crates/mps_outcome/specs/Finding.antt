@@ -47,7 +47,7 @@ abbrev pub as_dependency : Thing → Option ℕ
 as_dependency (thing.Dependency number) = Some number
 as_dependency _ = None
 
--- what is kept under a key, where there is something
+-- what is kept under a key, if there is something
 abbrev pub under : {A : Type 0} → (key : ℕ) → Option A → Checked (Kept A)
 under key (Some value) = Ok (record { key = key; value = value })
 under key None = Err refusal.BadName
@@ -99,7 +99,7 @@ module _ {F : Type 0} (h : HeapState F) where
     places ← under number (slice_get h.roots.blocks number)
     entry_in places slot.index
 
--- refused where the address is null
+-- refused if the address is null
 abbrev pub not_null : Address → Checked Address
 not_null at = if at == 0 then Err refusal.NullRef else Ok at
 
@@ -129,7 +129,7 @@ module _ {F : Type 0} (layout : F → Layout) (words : List ℕ) (b : Block F) w
     value ← required (slice_get words (word_of b.at + k)) refusal.BadIndex
     Ok (record { word = word_of b.at + k; value = value })
 
-  -- cell k, where it is a number: no reference, and not the head
+  -- cell k, if it is a number: no reference, and not the head
   abbrev pub number_cell_at : (k : ℕ) → Checked CellFound
   number_cell_at k = do
     cell ← cell_at k
@@ -137,7 +137,7 @@ module _ {F : Type 0} (layout : F → Layout) (words : List ℕ) (b : Block F) w
     refuse_when ((layout b.format).is_reference b.head k) refusal.NotANumber
     Ok cell
 
-  -- cell k, where it is a reference
+  -- cell k, if it is a reference
   abbrev pub reference_cell_at : (k : ℕ) → Checked CellFound
   reference_cell_at k = do
     cell ← cell_at k

@@ -1,4 +1,4 @@
--- What the calls that make and drop things come to. A thing is kept under a key that was free; which one is open, and so is the order
+-- The outcomes of the calls that make and drop things. A thing is kept under a key that was free; which one is open, and so is the order
 -- of the names. Each call may also be out of memory, which changes nothing that can be seen.
 use Rattle.std.specs.Prelude.{ℕ, ◌≡◌, ◌+◌, ◌-◌, Bool, not, ◌&&◌, ◌||◌, nat_lt, Option, Some, None, option_map, Result, Ok, Err, is_some, List, [], ◌∷◌, ◌++◌, length, replicate}
 use Rattle.mps_base.specs.declared.names.Name.{Name}
@@ -27,16 +27,16 @@ passed (Err why) = Err why
 module _ {F : Type 0} where
   -- ---- the names of a heap
 
-  -- the state but for its names is this, and the names stand for what they stood for
+  -- the state but for its names is this, and the names represent what they represented before
   pub record IsUntouched (h after : HeapState F) : Type 0 where
     pub names : IsSameMap h.names after.names
     pub state : after ≡ record h { names = after.names }
 
-  -- refused where the name is taken
+  -- refused if the name is taken
   abbrev pub refuse_taken : HeapState F → Name → Checked (Unit {0})
   refuse_taken h name = refuse_when (is_some (thing_named h.names name)) refusal.NameTaken
 
-  -- what a call that makes a thing comes to: its checks may refuse it, it may be out of memory, or it is made
+  -- the outcome of a call that makes a thing: its checks may refuse it, it may be out of memory, or it is made
   pub data IsMaking (h : HeapState F) (checks : Checked (Unit {0})) (Makes : ℕ → HeapState F → Type 0) :
       Result ℕ Refusal → HeapState F → Type 0 where
     Refused : {after : HeapState F} {why : Refusal} → checks ≡ Err why → IsUntouched h after → IsMaking h checks Makes (Err why) after
@@ -45,7 +45,7 @@ module _ {F : Type 0} where
 
   -- ---- roots
 
-  -- refused where one more root of n slots passes a limit
+  -- refused if one more root of n slots passes a limit
   abbrev pub refuse_root : HeapState F → (slots : ℕ) → Checked (Unit {0})
   refuse_root h slots = do
     refuse_at_limit h.live_roots most_roots
@@ -84,7 +84,7 @@ module _ {F : Type 0} where
   without_root h roots names slots =
       record h { roots = roots; names = names; live_roots = h.live_roots - 1; live_slots = h.live_slots - slots }
 
-  -- what is left of the roots where one is dropped, and how many slots go
+  -- what is left of the roots if one is dropped, and how many slots go
   abbrev pub roots_without : HeapState F → Option Thing → Option (RootsState × ℕ)
   roots_without h (Some (thing.Table key)) =
       option_map (λ (slots : List ℕ). (

@@ -1,4 +1,4 @@
--- What the calls on manual blocks come to.
+-- The outcomes of the calls on manual blocks.
 use Rattle.std.specs.Prelude.{ℕ, ◌+◌, ◌*◌, ◌==◌, nat_le, Bool, false, not, Ok, length, slice_get}
 use Rattle.std.specs.Option.{option_map_or}
 use Rattle.mps_base.specs.Address.{Address, Word, word_of, bytes_of_word, max_block_words}
@@ -61,7 +61,7 @@ module _ {F : Type 0} where
       trail = moves_freed size h.segs trail (record { 0 = at });
     })
 
-  -- the number of word k of a block, where it has that
+  -- the number of word k of a block, if it has that
   abbrev pub word_in_block : HeapState F → Address → (k : ℕ) → Checked Word
   word_in_block h at k = do
     refuse_when (nat_le max_block_words k) refusal.BadIndex

@@ -1,4 +1,4 @@
--- What the calls on slots and objects come to.
+-- The outcomes of the calls on slots and objects.
 use Rattle.std.specs.Prelude.{ℕ, ◌==◌, Bool, Ok, slice_set}
 use Rattle.mps_base.specs.Address.{Address}
 use Rattle.mps_base.specs.declared.names.Slot.{Slot}

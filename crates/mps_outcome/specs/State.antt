@@ -30,13 +30,13 @@ pub record HeapState (F : Type 0) : Type 0 where
   -- the dependencies and the pools, by their numbers
   pub dependencies : List LdState
   pub pools : List (Pool F)
-  -- the size of each pool's blocks, 0 where it has blocks of any sizes or is automatic
+  -- the size of each pool's blocks, 0 if it has blocks of any sizes or is automatic
   pub sizes : List ℕ
   pub names : NamesState
   pub arena : ArenaState
 
 module _ {F : Type 0} where
-  -- the format of the objects of a pool, where it is automatic
+  -- the format of the objects of a pool, if it is automatic
   abbrev pub format_of_pool : Pool F → Option F
   format_of_pool (pool.Automatic kind format) = Some format
   format_of_pool (pool.OneSize words) = None
@@ -53,7 +53,7 @@ module _ {F : Type 0} where
   is_copying_pool (pool.Automatic kind.Amcz format) = true
   is_copying_pool _ = false
 
-  -- what a collection knows of a pool, where it is automatic: the format of its objects, and whether it moves them
+  -- what a collection knows of a pool, if it is automatic: the format of its objects, and whether it moves them
   abbrev pub policy_of_pool : Pool F → Option (Policy F)
   policy_of_pool p = option_map (λ (format : F). record { format = format; moves = is_copying_pool p }) (format_of_pool p)
 
@@ -68,7 +68,7 @@ module _ {F : Type 0} where
   is_weak_pool (pool.Automatic kind.Awl format) = true
   is_weak_pool _ = false
 
-  -- the size of a pool's blocks, 0 where that is open
+  -- the size of a pool's blocks, 0 if that is open
   abbrev pub size_of_pool : Pool F → ℕ
   size_of_pool (pool.OneSize words) = words
   size_of_pool _ = 0
@@ -81,7 +81,7 @@ module _ {F : Type 0} where
   abbrev pub format_over : HeapState F → Address → Option F
   format_over h at = option_and_then format_of_pool (pool_over h at)
 
-  -- What the calls of points ask for: what is at hand at a point can be covered, and a reservation that no flip ended is one of the
+  -- What the calls of points ask for: the free words of a point's buffer can be covered, and a reservation that no flip ended is one of the
   -- segments'. Each heap keeps it.
   pub record IsReady (h : HeapState F) : Type 0 where
     pub at_hand : (key : ℕ) (p : Point) → point_at h.points key ≡ Some p → IsAtHand h.segs p.buffer

@@ -1,4 +1,4 @@
--- What a collection of everything comes to for pools, and when it can be done.
+-- The outcome of a full collection for pools, and when it can be done.
 use Rattle.std.specs.Prelude.{ℕ, List}
 use Rattle.mps_base.specs.Trail.{Moves}
 use Rattle.mps_buffer.specs.Points.{PointsState}
@@ -13,7 +13,7 @@ use Rattle.mps_outcome.specs.declared.pool.Pool.{Pool}
 
 module _ {F : Type 0} (layout : F → Layout) (pools : List (Pool F)) (points : PointsState) (roots : RootsState) (finals : FinalsState)
     (s : SegsState) (m : Moves) (most : ℕ) where
-  -- whatever words are at hand for the pools, a collection can be done
+  -- whatever the tails of the pools are, a collection can be done
   abbrev pub CanCollectPools : Type 0
   CanCollectPools = (t : TraceState F) → IsTraceOf pools t → CanCollect layout t points roots finals s m most
 

@@ -6,11 +6,11 @@ use Rattle.mps_trace.specs.Trace.{TraceState}
 use Rattle.mps_outcome.specs.State.{policy_of_pool}
 use Rattle.mps_outcome.specs.declared.pool.Pool.{Pool}
 
--- how many generations have words at hand, by pool
+-- how many generations have a tail, by pool
 abbrev pub rows_of : AmcState → List ℕ
 rows_of amc = map length amc.tails
 
--- the collector has the policy of each pool, none is on a chain, and each has words at hand for its one generation
+-- the collector has the policy of each pool, none is on a chain, and each has a tail for its one generation
 pub record IsSoundTrace {F : Type 0} (pools : List (Pool F)) (t : TraceState F) : Type 0 where
   pub formats : t.formats ≡ map policy_of_pool pools
   pub chains : t.chains ≡ record { chains = []; of_pool = replicate (length pools) None }

@@ -4,7 +4,7 @@ use Rattle.mps_outcome.specs.State.{size_of_pool}
 use Rattle.mps_outcome.specs.declared.pool.Pool.{Pool}
 use Rattle.mps_outcome.specs.declared.pool.Pool.TheVariants as pool
 
--- the pools by their numbers, and the size of each one's blocks, 0 where it has blocks of any sizes or is automatic
+-- the pools by their numbers, and the size of each one's blocks, 0 if it has blocks of any sizes or is automatic
 pub record PoolsState (F : Type 0) : Type 0 where
   pub pools : List (Pool F)
   pub sizes : List ℕ

@@ -11,7 +11,7 @@ use mps_format::Format;
 use mps_outcome::Pool;
 use mps_trace::Policy;
 
-/// The format of the objects of a pool, where it is automatic.
+/// The format of the objects of a pool, if it is automatic.
 #[inline(always)]
 pub fn format_of_pool<F: Format>(pool: Pool<F>) -> Option<F>
     ensures { result ≡ format_of_pool pool }
@@ -48,7 +48,7 @@ pub fn is_copying<F: Format>(pool: Pool<F>) -> bool
     }
 }
 
-/// What a collection knows of a pool, where it is automatic: the format of its objects, and whether it moves them.
+/// What a collection knows of a pool, if it is automatic: the format of its objects, and whether it moves them.
 pub(crate) fn policy_of_pool<F: Format>(pool: Pool<F>) -> Option<Policy<F>>
     ensures { result ≡ policy_of_pool pool }
 {
@@ -100,7 +100,7 @@ pub fn may_have_point<F: Format>(pool: Pool<F>, rank: Rank) -> bool
     is_automatic(pool) && may_be
 }
 
-/// The size of a pool's blocks, 0 where that is open.
+/// The size of a pool's blocks, 0 if that is open.
 pub(crate) fn size_of_pool<F: Format>(pool: Pool<F>) -> u32
     ensures { result ≡ size_of_pool pool }
 {

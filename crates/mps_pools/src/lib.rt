@@ -1,4 +1,4 @@
-//! A heap's pools, as its calls, its manual blocks and its collector know them.
+//! The table of pools, shared by allocation and collection.
 #![tactic(auto)]
 
 mod kinds;

@@ -66,7 +66,7 @@ impl<F: Format> Pools<F> {
         self.pools.len()
     }
 
-    /// The pool with a number, where there is one.
+    /// The pool with a number, if there is one.
     #[inline(always)]
     pub fn get(&self, number: u32) -> Option<Pool<F>>
         ensures { result ≡ slice_get self.now.pools number }
@@ -139,7 +139,7 @@ fn are_moved<F: Format>(pools: &[Pool<F>]) -> bool
     pools.iter().all(|pool| is_moved_or_manual(*pool))
 }
 
-/// The most moves, and the most units, of a collection of everything in an arena of these grains.
+/// The most moves, and the most units, of a full collection in an arena of these grains.
 pub fn most_moves(grains: u32) -> u32
     requires at_most { grains ≤ max_grains }
     ensures value { result ≡ most_moves grains }

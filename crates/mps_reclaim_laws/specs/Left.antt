@@ -27,7 +27,7 @@ abbrev pub setting_freeing_in : SegsState → List Object → List (Option Point
 setting_freeing_in g objects points memories layout condemned k =
     setting_freeing (setting_in g objects points memories layout [] condemned (λ id. true)) k
 
--- the segments of an arena stand for objects in the last band
+-- the segments of an arena represent objects in the last band
 pub record StandsFreeing (g : SegsState) (objects : List Object) (points : List (Option Point)) (memories : List PointMemory)
     (layout : ℕ → Layout) (condemned : List Id) (k : Colours) (addresses : List (Option Address)) : Type 0 where
   pub image : Stands (setting_freeing_in g objects points memories layout condemned k) (memory_in g) addresses k

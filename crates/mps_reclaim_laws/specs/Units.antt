@@ -17,14 +17,14 @@ use Rattle.mps_colours.specs.Units.{IsUnit, IsLastUnit, reclaim_by, reclaimed}
 use Rattle.mps_image.specs.AtRest.{StandsAtRest}
 use Rattle.mps_reclaim_laws.specs.Left.{StandsFreeing}
 
--- the segments of an arena stand for a world whose collection is in the last band
+-- the segments of an arena represent a world whose collection is in the last band
 pub record FreesFor (g : SegsState) (w : World) (c : Collection) (k : Colours) (layout : ℕ → Layout) : Type 0 where
   pub stands : StandsFreeing g w.graph.objects w.graph.points w.point_memories layout c.condemned k w.addresses
   pub segments : w.segments ≡ g.segments
   -- the condemned segments are those of the collection
   pub bits : (t : Segment) → Contains g.segments t → bit g.condemned (grain_of t.base) ≡ contains c.condemned_segments t.base
 
--- the reclaim of a segment, after which the collection goes on, is a unit, and the segments stand for the world after it
+-- the reclaim of a segment, after which the collection goes on, is a unit, and the segments represent the world after it
 pub record GoesOnSo (x : Collecting) (t : Segment) (freed : List Address) (layout : ℕ → Layout) (g' : SegsState) : Type 0 where
   pub collection : Collection
   pub runs : (world_after_moves x.world (reclaim_by x t.base freed)).collection ≡ Some collection
@@ -36,7 +36,7 @@ pub record IsUnitReclaimed (x : Collecting) (t : Segment) (freed : List Address)
   pub goes_on : is_last_condemned x.running t.base ≡ false → GoesOnSo x t freed layout g'
   pub ends : IsTrue (is_last_condemned x.running t.base) → IsLastUnit x (reclaim_by x t.base freed)
 
--- after the last reclaim no collection runs, and once marks and condemned bits are ended the segments stand for the world at rest
+-- after the last reclaim no collection runs, and once marks and condemned bits are ended the segments represent the world at rest
 pub record EndsSo (x : Collecting) (t : Segment) (freed : List Address) (g' : SegsState) : Type 0 where
   pub ended : (world_after_moves x.world (reclaim_by x t.base freed)).collection ≡ None
   pub segments : (world_after_moves x.world (reclaim_by x t.base freed)).segments ≡ g'.segments

@@ -1,4 +1,4 @@
--- When the state of a heap stands for a world of the model.
+-- When the state of a heap represents a world of the model.
 use Rattle.std.specs.Prelude.{◌≡◌, ℕ, ◌+◌, ◌%◌, ◌<◌, ◌≤◌, ◌==◌, Bool, true, false, not, IsTrue, Option, Some, None, option_map, IsSome, List, [], map, length, slice_get}
 use Rattle.std.specs.Option.{option_map_or}
 use Rattle.mps_base.specs.Address.{Address, Id, Word, max_grains, word_of}
@@ -43,7 +43,7 @@ pub record Past : Type 0 where
 
 -- ---- what slots and words of areas hold
 
--- the address of what a reference leads to, where objects have these addresses; 0 is null
+-- the address of what a reference leads to, if objects have these addresses; 0 is null
 abbrev pub address_of_target : (addresses : List (Option Address)) → Option Id → Address
 address_of_target addresses None = 0
 address_of_target addresses (Some id) = option_map_or (λ at. at) (entry_at addresses id) 0
@@ -65,19 +65,19 @@ AreWords addresses number stored words = stored ≡ map (stored_word addresses) 
 
 -- ---- points
 
--- what is kept of a reservation is that of the model's, with its address; it is doomed where a flip came since it was made
+-- what is kept of a reservation is that of the model's, with its address; it is doomed if a flip came since it was made
 pub record IsHeld (flips : ℕ) (held : Held) (r : Reservation) (reserved_at : Address) : Type 0 where
   pub at : held.at.0 ≡ reserved_at
   pub head : held.head ≡ r.head
   pub words : held.words ≡ length r.cells
   pub doomed : r.is_doomed ≡ not (held.flips == flips)
 
--- both have a reservation, and the one stands for the other, or neither has
+-- both have a reservation, and the one represents the other, or neither has
 pub data AreHeldAlike (flips : ℕ) (reserved_at : Address) : Option Held → Option Reservation → Type 0 where
   BothHeld : {held : Held} {r : Reservation} → IsHeld flips held r reserved_at → AreHeldAlike flips reserved_at (Some held) (Some r)
   NoneHeld : AreHeldAlike flips reserved_at None None
 
--- a point of the heap stands for a point of the model with what that has in the arena
+-- a point of the heap represents a point of the model with what that has in the arena
 pub record IsPoint (flips : ℕ) (is_copying : ℕ → Bool) (memories : List PointMemory) (number : ℕ) (p : Point)
     (q : graph.Point) : Type 0 where
   pub pool : p.pool ≡ q.pool
@@ -91,7 +91,7 @@ pub record IsPoint (flips : ℕ) (is_copying : ℕ → Bool) (memories : List Po
 -- ---- pools, dependencies and the arena's state
 
 module _ {F : Type 0} (layout : F → Layout) where
-  -- a pool of the heap stands for a pool of the model, where the numbers of formats mean these
+  -- a pool of the heap represents a pool of the model, where the numbers of formats mean these
   abbrev pub IsPool : (formats : ℕ → Layout) → Pool F → world.Pool → Type 0
   IsPool formats (pool.Automatic kind format) q =
       (q ≡ record { kind = Collected kind; format = q.format; chain = None }) × (formats q.format ≡ layout format)
@@ -135,7 +135,7 @@ IsThere h (thing.Blocks number) = number < length h.roots.blocks
 IsThere h (thing.Point key) = IsSome (point_at h.points key)
 IsThere h (thing.Dependency number) = number < length h.dependencies
 
--- names stand for the same things in both, each for one that is there, and no two for the same
+-- names represent the same things in both, each for one that is there, and no two for the same
 pub record AreNamed {F : Type 0} (past : Past) (h : HeapState F) (names : List graph.NamedThing) : Type 0 where
   pub named : (name : Name) → thing_in names name ≡ option_map (numbered_thing past) (thing_named h.names name)
   pub there : (name : Name) (thing : Thing) → thing_named h.names name ≡ Some thing → IsThere h thing
@@ -143,7 +143,7 @@ pub record AreNamed {F : Type 0} (past : Past) (h : HeapState F) (names : List g
       → same_name name other ≡ true
   pub once : AreTakenOnce names
 
--- ---- the arena where no collection runs
+-- ---- the arena if no collection runs
 
 -- it has no more grains than an arena may have, no segment is condemned, no block is marked as kept, and open reservations lie in it, at
 -- words, also those that a flip ended
@@ -157,7 +157,7 @@ pub record IsArenaAtRest (grains : ℕ) (condemned kept_marks : List Bool) (poin
 
 -- ---- all of it
 
--- the parts of a heap stand for those of a world in which no collection runs
+-- the parts of a heap represent those of a world in which no collection runs
 pub record AreParts {F : Type 0} (layout : F → Layout) (past : Past) (h : HeapState F) (w : World) : Type 0 where
   -- the arena: its size and its limit, its segments, and its words, marks and runs
   pub grains : h.segs.grains ≡ w.grains
@@ -200,7 +200,7 @@ pub record IsReached (w : World) : Type 0 where
   pub once : IsTrue (is_arena_made_once history)
   pub is : w ≡ reached w.formats history
 
--- The state of a heap stands for a world.
+-- The state of a heap represents a world.
 pub record StandsFor {F : Type 0} (layout : F → Layout) (h : HeapState F) (w : World) : Type 0 where
   pub past : Past
   pub parts : AreParts layout past h w

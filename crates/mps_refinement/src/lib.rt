@@ -1,3 +1,3 @@
-//! When a heap's state stands for a world of the model, and that what each call makes of the state is a legal step. It has no code:
-//! each function does nothing, and what it shows is its contract.
+//! The refinement relation between heap states and model worlds, and the proof that every call is a legal step. It has no code.
+//! Each function is a theorem: its contract is the statement.
 #![tactic(auto)]

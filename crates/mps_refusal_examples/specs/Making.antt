@@ -1,4 +1,4 @@
--- The commands that make and drop things: their refusals in order, in the small world and where it is crowded.
+-- The commands that make and drop things: their refusals in order, in the small world and in a crowded one.
 use Rattle.std.specs.Prelude.{List, [], ◌∷◌}
 use Rattle.mps_base.specs.declared.names.Name.{Name}
 use Rattle.mps_base.specs.declared.names.Kind.TheVariants as kind
@@ -101,7 +101,7 @@ pool_mvff_where_one_is_left =
     ∷ replies (call.PoolMvff unknown) reply.Ok
     ∷ []
 
--- ---- roots: seven slots, words and places are taken in the small world, and 259 where one root is left
+-- ---- roots: seven slots, words and places are taken in the small world, and 259 if one root is left
 
 abbrev pub table_where_full : List Row
 table_where_full =

@@ -43,7 +43,7 @@ pub record AreGapsByRank : Type 0 where
 
 -- ---- an AMCZ pool
 
--- two points on one segment: point 0 has what is left after its block, and point 1 has nothing at hand. The first words of
+-- two points on one segment: point 0 has what is left after its block, and the buffer of point 1 is empty. The first words of
 -- the segment are free, as its first block is gone
 abbrev pub two_points : World
 two_points = record empty_world {
@@ -59,7 +59,7 @@ two_points = record empty_world {
   point_memories = record { reserved_at = 0x1320; buffer = record { from = 614; count = 410 } } ∷ no_memory ∷ [];
 }
 
--- a block lies where the buffer of its point begins, where the buffer has room for it, else in a new segment; never in a gap
+-- a block lies where the buffer of its point begins, if the buffer has room for it, else in a new segment; never in a gap
 pub record AreBuffersByPoint : Type 0 where
   pub in_the_buffer : placement_of two_points (ForReserve 0 410) ≡ Place 614
   pub past_the_buffer : placement_of two_points (ForReserve 0 411) ≡ NewSegment 2 1

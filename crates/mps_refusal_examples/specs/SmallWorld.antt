@@ -171,7 +171,7 @@ reserved_pair is_doomed = Some (record { head = front 3 1; cells = pair_cells No
 abbrev pub no_memory : PointMemory
 no_memory = record { reserved_at = 0; buffer = empty_run }
 
--- the open reservation lies after the pair, and the rest of their segment is at hand
+-- the open reservation lies after the pair, and the rest of their segment is the buffer
 abbrev pub open_memory : PointMemory
 open_memory = record { reserved_at = 0x1018; buffer = record { from = 518; count = 506 } }
 

@@ -1,5 +1,5 @@
 //! What each command refuses, and in which order: tables of calls on one small world, each call with what it answers.
-//! Each function does nothing; what it shows is its contract.
+//! Each function is a theorem: its contract is the statement.
 #![tactic(auto)]
 
 ghost use Rattle.mps_refusal_examples.specs.Making.{ArenaAnswers, PoolsAnswer, RootsAnswer, PointsAnswer};
@@ -13,12 +13,12 @@ pub fn arena_answers()
     ensures { ArenaAnswers }
 {}
 
-/// `chain` and the four forms of `pool`, where no place is left and where one is.
+/// `chain` and the four forms of `pool`, if no place is left and if one is.
 pub fn pools_answer()
     ensures { PoolsAnswer }
 {}
 
-/// `table`, `area` and `blocks`, where no root is left and where one is, and `droproot`.
+/// `table`, `area` and `blocks`, if no root is left and if one is, and `droproot`.
 pub fn roots_answer()
     ensures { RootsAnswer }
 {}

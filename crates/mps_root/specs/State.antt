@@ -3,7 +3,7 @@ use Rattle.std.specs.Prelude.{ℕ, ◌≡◌, ◌≢◌, ◌<◌, ◌==◌, fals
 use Rattle.std.specs.Option.{option_map_or, IsSomeAnd}
 use Rattle.mps_root.specs.declared.roots.Stored.{Stored}
 
--- The slots of each table and the words of each area, by key, where there is one; the keys of the tables in the order in which they
+-- The slots of each table and the words of each area, by key, if there is one; the keys of the tables in the order in which they
 -- were made; and the places of each table of blocks, by number. Slots and places are addresses, and 0 is null.
 pub record RootsState : Type 0 where
   pub tables : List (Option (List ℕ))
@@ -15,7 +15,7 @@ abbrev pub no_roots : RootsState
 no_roots = record { tables = []; order = []; areas = []; blocks = [] }
 
 module _ {A : Type 0} where
-  -- what is kept under a key, where there is something
+  -- what is kept under a key, if there is something
   abbrev pub kept : List (Option A) → (key : ℕ) → Option A
   kept entries key = slice_index_or entries key None
 
@@ -33,7 +33,7 @@ module _ {A : Type 0} where
   abbrev pub HasItem : List (Option (List A)) → (key index : ℕ) → Type 0
   HasItem rows key index = IsSomeAnd (slice_index_or rows key None) (λ items. index < length items)
 
-  -- the items under a key, none where there is no row
+  -- the items under a key, none if there is no row
   abbrev pub items_of : List (Option (List A)) → (key : ℕ) → List A
   items_of rows key = option_map_or (λ items. items) (slice_index_or rows key None) []
 

@@ -10,15 +10,15 @@ use slab::Slab;
 use std::alloc::{AllocError, Global};
 use std::marker::Model;
 
-/// A word of an area. Where it holds an object, it lies in that object, which it keeps alive and in place.
+/// A word of an area. If it holds an object, it lies in that object, which it keeps alive and in place.
 #[derive(Clone, Copy, Debug, PartialEq, Eq)]
 pub struct Stored {
     pub word: u64,
     pub holds: bool,
 }
 
-/// The roots of a heap and its tables of blocks. A slot and a place is an address, or 0 where it is null. Only the calls that make
-/// something allocate; where they find no memory, nothing changes.
+/// The roots of a heap and its tables of blocks. A slot and a place is an address, or 0 if it is null. Only the calls that make
+/// something allocate; if they find no memory, nothing changes.
 #[derive(Drop)]
 pub struct Roots {
     alloc: Global,
@@ -114,7 +114,7 @@ impl Roots {
         let _ = self.areas.remove(key);
     }
 
-    /// The slots of a table, where there is one under this key.
+    /// The slots of a table, if there is one under this key.
     #[inline(always)]
     pub fn slots(&self, key: usize) -> Option<&[u64]>
         ensures { MatchOption result (kept self.now.tables key ≡ None) (λ slots. kept self.now.tables key ≡ Some slots.now) }
@@ -145,7 +145,7 @@ impl Roots {
         self.tables[key][index] = address;
     }
 
-    /// The words of an area, where there is one under this key.
+    /// The words of an area, if there is one under this key.
     pub fn words(&self, key: usize) -> Option<&[Stored]>
         ensures { MatchOption result (kept self.now.areas key ≡ None) (λ words. kept self.now.areas key ≡ Some words.now) }
     {

@@ -1,4 +1,4 @@
-// Each call once, and 2,000 random steps beside plain lists.
+// Each call once, and 2,000 random steps compared with plain lists.
 use crate::{Roots, Stored};
 use std::alloc::AllocError;
 

@@ -11,7 +11,7 @@ use Rattle.mps_model.specs.declared.call.Call.TheVariants as call
 use Rattle.mps_words.specs.Word.{words}
 use Rattle.mps_script.specs.Form.{command_call}
 
--- the call of a line's words, where they are in the form of a command
+-- the call of a line's words, if they are in the form of a command
 abbrev pub call_of_command : List (List ℕ) → Option Call
 call_of_command [] = None
 call_of_command (word ∷ ws) = command_call word ws

@@ -4,12 +4,12 @@ use Rattle.mps_model.specs.declared.call.Call.{Call}
 use Rattle.mps_model.specs.declared.call.Call.TheVariants.{Live}
 use Rattle.mps_script.specs.declared.line.BadLine.{BadLine}
 
--- the call that was written, where one was
+-- the call that was written, if one was
 abbrev pub filled : Option ⊤ → Call → Option Call
 filled (Some done) call = Some call
 filled None call = None
 
--- what a line has: the call that was written, where one was, or none, or the line is bad
+-- what a line has: the call that was written, if one was, or none, or the line is bad
 abbrev pub found : Result Bool BadLine → Call → Result (Option Call) BadLine
 found (Ok true) call = Ok (Some call)
 found (Ok false) call = Ok None

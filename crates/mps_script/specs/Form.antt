@@ -1,5 +1,5 @@
 -- The forms of commands: the command word, and after it the words, each in its form and with its range. A command word stands
--- once; where it has several forms, `or` stands between them. A name, a slot, a head, a decimal number and a number in either
+-- once; if it has several forms, `or` stands between them. A name, a slot, a head, a decimal number and a number in either
 -- form are read by `name_of`, `slot_of`, `head_of`, `decimal_number` and `number_of`.
 use Rattle.std.specs.Prelude.{ℕ, ◌-◌, nat_le, ◌&&◌, if◌then◌else◌, codes, Option, Some, None, option_map, List, [], ◌∷◌, ◌++◌, length, replicate}
 use Rattle.std.specs.Str.{bytes_eq}

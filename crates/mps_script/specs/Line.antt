@@ -7,7 +7,7 @@ use Rattle.mps_words.specs.Lines.{is_line_feed, max_line_bytes}
 use Rattle.mps_words.specs.Word.{words}
 use Rattle.mps_script.specs.Form.{command_call}
 
--- without the last part where that is empty
+-- without the last part if that is empty
 abbrev pub without_empty_last : List (List ℕ) → List (List ℕ)
 without_empty_last [] = []
 without_empty_last ([] ∷ []) = []
@@ -23,17 +23,17 @@ abbrev pub begins_comment : List ℕ → Bool
 begins_comment [] = false
 begins_comment (b ∷ bs) = b == 35
 
--- bad where there is no call
+-- bad if there is no call
 abbrev pub or_bad : Option Call → Result (Option Call) BadLine
 or_bad None = Err (record {})
 or_bad (Some c) = Ok (Some c)
 
--- the call of a line's words: none where there are no words or they are a comment, bad where they are in the form of no command
+-- the call of a line's words: none if there are no words or they are a comment, bad if they are in the form of no command
 abbrev pub call_of_words : List (List ℕ) → Result (Option Call) BadLine
 call_of_words [] = Ok None
 call_of_words (word ∷ ws) = if begins_comment word then Ok None else or_bad (command_call word ws)
 
--- the call of a line: bad where the line is too long or in the form of no command, none where it is empty, of spaces alone or a
+-- the call of a line: bad if the line is too long or in the form of no command, none if it is empty, of spaces alone or a
 -- comment
 abbrev pub call_of_line : List ℕ → Result (Option Call) BadLine
 call_of_line line = if nat_lt max_line_bytes (length line) then Err (record {}) else call_of_words (words line)

@@ -10,7 +10,7 @@ use Rattle.mps_script.specs.Line.{call_of_line}
 abbrev pub is_good : List ℕ → Bool
 is_good line = is_ok (call_of_line line)
 
--- the call of a line, where it has one
+-- the call of a line, if it has one
 abbrev pub call_or_none : Result (Option Call) BadLine → List Call
 call_or_none (Ok (Some c)) = c ∷ []
 call_or_none (Ok None) = []
@@ -36,12 +36,12 @@ abbrev pub is_some_call : List Call → Bool
 is_some_call [] = false
 is_some_call (first ∷ later) = true
 
--- a call has its turn: `arena` where no call was before it, and any other where one was
+-- a call has its turn: `arena` if no call was before it, and any other if one was
 abbrev pub has_turn : (has_arena is_arena : Bool) → Bool
 has_turn true is_arena = not is_arena
 has_turn false is_arena = is_arena
 
--- the call of the next line of a script, in which there is a call so far or none: bad where it hasn't its turn
+-- the call of the next line of a script, in which there is a call so far or none: bad if it hasn't its turn
 abbrev pub in_turn : (has_arena : Bool) → Result (Option Call) BadLine → Result (Option Call) BadLine
 in_turn has_arena (Err bad) = Err bad
 in_turn has_arena (Ok None) = Ok None

@@ -8,7 +8,7 @@ use crate::a_to_k::{call_of_a_to_b, call_of_c, call_of_d_to_f, call_of_g_to_k};
 use crate::l_to_z::{call_of_l, call_of_m_to_o, call_of_p_to_r, call_of_s_to_z};
 use mps_model::Call;
 
-/// The call of a line at whose beginning a word stands, where its words are in the form of a command.
+/// The call of a line at whose beginning a word stands, if its words are in the form of a command.
 #[inline(always)]
 pub fn command_call(line: &[u8], into: &mut Call) -> Option<()>
     ensures { filled result into.new ≡ command_call (word_at line.now) (words (after_word line.now)) }

@@ -22,7 +22,7 @@ fn is_comment(line: &[u8]) -> bool
     }
 }
 
-/// Writes the call of a line, which has no line feed, and returns true; false where the line has no call: where it is empty,
+/// Writes the call of a line, which has no line feed, and returns true; false if the line has no call: if it is empty,
 /// of spaces alone or a comment.
 pub fn call_of(line: &[u8], into: &mut Call) -> Result<bool, BadLine>
     ensures { found result into.new ≡ call_of_line line.now }

@@ -16,7 +16,7 @@ fn has_turn(has_arena: bool, call: &Call) -> bool
     is_arena != has_arena
 }
 
-/// Writes the call of the next line of a script, and returns true; false where the line has no call. Before it a line had a
+/// Writes the call of the next line of a script, and returns true; false if the line has no call. Before it a line had a
 /// call, and so made the arena, or none had. A first command other than `arena`, and a second `arena`, are bad.
 pub fn next_call(has_arena: bool, line: &[u8], into: &mut Call) -> Result<bool, BadLine>
     ensures { found result into.new ≡ in_turn has_arena (call_of_line line.now) }

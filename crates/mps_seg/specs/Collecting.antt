@@ -16,7 +16,7 @@ use Rattle.mps_seg.specs.declared.segment_info.SegmentInfo.{SegmentInfo}
 abbrev pub first_grain_over : SegsState → Address → Option Grain
 first_grain_over s at = option_map (λ t. grain_of t.base) (segment_over s.segments at)
 
--- the bit of a grain, where there is one
+-- the bit of a grain, if there is one
 abbrev pub bit_of : List Bool → Option Grain → Bool
 bit_of bits None = false
 bit_of bits (Some grain) = bit bits grain
@@ -41,7 +41,7 @@ is_white_at s at = is_condemned_at s at && not (is_kept_at s at)
 abbrev pub is_black_at : SegsState → Address → Bool
 is_black_at s at = not (is_white_at s at) && not (is_grey_at s at)
 
--- the rank of a segment, exact where there is none
+-- the rank of a segment, exact if there is none
 abbrev pub rank_of : Option Segment → Rank
 rank_of None = Exact
 rank_of (Some t) = t.rank
@@ -103,7 +103,7 @@ summary_at s base = slice_index s.summaries (grain_of base)
 abbrev pub summarizing : SegsState → (base : Address) → (zones : ℕ) → SegsState
 summarizing s base zones = record s { summaries = slice_set s.summaries (grain_of base) zones }
 
--- the summary of a segment with the zone of an address too, where there is a segment
+-- the summary of a segment with the zone of an address too, if there is a segment
 abbrev pub noting_in : SegsState → Option Grain → (target : Address) → SegsState
 noting_in s None target = s
 noting_in s (Some grain) target =

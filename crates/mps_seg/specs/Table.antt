@@ -89,7 +89,7 @@ abbrev pub gaps_in_grains : (grain grains : ℕ) → List Run → List Run
 gaps_in_grains grain grains rs =
     gaps (words_of_grain * grain) (words_of_grain * grain + words_of_grain * grains) (runs_in_grains grain grains rs)
 
--- the gaps of the segment that begins at a grain, where one does and it is of the pool and the rank
+-- the gaps of the segment that begins at a grain, if one does and it is of the pool and the rank
 abbrev pub gaps_at : (grain : ℕ) → Entry → (pool : ℕ) → Rank → ExtentLists → List Run
 gaps_at grain Free pool rank extents = []
 gaps_at grain (First grains of generation at) pool rank extents =

@@ -301,7 +301,7 @@ impl Segs {
         let _ = &self.arena;
     }
 
-    /// Sets the commit limit, in grains. Refuses `BelowCommitted` where more grains than that are held.
+    /// Sets the commit limit, in grains. Refuses `BelowCommitted` if more grains than that are held.
     pub fn set_limit(&mut self, limit: u32) -> Result<(), Refusal>
         ensures state { MatchResult result (λ _. self.new ≡ record self.old { limit = limit }) (λ _. self.new ≡ self.old) }
         ensures sound { OnOk result (total (held_runs self.old) ≤ limit) }

@@ -63,7 +63,7 @@ const RESERVATION: [Step; 9] = [
     Step::Place(Placing::Committed(0)),
 ];
 
-/// The words of a block are lent to be written, cleared, written and copied over themselves.
+/// The words of a block are borrowed and written, cleared, written and copied over themselves.
 const WORDS: [Step; 11] = [
     Step::Write(Writing::Size(4)),
     Step::Place(Placing::Fill(0, 4, Ok(Addr(0x1000)))),

@@ -19,7 +19,7 @@ abbrev pub can_collect_world : World → Bool
 can_collect_world w = list_all (λ (p : Pool). is_moved_or_manual_kind p.kind) w.pools && is_empty w.graph.registered
 
 -- whether the form of a call is built: all but chains of generations and what begins or drives a collection by steps; a collection of
--- everything is where it can be done
+-- everything is if it can be done
 abbrev pub is_built : (collects : Bool) → Call → Bool
 is_built collects (call.Chain chain count capacities) = false
 is_built collects (call.PoolOnChain pool kind format chain) = false

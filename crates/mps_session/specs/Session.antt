@@ -10,7 +10,7 @@ pub record MadeState : Type 0 where
   pub heap : HeapState AnyFormat
   pub trail : Moves
 
--- the trail has room for the moves of one call in an arena of these grains: a collection of everything makes the most
+-- the trail has room for the moves of one call in an arena of these grains: a full collection makes the most
 abbrev pub HasRoomForMoves : (grains : ℕ) → Moves → Type 0
 HasRoomForMoves grains trail = most_moves grains ≤ trail.spare + length trail.moves
 

@@ -1,4 +1,4 @@
--- When a session stands for a world, and what an answer of its heap guarantees.
+-- When a session represents a world, and what an answer of its heap guarantees.
 use Rattle.std.specs.Prelude.{◌≡◌, ◌≢◌, ◌<◌, ℕ, Bool, true, false, List, [], Option, Some, None}
 use Rattle.mps_base.specs.Trail.{Moves}
 use Rattle.mps_base.specs.declared.moves.Move.{Move}
@@ -22,19 +22,19 @@ use Rattle.mps_session.specs.Session.{HasRoomForMoves, MadeState}
 abbrev pub HasScriptFormats : World → Type 0
 HasScriptFormats w = w.formats ≡ numbered_layout
 
--- a heap stands for a world of a script, in which the arena was made
+-- a heap represents a world of a script, in which the arena was made
 pub record HeapStands (h : HeapState AnyFormat) (w : World) : Type 0 where
   pub heap : StandsFor any_layout h w
   pub formats : HasScriptFormats w
   pub arena : 0 < w.grains
 
--- a heap stands for some world of a script, in which the arena was made, and its trail has room for the moves of each call
+-- a heap represents some world of a script, in which the arena was made, and its trail has room for the moves of each call
 pub record StandsForScript (h : HeapState AnyFormat) (trail : Moves) : Type 0 where
   pub world : World
   pub stands : HeapStands h world
   pub fits : HasRoomForMoves h.segs.grains trail
 
--- a session stands for the empty world, until the arena is made
+-- a session represents the empty world, until the arena is made
 abbrev pub SessionStands : Option MadeState → World → Type 0
 SessionStands None w = w ≡ empty_world
 SessionStands (Some made) w = HeapStands made.heap w
@@ -58,6 +58,6 @@ pub data BeginsRightly (c : Call) (given : Reply) : Option MadeState → Type 0 
       → IsNewHeap any_layout grains limit made.heap → made.trail.moves ≡ [] → BeginsRightly c given (Some made)
   NotBegun : is_arena c ≡ false → given ≡ reply.Unsupported → BeginsRightly c given None
 
--- it stands for what it stood for
+-- it represents what it represented before
 abbrev pub HeapStandsStill : (before after : HeapState AnyFormat) → Type 0
 HeapStandsStill before after = (w : World) → StandsFor any_layout before w → StandsFor any_layout after w

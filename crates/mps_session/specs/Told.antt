@@ -1,4 +1,4 @@
--- A reply that tells an answer, whatever words the arena has.
+-- A reply that says an answer, whatever words the arena has.
 use Rattle.std.specs.Prelude.{◌≡◌, ◌≢◌, ℕ, List, refl}
 use Rattle.mps_model.specs.Answer.{Answer, Replied, answer_of}
 use Rattle.mps_model.specs.declared.reply.Reply.{Reply}

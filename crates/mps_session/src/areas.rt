@@ -8,7 +8,7 @@ use mps_format::AnyFormat;
 use mps_heap::Heap;
 use mps_model::{Call, Reply};
 
-/// Answers a call on an area, a registration, a message or a dependency; `None` where it is another.
+/// Answers a call on an area, a registration, a message or a dependency; `None` if it is another.
 pub fn answer(heap: &mut Heap<AnyFormat>, call: &Call) -> Option<Reply>
     ensures right { IfSome result (λ reply. IsAnswered heap.old call.now [] reply heap.new) }
     ensures which { is_some result ≡ is_on_areas call.now }

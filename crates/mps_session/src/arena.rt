@@ -11,7 +11,7 @@ use mps_format::AnyFormat;
 use mps_heap::Heap;
 use mps_model::{Call, Reply};
 
-/// Answers a call on the arena, or one that drops a thing; `None` where it is another.
+/// Answers a call on the arena, or one that drops a thing; `None` if it is another.
 pub fn answer(heap: &mut Heap<AnyFormat>, call: &Call) -> Option<Reply>
     requires range { IsInRange call.now }
     ensures right { IfSome result (λ reply. IsAnswered heap.old call.now [] reply heap.new) }

@@ -47,8 +47,8 @@ pub fn answer(
     answer_seldom(heap, trail, call, reply)
 }
 
-/// Answers a call that is none of those of which a script has most, writes the reply, and appends the moves to the empty trail. An `Err`
-/// says that memory is out. It stands by itself, so that the others don't make room for what it calls.
+/// Executes the rare calls, writes the reply, and appends the moves to the empty trail. An `Err` says that memory is out. Not inlined, to
+/// keep the stack frame of the frequent calls small.
 #[inline(never)]
 fn answer_seldom(
     heap: &mut Heap<AnyFormat>,

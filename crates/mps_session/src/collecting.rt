@@ -11,7 +11,7 @@ use mps_format::AnyFormat;
 use mps_heap::Heap;
 use mps_model::Reply;
 
-/// Collects everything where that can be done, and appends its moves to the empty trail.
+/// Does a full collection if that can be done, and appends its moves to the empty trail.
 pub fn collect(heap: &mut Heap<AnyFormat>, trail: &mut Trail) -> Reply
     requires empty { trail.old.moves ≡ [] }
     requires fits { most_moves heap.old.segs.grains ≤ trail.old.spare }

@@ -1,4 +1,4 @@
-//! The session of a script: the heap as a machine that answers commands, the arena's making among them.
+//! Executes script commands on a heap; `arena` creates it.
 #![tactic(auto)]
 
 mod areas;

@@ -73,7 +73,7 @@ impl Made {
         self.trail.moves()
     }
 
-    /// The word of a number, which is its address divided by 8; none where the arena has no such word.
+    /// The word of a number, which is its address divided by 8; none if the arena has no such word.
     #[inline(always)]
     pub fn word(&self, number: usize) -> Option<u64>
         ensures { result ≡ slice_get self.now.heap.segs.words number }

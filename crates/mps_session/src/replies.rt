@@ -1,4 +1,4 @@
-// The replies that tell what the heap's calls came to.
+// The replies to the heap's calls, by their results.
 ghost use Rattle.mps_refinement.specs.Answering.{answer_to, says_block, says_bool, says_committed, says_head, says_message, says_number, says_ok, says_word};
 ghost use Rattle.mps_refinement.specs.Making.{answer_of_making};
 ghost use Rattle.mps_heap.specs.Answers.{says_address};
@@ -11,7 +11,7 @@ use mps_heap::Committed;
 use mps_model::Reply;
 use std::alloc::AllocError;
 
-/// Of a call that says no more than `ok`.
+/// The reply to a call that returns nothing.
 pub fn done(came: Result<(), Refusal>) -> Reply
     ensures { Tells result (answer_to says_ok came) }
 {

@@ -52,7 +52,7 @@ RootsAreReady F =
     → AreShaped y.world.graph.objects (pool_layout y.world) → TracingStands layout t.formats t.chains at_flip done x y
     → AreTablesHeld at_flip y roots rows → AreHeldAtFlip at_flip y finals.messages (map Some ids) → CanFixRoots layout t roots finals x
 
--- where the tables in order hold what slots of a world do, and messages are its messages, this is what a flip of that world fixes
+-- if the tables in order hold what slots of a world do, and messages are its messages, this is what a flip of that world fixes
 abbrev pub WhatIsHeldIsFixed : (F : Type 0) → Type 0
 WhatIsHeldIsFixed F =
     (layout : F → Layout) (formats : List (Option (Policy F))) (of : ChainsState) (at_flip : List (Option Address)) (done : CellSet)

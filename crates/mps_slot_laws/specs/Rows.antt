@@ -1,4 +1,4 @@
--- What the collector does with a row of slots, or with all messages, is to the abstract collector.
+-- What the collector does with a sequence of slots, or with all messages, is to the abstract collector.
 use Rattle.std.specs.Prelude.{◌≡◌, ℕ, ◌<◌, ◌≤◌, IsTrue, Option, Some, None, List, take, map, length, slice_get, slice_index_or}
 use Rattle.mps_base.specs.Address.{Address, Id}
 use Rattle.mps_final.specs.State.{FinalsState}
@@ -36,7 +36,7 @@ pub record AreHeldAtFlip (at_flip : List (Option Address)) (y : Collecting) (slo
   pub long : length targets ≡ length slots
   pub each : (i : ℕ) (target : Option Id) → slice_get targets i ≡ Some target → HoldsAtFlip at_flip y (slice_index_or slots i 0) target
 
--- the slots of a row before one of them were fixed, and hold where their targets are then. The others hold what they held
+-- the slots of a sequence before one of them were fixed, and hold where their targets are then. The others hold what they held
 pub record AreFixedBefore {F : Type 0} (layout : F → Layout) (formats : List (Option (Policy F))) (of : ChainsState)
     (at_flip : List (Option Address)) (done : CellSet) (x z : Traced) (y : Collecting) (slots slots' : List Address)
     (targets : List (Option Id)) (before : ℕ)

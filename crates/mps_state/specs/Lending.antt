@@ -44,7 +44,7 @@ module _ {F : Type 0} (h : HeapState F) (place : Slot) where
   IsNoBlock why = block_named ≡ Err why
 
 module _ {F : Type 0} (layout : F → Layout) (h : HeapState F) (slot : Slot) where
-  -- the address of the object in a slot, where it is of a leaf pool
+  -- the address of the object in a slot, if it is of a leaf pool
   abbrev pub leaf_named : Checked Address
   leaf_named = do
     object ← object_in layout h slot

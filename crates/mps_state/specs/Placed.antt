@@ -1,4 +1,4 @@
--- What `alloc` and `free` come to once the place of the block was found.
+-- The outcomes of `alloc` and `free` once the place of the block was found.
 use Rattle.std.specs.Prelude.{ℕ, ◌==◌, not, Ok, slice_get}
 use Rattle.mps_base.specs.Address.{Address}
 use Rattle.mps_base.specs.Segment.{segment_over}

@@ -1,4 +1,4 @@
-//! The heap at rest: what a client's calls find and change, and a collection of everything, from its flip to its end.
+//! The heap at rest: what a client's calls find and change, and a full collection, from its flip to its end.
 #![tactic(auto)]
 
 mod state;

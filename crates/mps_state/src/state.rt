@@ -30,7 +30,7 @@ use mps_seg::Segs;
 use std::alloc::{AllocError, Global};
 use std::marker::Model;
 
-/// A heap at rest, generic in the format of its objects. It can't be let go but by `finish`, which ends its open reservations.
+/// A heap at rest, generic in the format of its objects. It must be consumed by `finish`, which ends its open reservations.
 pub struct State<F: Format> {
     segs: Segs,
     roots: Roots,
@@ -101,7 +101,7 @@ impl<F: Format> State<F> {
         })
     }
 
-    /// The word of a number, which is its address divided by 8; none where the arena has no such word.
+    /// The word of a number, which is its address divided by 8; none if the arena has no such word.
     pub fn item(&self, word: usize) -> Option<u64>
         ensures { result ≡ slice_get self.now.segs.words word }
     {

@@ -1,4 +1,4 @@
--- A whole collection of everything: how it begins, and all its units.
+-- A full collection: how it begins, and all its units.
 use Rattle.std.specs.Prelude.{ℕ, ◌*◌, ◌+◌, ◌<◌, ◌≡◌, Option, List, refl}
 use Rattle.mps_base.specs.Address.{words_of_grain}
 use Rattle.mps_base.specs.Run.{IsAscending}
@@ -16,7 +16,7 @@ use Rattle.mps_trace.specs.Unit.{UnitsTo, EndsWithin, AreUnitsReady}
 use Rattle.mps_trace.specs.declared.running.Running.{Running}
 use Rattle.mps_trace.specs.declared.trace.Policy.{Policy}
 
--- a collection of everything, from its flip to its end: it ends at once where nothing is condemned, and else within n units
+-- a full collection, from its flip to its end: it ends at once if nothing is condemned, and else within n units
 pub data Collects {F : Type 0} (layout : F → Layout) (formats : List (Option (Policy F))) (chains : ChainsState) (points : PointsState)
     (roots : RootsState) (finals : FinalsState) (x : Traced) (most : ℕ) (roots' : RootsState) (finals' : FinalsState) (z : Traced) : Type 0
   where
@@ -33,7 +33,7 @@ pub record CanEnd {F : Type 0} (layout : F → Layout) (formats : List (Option (
   pub ready : AreUnitsReady layout (record { formats = formats; amc = z.amc; chains = chains }) z.segs z.moves run most
   pub ends : (last : Traced) (run' : Running) → UnitsTo layout formats chains z run most last run' → ⊥
 
--- a collection of everything can be done, in at most n units
+-- a full collection can be done, in at most n units
 pub record CanCollect {F : Type 0} (layout : F → Layout) (t : TraceState F) (points : PointsState) (roots : RootsState)
     (finals : FinalsState) (s : SegsState) (m : Moves) (most : ℕ) : Type 0 where
   pub ordered : AreInOrder s
@@ -45,7 +45,7 @@ pub record CanCollect {F : Type 0} (layout : F → Layout) (t : TraceState F) (p
       → Begins layout t.formats t.chains points roots finals (traced t s m) roots' finals' z run
       → CanEnd layout t.formats t.chains z run most
 
--- how many moves a collection of everything in an arena of these grains makes at most, and how many units it has at most: two for each
+-- how many moves a full collection in an arena of these grains makes at most, and how many units it has at most: two for each
 -- block, of which there is at most one a word, one for each segment, of which there is at most one a grain, and its begin and end
 abbrev pub most_moves : (grains : ℕ) → ℕ
 most_moves grains = 2 * (words_of_grain * (grains + 1)) + grains + 4

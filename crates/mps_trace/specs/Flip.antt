@@ -42,7 +42,7 @@ all_condemned formats s = condemning_all (automatic_of formats s.segments) s
 
 -- ---- a flip
 
--- what a flip of everything leaves: reservations are ended, nothing is at hand for pools, what is condemned is so, and the flip is told
+-- what a full flip leaves: reservations are ended, tails are empty, what is condemned is so, and the flip is logged
 abbrev pub at_flip : {F : Type 0} → (formats : List (Option (Policy F))) → PointsState → Traced → Traced
 at_flip formats points x = record {
   amc = amc.flipped x.amc;
@@ -52,7 +52,7 @@ at_flip formats points x = record {
 
 -- ---- area words
 
--- the block that begins at a word is nailed, where it is condemned
+-- the block that begins at a word is nailed, if it is condemned
 abbrev pub nailed_in : SegsState → Option Word → SegsState
 nailed_in s None = s
 nailed_in s (Some word) = if is_condemned_at s (address_of_word word) then nailed s (address_of_word word) else s

@@ -19,14 +19,14 @@ use Rattle.mps_trace.specs.declared.trace.Policy.{Policy}
 pub record TraceState (F : Type 0) : Type 0 where
   -- by pool, the format of its objects; none for a pool that isn't collected
   pub formats : List (Option (Policy F))
-  -- what is at hand of copying pools
+  -- the tails of copying pools
   pub amc : AmcState
   pub chains : ChainsState
 
 abbrev pub no_pools : {F : Type 0} → TraceState F
 no_pools = record { formats = []; amc = amc.no_pools; chains = no_chains }
 
--- one more pool, on no chain, with nothing at hand in its one generation
+-- one more pool, on no chain, with an empty tail for its one generation
 abbrev pub with_pool : {F : Type 0} → TraceState F → Option (Policy F) → TraceState F
 with_pool t format = record {
   formats = t.formats ++ format ∷ [];
@@ -34,7 +34,7 @@ with_pool t format = record {
   chains = record t.chains { of_pool = t.chains.of_pool ++ None ∷ [] };
 }
 
--- what a collection changes: the words at hand, the segments, and the moves that it tells
+-- what a collection changes: the tails, the segments, and the moves that it logs
 pub record Traced : Type 0 where
   pub amc : AmcState
   pub segs : SegsState
@@ -67,7 +67,7 @@ pub record CanKeep {F : Type 0} (layout : F → Layout) (formats : List (Option 
   pub listed : slice_get formats segment.pool ≡ Some (Some format)
   pub moving : format.moves ≡ true → CanMove (layout format.format) chains x at segment
 
--- an address on a word of the arena. Where it lies in a condemned segment, a block can be fixed there
+-- an address on a word of the arena. If it lies in a condemned segment, a block can be fixed there
 pub record CanFixAt {F : Type 0} (layout : F → Layout) (formats : List (Option (Policy F))) (chains : ChainsState) (x : Traced) (at : Address)
     : Type 0 where
   pub aligned : at % bytes_of_word ≡ 0
@@ -104,7 +104,7 @@ a_pool_with_nothing_at_hand = refl
 pub a_pool_on_no_chain_has_one_generation : target_of (with_pool {F = ℕ} no_pools (Some (record { format = 3; moves = true }))).chains (segment_of_pool 0) ≡ 0
 a_pool_on_no_chain_has_one_generation = refl
 
--- where no pool has a format nothing is fixed
+-- if no pool has a format nothing is fixed
 pub nothing_moves_without_a_pool : (layout : ℕ → Layout) (x y : Traced) (at answer : Addr)
     → FixesTo layout [] no_chains x at y answer → answer ≡ at
 nothing_moves_without_a_pool layout x y at answer (passes calm) = refl

@@ -23,7 +23,7 @@ use Rattle.mps_trace.specs.declared.trace.Policy.{Policy}
 abbrev pub reclaimed_at : (base : Addr) → Running → Running
 reclaimed_at base run = record run { band = Reclaim; cursor = record { 0 = base.0 + 1 } }
 
--- a collection is over: nothing is condemned, kept or grey, and its end is told
+-- a collection is over: nothing is condemned, kept or grey, and its end is logged
 abbrev pub ended : Traced → Traced
 ended x = record x { segs = collected x.segs; moves = with_move x.moves End }
 
@@ -85,7 +85,7 @@ pub record CanReclaimNext {F : Type 0} (layout : F → Layout) (t : TraceState F
   pub can : (base : Addr) → IsNextCondemned s run.cursor.0 base.0 → CanReclaimAt layout t s m base
   pub room : (base : Addr) → IsNextCondemned s run.cursor.0 base.0 → HasRoomToEnd s m base
 
--- a unit can be done: each grey block that isn't weak can be scanned, and where there is none a segment is left that can be reclaimed
+-- a unit can be done: each grey block that isn't weak can be scanned, and if there is none a segment is left that can be reclaimed
 pub record CanUnit {F : Type 0} (layout : F → Layout) (t : TraceState F) (s : SegsState) (m : Moves) (run : Running) : Type 0 where
   pub scan : CanScanGrey layout t s m
   pub reclaim : IsDrained s → CanReclaimNext layout t s m run

@@ -26,8 +26,8 @@ use mps_root::Roots;
 use mps_seg::Segs;
 
 impl<F: Format> Trace<F> {
-    /// Begins a collection of everything: the flip, then the blocks in which area words lie are nailed, and slots and messages are fixed.
-    /// None where nothing is condemned: the collection has ended.
+    /// Begins a full collection: the flip, then the blocks in which area words lie are nailed, and slots and messages are fixed.
+    /// None if nothing is condemned: the collection has ended.
     pub fn begin(
         &mut self,
         segs: &mut Segs,
@@ -80,7 +80,7 @@ impl<F: Format> Trace<F> {
     }
 }
 
-/// The collection is over: nothing is condemned, kept or grey, and the end is told.
+/// The collection is over: nothing is condemned, kept or grey, and the end is logged.
 pub(crate) fn end(segs: &mut Segs, trail: &mut Trail)
     requires { 0 < trail.old.spare }
     ensures state { segs.new ≡ collected segs.old }

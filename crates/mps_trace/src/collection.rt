@@ -17,7 +17,7 @@ use mps_seg::Segs;
 
 impl<F: Format> Trace<F> {
     /// One unit of a running collection, in constant time but for what it scans or reclaims. A grey block that isn't weak is scanned; once
-    /// there is none, the lowest condemned segment from the cursor on is reclaimed. None where that was the last one: the collection has
+    /// there is none, the lowest condemned segment from the cursor on is reclaimed. None if that was the last one: the collection has
     /// ended.
     pub fn unit(&mut self, segs: &mut Segs, trail: &mut Trail, running: Running) -> Option<Running>
         requires { CanUnit F.layout self.old segs.old trail.old running }
@@ -33,7 +33,7 @@ impl<F: Format> Trace<F> {
         self.reclaim_next(segs, trail, running)
     }
 
-    /// Reclaims the lowest condemned segment from the cursor on, once nothing but weak blocks is grey. None where that was the last one:
+    /// Reclaims the lowest condemned segment from the cursor on, once nothing but weak blocks is grey. None if that was the last one:
     /// the collection has ended.
     fn reclaim_next(&self, segs: &mut Segs, trail: &mut Trail, running: Running) -> Option<Running>
         requires drained { IsDrained segs.old }
@@ -59,7 +59,7 @@ impl<F: Format> Trace<F> {
         None
     }
 
-    /// At most n units. None where the collection has ended.
+    /// At most n units. None if the collection has ended.
     pub fn finish(
         &mut self,
         segs: &mut Segs,

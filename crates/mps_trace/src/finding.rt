@@ -9,7 +9,7 @@ ghost use Rattle.mps_trace.specs.Condemned.{AreInOrder, IsNextCondemned, NoneLef
 use mps_base::Addr;
 use mps_seg::{SegmentInfo, Segs};
 
-/// What is known of the segment over an address; None where the address lies in none.
+/// What is known of the segment over an address; None if the address lies in none.
 pub(crate) fn segment_at(segs: &Segs, at: Addr) -> Option<SegmentInfo>
     ensures found { (t : Segment) → segment_over segs.now.segments at.0 ≡ Some t → result ≡ Some (info_of segs.now t) }
     ensures over { IfSome result (λ info. (t : Segment) × (segment_over segs.now.segments at.0 ≡ Some t)) }

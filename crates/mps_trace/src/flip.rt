@@ -30,8 +30,8 @@ struct Condemned {
 }
 
 impl<F: Format> Trace<F> {
-    /// A flip of everything: each segment of an automatic pool is condemned, all reservations end, nothing is at hand at points and for
-    /// pools, and the flip counts for dependencies. Returns how many segments are condemned.
+    /// A full flip: each segment of an automatic pool is condemned, all reservations end, all buffers of points and all
+    /// tails of pools are empty, and the flip counts for dependencies. Returns how many segments are condemned.
     pub(crate) fn flip(
         &mut self,
         segs: &mut Segs,
@@ -97,7 +97,7 @@ impl<F: Format> Trace<F> {
         }
     }
 
-    /// Nails the condemned block in which a word lies, where there is one.
+    /// Nails the condemned block in which a word lies, if there is one.
     fn nail_over(&self, segs: &mut Segs, word: u64)
         requires { IsAscending 0 (words_of_grain * (segs.old.grains + 1)) segs.old.blocks }
         ensures { segs.new ≡ nailed_by segs.old word }

@@ -1,4 +1,4 @@
-//! The tracing collector: where the blocks lie that references lead to, what blocks refer to, and how a collection runs.
+//! The tracing collector: fixing references, scanning blocks, running a collection.
 #![tactic(auto)]
 
 mod begin;

@@ -14,7 +14,7 @@ use mps_root::Roots;
 use mps_seg::Segs;
 
 impl<F: Format> Trace<F> {
-    /// Where the block lies from now on to which a root with this address leads; 0 where it is null.
+    /// Where the block lies from now on to which a root with this address leads; 0 if it is null.
     fn fix_root(&mut self, segs: &mut Segs, trail: &mut Trail, at: u64) -> u64
         requires { CanFixRoot F.layout self.old segs.old trail.old at }
         ensures fixed { FixesRoot F.layout self.old.formats self.old.chains (traced self.old segs.old trail.old) at
@@ -71,7 +71,7 @@ impl<F: Format> Trace<F> {
     }
 }
 
-/// How many slots the table under a key has, 0 where there is none.
+/// How many slots the table under a key has, 0 if there is none.
 fn slots_of(roots: &Roots, key: usize) -> usize
     ensures count { result ≡ length (items_of roots.now.tables key) }
     ensures listed { (index : ℕ) → index < result → HasItem roots.now.tables key index }

@@ -30,7 +30,7 @@ pub struct Policy<F> {
     pub moves: bool,
 }
 
-/// What a collection knows of pools: the policy of each automatic pool, the words at hand of copying pools, and the chains.
+/// What a collection knows of pools: the policy of each automatic pool, the tails of copying pools, and the chains.
 #[derive(Drop)]
 pub struct Trace<F: Format> {
     formats: Vec<Option<Policy<F>>>,
@@ -58,7 +58,7 @@ impl<F: Format> Trace<F> {
         }
     }
 
-    /// One more pool, on no chain. `format` is that of its objects, None where the pool isn't collected.
+    /// One more pool, on no chain. `format` is that of its objects, None if the pool isn't collected.
     pub fn add_pool(&mut self, alloc: Global, format: Option<Policy<F>>) -> Result<(), AllocError>
         requires { length self.old.chains.of_pool < max_pools }
         ensures { MatchResult result (λ _. self.new ≡ with_pool self.old format) (λ _. self.new ≡ self.old) }
@@ -76,7 +76,7 @@ impl<F: Format> Trace<F> {
         }
     }
 
-    /// Nothing is at hand for any pool, as a flip leaves it.
+    /// All tails are empty, as a flip leaves them.
     pub(crate) fn drop_tails(&mut self)
         ensures { self.new ≡ record self.old { amc = flipped self.old.amc } }
     {
@@ -98,7 +98,7 @@ impl<F: Format> Trace<F> {
         self.amc.nail(segs, at);
     }
 
-    /// Where the block lies from now on to which an address leads. A block in a segment that isn't condemned lies where it is; any other
+    /// Fixes a reference: returns the new address of the block at `at`. A block in a segment that isn't condemned stays; any other
     /// is fixed as its pool does.
     pub fn fix(&mut self, segs: &mut Segs, trail: &mut Trail, at: Addr) -> Addr
         requires { CanFix F.layout self.old segs.old trail.old at }
@@ -204,7 +204,7 @@ impl<F: Format> Trace<F> {
         true
     }
 
-    /// Reclaims the segment at `base` as its pool does: what a collection didn't keep is freed, and the segment is given back where nothing
+    /// Reclaims the segment at `base` as its pool does: what a collection didn't keep is freed, and the segment is given back if nothing
     /// is left in it.
     pub fn reclaim(&self, segs: &mut Segs, trail: &mut Trail, base: Addr)
         requires { CanReclaimAt F.layout self.now segs.old trail.old base }

@@ -40,7 +40,7 @@ pub record IsCellStep {F : Type 0} (layout : F → Layout) (formats : List (Opti
   pub same : IsSameGraph y.world after.world
   pub same_condemned : after.running.condemned ≡ y.running.condemned
 
--- a reference of an object that isn't white can be fixed, where what it refers to is live
+-- a reference of an object that isn't white can be fixed, if what it refers to is live
 abbrev pub ACellCanBeFixed : (F : Type 0) → Type 0
 ACellCanBeFixed F =
     (layout : F → Layout) (formats : List (Option (Policy F))) (of : ChainsState) (at_flip : List (Option Address)) (done : CellSet)

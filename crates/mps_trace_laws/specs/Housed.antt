@@ -40,7 +40,7 @@ AreHoused objects segments addresses =
 abbrev pub AreLive : List Id → World → Type 0
 AreLive ids w = (id : Id) → contains ids id ≡ true → is_live w id ≡ true
 
--- where live objects are fixed, each object lies in one segment then, if each did before
+-- if live objects are fixed, each object lies in one segment then, if each did before
 abbrev pub FixesKeepHoused : (F : Type 0) → Type 0
 FixesKeepHoused F =
     (layout : F → Layout) (formats : List (Option (Policy F))) (of : ChainsState) (at_flip : List (Option Address)) (done : CellSet) (x : Traced)

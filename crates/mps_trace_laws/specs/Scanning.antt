@@ -26,7 +26,7 @@ use Rattle.mps_trace.specs.declared.trace.Policy.{Policy}
 abbrev pub with_cells : CellSet → (id before : ℕ) → CellSet
 with_cells done id before = λ j l. (j == id && nat_lt l before) || done j l
 
--- a live automatic object that isn't white, where all that it refers to is live
+-- a live automatic object that isn't white, if all that it refers to is live
 pub record IsToBeScanned (y : Collecting) (holder : Id) (at : Address) (o : Object) : Type 0 where
   pub there : entry_at y.world.addresses holder ≡ Some at
   pub object : slice_get y.world.graph.objects holder ≡ Some o
@@ -86,7 +86,7 @@ AScanIsAScan F =
     → TracingStands layout formats of at_flip (black_cells y.running.condemned y.colours) x y → IsToBeScanned y holder at.0 o
     → Scanned layout formats of x at z → IsScan layout formats of at_flip x z y holder
 
--- a block of a live object that isn't white, where all that it refers to is live, can be scanned
+-- a block of a live object that isn't white, if all that it refers to is live, can be scanned
 abbrev pub AnObjectCanBeScanned : (F : Type 0) → Type 0
 AnObjectCanBeScanned F =
     (layout : F → Layout) (t : TraceState F) (s : SegsState) (m : Moves) (at_flip : List (Option Address)) (done : CellSet)

@@ -1,4 +1,4 @@
--- What a fix of the tracing collector is to the abstract collector: a step of it, after which the state stands for it as before.
+-- What a fix of the tracing collector is to the abstract collector: a step of it, after which the state represents it as before.
 use Rattle.std.specs.Prelude.{◌≡◌, false, Option, Some, List, ◌∷◌, ◌++◌}
 use Rattle.mps_base.specs.Address.{Address, Id}
 use Rattle.mps_base.specs.declared.address.Addr.{Addr}

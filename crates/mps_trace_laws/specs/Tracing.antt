@@ -1,4 +1,4 @@
--- When the segments, the words at hand and the moves of a tracing collector stand for the abstract collector, while objects are
+-- When the segments, the tails and the moves of a tracing collector represent the abstract collector, while objects are
 -- traced. No fact but the last takes a world.
 use Rattle.std.specs.Prelude.{◌≡◌, ℕ, ◌+◌, ◌*◌, ◌<◌, ◌≤◌, Bool, true, IsTrue, Option, Some, List, [], ◌∷◌, map, length, slice_get, count_by, Contains, false}
 use Rattle.std.specs.List.{AllByRecursion}
@@ -83,19 +83,19 @@ AreStill objects is_copying at_flip addresses =
     (id : Id) (o : Object) (from to : Address) → slice_get objects id ≡ Some o → is_copying o.pool ≡ false
     → entry_at at_flip id ≡ Some from → entry_at addresses id ≡ Some to → from ≡ to
 
--- ---- words at hand
+-- ---- tails
 
--- the words at hand of a copying collector are these, by pool and generation
+-- the tails of a copying collector are these, by pool and generation
 pub record AreTails (of : ChainsState) (state : AmcState) (is_copying : ℕ → Bool) (tail : (pool generation : ℕ) → Run) : Type 0 where
   pub has : (pool generation : ℕ) → IsTrue (is_copying pool)
       → HasTail state pool (target_generation (chains.generations_of of pool) generation)
   pub same : (pool generation : ℕ) → run_of (amc.tail_of state pool generation) ≡ tail pool generation
 
--- by word, what is at hand for a generation of a pool where these words are
+-- by word, the tail of a generation of a pool where its words are these
 abbrev pub hand_of : (pool generation : ℕ) → Run → Word → Option Hand
 hand_of pool generation words = hand_in_tails (record { pool = pool; generation = generation; words = words } ∷ [])
 
--- words at hand are the last ones of a segment of their pool
+-- a tail is the last words of a segment of its pool
 pub record EndsSegment (segments : List Segment) (pool : ℕ) (words : Run) : Type 0 where
   pub segment : Segment
   pub held : Contains segments segment
@@ -103,7 +103,7 @@ pub record EndsSegment (segments : List Segment) (pool : ℕ) (words : Run) : Ty
   pub above : word_of segment.base ≤ words.from
   pub ends : end_of words ≡ word_of (end_of_segment segment)
 
--- words at hand, where nothing is, and apart from each other
+-- tails lie where nothing is, and apart from each other
 pub record TailsStand (s : Setting) (segments : List Segment) (addresses : List (Option Address)) (tail : (pool generation : ℕ) → Run)
     : Type 0 where
   pub hands : (pool generation : ℕ) → HandsStand s (hand_of pool generation (tail pool generation)) addresses
@@ -125,13 +125,13 @@ moves_left y =
 
 -- ---- all of it
 
--- what a collector's segments stand for
+-- what a collector's segments represent
 abbrev pub setting_of : SegsState → (at_flip : List (Option Address)) → Collecting → Setting
 setting_of s at_flip y =
     setting_in s y.world.graph.objects y.world.graph.points y.world.point_memories (pool_layout y.world) at_flip y.running.condemned
     (λ id. true)
 
--- words at hand and segments stand for the abstract collector, where these cells are fixed
+-- tails and segments represent the abstract collector, where these cells are fixed
 pub record StateStands {F : Type 0} (layout : F → Layout) (formats : List (Option (Policy F))) (of : ChainsState)
     (at_flip : List (Option Address)) (done : CellSet) (state : AmcState) (s : SegsState) (y : Collecting)
     : Type 0 where
@@ -149,10 +149,10 @@ pub record StateStands {F : Type 0} (layout : F → Layout) (formats : List (Opt
   pub tails : AreTails of state (is_copying_pool y.world) (tail_of y.world)
   pub hands : TailsStand (setting_of s at_flip y) s.segments y.world.addresses (tail_of y.world)
 
--- a tracing collector's state in words stands for the abstract collector, and there is room for the moves that are left
+-- a tracing collector's state in words represents the abstract collector, and there is room for the moves that are left
 pub record TracingStands {F : Type 0} (layout : F → Layout) (formats : List (Option (Policy F))) (of : ChainsState)
     (at_flip : List (Option Address)) (done : CellSet) (x : Traced) (y : Collecting)
     : Type 0 where
   pub state : StateStands layout formats of at_flip done x.amc x.segs y
-  -- a fix asks for room for two moves, also where it takes none
+  -- a fix asks for room for two moves, also if it takes none
   pub room : moves_left y + 2 ≤ x.moves.spare

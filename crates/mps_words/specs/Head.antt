@@ -1,5 +1,5 @@
--- Head texts. `f:SIZE:REFS`, `m:SIZE:MASK` and `l:SIZE` stand for the head word of their format where the numbers keep its
--- rules, and for 0, which is no head, where they don't.
+-- Head texts. `f:SIZE:REFS`, `m:SIZE:MASK` and `l:SIZE` represent the head word of their format if the numbers keep its
+-- rules, and 0, which is no head, if they don't.
 use Rattle.std.specs.Prelude.{ℕ, ◌≡◌, ◌==◌, if◌then◌else◌, codes, Option, Some, None, option_and_then, List, [], ◌∷◌, refl}
 use Rattle.mps_format.specs.declared.head.Head.{Head}
 use Rattle.mps_format.specs.declared.head.Head.TheVariants.{Front, Mapped, Leaf}
@@ -29,7 +29,7 @@ head_in [] = None
 head_in (letter ∷ []) = None
 head_in (letter ∷ colon ∷ text) = if is_colon colon then head_after letter text else None
 
--- the head word that a text stands for
+-- the head word that a text represents
 abbrev pub head_of : List ℕ → Option ℕ
 head_of text = option_and_then (λ h. Some (word_of h)) (head_in text)
 

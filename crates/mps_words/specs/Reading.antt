@@ -1,4 +1,4 @@
--- Readings of the words of a line. A word is read by a function that gives what it writes, where it is in the right form.
+-- Readings of the words of a line. A word is read by a function that gives what it writes, if it is in the right form.
 use Rattle.std.specs.Prelude.{ℕ, ◌≡◌, if◌then◌else◌, codes, Option, Some, None, option_and_then, option_map, List, [], ◌∷◌, refl}
 use Rattle.std.specs.Str.{bytes_eq}
 use Rattle.mps_numerals.specs.Decimal.{decimal_number}
@@ -9,7 +9,7 @@ abbrev pub first_of_two : {A : Type 0} → Option A → Option A → Option A
 first_of_two (Some x) other = Some x
 first_of_two None other = other
 
--- both, where both are there
+-- both, if both are there
 abbrev pub both : {A B : Type 0} → Option A → Option B → Option (A × B)
 both (Some x) (Some y) = Some (x, y)
 both (Some x) None = None

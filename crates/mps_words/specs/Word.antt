@@ -6,7 +6,7 @@ use Rattle.std.specs.List.{slice_split, position_or_len, before_first, after_fir
 abbrev pub is_space : ℕ → Bool
 is_space b = b == 32
 
--- what stands before and after the first such byte, where there is one
+-- what stands before and after the first such byte, if there is one
 abbrev pub cut_at : ℕ → List ℕ → Option (List ℕ × List ℕ)
 cut_at byte word =
     if nat_lt (position_or_len (λ b. b == byte) word) (length word)
@@ -37,7 +37,7 @@ word_at text = take (position_or_len is_space text) text
 abbrev pub after_word : List ℕ → List ℕ
 after_word text = drop (position_or_len is_space text) text
 
--- the one word, where there is one and no other
+-- the one word, if there is one and no other
 abbrev pub only_word : List (List ℕ) → Option (List ℕ)
 only_word [] = None
 only_word (a ∷ []) = Some a

@@ -48,7 +48,7 @@ fn parsed_long(text: &[u8]) -> Option<Head>
     Head::parse(text)
 }
 
-/// The head word that a head text stands for, 0 where its numbers break the rules of its format.
+/// The head word that a head text represents, 0 if its numbers break the rules of its format.
 #[inline(always)]
 fn head_of(word: &[u8]) -> Option<u64>
     ensures { result ≡ head_of word.now }
@@ -57,8 +57,8 @@ fn head_of(word: &[u8]) -> Option<u64>
     Some(head.word())
 }
 
-/// The head word of the one head that is left, 0 where its numbers break the rules of its format. None where it isn't the only word
-/// or is no head. A short one that ends the line is read where it stands, and its end isn't sought.
+/// The head word of the one head that is left, 0 if its numbers break the rules of its format. None unless the rest of the
+/// line is exactly one head. A short head at the end of the line takes a fast path.
 #[inline(always)]
 pub fn only_head(bytes: &[u8]) -> Option<u64>
     ensures { result ≡ single head_of (words bytes.now) }

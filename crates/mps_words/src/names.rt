@@ -38,7 +38,7 @@ pub fn after_name(bytes: &[u8]) -> &[u8]
     rest
 }
 
-/// The bytes of the word at the beginning, where it is a name, and what stands after it.
+/// The bytes of the word at the beginning, if it is a name, and what stands after it.
 #[inline(always)]
 fn name_at(line: &[u8]) -> Option<(&[u8], &[u8])>
     ensures { MatchOption result (name_of (word_at line.now) ≡ None)
@@ -60,7 +60,7 @@ fn name_at(line: &[u8]) -> Option<(&[u8], &[u8])>
     Some((name, rest))
 }
 
-/// The bytes of the first word, where it is a name, and what stands after it. The name is made of them where it is to stand, once the
+/// The bytes of the first word, if it is a name, and what stands after it. The name is made of them if it is to stand, once the
 /// words after it are in their forms (`WrittenName`).
 #[inline(always)]
 pub fn next_name(bytes: &[u8]) -> Option<(&[u8], &[u8])>
@@ -122,7 +122,7 @@ pub fn names_are_unique()
     ensures { NamesAreUnique }
 {}
 
-/// A name as it stands in a line: its bytes. It is made where it is to stand, so that it isn't copied on the way. Contracts see the
+/// A name as it stands in a line: its bytes. It is made if it is to stand, so that it isn't copied on the way. Contracts see the
 /// name.
 #[derive(Debug, Drop)]
 pub struct WrittenName<'a> {

@@ -32,7 +32,7 @@ fn slot_at(line: &[u8]) -> Option<(&[u8], u64, &[u8])>
     Some((name, index, rest))
 }
 
-/// The first word as a slot: the bytes of its name, its index, and what stands after it. The slot is made of them where it is to
+/// The first word as a slot: the bytes of its name, its index, and what stands after it. The slot is made of them if it is to
 /// stand, once the words after it are in their forms (`WrittenSlot`).
 #[inline(always)]
 pub fn next_slot(bytes: &[u8]) -> Option<(&[u8], u64, &[u8])>
@@ -43,7 +43,7 @@ pub fn next_slot(bytes: &[u8]) -> Option<(&[u8], u64, &[u8])>
     slot_at(after_spaces(bytes))
 }
 
-/// A slot as it stands in a line: the bytes of its name, and its index. It is made where it is to stand, so that it isn't copied on the
+/// A slot as it stands in a line: the bytes of its name, and its index. It is made if it is to stand, so that it isn't copied on the
 /// way. Contracts see the slot.
 #[derive(Debug, Drop)]
 pub struct WrittenSlot<'a> {

@@ -42,7 +42,7 @@ pub fn is_blank(bytes: &[u8]) -> bool
     after_spaces(bytes).is_empty()
 }
 
-/// The first word, and what stands after it; none where there are spaces alone.
+/// The first word, and what stands after it; none if there are spaces alone.
 #[inline(always)]
 pub fn next_word(bytes: &[u8]) -> Option<(&[u8], &[u8])>
     ensures { MatchOption result (words bytes.now ≡ []) (λ p. words bytes.now ≡ p.0.now ∷ words p.1.now) }
@@ -55,7 +55,7 @@ pub fn next_word(bytes: &[u8]) -> Option<(&[u8], &[u8])>
     Some((&line[..line.len() - rest.len()], rest))
 }
 
-/// The one word, where there is one and no other.
+/// The one word, if there is one and no other.
 #[inline(always)]
 pub fn only_word(bytes: &[u8]) -> Option<&[u8]>
     ensures { MatchOption result (only_word (words bytes.now) ≡ None) (λ word. only_word (words bytes.now) ≡ Some word.now) }
@@ -80,7 +80,7 @@ pub fn is_word(word: &[u8], text: &[u8]) -> bool
     true
 }
 
-/// What stands after the word at the beginning, where that is this text, which has no space.
+/// What stands after the word at the beginning, if that is this text, which has no space.
 #[inline(always)]
 pub fn strip_word<'a>(line: &'a [u8], text: &[u8]) -> Option<&'a [u8]>
     requires { word_at text.now ≡ text.now }

@@ -12,7 +12,7 @@ use mps_report::{NoBadPlace, Output, Stop, report_ending};
 use std::alloc::Global;
 
 /// Prints the generated script of a seed, of n steps, and returns the status of the program: 0, or with a report 4
-/// where a write failed, 8 where there is no memory. It prints and reports, and does nothing else.
+/// if a write failed, 8 if there is no memory. It prints and reports, and does nothing else.
 pub fn generate<D: Desk>(alloc: Global, seed: u64, count: u64, desk: &mut D) -> u8
     requires { count ≤ 1000000 }
     ensures whole { result ≡ 0 → Prints (D.outside desk.old) (D.outside desk.new) (script seed count) }

@@ -13,8 +13,8 @@ use mps_format::Format;
 use mps_outcome::Committed;
 
 impl<F: Format> Heap<F> {
-    /// Reserves a block with this head at a point. Its numbers are 0 and its references null. Refuses `BadHead` where the pool takes no
-    /// such block, `Open` where the point has an open reservation, and `CommitLimit` and `NoRun` where there is no room.
+    /// Reserves a block with this head at a point. Its numbers are 0 and its references null. Refuses `BadHead` if the pool takes no
+    /// such block, `Open` if the point has an open reservation, and `CommitLimit` and `NoRun` if there is no room.
     #[inline(always)]
     pub fn reserve(&mut self, trail: &mut Trail, x: Name, head: u64) -> Result<(), Refusal>
         requires fits { 0 < trail.old.spare }

@@ -32,7 +32,7 @@ impl<F: Format> Heap<F> {
         self.state.pin(place, slot)
     }
 
-    /// A slot becomes the object that a word of an area holds. Refuses `NotARef` where it holds none.
+    /// A slot becomes the object that a word of an area holds. Refuses `NotARef` if it holds none.
     pub fn take(&mut self, slot: Slot, place: Slot) -> Result<(), Refusal>
         ensures right { IsRight F.layout self.old (call.Take slot place) [] (answer_to says_ok result) self.new }
     {

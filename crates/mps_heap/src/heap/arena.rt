@@ -14,7 +14,7 @@ use mps_base::{Addr, Refusal};
 use mps_format::Format;
 
 impl<F: Format> Heap<F> {
-    /// Sets the commit limit, in grains. Refuses `BelowCommitted` where more grains are held.
+    /// Sets the commit limit, in grains. Refuses `BelowCommitted` if more grains are held.
     pub fn limit(&mut self, n: u32) -> Result<(), Refusal>
         ensures right { IsRight F.layout self.old (call.Limit n) [] (answer_to says_ok result) self.new }
     {
@@ -56,7 +56,7 @@ impl<F: Format> Heap<F> {
         self.state.live()
     }
 
-    /// How many words the live block has that begins at an address: they are the arena's words there. Refuses `NotABlock` where none begins
+    /// How many words the live block has that begins at an address: they are the arena's words there. Refuses `NotABlock` if none begins
     /// there.
     pub fn dump(&self, at: Addr) -> Result<u32, Refusal>
         ensures right { IsRight F.layout self.now (call.Dump at.0) [] (answer_to (says_words self.now.segs.words at) result) self.now }

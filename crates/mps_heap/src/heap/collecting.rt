@@ -22,7 +22,7 @@ impl<F: Format> Heap<F> {
         self.state.can_collect()
     }
 
-    /// How many moves a collection of everything makes at most: the room that its trail needs. They are 1,025 a grain of the arena, and
+    /// How many moves a full collection makes at most: the room that its trail needs. They are 1,025 a grain of the arena, and
     /// 1,028 more.
     pub fn most_moves(&self) -> u32
         ensures value { result ≡ most_moves self.now.segs.grains }
@@ -31,7 +31,7 @@ impl<F: Format> Heap<F> {
     }
 
     /// Collects everything, and leaves the arena parked. What can be reached from slots, messages and words of areas stays; an object in
-    /// which a word of an area lies stays where it is, and all others of it are moved, where there is room. The trail has room for
+    /// which a word of an area lies stays where it is, and all others of it are moved, if there is room. The trail has room for
     /// `most_moves`.
     pub fn collect(&mut self, trail: &mut Trail)
         requires built { IsTrue (can_collect self.old) }

@@ -13,7 +13,7 @@ use mps_base::{Name, Refusal, Slot};
 use mps_format::Format;
 
 impl<F: Format> Heap<F> {
-    /// Makes a dependency on nothing. Refuses `NameTaken`, `TooMany` where there are 256, and `OutOfMemory`.
+    /// Makes a dependency on nothing. Refuses `NameTaken`, `TooMany` if there are 256, and `OutOfMemory`.
     pub fn ld(&mut self, name: Name) -> Result<(), Refusal>
         ensures right { IsRightMaking F.layout self.old (call.Dependency name) result self.new }
     {

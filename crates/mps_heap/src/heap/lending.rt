@@ -10,7 +10,7 @@ use mps_base::{Refusal, Slot};
 use mps_format::Format;
 
 impl<F: Format> Heap<F> {
-    /// Lends the words of the manual block in a place, and no others. Refuses `BadName`, `BadIndex`, and `NotABlock` where the place is
+    /// Lends the words of the manual block in a place, and no others. Refuses `BadName`, `BadIndex`, and `NotABlock` if the place is
     /// empty.
     pub fn lend(&self, place: Slot) -> Result<&[u64], Refusal>
         ensures right { MatchResult result (λ words. ComesToWords F.layout self.now (λ w. words_of_block w place) (Ok words.now))
@@ -35,8 +35,8 @@ impl<F: Format> Heap<F> {
         self.state.lend_mut(place, write)
     }
 
-    /// Lends the words after the head of the object in a slot: its cells from cell 1 on. Refuses `BadName`, `BadIndex`, `NullRef` where
-    /// the slot is null, and `WrongPool` where the object's pool isn't a leaf pool, that is one of the kind `Amcz` or `Lo`.
+    /// Lends the words after the head of the object in a slot: its cells from cell 1 on. Refuses `BadName`, `BadIndex`, `NullRef` if
+    /// the slot is null, and `WrongPool` if the object's pool isn't a leaf pool, that is one of the kind `Amcz` or `Lo`.
     pub fn lend_leaf(&self, slot: Slot) -> Result<&[u64], Refusal>
         ensures right { MatchResult result (λ words. ComesToWords F.layout self.now (λ w. words_of_leaf w slot) (Ok words.now))
             (λ why. ComesToWords F.layout self.now (λ w. words_of_leaf w slot) (Err why)) }

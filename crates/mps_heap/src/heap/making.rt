@@ -14,7 +14,7 @@ use mps_base::{Kind, Name, Rank, Refusal};
 use mps_format::Format;
 
 impl<F: Format> Heap<F> {
-    /// Makes an automatic pool, whose objects have this format. Refuses `NameTaken`, `TooMany` where there are 64, and
+    /// Makes an automatic pool, whose objects have this format. Refuses `NameTaken`, `TooMany` if there are 64, and
     /// `OutOfMemory`. The clause holds for each number that means this format.
     pub fn pool(&mut self, name: Name, kind: Kind, format: F) -> Result<(), Refusal>
         ensures right { (number : ℕ) → IsRightMakingIn F.layout (MeansLayout number (F.layout format)) self.old (call.Pool name kind number)
@@ -23,7 +23,7 @@ impl<F: Format> Heap<F> {
         without_key(self.state.pool(name, kind, format))
     }
 
-    /// Makes a manual pool of blocks of `words` words. Refuses `BadSize` too, where that isn't 1 to 65,536.
+    /// Makes a manual pool of blocks of `words` words. Refuses `BadSize` too, if that isn't 1 to 65,536.
     pub fn pool_mfs(&mut self, name: Name, words: u64) -> Result<(), Refusal>
         ensures right { IsRightMaking F.layout self.old (call.PoolMfs name words) result self.new }
     {
@@ -37,7 +37,7 @@ impl<F: Format> Heap<F> {
         without_key(self.state.pool_mvff(name))
     }
 
-    /// Makes a table of n slots, all null. Refuses `NameTaken`, `TooMany` where there are 256 roots, or more than 65,536 slots, words and
+    /// Makes a table of n slots, all null. Refuses `NameTaken`, `TooMany` if there are 256 roots, or more than 65,536 slots, words and
     /// places together, and `OutOfMemory`.
     pub fn table(&mut self, name: Name, n: u32) -> Result<(), Refusal>
         ensures right { IsRightMaking F.layout self.old (call.Table name n) result self.new }
@@ -66,15 +66,15 @@ impl<F: Format> Heap<F> {
         self.state.drop_root(name)
     }
 
-    /// Makes a point of a pool. Refuses `WrongPool` where the pool is manual, or the rank is weak and the pool can't have weak objects, and
-    /// `TooMany` where there are 256.
+    /// Makes a point of a pool. Refuses `WrongPool` if the pool is manual, or the rank is weak and the pool can't have weak objects, and
+    /// `TooMany` if there are 256.
     pub fn point(&mut self, name: Name, pool: Name, rank: Rank) -> Result<(), Refusal>
         ensures right { IsRightMaking F.layout self.old (call.Point name pool rank) result self.new }
     {
         without_key(self.state.point(name, pool, rank))
     }
 
-    /// Drops a point, whose name is free again. Refuses `Open` where it has an open reservation.
+    /// Drops a point, whose name is free again. Refuses `Open` if it has an open reservation.
     pub fn drop_point(&mut self, name: Name) -> Result<(), Refusal>
         ensures right { IsRight F.layout self.old (call.DropPoint name) [] (answer_to says_ok result) self.new }
     {

@@ -12,8 +12,8 @@ use mps_base::{Name, Refusal, Slot, Trail};
 use mps_format::Format;
 
 impl<F: Format> Heap<F> {
-    /// Makes a manual block of `words` words, all 0, in a place. Refuses `WrongPool` where the pool is automatic, `BadSize` where it has no
-    /// blocks of this size, `NameTaken` where the place has a block, and `CommitLimit` and `NoRun` where there is no room.
+    /// Makes a manual block of `words` words, all 0, in a place. Refuses `WrongPool` if the pool is automatic, `BadSize` if it has no
+    /// blocks of this size, `NameTaken` if the place has a block, and `CommitLimit` and `NoRun` if there is no room.
     pub fn alloc(
         &mut self,
         trail: &mut Trail,
@@ -29,7 +29,7 @@ impl<F: Format> Heap<F> {
         self.state.alloc(trail, pool, words, place)
     }
 
-    /// Frees the block in a place, which is empty then. Refuses `NotABlock` where it was empty.
+    /// Frees the block in a place, which is empty then. Refuses `NotABlock` if it was empty.
     pub fn free(&mut self, trail: &mut Trail, place: Slot) -> Result<(), Refusal>
         requires fits { 1 < trail.old.spare }
         ensures right { IsRightMoving F.layout self.old (call.Free place) trail.old.moves trail.new.moves

@@ -43,7 +43,7 @@ impl<F: Format> Heap<F> {
         self.state.is_null(slot)
     }
 
-    /// The head of the object in a slot. Refuses `NullRef` where the slot is null.
+    /// The head of the object in a slot. Refuses `NullRef` if the slot is null.
     #[inline(always)]
     pub fn head(&self, slot: Slot) -> Result<u64, Refusal>
         ensures right { IsRight F.layout self.now (call.Head slot) [] (answer_to says_head result) self.now }
@@ -59,7 +59,7 @@ impl<F: Format> Heap<F> {
         as_address(self.state.addr(slot))
     }
 
-    /// The number in a cell of the object in a slot. Refuses `NullRef`, `BadIndex` past the last cell, and `NotANumber` where the cell is a
+    /// The number in a cell of the object in a slot. Refuses `NullRef`, `BadIndex` past the last cell, and `NotANumber` if the cell is a
     /// reference or the head.
     #[inline(always)]
     pub fn num(&self, slot: Slot, cell: u64) -> Result<u64, Refusal>
@@ -75,7 +75,7 @@ impl<F: Format> Heap<F> {
         self.state.set_num(slot, cell, n)
     }
 
-    /// A slot becomes what a cell of the object in another slot refers to. Refuses `NullRef`, `BadIndex`, and `NotARef` where the cell is
+    /// A slot becomes what a cell of the object in another slot refers to. Refuses `NullRef`, `BadIndex`, and `NotARef` if the cell is
     /// no reference.
     pub fn get(&mut self, target: Slot, source: Slot, cell: u64) -> Result<(), Refusal>
         ensures right { IsRight F.layout self.old (call.Get target source cell) [] (answer_to says_ok result) self.new }

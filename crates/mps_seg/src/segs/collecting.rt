@@ -141,7 +141,7 @@ impl Segs {
         self.marks.is_grey(at.word())
     }
 
-    /// The rank of the segment in which an address lies, `Exact` where it lies in none.
+    /// The rank of the segment in which an address lies, `Exact` if it lies in none.
     fn rank_at(&self, at: Addr) -> Rank
         ensures { result ≡ rank_at self.now at.0 }
     {
@@ -207,7 +207,7 @@ impl Segs {
         }
     }
 
-    /// A grey block of a segment of a rank; None where there is none. Which one it is is open.
+    /// A grey block of a segment of a rank; None if there is none. Which one it is is open.
     pub fn next_grey(&mut self, rank: Rank) -> Option<Addr>
         ensures unchanged { self.new ≡ self.old }
         ensures sound { IfSome result (λ at. bit (grey_of rank self.old.marks) (word_of at.0) ≡ true) }

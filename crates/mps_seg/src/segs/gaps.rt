@@ -15,7 +15,7 @@ use mps_extents::Extents;
 
 impl Segs {
     /// The lowest gap of at least `words` words in the segments of a pool and a rank. Segments in which fewer words are free are passed
-    /// over, 32 grains a step where that holds of all that begin there.
+    /// over, 32 grains a step if that holds of all that begin there.
     pub fn lowest_gap(&self, pool: u32, rank: Rank, words: u32) -> Option<Addr>
         requires { 0 < words }
         ensures value { result ≡ option_map at_word (lowest_fitting words (gaps_of self.now.covered self.now.segments pool rank)) }
@@ -44,8 +44,8 @@ fn is_same_rank(a: Rank, b: Rank) -> bool
     }
 }
 
-/// Where the lowest gap of at least `words` words begins in the segment that begins at a grain. There is none where no segment begins
-/// there, and where the segment is of another pool or rank.
+/// Where the lowest gap of at least `words` words begins in the segment that begins at a grain. There is none if no segment begins
+/// there, and if the segment is of another pool or rank.
 fn gap_after(
     extents: &Extents,
     grain: usize,

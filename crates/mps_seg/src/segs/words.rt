@@ -1,4 +1,4 @@
-// The words of the arena: read, written, cleared, copied and lent.
+// The words of the arena: read, written, cleared, copied and borrowed.
 #![tactic(auto)]
 
 ghost use Rattle.std.specs.Prelude.{◌≡◌, ℕ, ◌+◌, ◌%◌, ◌<◌, ◌≤◌, Some, length, take, drop, Contains, slice_get, slice_index, slice_set, slice_range};
@@ -12,7 +12,7 @@ use super::Segs;
 use mps_base::Addr;
 
 impl Segs {
-    /// The word of a number, which is its address divided by 8; none where the arena has no such word.
+    /// The word of a number, which is its address divided by 8; none if the arena has no such word.
     #[inline(always)]
     pub fn item(&self, word: usize) -> Option<u64>
         ensures { result ≡ slice_get self.now.words word }

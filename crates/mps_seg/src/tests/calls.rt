@@ -26,7 +26,7 @@ pub(super) fn fill(alloc: Global, segs: &mut Segs, pool: u32, words: u32) -> Res
     fill_with(segs, &mut trail, pool, words)
 }
 
-/// The lowest gap of a pool and a rank for a block; None too where no block has this number of words.
+/// The lowest gap of a pool and a rank for a block; None too if no block has this number of words.
 pub(super) fn gap(segs: &Segs, pool: u32, rank: Rank, words: u32) -> Option<Addr> {
     if words == 0 {
         return None;
@@ -114,7 +114,7 @@ pub(super) fn grey_over(segs: &Segs, at: Addr) -> Option<Addr> {
     segs.grey_in(base)
 }
 
-/// How many grains the segment over an address has, 0 where there is none.
+/// How many grains the segment over an address has, 0 if there is none.
 pub(super) fn grains_over(segs: &Segs, at: Addr) -> u32 {
     match segs.segment_of(at) {
         Some(base) => segs.segment(base).grains,
@@ -122,7 +122,7 @@ pub(super) fn grains_over(segs: &Segs, at: Addr) -> u32 {
     }
 }
 
-/// The collection keeps the block at an address; false where the arena has no such word.
+/// The collection keeps the block at an address; false if the arena has no such word.
 pub(super) fn keep_at(segs: &mut Segs, at: Addr) -> bool {
     if !segs.has_word(at) {
         return false;
@@ -131,7 +131,7 @@ pub(super) fn keep_at(segs: &mut Segs, at: Addr) -> bool {
     true
 }
 
-/// Makes the block at an address grey; false where the arena has no such word.
+/// Makes the block at an address grey; false if the arena has no such word.
 pub(super) fn grey_at(segs: &mut Segs, at: Addr) -> bool {
     if !segs.has_word(at) {
         return false;
@@ -140,7 +140,7 @@ pub(super) fn grey_at(segs: &mut Segs, at: Addr) -> bool {
     true
 }
 
-/// Blackens the block at an address; false where the arena has no such word.
+/// Blackens the block at an address; false if the arena has no such word.
 pub(super) fn blacken_at(segs: &mut Segs, at: Addr) -> bool {
     if !segs.has_word(at) {
         return false;
@@ -157,7 +157,7 @@ pub(super) fn marks_at(segs: &Segs, at: Addr) -> [bool; 3] {
     [segs.is_white(at), segs.is_kept(at), segs.is_grey(at)]
 }
 
-/// Whether the words of the block of four words at an address are these, read one by one and all together; false where there is no
+/// Whether the words of the block of four words at an address are these, read one by one and all together; false if there is no
 /// such block.
 pub(super) fn has_words(segs: &Segs, at: Addr, words: &[u64; 4]) -> bool {
     let Some(block) = segs.block_at(at.0) else {
@@ -169,7 +169,7 @@ pub(super) fn has_words(segs: &Segs, at: Addr, words: &[u64; 4]) -> bool {
     segs.lend(block, 4) == words.as_slice() && begins_with(segs, at, words)
 }
 
-/// Whether the words from an address in a segment on begin with these; false where there is no segment.
+/// Whether the words from an address in a segment on begin with these; false if there is no segment.
 fn begins_with(segs: &Segs, at: Addr, words: &[u64; 4]) -> bool {
     let Some(_) = segs.segment_of(at) else {
         return false;
@@ -178,7 +178,7 @@ fn begins_with(segs: &Segs, at: Addr, words: &[u64; 4]) -> bool {
     found.len() >= 4 && found[..4] == words[..]
 }
 
-/// Writes a word in each of the two that are lent from an address on; false where the arena has no such words.
+/// Writes a word in each of the two that are borrowed from an address on; false if the arena has no such words.
 pub(super) fn write_two(segs: &mut Segs, at: Addr, word: u64) -> bool {
     if at.0 % 8 != 0 || segs.item(at.word() + 1).is_none() {
         return false;
@@ -196,7 +196,7 @@ pub(super) fn write_word(segs: &mut Segs, at: Addr, word: u64) -> bool {
     segs.word(at) == word && segs.item(at.word()) == Some(word)
 }
 
-/// Copies words to the word after the first one and the words after that; false where the arena has no such words.
+/// Copies words to the word after the first one and the words after that; false if the arena has no such words.
 pub(super) fn copy_up(segs: &mut Segs, at: Addr, words: u32) -> bool {
     if at.0 >= 0x10000 || segs.item(at.word() + words as usize).is_none() {
         return false;
@@ -205,7 +205,7 @@ pub(super) fn copy_up(segs: &mut Segs, at: Addr, words: u32) -> bool {
     true
 }
 
-/// Clears words from an address on; false where the arena has no such words.
+/// Clears words from an address on; false if the arena has no such words.
 pub(super) fn clear_at(segs: &mut Segs, at: Addr, words: u32) -> bool {
     let past = at.word() + words as usize;
     if past > 0 && segs.item(past - 1).is_none() {
@@ -215,7 +215,7 @@ pub(super) fn clear_at(segs: &mut Segs, at: Addr, words: u32) -> bool {
     true
 }
 
-/// The summary of the segment at a base, none where the arena has no such grain.
+/// The summary of the segment at a base, none if the arena has no such grain.
 pub(super) fn summary_at(segs: &Segs, base: Addr) -> ZoneSet {
     if base.grain() > segs.grains() as usize {
         return ZoneSet(0);
@@ -223,7 +223,7 @@ pub(super) fn summary_at(segs: &Segs, base: Addr) -> ZoneSet {
     segs.summary(base)
 }
 
-/// Sets the summary of the segment at a base; false where the arena has no such grain.
+/// Sets the summary of the segment at a base; false if the arena has no such grain.
 pub(super) fn set_summary_at(segs: &mut Segs, base: Addr, zones: ZoneSet) -> bool {
     if base.grain() > segs.grains() as usize {
         return false;

@@ -28,7 +28,7 @@ impl Plain {
         })
     }
 
-    /// Where a block is to lie: in the lowest gap, or else at the lowest free grain, which is then held. 0 where neither is.
+    /// Where a block is to lie: in the lowest gap, or else at the lowest free grain, which is then held. 0 if neither is.
     fn place(&mut self, words: u64) -> u64 {
         let gap = self.lowest_gap(words);
         if gap != 0 {
@@ -50,7 +50,7 @@ impl Plain {
         0
     }
 
-    /// Holds the lowest grain that isn't, and returns its first word; 0 where all are.
+    /// Holds the lowest grain that isn't, and returns its first word; 0 if all are.
     fn hold_lowest(&mut self) -> u64 {
         for grain in 1..5u64 {
             if entry(&self.held, grain) == 0 {
@@ -115,7 +115,7 @@ fn agree_on_fill(alloc: Global, plain: &mut Plain, segs: &mut Segs, words: u32) 
         && agree_on_keeping(plain, segs, want, words % 3 == 0)
 }
 
-/// Makes the block that begins at a word grey in both where asked, and says whether they agree on which block of its grain is the
+/// Makes the block that begins at a word grey in both if asked, and says whether they agree on which block of its grain is the
 /// lowest grey one.
 fn agree_on_greying(plain: &mut Plain, segs: &mut Segs, word: u64, grey: bool) -> bool {
     let at = Addr(word.wrapping_mul(8));
@@ -126,7 +126,7 @@ fn agree_on_greying(plain: &mut Plain, segs: &mut Segs, word: u64, grey: bool) -
     grey_over(segs, at).map_or(0, |found| found.0 / 8) == lowest_grey(&plain.grey, word / 512)
 }
 
-/// Keeps the block that begins at a word in both where asked, and says whether they agree on whether it is kept.
+/// Keeps the block that begins at a word in both if asked, and says whether they agree on whether it is kept.
 fn agree_on_keeping(plain: &mut Plain, segs: &mut Segs, word: u64, keep: bool) -> bool {
     let at = Addr(word.wrapping_mul(8));
     if keep && word != 0 && word < 2560 {
@@ -148,7 +148,7 @@ fn lowest_grey(grey: &[u64], grain: u64) -> u64 {
     0
 }
 
-/// Frees the block over a word in both, and gives back its segment where it is empty; says whether they agree.
+/// Frees the block over a word in both, and gives back its segment if it is empty; says whether they agree.
 fn agree_on_free(alloc: Global, plain: &mut Plain, segs: &mut Segs, word: u64) -> bool {
     let owner = entry(&plain.owners, word);
     let got = free_over(segs, word.wrapping_mul(8)).map_or(0, |at| at.0 / 8);

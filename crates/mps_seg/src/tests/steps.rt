@@ -23,7 +23,7 @@ pub(super) enum Placing {
     Reserve(Result<Addr, Refusal>),
     /// The block over a byte is freed.
     Free(u64, Option<Addr>),
-    /// The segment over an address is given back where it is empty.
+    /// The segment over an address is given back if it is empty.
     Give(u64, bool),
     /// The block over a byte.
     Block(u64, Option<Addr>),
@@ -43,13 +43,13 @@ pub(super) enum Placing {
 
 /// The marks of a collection.
 pub(super) enum Marking {
-    /// The segment over an address is condemned where there is one.
+    /// The segment over an address is condemned if there is one.
     Condemn(u64, bool),
     /// A block is kept.
     Keep(u64),
     /// A block becomes grey.
     Grey(u64),
-    /// All blocks of the segment over an address become grey, where there is one.
+    /// All blocks of the segment over an address become grey, if there is one.
     GreyAll(u64, bool),
     /// A block is grey no longer.
     Blacken(u64),
@@ -71,7 +71,7 @@ pub(super) enum Marking {
 pub(super) enum Writing {
     /// How many grains the arena has.
     Size(u32),
-    /// The two words from an address on, lent to be written.
+    /// The two words from an address on, borrowed to be written.
     Two(u64, u64),
     /// The word at an address.
     Word(u64, u64),

@@ -42,8 +42,8 @@ impl<F: Format> State<F> {
         Ok(Reserving { point, words })
     }
 
-    /// Reserves a block with this head at a point. Refuses `BadHead` where the pool takes no such block, `Open` where the point has an
-    /// open reservation, and `CommitLimit` and `NoRun` where there is no room.
+    /// Reserves a block with this head at a point. Refuses `BadHead` if the pool takes no such block, `Open` if the point has an
+    /// open reservation, and `CommitLimit` and `NoRun` if there is no room.
     #[inline(always)]
     pub fn reserve(&mut self, trail: &mut Trail, name: Name, head: u64) -> Result<(), Refusal>
         requires ready { IsReady self.old }
@@ -77,7 +77,7 @@ impl<F: Format> State<F> {
         })
     }
 
-    /// Writes a word of a reservation; nothing where a flip ended it.
+    /// Writes a word of a reservation; nothing if a flip ended it.
     fn set_reserved_word(&mut self, held: Held, word: usize, value: u64)
         ensures { self.new ≡ with_reserved_word F.layout self.old held word value }
     {
@@ -86,7 +86,7 @@ impl<F: Format> State<F> {
         }
     }
 
-    /// Writes the number in cell `k` of the reservation of a point. Refuses `NotOpen` where it has none.
+    /// Writes the number in cell `k` of the reservation of a point. Refuses `NotOpen` if it has none.
     pub fn init_num(&mut self, name: Name, k: u64, value: u64) -> Result<(), Refusal>
         ensures { Comes self.old (number_initialised F.layout self.old name k value) result self.new }
     {
@@ -112,7 +112,7 @@ impl<F: Format> State<F> {
         Ok(())
     }
 
-    /// The reservation of a point becomes an object, to which a slot refers from now on; where a flip came since the reserve, it is given
+    /// The reservation of a point becomes an object, to which a slot refers from now on; if a flip came since the reserve, it is given
     /// up and the slot stays.
     #[inline(always)]
     pub fn commit(

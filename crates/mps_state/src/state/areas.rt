@@ -86,7 +86,7 @@ impl<F: Format> State<F> {
         }
     }
 
-    /// A slot becomes the object that a word of an area holds. Refuses `NotARef` where it holds none.
+    /// A slot becomes the object that a word of an area holds. Refuses `NotARef` if it holds none.
     pub fn take(&mut self, slot: Slot, place: Slot) -> Result<(), Refusal>
         ensures { Comes self.old (taken self.old slot place) result self.new }
     {

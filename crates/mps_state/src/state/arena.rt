@@ -13,7 +13,7 @@ use mps_format::Format;
 use mps_outcome::ArenaState;
 
 impl<F: Format> State<F> {
-    /// Sets the commit limit, in grains. Refuses `BelowCommitted` where more grains than that are held.
+    /// Sets the commit limit, in grains. Refuses `BelowCommitted` if more grains than that are held.
     pub fn limit(&mut self, limit: u32) -> Result<(), Refusal>
         ensures { Comes self.old (limit_set self.old limit) result self.new }
     {
@@ -58,7 +58,7 @@ impl<F: Format> State<F> {
         )
     }
 
-    /// How many words the block has that begins at an address. Refuses `NotABlock` where none begins there.
+    /// How many words the block has that begins at an address. Refuses `NotABlock` if none begins there.
     pub fn dump(&self, at: u64) -> Result<u32, Refusal>
         ensures { MatchResult result (λ words. BlockBegins self.now at words)
             (λ why. (why ≡ Refusal.NotABlock) × (is_block_over self.now.segs at at ≡ false)) }

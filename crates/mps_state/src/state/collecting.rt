@@ -1,4 +1,4 @@
-// A collection of everything.
+// A full collection.
 ghost use Rattle.std.specs.Prelude.{◌≡◌, ◌^◌, ◌<◌, IsTrue};
 ghost use Rattle.mps_buffer.specs.Points.{WereMadeBefore};
 ghost use Rattle.mps_outcome.specs.Collecting.{can_collect, CanCollectAll, IsCollected};
@@ -27,7 +27,7 @@ impl<F: Format> State<F> {
         self.pools.are_moved() && self.finals.registered() == 0 && self.points.flips() < MAX_FLIPS
     }
 
-    /// How many moves a collection of everything makes at most: the room that its trail needs.
+    /// How many moves a full collection makes at most: the room that its trail needs.
     pub fn most_moves(&self) -> u32
         ensures value { result ≡ most_moves self.now.segs.grains }
     {

@@ -27,7 +27,7 @@ impl<F: Format> State<F> {
         Ok(Kept { key, value })
     }
 
-    /// Writes the dependency with a number; nothing where there is none.
+    /// Writes the dependency with a number; nothing if there is none.
     fn set_dependency(&mut self, number: u32, d: Ld)
         ensures { self.new ≡ with_dependency self.old number d }
     {

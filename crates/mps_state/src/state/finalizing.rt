@@ -7,7 +7,7 @@ use mps_base::{Addr, Refusal, Slot};
 use mps_format::Format;
 
 impl<F: Format> State<F> {
-    /// Registers the object in a slot once more. Refuses `TooMany` where there are 65,536 registrations and messages.
+    /// Registers the object in a slot once more. Refuses `TooMany` if there are 65,536 registrations and messages.
     pub fn finalize(&mut self, slot: Slot) -> Result<(), Refusal>
         ensures { Comes self.old (registered F.layout self.old slot) result self.new }
     {
@@ -15,7 +15,7 @@ impl<F: Format> State<F> {
         self.finals.register(Addr(object.at))
     }
 
-    /// Takes away the first registration of the object in a slot. Refuses `NotRegistered` where it has none.
+    /// Takes away the first registration of the object in a slot. Refuses `NotRegistered` if it has none.
     pub fn definalize(&mut self, slot: Slot) -> Result<(), Refusal>
         ensures { Comes self.old (unregistered F.layout self.old slot) result self.new }
     {
@@ -23,7 +23,7 @@ impl<F: Format> State<F> {
         self.finals.unregister(Addr(object.at))
     }
 
-    /// A slot becomes the object of the first message, which is taken; false where none waits, and then the slot stays.
+    /// A slot becomes the object of the first message, which is taken; false if none waits, and then the slot stays.
     pub fn message(&mut self, slot: Slot) -> Result<bool, Refusal>
         ensures { Comes self.old (message_taken self.old slot) result self.new }
     {

@@ -29,7 +29,7 @@ impl<F: Format> State<F> {
         Ok(Addr(from.value))
     }
 
-    /// Lends the words of the block in a place, and no others. Refuses `NotABlock` where the place is empty.
+    /// Lends the words of the block in a place, and no others. Refuses `NotABlock` if the place is empty.
     pub fn lend(&self, place: Slot) -> Result<&[u64], Refusal>
         ensures { MatchResult result (λ words. IsBlockBorrowed self.now place words.now) (λ why. IsNoBlock self.now place why) }
     {
@@ -52,7 +52,7 @@ impl<F: Format> State<F> {
         Ok(write(Manual::lend_mut(&mut self.segs, at)))
     }
 
-    /// The address of the object in a slot, where it is of a leaf pool.
+    /// The address of the object in a slot, if it is of a leaf pool.
     #[tactic(auto, using(crate::proofs::Lending::begins_at_word))]
     fn leaf_named(&self, slot: Slot) -> Result<Addr, Refusal>
         ensures value { MatchResult result (λ at. leaf_named F.layout self.now slot ≡ Ok at.0)
@@ -71,7 +71,7 @@ impl<F: Format> State<F> {
         Ok(Addr(object.at))
     }
 
-    /// Lends the words after the head of the object in a slot. Refuses `NullRef` where the slot is null, and `WrongPool` where the
+    /// Lends the words after the head of the object in a slot. Refuses `NullRef` if the slot is null, and `WrongPool` if the
     /// object's pool isn't a leaf pool.
     pub fn lend_leaf(&self, slot: Slot) -> Result<&[u64], Refusal>
         ensures { MatchResult result (λ words. IsLeafBorrowed F.layout self.now slot words.now)

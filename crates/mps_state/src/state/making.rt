@@ -43,7 +43,7 @@ impl<F: Format> State<F> {
         Ok(())
     }
 
-    /// Refuses a root of n slots where its name is taken or it passes a limit.
+    /// Refuses a root of n slots if its name is taken or it passes a limit.
     fn check_root(&self, name: Name, n: u32) -> Result<(), Refusal>
         ensures value { result ≡ check_root self.now name n }
         ensures free { OnOk result (thing_named self.now.names name ≡ None) }
@@ -138,7 +138,7 @@ impl<F: Format> State<F> {
         Ok(number)
     }
 
-    /// Drops the table under a key, where there is one, and returns how many slots it had.
+    /// Drops the table under a key, if there is one, and returns how many slots it had.
     fn drop_table(&mut self, key: usize) -> Option<usize>
         ensures value { result ≡ option_map (λ left. left.1) (roots_without self.old (Some (thing.Table key))) }
         ensures state { self.new
@@ -149,7 +149,7 @@ impl<F: Format> State<F> {
         Some(n)
     }
 
-    /// Drops the area under a key, where there is one, and returns how many words it had.
+    /// Drops the area under a key, if there is one, and returns how many words it had.
     fn drop_area(&mut self, key: usize) -> Option<usize>
         ensures value { result ≡ option_map (λ left. left.1) (roots_without self.old (Some (thing.Area key))) }
         ensures state { self.new
@@ -160,7 +160,7 @@ impl<F: Format> State<F> {
         Some(n)
     }
 
-    /// Drops the table or the area that a name stands for, and returns how many slots it had.
+    /// Drops the table or the area that a name represents, and returns how many slots it had.
     fn drop_kept(&mut self, thing: Option<Thing>) -> Option<usize>
         ensures value { result ≡ option_map (λ left. left.1) (roots_without self.old thing) }
         ensures state { self.new ≡ option_map_or (λ left. record self.old { roots = left.0 }) (roots_without self.old thing) self.old }
@@ -201,7 +201,7 @@ impl<F: Format> State<F> {
         Ok(of)
     }
 
-    /// Makes a point of a pool. Refuses `WrongPool` where the pool is manual, or can't have weak blocks and the rank is weak.
+    /// Makes a point of a pool. Refuses `WrongPool` if the pool is manual, or can't have weak blocks and the rank is weak.
     pub fn point(&mut self, name: Name, pool: Name, rank: Rank) -> Result<usize, Refusal>
         ensures { IsMaking self.old (passed (check_point self.old name pool rank)) (MakesPointIn self.old name pool rank)
             result self.new }
@@ -224,7 +224,7 @@ impl<F: Format> State<F> {
         Ok(key as usize)
     }
 
-    /// Drops a point. Its name is free again. Refuses `Open` where it has an open reservation.
+    /// Drops a point. Its name is free again. Refuses `Open` if it has an open reservation.
     pub fn drop_point(&mut self, name: Name) -> Result<(), Refusal>
         ensures { IsDropping self.old name (point_dropped self.old name) result self.new }
     {
@@ -238,7 +238,7 @@ impl<F: Format> State<F> {
         Ok(())
     }
 
-    /// Refuses a pool where its name is taken or there are 64.
+    /// Refuses a pool if its name is taken or there are 64.
     fn check_pool(&self, name: Name) -> Result<(), Refusal>
         ensures value { result ≡ check_pool self.now name }
         ensures free { OnOk result (thing_named self.now.names name ≡ None) }
@@ -248,7 +248,7 @@ impl<F: Format> State<F> {
         refuse_at_limit(self.pools.count(), MAX_POOLS)
     }
 
-    /// Refuses a pool of blocks of one size where its name is taken, the size isn't 1 to 65,536 words, or there are 64 pools.
+    /// Refuses a pool of blocks of one size if its name is taken, the size isn't 1 to 65,536 words, or there are 64 pools.
     fn check_pool_of_size(&self, name: Name, words: u64) -> Result<(), Refusal>
         ensures value { result ≡ check_pool_of_size self.now name words }
         ensures free { OnOk result (thing_named self.now.names name ≡ None) }
@@ -286,7 +286,7 @@ impl<F: Format> State<F> {
         self.make_pool(name, Pool::Automatic { kind, format })
     }
 
-    /// Makes a manual pool of blocks of one size. Refuses `BadSize` where that isn't 1 to 65,536 words.
+    /// Makes a manual pool of blocks of one size. Refuses `BadSize` if that isn't 1 to 65,536 words.
     pub fn pool_mfs(&mut self, name: Name, words: u64) -> Result<usize, Refusal>
         ensures { IsMaking self.old (check_pool_of_size self.old name words) (MakesPool self.old name (kind_of_pool.OneSize words))
             result self.new }
@@ -304,7 +304,7 @@ impl<F: Format> State<F> {
         self.make_pool(name, Pool::AnySize)
     }
 
-    /// Refuses a dependency where its name is taken or there are 256.
+    /// Refuses a dependency if its name is taken or there are 256.
     fn check_dependency(&self, name: Name) -> Result<(), Refusal>
         ensures value { result ≡ check_dependency self.now name }
         ensures free { OnOk result (thing_named self.now.names name ≡ None) }

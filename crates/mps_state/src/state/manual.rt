@@ -25,8 +25,8 @@ impl<F: Format> State<F> {
         self.roots.set_place(place.key, place.index, at);
     }
 
-    /// Makes a block of n words, all 0, in a manual pool, and puts it in a place. Refuses `WrongPool` where the pool is automatic,
-    /// `BadSize` where it has no blocks of this size, `NameTaken` where the place has a block, and `CommitLimit` and `NoRun` where there
+    /// Makes a block of n words, all 0, in a manual pool, and puts it in a place. Refuses `WrongPool` if the pool is automatic,
+    /// `BadSize` if it has no blocks of this size, `NameTaken` if the place has a block, and `CommitLimit` and `NoRun` if there
     /// is no room.
     pub fn alloc(
         &mut self,
@@ -87,7 +87,7 @@ impl<F: Format> State<F> {
         Ok(place.value)
     }
 
-    /// Frees the block in a place, and empties the place. Refuses `NotABlock` where it is empty.
+    /// Frees the block in a place, and empties the place. Refuses `NotABlock` if it is empty.
     pub fn free(&mut self, trail: &mut Trail, place: Slot) -> Result<(), Refusal>
         requires { 1 < trail.old.spare }
         ensures { ComesMoving self.old trail.old (block_freed self.old trail.old place) result self.new trail.new }
@@ -135,7 +135,7 @@ impl<F: Format> State<F> {
         Ok(word)
     }
 
-    /// Word `k` of the block in a place. Refuses `BadIndex` where the block has no such word.
+    /// Word `k` of the block in a place. Refuses `BadIndex` if the block has no such word.
     pub fn load(&self, place: Slot, k: u64) -> Result<u64, Refusal>
         ensures { result ≡ word_loaded self.now place k }
     {

@@ -57,7 +57,7 @@ impl<F: Format> State<F> {
         Ok(from.value == 0)
     }
 
-    /// The head of the object in a slot. Refuses `NullRef` where the slot is null.
+    /// The head of the object in a slot. Refuses `NullRef` if the slot is null.
     #[inline(always)]
     pub fn head(&self, slot: Slot) -> Result<u64, Refusal>
         ensures { result ≡ head_in F.layout self.now slot }
@@ -75,7 +75,7 @@ impl<F: Format> State<F> {
         Ok(object.at)
     }
 
-    /// The number in cell `k` of the object in a slot. Refuses `BadIndex` past the last cell, and `NotANumber` where the cell is a
+    /// The number in cell `k` of the object in a slot. Refuses `BadIndex` past the last cell, and `NotANumber` if the cell is a
     /// reference or the head.
     #[inline(always)]
     pub fn num(&self, slot: Slot, k: u64) -> Result<u64, Refusal>
@@ -96,7 +96,7 @@ impl<F: Format> State<F> {
         Ok(())
     }
 
-    /// A slot becomes what cell `k` of an object refers to. Refuses `NotARef` where the cell is no reference.
+    /// A slot becomes what cell `k` of an object refers to. Refuses `NotARef` if the cell is no reference.
     pub fn get(&mut self, target: Slot, source: Slot, k: u64) -> Result<(), Refusal>
         ensures { Comes self.old (reference_got F.layout self.old target source k) result self.new }
     {
