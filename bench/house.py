@@ -2,11 +2,13 @@
 """Measures how the tree is kept: long functions, files and lines, notions that are defined twice, and code that stands twice.
 
 Run it anywhere in the repository. It prints a line for each finding and a count for each kind, and changes nothing.
+With `--check LEMMAS IMPORTS` it fails if more lemmas or more imports than these numbers are used by nothing.
 """
 import collections
 import pathlib
 import re
 import subprocess
+import sys
 
 MAX_FUNCTION, MAX_FILE, MAX_LINE, MAX_CRATE, SHARED = 40, 500, 140, 1500, 6
 HOME = pathlib.Path(__file__).resolve().parent.parent
@@ -87,6 +89,204 @@ def report(title, findings):
         print(f"  {finding}")
 
 
+
+# ---- figures: each kind with its count, and the findings of those that are to go
+
+MAX_ARGUMENTS, MAX_FOLDER, MAX_SENTENCE = 8, 40, 30
+WORDS = "pub|abbrev|unfoldable|inline"
+SIGNATURE = re.compile(rf"^(\s*)(?:(?:{WORDS}) )*([^\s(){{}}.,;:λ→=]+) :(?: |$)")
+BLOCK = re.compile(r"^(\s*)(?:(?:pub|abbrev|unfoldable) )*(?:data|record) ")
+IMPORT = re.compile(r"^\s*(?:pub |ghost )?use (?:Rattle\.)?([^\s;{}]+?)(?:\.\{(.*)\}|(?: as (\S+?))?);?$")
+TOKEN = re.compile(r"[^\s(){}.,;:λ→=|]+")
+
+
+def indent_of(row):
+    return len(row) - len(row.lstrip())
+
+
+def lemmas(rows):
+    """Each definition of a file but those of records and data: its name, the rows of its type, and all of its rows."""
+    found, starts, block = [], [], None
+    for number, row in enumerate(rows):
+        if block is not None and row.strip() and indent_of(row) <= block:
+            block = None
+        named = SIGNATURE.match(row)
+        if BLOCK.match(row):
+            block = indent_of(row)
+            starts.append(number)
+        elif block is None and named and not row.lstrip().startswith("--"):
+            found.append((number, named.group(2)))
+            starts.append(number)
+    ends = dict(zip(starts, starts[1:] + [len(rows)]))
+    for number, name in found:
+        end = ends[number]
+        body = re.compile(rf"^\s*{re.escape(name)}(?=[\s({{]|$)(?! :)")
+        first = next((n for n in range(number + 1, end) if body.match(rows[n])), end)
+        yield name, range(number, first), range(number, end)
+
+
+def arguments(signature):
+    """How many arguments a type has that are passed by their places: names in brackets, and premises."""
+    text, depth, parts, part = signature.split(" : ", 1)[-1] if " : " in signature else "", 0, [], ""
+    text = re.sub(r"λ [^.]*\.", "λ.", text)
+    for mark in text:
+        depth += (mark in "({") - (mark in ")}")
+        if mark == "→" and depth == 0:
+            parts.append(part)
+            part = ""
+        else:
+            part += mark
+    return sum(arguments_of(part) for part in parts)
+
+
+def arguments_of(part):
+    """How many arguments stand before one arrow: those of brackets with names, or one premise."""
+    groups = re.findall(r"[({](?:[^(){}]|[({](?:[^(){}]|[({][^(){}]*[)}])*[)}])*[)}]", part)
+    bound = [group for group in groups if re.match(r"[({][^(){}:]+ : ", group)]
+    rest = part
+    for group in bound:
+        rest = rest.replace(group, "", 1)
+    if rest.strip():
+        return 1
+    return sum(len(group[1:].split(" : ")[0].split()) for group in bound if group[0] == "(")
+
+
+def imports(rows):
+    """Each name that a file imports, as the file calls it, with the path that it comes from and its name there."""
+    for number, row in enumerate(rows):
+        found = IMPORT.match(row)
+        if not found or row.lstrip().startswith("pub use"):
+            continue
+        path, names, other = found.groups()
+        if names is None:
+            yield number, other or path.split(".")[-1], path, None
+        for name in (names or "").split(", "):
+            if name:
+                there, _, here = name.partition(" as ")
+                yield number, here or there, path, there
+
+
+def tokens(rows):
+    """The words of a file but for its comments and imports, each with the rows in which it stands. An operator is its parts."""
+    places = collections.defaultdict(set)
+    for number, row in enumerate(rows):
+        if not row.lstrip().startswith(("--", "use ", "pub use ", "ghost use ", "//")):
+            for word in TOKEN.findall(row) + re.findall(r"\w+", row) + re.findall(r"[^\w\s]+", row):
+                places[word].add(number)
+    return places
+
+
+def is_named(name, places, text):
+    parts = [part for part in name.split("◌") if part]
+    return any(part in places for part in parts) or (name == "[]" and "[]" in text)
+
+
+def unused_imports(antt, words):
+    for path, rows in antt.items():
+        text = "\n".join(row for row in rows if not IMPORT.match(row))
+        for number, here, source, _ in imports(rows):
+            if not is_named(here, words[path], text):
+                yield f"{path}:{number + 1}: {here} of {source}"
+
+
+def uses_elsewhere(antt, texts, words):
+    """The lemmas that other files use, as pairs of the last part of a path and a name; None stands for any path."""
+    used = set()
+    for path, rows in antt.items():
+        for _, here, source, there in imports(rows):
+            if there is not None and is_named(here, words[path], ""):
+                used.add((source.split(".")[-1], there))
+        text = "\n".join(row for row in rows if not IMPORT.match(row))
+        used.update((None, name) for name in re.findall(r"\.([^\s(){}.,;:]+)", text))
+    for path, rows in texts.items():
+        if path.suffix == ".rt":
+            used.update((file, name) for file, name in re.findall(r"(\w+)::([\w-]+)[,)\]]", "\n".join(rows)))
+    return used
+
+
+def unused_lemmas(antt, texts, words):
+    used = uses_elsewhere(antt, texts, words)
+    for path, rows in antt.items():
+        if path.parts[2] != "proofs" or path.stem in ("Answers", "Invariants", "Lib"):
+            continue
+        for name, _, own in lemmas(rows):
+            here = words[path].get(name, set()) - set(own)
+            if not here and (path.stem, name) not in used and (None, name) not in used and "◌" not in name:
+                yield f"{path}:{own[0] + 1}: {name}"
+
+
+def laws(texts):
+    """The public functions without a body that ensure something."""
+    for path, rows in texts.items():
+        if path.suffix != ".rt" or "test" in str(path):
+            continue
+        for found in re.finditer(r"^pub fn (\w+)[^\n]*\n(.*?)^\{(\}?)", "\n".join(rows), re.M | re.S):
+            if found.group(3) and "ensures" in found.group(2):
+                yield f"{path}: {found.group(1)}"
+
+
+def sentences(text):
+    """The sentences of a page but for its blocks of code; a cell of a table has sentences of its own."""
+    text = re.sub(r"```.*?```", "", text, flags=re.S)
+    parts = re.split(r"\n\s*\n|\n(?=\s*(?:[-#|]|\d+\.) ?)|\|", re.sub(r"`[^`\n]*`", "CODE", text))
+    for part in parts:
+        yield from re.split(r"(?<=[.!?:])\s+(?=[A-Z*(])", " ".join(part.split()))
+
+
+def long_sentences():
+    for path in sorted(HOME.glob("docs/*.md")) + [HOME / "README.md"]:
+        for sentence in sentences(path.read_text()):
+            count = len(re.findall(r"[\w'-]+", sentence))
+            if count > MAX_SENTENCE:
+                yield f"{path.relative_to(HOME)}: {count} words: {sentence[:60]}"
+
+
+def full_folders(texts):
+    counts = collections.Counter(path.parent for path in texts)
+    return [f"{folder}: {count}" for folder, count in sorted(counts.items()) if count > MAX_FOLDER]
+
+
+def same_definitions(texts):
+    """Names of definitions that two crates define in the same words."""
+    notions = collections.defaultdict(lambda: collections.defaultdict(set))
+    for path, rows in texts.items():
+        if path.parts[2] == "specs" and path.suffix == ".antt":
+            for name, text in definitions(path, rows):
+                notions[name][" ".join(text.split())].add(path.parts[1])
+    return [f"{name}: {', '.join(sorted(crates))}" for name, forms in sorted(notions.items())
+            for crates in forms.values() if len(crates) > 1]
+
+
+def figures(texts):
+    """Prints a count for each figure of the whole tree, and returns how many lemmas and imports nothing uses."""
+    antt = {path: rows for path, rows in texts.items() if path.suffix == ".antt" and "must-fail" not in path.parts}
+    words = {path: tokens(rows) for path, rows in antt.items()}
+    lines = [row.split("#")[0] for row in (HOME / "crates.txt").read_text().splitlines()]
+    names = {row.split(":")[0].split()[0]: row.split(":")[1].split() for row in lines if ":" in row}
+    print(f"crates: {len(names)}")
+    print(f"dependency names: {sum(name in names for lows in names.values() for name in lows)}")
+    for part in ("src", "specs", "proofs"):
+        print(f"lines of {part}: {sum(len(rows) for path, rows in texts.items() if path.parts[2] == part)}")
+    report("public law functions", list(laws(texts)))
+    report(f"lemmas over {MAX_ARGUMENTS} arguments",
+           [f"{path}:{own[0] + 1}: {name}" for path, rows in antt.items() if path.parts[2] == "proofs"
+            for name, type_rows, own in lemmas(rows) if arguments(" ".join(rows[n].strip() for n in type_rows)) > MAX_ARGUMENTS])
+    report("names with two definitions to the letter", same_definitions(texts))
+    report(f"folders over {MAX_FOLDER} files", full_folders(texts))
+    report(f"sentences of README and docs over {MAX_SENTENCE} words", list(long_sentences()))
+    unused = list(unused_lemmas(antt, texts, words)), list(unused_imports(antt, words))
+    report("lemmas in proofs that nothing uses", unused[0])
+    report("imported names that nothing uses", unused[1])
+    return len(unused[0]), len(unused[1])
+
+
+def check(counts):
+    """Fails if more lemmas or imports are unused than the numbers after `--check`."""
+    most = [int(word) for word in sys.argv[sys.argv.index("--check") + 1:][:2]]
+    for what, count, limit in zip(("lemmas", "imports"), counts, most):
+        if count > limit:
+            sys.exit(f"{count} {what} are used by nothing, and {limit} are allowed")
+
 def main():
     texts = {path: (HOME / path).read_text().splitlines() for path in sources()}
     report(f"functions of products over {MAX_FUNCTION} lines",
@@ -109,6 +309,9 @@ def main():
                                                   if len(where) > 1 and not re.match(r"\w+$", name) is None])
     report(f"places of {SHARED} or more lines that stand twice",
            [f"{path}:{line} and {other}:{there}, {count} lines" for path, line, other, there, count in shared_runs(texts)])
+    counts = figures(texts)
+    if "--check" in sys.argv:
+        check(counts)
 
 
 main()
