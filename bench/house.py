@@ -227,10 +227,10 @@ def laws(texts):
 
 def sentences(text):
     """The sentences of a page but for its blocks of code; a cell of a table has sentences of its own."""
-    text = re.sub(r"```.*?```", "", text, flags=re.S)
-    parts = re.split(r"\n\s*\n|\n(?=\s*(?:[-#|]|\d+\.) ?)|\|", re.sub(r"`[^`\n]*`", "CODE", text))
-    for part in parts:
-        yield from re.split(r"(?<=[.!?:])\s+(?=[A-Z*(])", " ".join(part.split()))
+    text = re.sub(r"^    .*$", "", re.sub(r"```.*?```", "", text, flags=re.S), flags=re.M)
+    text = re.sub(r"\]\([^)\n]*\)", "]", re.sub(r"`[^`\n]*`", "CODE", text))
+    for part in re.split(r"\n\s*\n|\n(?=\s*(?:[-#|]|\d+\.) ?)|\|", text):
+        yield from re.split(r"(?<=[.!?:])\s+(?=[A-Z*(\[])", " ".join(part.split()))
 
 
 def long_sentences():
