@@ -7,14 +7,26 @@ home=$(cd "$(dirname "$0")/.." && pwd)
 folder=$(mktemp -d)
 cd "$folder" || exit 1
 mkdir crates
-crates="base bits free numerals arena extents marks seg format model buffer manual amc trace gen final ld names root outcome pools cells state
-    laws colours image trace_laws slot_laws reclaim_laws nail_laws flip_laws unit_laws begin_laws refinement collect_laws heap"
+# mps_heap and all crates of the repository that it stands on.
+crates=$(awk -F: -v todo=mps_heap '
+    { sub(/#.*/, "") }
+    NF > 1 { split($1, part, " "); lows[part[1]] = $2 }
+    END {
+        while (split(todo, names, " ") > 0) {
+            todo = ""
+            for (i in names) if (names[i] in lows && !(names[i] in done)) {
+                done[names[i]]
+                print names[i]
+                todo = todo " " lows[names[i]]
+            }
+        }
+    }' "$home/crates.txt")
 for crate in $crates; do
-    mkdir "crates/mps_$crate"
+    mkdir "crates/$crate"
     for part in src specs proofs; do
-        [ -d "$home/crates/mps_$crate/$part" ] && cp -r "$home/crates/mps_$crate/$part" "crates/mps_$crate/$part"
+        [ -d "$home/crates/$crate/$part" ] && cp -r "$home/crates/$crate/$part" "crates/$crate/$part"
     done
-    grep "^mps_$crate:" "$home/crates.txt" >> crates.txt
+    grep "^$crate:" "$home/crates.txt" >> crates.txt
 done
 echo 'heap_times: mps_base mps_format mps_heap' >> crates.txt
 program=crates/heap_times
@@ -41,7 +53,7 @@ const WORDS: u64 = 17;
 const PLACES: u32 = 65_000;
 
 fn named(letter: u8) -> Name {
-    Name { len: 1, bytes: [letter, 0, 0, 0, 0, 0, 0, 0, 0, 0, 0, 0, 0, 0, 0, 0] }
+    Name { bytes: [letter, 0, 0, 0, 0, 0, 0, 0, 0, 0, 0, 0, 0, 0, 0, 0] }
 }
 
 fn slot(index: u64) -> Slot {
