@@ -6,8 +6,9 @@ use Rattle.std.specs.Prelude.{slice_set}
 use Rattle.mps_base.specs.Address.{Address}
 use Rattle.mps_base.specs.Trail.{Moves}
 use Rattle.mps_base.specs.declared.address.Addr.{Addr}
-use Rattle.mps_buffer.specs.declared.point.Buffer.{Buffer}
-use Rattle.mps_buffer.specs.Points.{PointsState, empty_buffer}
+use Rattle.mps_seg.specs.declared.buffer.Buffer.{Buffer}
+use Rattle.mps_buffer.specs.Points.{PointsState}
+use Rattle.mps_seg.specs.Buffer.{empty_buffer}
 use Rattle.mps_final.specs.State.{FinalsState}
 use Rattle.mps_format.specs.Layout.{Layout}
 use Rattle.mps_gen.specs.State.{ChainsState}

@@ -1,7 +1,7 @@
 -- What is true of pools and of what the collector knows of them.
 use Rattle.std.specs.Prelude.{ℕ, ◌≡◌, None, List, [], ◌∷◌, length, map, replicate, refl}
 use Rattle.mps_amc.specs.Amc.{AmcState}
-use Rattle.mps_buffer.specs.Points.{empty_buffer}
+use Rattle.mps_seg.specs.Buffer.{empty_buffer}
 use Rattle.mps_trace.specs.Trace.{TraceState}
 use Rattle.mps_outcome.specs.State.{policy_of_pool}
 use Rattle.mps_outcome.specs.declared.pool.Pool.{Pool}

@@ -7,7 +7,8 @@ use Rattle.mps_base.specs.Name.{same_name}
 use Rattle.mps_bits.specs.Table.{bit}
 use Rattle.mps_buffer.specs.declared.point.Held.{Held}
 use Rattle.mps_buffer.specs.declared.point.Point.{Point}
-use Rattle.mps_buffer.specs.Points.{PointsState, point_at, run_of}
+use Rattle.mps_buffer.specs.Points.{PointsState, point_at}
+use Rattle.mps_seg.specs.Buffer.{run_of}
 use Rattle.mps_format.specs.Layout.{Layout, IsLawful}
 use Rattle.mps_image.specs.AtRest.{StandsAtRest}
 use Rattle.mps_image.specs.Memory.{words_of_arena}

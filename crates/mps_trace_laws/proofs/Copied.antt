@@ -11,8 +11,8 @@ use Rattle.mps_base.specs.Segment.{segment_over, end_of_segment}
 use Rattle.mps_base.proofs.Runs.{IsAscending-without_run}
 use Rattle.mps_format.specs.Layout.{Layout}
 use Rattle.mps_seg.specs.Segs.{SegsState}
-use Rattle.mps_buffer.specs.declared.point.Buffer.{Buffer}
-use Rattle.mps_buffer.specs.Points.{empty_buffer, run_of}
+use Rattle.mps_seg.specs.declared.buffer.Buffer.{Buffer}
+use Rattle.mps_seg.specs.Buffer.{empty_buffer, run_of}
 use Rattle.mps_amc.specs.Moving.{moved_to, run_at}
 use Rattle.mps_amc.specs.Amc.{AmcState, HasTail, tails_of}
 use Rattle.mps_amc.specs.Amc as amc

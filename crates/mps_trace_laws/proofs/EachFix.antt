@@ -14,7 +14,7 @@ use Rattle.mps_format.specs.Layout.{Layout}
 use Rattle.mps_arena.specs.Arena.{answer_of_placement}
 use Rattle.mps_seg.specs.Segs.{SegsState, moves_after}
 use Rattle.mps_seg.specs.Collecting.{is_condemned_at, is_kept_at}
-use Rattle.mps_buffer.specs.declared.point.Buffer.{Buffer}
+use Rattle.mps_seg.specs.declared.buffer.Buffer.{Buffer}
 use Rattle.mps_amc.specs.Moving.{moved_to, kept_in_place, size_at, nailed}
 use Rattle.mps_amc.specs.Amc.{AmcState, tails_of, FixesAt, forwards, is_kept, keeps, IsFixed, placement_of_copy, answer_of_fix, segs_fixed, moves_fixed, tails_after, with_place, AreWordsFixed}
 use Rattle.mps_amc.specs.Amc as amc

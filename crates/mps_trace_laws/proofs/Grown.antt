@@ -6,8 +6,8 @@ use Rattle.mps_base.specs.Segment.{Segment, words_of_segment, with_segment}
 use Rattle.mps_bits.specs.Table.{bit}
 use Rattle.mps_format.specs.Layout.{Layout}
 use Rattle.mps_seg.specs.Segs.{SegsState}
-use Rattle.mps_buffer.specs.declared.point.Buffer.{Buffer}
-use Rattle.mps_buffer.specs.Points.{run_of}
+use Rattle.mps_seg.specs.declared.buffer.Buffer.{Buffer}
+use Rattle.mps_seg.specs.Buffer.{run_of}
 use Rattle.mps_amc.specs.Amc.{AmcState, HasTail}
 use Rattle.mps_amc.specs.Amc as amc
 use Rattle.mps_amc.proofs.Tails.{tail_written}

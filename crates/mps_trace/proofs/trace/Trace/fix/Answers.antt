@@ -1,6 +1,6 @@
 use Rattle.std.proofs.Common.{◌≡◌, true, false, ℕ, sym, ap, ◌∙◌, subst, arith}
 use Rattle.mps_seg.specs.Segs.{SegsState}
-use Rattle.mps_buffer.specs.Points.{IsAtHand}
+use Rattle.mps_seg.specs.Buffer.{IsAtHand}
 use Rattle.mps_amc.specs.Moving.{IsUnforwarded, BlockStands, IsBlockOf, size_at}
 use Rattle.mps_amc.specs.Amc.{HasTail, tail_of, FixesAt}
 use Rattle.mps_trace.specs.Trace.{TraceState, Traced, traced, FixesTo, passes, fixes, marks, target_of}
