@@ -2,8 +2,8 @@
 use Rattle.std.proofs.Common.{ℕ, ◌≡◌, ◌<◌, List, [], length, map, get_or, sym, ap, ◌∙◌, arith}
 use Rattle.std.specs.Prelude.{slice_set}
 use Rattle.std.proofs.lemmas.List.{map-set, length-map, get_or-map, get_or-set_same}
-use Rattle.mps_buffer.specs.declared.point.Buffer.{Buffer}
-use Rattle.mps_buffer.specs.Points.{empty_buffer}
+use Rattle.mps_seg.specs.declared.buffer.Buffer.{Buffer}
+use Rattle.mps_seg.specs.Buffer.{empty_buffer}
 use Rattle.mps_amc.specs.Amc.{AmcState, HasTail, tails_of, tail_of, with_tail}
 
 pub item_written : {A B : Type 0} (items : A → List B) (xs : List A) (number index : ℕ) (value : B) (old new : A)

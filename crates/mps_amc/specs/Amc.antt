@@ -11,10 +11,11 @@ use Rattle.mps_base.specs.declared.refusal.Refusal.{Refusal}
 use Rattle.mps_base.specs.declared.refusal.Refusal.TheVariants.{NoRun}
 use Rattle.mps_format.specs.Layout.{Layout}
 use Rattle.mps_arena.specs.Arena.{answer_of_placement}
-use Rattle.mps_seg.specs.Segs.{SegsState, new_segments, segments_after, noted_for, moves_after}
+use Rattle.mps_seg.specs.Segs.{SegsState, new_segments, moves_after}
 use Rattle.mps_seg.specs.Collecting.{is_kept_at}
-use Rattle.mps_buffer.specs.declared.point.Buffer.{Buffer}
-use Rattle.mps_buffer.specs.Points.{empty_buffer, placement_at_front, rest_at_hand}
+use Rattle.mps_seg.specs.Buffer as placed
+use Rattle.mps_seg.specs.declared.buffer.Buffer.{Buffer}
+use Rattle.mps_seg.specs.Buffer.{empty_buffer, placement_at_front, rest_at_hand}
 use Rattle.mps_amc.specs.Moving.{AreCopied, IsForwarded, IsUnforwarded, size_at, moved_to, kept_in_place}
 
 -- by pool and generation, the rest of the last segment that the running collection took for them
@@ -60,11 +61,7 @@ placement_of_copy amc s pool generation size = placement_at_front s (tail_of amc
 
 -- the segments with a new one, if the placement is one
 abbrev pub with_place : SegsState → (pool generation : ℕ) → Placement → SegsState
-with_place s pool generation placement = record s {
-  segments = segments_after placement pool generation Exact s.segments;
-  condemned = noted_for placement false s.condemned;
-  summaries = noted_for placement 0 s.summaries;
-}
+with_place s pool generation placement = placed.with_place s pool generation Exact placement
 
 -- the tails after a block of n words was placed
 abbrev pub tails_after : AmcState → (pool generation size : ℕ) → Placement → AmcState

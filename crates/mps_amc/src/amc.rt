@@ -4,16 +4,14 @@
 ghost use Rattle.std.specs.Prelude.{◌≡◌, ℕ, ◌+◌, ◌*◌, ◌%◌, ◌<◌, ◌≤◌, ◌⊎◌, true, false, Some, length, slice_index, drop, IfSome, IfNone, MatchResult, map, Contains};
 ghost use Rattle.mps_base.specs.Address.{word_of, bytes_of_word, words_of_grain};
 ghost use Rattle.mps_base.specs.Segment.{Segment, segment_over};
-ghost use Rattle.mps_buffer.specs.Points.{IsAtHand};
+ghost use Rattle.mps_seg.specs.Buffer.{IsAtHand};
 ghost use Rattle.mps_amc.specs.Moving.{BlockStands, IsBlockOf, IsForwarded, IsUnforwarded, size_at, nailed};
 ghost use Rattle.mps_amc.specs.Amc.{no_pools, with_pool, emptied_row, flipped, HasTail, tail_of, with_tail, IsFixed, FixesAt};
 
 use crate::moving::{keep_in_place, move_block};
-use crate::placing::place;
-use mps_base::{Addr, Move, Trail};
-use mps_buffer::Buffer;
+use mps_base::{Addr, Move, Rank, Trail};
 use mps_format::Format;
-use mps_seg::Segs;
+use mps_seg::{Buffer, Segs};
 use std::alloc::{AllocError, Global};
 use std::marker::Model;
 
@@ -144,9 +142,9 @@ impl Amc {
     {
         let _ = segs.grains();
         let tail = self.tail(pool, generation);
-        match place(segs, trail, tail, pool, generation, words) {
+        match tail.place(segs, trail, pool, generation, Rank::Exact, words) {
             Ok(placed) => {
-                self.set_tail(pool, generation, placed.tail);
+                self.set_tail(pool, generation, placed.rest);
                 move_block(segs, format, at, placed.at, words);
                 trail.push(Move::Moved {
                     from: at,

@@ -3,7 +3,6 @@
 
 mod amc;
 mod moving;
-mod placing;
 mod reclaiming;
 
 pub use amc::Amc;

@@ -8,8 +8,8 @@ use Rattle.mps_base.specs.Address.{Address, Word}
 use Rattle.mps_base.specs.Generation.{target_generation}
 use Rattle.mps_base.specs.Run.{end_of}
 use Rattle.mps_base.specs.Segment.{Segment}
-use Rattle.mps_buffer.specs.declared.point.Buffer.{Buffer}
-use Rattle.mps_buffer.specs.Points.{empty_buffer, run_of}
+use Rattle.mps_seg.specs.declared.buffer.Buffer.{Buffer}
+use Rattle.mps_seg.specs.Buffer.{empty_buffer, run_of}
 use Rattle.mps_amc.specs.Amc.{AmcState, HasTail, emptied_row, flipped}
 use Rattle.mps_gen.specs.State.{ChainsState}
 use Rattle.mps_gen.specs.State as chains

@@ -6,11 +6,12 @@ use Rattle.mps_base.specs.Placement.{Placement}
 use Rattle.mps_base.specs.declared.address.Addr.{Addr}
 use Rattle.mps_base.specs.declared.names.Rank.{Rank}
 use Rattle.mps_base.specs.declared.refusal.Flipped.{Flipped}
-use Rattle.mps_buffer.specs.declared.point.Buffer.{Buffer}
+use Rattle.mps_seg.specs.declared.buffer.Buffer.{Buffer}
 use Rattle.mps_seg.specs.Segs.{SegsState}
 use Rattle.mps_buffer.specs.declared.point.Held.{Held}
 use Rattle.mps_buffer.specs.declared.point.Point.{Point}
-use Rattle.mps_buffer.specs.Points.{PointsState, point_at, with_point, with_block, new_point, IsMade, opened, closed, emptied, ended_at, IsReservedAt, AreReserved, IsAtHand}
+use Rattle.mps_buffer.specs.Points.{PointsState, point_at, with_point, with_block, new_point, IsMade, opened, closed, emptied, ended_at, IsReservedAt, AreReserved}
+use Rattle.mps_seg.specs.Buffer.{IsAtHand}
 use Rattle.mps_buffer.specs.Tokens.{NoneIsOpen, IsReady, HasOpen}
 use Rattle.mps_buffer.proofs.TokenLists.{token_emptied}
 use Rattle.mps_buffer.proofs.OpenTokens.{HasNoToken, some_within}

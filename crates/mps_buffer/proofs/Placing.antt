@@ -1,20 +1,23 @@
 -- Where a reservation is placed, and what is then at hand.
-use Rattle.std.proofs.Common.{ℕ, ◌+◌, ◌-◌, ◌*◌, ◌<◌, ◌≤◌, ◌≡◌, leb, true, false, Option, Some, None, is_some, Result, Ok, Err, [], inl, inr, sym, ap, ◌∙◌, arith, refl}
+use Rattle.std.proofs.Common.{ℕ, ◌+◌, ◌-◌, ◌*◌, ◌<◌, ◌≤◌, ◌≡◌, Bool, leb, true, false, IfOk, Option, Some, None, is_some, Result, Ok, Err, [], inl, inr, sym, ap, subst, ◌∙◌, arith, refl}
 use Rattle.std.proofs.lemmas.Bool.{cases_lt, cond-true, cond-false, le-leb, lt-leb}
 use Rattle.mps_base.specs.Address.{words_of_grain, word_of, grains_needed}
 use Rattle.std.specs.Option.{option_map_or}
-use Rattle.mps_base.specs.Run.{lowest_fitting}
+use Rattle.mps_base.specs.Run.{Run, lowest_fitting}
 use Rattle.mps_base.specs.Segment.{gaps_of}
 use Rattle.mps_base.specs.Placement.{Placement, Place, NewSegment, OverLimit, NoFreeRun}
 use Rattle.mps_base.specs.declared.address.Addr.{Addr}
 use Rattle.mps_base.specs.declared.refusal.Refusal.{Refusal}
 use Rattle.mps_arena.specs.Arena.{ArenaMemory, answer_of_placement}
-use Rattle.mps_seg.specs.Segs.{SegsState, placement_for, held_runs, at_word}
+use Rattle.mps_seg.specs.Segs.{SegsState, placement_for, held_runs, at_word, CanCover}
+use Rattle.mps_seg.specs.declared.buffer.Placed.{Placed}
+use Rattle.mps_seg.proofs.PartCovered.{rest_is_open}
 use Rattle.mps_seg.specs.Placing.{placement_in_gaps}
 use Rattle.mps_seg.proofs.Placements.{taken_at, placement_cases, placed, refused}
-use Rattle.mps_buffer.specs.declared.point.Buffer.{Buffer}
+use Rattle.mps_seg.specs.declared.buffer.Buffer.{Buffer}
 use Rattle.mps_buffer.specs.declared.point.Point.{Point}
-use Rattle.mps_buffer.specs.Points.{placement_at, placement_at_front, buffer_after, rest_at_hand, is_place}
+use Rattle.mps_buffer.specs.Points.{CanCoverAfter, placement_at, buffer_after, is_place}
+use Rattle.mps_seg.specs.Buffer.{run_of, placement_at_front, rest_at_hand}
 
 module _ (p : Point) (s : SegsState) (words : ℕ) where
   pub at_front : p.is_copying ≡ true → words ≤ p.buffer.count → placement_at p s words ≡ Place p.buffer.from
@@ -78,3 +81,21 @@ front_or_new p s words is =
       | inl many ↦ ap is_place (in_new p s words is many) ∙ new_is_no_place s words ∙ sym (lt-leb words p.buffer.count many)
       | inr few ↦ ap is_place (at_front p s words is few) ∙ sym (le-leb words p.buffer.count few)
     ]
+
+-- what is left after a placement in free words can be covered once the words that were placed are
+pub rest_after : (s : SegsState) (words : ℕ) (is_copying : Bool) (r : Result Placed Refusal) → 0 < words
+    → IfOk r (λ placed. CanCover s (record { from = word_of placed.at.0; count = words + placed.rest.count }))
+    → IfOk r (λ placed. placed.rest.from ≡ word_of placed.at.0 + words)
+    → IfOk r
+    (λ placed. is_copying ≡ true → 0 < placed.rest.count
+    → CanCoverAfter s (record { from = word_of placed.at.0; count = words }) (run_of placed.rest))
+rest_after s words is_copying (Ok found) some all follows = λ is more.
+    let whole : Run = record { from = word_of found.at.0; count = words + found.rest.count } in
+    let left : words + found.rest.count - words ≡ found.rest.count = omega arith in
+    let P : ℕ → Type 0 =
+    λ n. CanCoverAfter s (record { from = word_of found.at.0; count = words }) (record { from = word_of found.at.0 + words; count = n }) in
+    let Q : ℕ → Type 0 =
+    λ w. CanCoverAfter s (record { from = word_of found.at.0; count = words }) (record { from = w; count = found.rest.count }) in
+    subst Q (sym follows)
+    (subst P left (rest_is_open whole words some s.grains (held_runs s) s.covered all (omega (arith, more))))
+rest_after s words is_copying (Err why) some all follows = tt

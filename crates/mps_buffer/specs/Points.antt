@@ -1,5 +1,5 @@
 -- Points, their reservations, and where a reservation is placed.
-use Rattle.std.specs.Prelude.{ℕ, ◌+◌, ◌-◌, ◌*◌, ◌<◌, ◌≤◌, ◌≡◌, ◌⊎◌, ◌==◌, nat_le, Bool, true, false, option_map, map, length, if◌then◌else◌, Option, Some, None, is_some, List, [], ◌∷◌, replicate, get_or, slice_set, Contains, refl}
+use Rattle.std.specs.Prelude.{ℕ, ◌+◌, ◌<◌, ◌≤◌, ◌≡◌, ◌⊎◌, ◌==◌, Bool, true, false, option_map, map, length, if◌then◌else◌, Option, Some, None, is_some, List, [], ◌∷◌, replicate, get_or, slice_set, Contains, refl}
 use Rattle.std.proofs.Common.{arith}
 use Rattle.mps_base.specs.Address.{words_of_grain, word_of}
 use Rattle.mps_base.specs.Run.{Run, end_of, with_run, without_run}
@@ -9,7 +9,9 @@ use Rattle.mps_base.specs.declared.names.Rank.{Rank}
 use Rattle.mps_base.specs.declared.names.Rank.TheVariants.{Exact, Weak}
 use Rattle.mps_seg.specs.Segs.{SegsState, new_segments, placement_for, segments_after, noted_for, held_runs, IsOpenRun, CanCover}
 use Rattle.mps_seg.specs.Placing.{placement_in_gaps}
-use Rattle.mps_buffer.specs.declared.point.Buffer.{Buffer}
+use Rattle.mps_seg.specs.declared.buffer.Buffer.{Buffer}
+use Rattle.mps_seg.specs.Buffer.{empty_buffer, placement_at_front, rest_at_hand}
+use Rattle.mps_seg.specs.Buffer as placed
 use Rattle.mps_buffer.specs.declared.point.Held.{Held}
 use Rattle.mps_buffer.specs.declared.point.Point.{Point}
 
@@ -32,19 +34,8 @@ point_at s key = get_or s.points key None
 abbrev pub with_point : PointsState → (key : ℕ) → Option Point → PointsState
 with_point s key p = record s { points = slice_set s.points key p }
 
-abbrev pub run_of : Buffer → Run
-run_of b = record { from = b.from; count = b.count }
-
 abbrev pub run_of_held : Held → Run
 run_of_held h = record { from = word_of h.at.0; count = h.words }
-
--- no free words
-abbrev pub empty_buffer : Buffer
-empty_buffer = record { from = 0; count = 0 }
-
--- the free words of the buffer, if there are any, lie in a segment, and nothing covers one of them
-abbrev pub IsAtHand : SegsState → Buffer → Type 0
-IsAtHand s b = 0 < b.count → CanCover s (run_of b)
 
 -- the words lie in a segment, and nothing covers one of them once these others are covered
 abbrev pub CanCoverAfter : SegsState → Run → Run → Type 0
@@ -71,10 +62,6 @@ AllTaken points = (key : ℕ) → key < max_points → key < length points → i
 
 -- ---- where a reservation is placed
 
--- at a prefix of the free words of the buffer, if there are enough, else in a new segment
-abbrev pub placement_at_front : SegsState → Buffer → (words : ℕ) → Placement
-placement_at_front s b words = if nat_le words b.count then Place b.from else placement_for s words
-
 -- where a reservation of n words at a point is placed
 abbrev pub placement_at : Point → SegsState → (words : ℕ) → Placement
 placement_at p s words =
@@ -89,20 +76,9 @@ is_place (NoFreeRun need longest) = false
 
 -- the segments with a new one, if the placement is one
 abbrev pub with_place : SegsState → Point → Placement → SegsState
-with_place s p placement = record s {
-  segments = segments_after placement p.pool 0 p.rank s.segments;
-  condemned = noted_for placement false s.condemned;
-  summaries = noted_for placement 0 s.summaries;
-}
+with_place s p placement = placed.with_place s p.pool 0 p.rank placement
 
--- the free words of the buffer after a reservation of n words: the rest of them, or of the new segment
-abbrev pub rest_at_hand : Buffer → Placement → (words : ℕ) → Buffer
-rest_at_hand b (Place word) words = record { from = word + words; count = b.count - words }
-rest_at_hand b (NewSegment grain grains) words =
-    record { from = words_of_grain * grain + words; count = words_of_grain * grains - words }
-rest_at_hand b (OverLimit committed need limit) words = b
-rest_at_hand b (NoFreeRun need longest) words = b
-
+-- what is at hand after a reservation of n words
 abbrev pub buffer_after : Point → Placement → (words : ℕ) → Buffer
 buffer_after p placement words = if p.is_copying then rest_at_hand p.buffer placement words else p.buffer
 

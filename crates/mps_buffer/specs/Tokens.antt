@@ -5,7 +5,8 @@ use Rattle.mps_buffer.specs.declared.point.Held.{Held}
 use Rattle.mps_buffer.specs.declared.point.Point.{Point}
 use Rattle.mps_buffer.specs.declared.point.Reserved.{Reserved}
 use Rattle.mps_base.specs.declared.names.Rank.TheVariants.{Exact}
-use Rattle.mps_buffer.specs.Points.{PointsState, point_at, new_point, IsAtHand}
+use Rattle.mps_buffer.specs.Points.{PointsState, point_at, new_point}
+use Rattle.mps_seg.specs.Buffer.{IsAtHand}
 
 -- the token of the open reservation of the point under a key
 abbrev pub token_of : (key : ℕ) → Option Point → Option Reserved

@@ -7,7 +7,7 @@ mod point;
 mod points;
 
 pub use open_points::OpenPoints;
-pub use point::{Buffer, Held, Point, Reserved};
+pub use point::{Held, Point, Reserved};
 pub use points::Points;
 
 #[cfg(test)]

@@ -11,7 +11,8 @@ ghost use Rattle.mps_base.specs.Run.{Run};
 ghost use Rattle.mps_seg.specs.Segs.{CanCover, moves_after};
 ghost use Rattle.mps_buffer.specs.declared.point.Point.{Point};
 ghost use Rattle.mps_buffer.specs.declared.point.Held.{Held};
-ghost use Rattle.mps_buffer.specs.Points.{no_points, point_at, with_point, IsAtHand, placement_at, buffer_after, AreApart, with_place, with_reservation, with_block, closed, opened, all_ended, AreReserved, flipped, ended_at, IsReserved, IsReservedAt, new_point, IsMade, AllTaken, WereMadeBefore};
+ghost use Rattle.mps_buffer.specs.Points.{no_points, point_at, with_point, placement_at, buffer_after, AreApart, with_place, with_reservation, with_block, closed, opened, all_ended, AreReserved, flipped, ended_at, IsReserved, IsReservedAt, new_point, IsMade, AllTaken, WereMadeBefore};
+ghost use Rattle.mps_seg.specs.Buffer.{IsAtHand};
 ghost use Rattle.mps_buffer.specs.Tokens.{HasOpen, IsClosedAt};
 
 use crate::point::{Point, Reserved};

@@ -2,13 +2,7 @@
 ghost use Rattle.std.specs.Prelude.{◌≡◌};
 
 use mps_base::{Addr, Rank};
-
-/// Words at hand: `count` words from the word `from` on, by their numbers. Nothing covers them.
-#[derive(Clone, Copy)]
-pub struct Buffer {
-    pub from: u32,
-    pub count: u32,
-}
+use mps_seg::Buffer;
 
 /// A reservation: where it lies, its head, its size in words, and how many flips there were when it was made. It covers its words as
 /// long as there are no more.

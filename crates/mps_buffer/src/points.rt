@@ -11,13 +11,14 @@ ghost use Rattle.mps_base.specs.Run.{Run};
 ghost use Rattle.mps_seg.specs.Segs.{SegsState, CanCover, moves_after};
 ghost use Rattle.mps_buffer.specs.declared.point.Point.{Point};
 ghost use Rattle.mps_buffer.specs.declared.point.Held.{Held};
-ghost use Rattle.mps_buffer.specs.Points.{no_points, point_at, with_point, IsAtHand, placement_at, buffer_after, AreApart, with_place, with_reservation, with_block, without_reservation, run_of_held, closed, opened, IsOpenAt, all_ended, AreReserved, emptied, flipped, ended_at, IsReservedAt, new_point, IsMade, AllTaken, is_place, WereMadeBefore};
+ghost use Rattle.mps_buffer.specs.Points.{no_points, point_at, with_point, placement_at, buffer_after, AreApart, with_place, with_reservation, with_block, without_reservation, run_of_held, closed, opened, IsOpenAt, all_ended, AreReserved, emptied, flipped, ended_at, IsReservedAt, new_point, IsMade, AllTaken, is_place, WereMadeBefore};
+ghost use Rattle.mps_seg.specs.Buffer.{IsAtHand};
 
 use crate::place::place;
-use crate::point::{Buffer, Held, Point, Reserved};
+use crate::point::{Held, Point, Reserved};
 use mps_base::{Addr, Flipped, Move, Rank, Refusal, Trail};
 use mps_format::Format;
-use mps_seg::Segs;
+use mps_seg::{Buffer, Segs};
 use std::alloc::{AllocError, Global};
 use std::marker::Model;
 
@@ -344,7 +345,7 @@ fn reserve_at(
         words,
         flips,
     };
-    p.buffer = placed.buffer;
+    p.buffer = placed.rest;
     p.reservation = Some(held);
     Ok(held)
 }

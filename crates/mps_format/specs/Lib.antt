@@ -8,5 +8,6 @@ pub mod Layout
 pub mod Laws
 pub mod Leaf
 pub mod Mapped
+pub mod Pools
 pub mod References
 pub mod TailExample

@@ -7,10 +7,11 @@ use Rattle.mps_base.specs.Address.{Address, word_of}
 use Rattle.mps_base.specs.Placement.{Placement, Place, NewSegment, OverLimit, NoFreeRun}
 use Rattle.mps_base.specs.Segment.{Segment}
 use Rattle.mps_bits.specs.Table.{bit}
-use Rattle.mps_buffer.specs.declared.point.Buffer.{Buffer}
+use Rattle.mps_seg.specs.declared.buffer.Buffer.{Buffer}
 use Rattle.mps_buffer.specs.declared.point.Held.{Held}
 use Rattle.mps_buffer.specs.declared.point.Point.{Point}
-use Rattle.mps_buffer.specs.Points.{point_at, run_of, with_point, with_place, with_reservation}
+use Rattle.mps_buffer.specs.Points.{point_at, with_point, with_place, with_reservation}
+use Rattle.mps_seg.specs.Buffer.{run_of}
 use Rattle.mps_format.specs.Layout.{Layout}
 use Rattle.mps_image.specs.ArenaLaws.{setting_with_segments}
 use Rattle.mps_image.specs.AtRest.{StandsAtRest}

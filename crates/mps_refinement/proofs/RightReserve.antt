@@ -15,7 +15,8 @@ use Rattle.mps_base.specs.declared.names.Rank.{Rank}
 use Rattle.mps_base.specs.declared.refusal.Refusal.{Refusal}
 use Rattle.mps_base.specs.declared.refusal.Refusal.TheVariants as refusal
 use Rattle.mps_buffer.specs.declared.point.Point.{Point}
-use Rattle.mps_buffer.specs.Points.{buffer_after, opened, placement_at, rest_at_hand, run_of, with_place, with_point, with_reservation}
+use Rattle.mps_buffer.specs.Points.{buffer_after, opened, placement_at, with_place, with_point, with_reservation}
+use Rattle.mps_seg.specs.Buffer.{rest_at_hand, run_of}
 use Rattle.mps_format.specs.Layout.{Layout}
 use Rattle.mps_laws.proofs.HeldIds.{new_cells_written}
 use Rattle.mps_laws.proofs.LegalMoves.{at_front}

@@ -1,3 +1,4 @@
+pub mod Buffer
 pub mod Collecting
 pub mod Lending
 pub mod Placing

@@ -1,12 +1,14 @@
 //! Segments of grains, and the words in them that blocks and reservations cover.
 #![tactic(auto)]
 
+mod buffer;
 mod entry;
 mod first_grains;
 mod placing;
 mod segment_info;
 mod segs;
 
+pub use buffer::{Buffer, Placed};
 pub use segment_info::SegmentInfo;
 pub use segs::Segs;
 

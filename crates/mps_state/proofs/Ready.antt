@@ -2,7 +2,8 @@
 use Rattle.std.proofs.Common.{ℕ, ◌≡◌, Some}
 use Rattle.mps_buffer.specs.declared.point.Held.{Held}
 use Rattle.mps_buffer.specs.declared.point.Point.{Point}
-use Rattle.mps_buffer.specs.Points.{point_at, IsAtHand, IsReserved}
+use Rattle.mps_buffer.specs.Points.{point_at, IsReserved}
+use Rattle.mps_seg.specs.Buffer.{IsAtHand}
 use Rattle.mps_buffer.specs.Tokens.{HasOpen, IsClosedAt}
 use Rattle.mps_outcome.specs.State.{HeapState, IsReady}
 

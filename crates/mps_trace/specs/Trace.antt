@@ -9,12 +9,12 @@ use Rattle.mps_base.specs.declared.names.Rank.TheVariants.{Exact}
 use Rattle.mps_format.specs.Layout.{Layout}
 use Rattle.mps_seg.specs.Segs.{SegsState}
 use Rattle.mps_seg.specs.Collecting.{is_condemned_at}
-use Rattle.mps_buffer.specs.Points.{IsAtHand, empty_buffer}
+use Rattle.mps_seg.specs.Buffer.{IsAtHand, empty_buffer}
 use Rattle.mps_amc.specs.Moving.{IsForwarded, IsUnforwarded, BlockStands, IsBlockOf, size_at, nailed}
 use Rattle.mps_amc.specs.Amc.{AmcState, HasTail, tail_of, FixesAt}
 use Rattle.mps_amc.specs.Amc as amc
 use Rattle.mps_gen.specs.State.{ChainsState, no_chains, generations_of}
-use Rattle.mps_trace.specs.declared.trace.Policy.{Policy}
+use Rattle.mps_format.specs.declared.pool.Policy.{Policy}
 
 pub record TraceState (F : Type 0) : Type 0 where
   -- by pool, the format of its objects; none for a pool that isn't collected

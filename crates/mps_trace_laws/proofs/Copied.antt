@@ -11,8 +11,8 @@ use Rattle.mps_base.specs.Segment.{segment_over, end_of_segment}
 use Rattle.mps_base.proofs.Runs.{IsAscending-without_run}
 use Rattle.mps_format.specs.Layout.{Layout}
 use Rattle.mps_seg.specs.Segs.{SegsState}
-use Rattle.mps_buffer.specs.declared.point.Buffer.{Buffer}
-use Rattle.mps_buffer.specs.Points.{empty_buffer, run_of}
+use Rattle.mps_seg.specs.declared.buffer.Buffer.{Buffer}
+use Rattle.mps_seg.specs.Buffer.{empty_buffer, run_of}
 use Rattle.mps_amc.specs.Moving.{moved_to, run_at}
 use Rattle.mps_amc.specs.Amc.{AmcState, HasTail, tails_of}
 use Rattle.mps_amc.specs.Amc as amc
@@ -40,7 +40,7 @@ use Rattle.mps_trace_laws.proofs.Hands.{contains_among}
 use Rattle.mps_trace_laws.proofs.Copying.{tables_moved, has_marks}
 use Rattle.mps_trace_laws.proofs.Taking.{IsFirstTaken, rest_of, tails_after, which}
 use Rattle.mps_trace_laws.proofs.Objects.{pool_is, words_are}
-use Rattle.mps_trace.specs.declared.trace.Policy.{Policy}
+use Rattle.mps_format.specs.declared.pool.Policy.{Policy}
 use Rattle.mps_image.proofs.Entries.{entry_at-set_other}
 use Rattle.std.proofs.lemmas.Option.{same_Some}
 

@@ -12,7 +12,7 @@ use Rattle.mps_format.specs.Layout.{Layout, IsLawful}
 use Rattle.mps_arena.specs.Arena.{answer_of_placement}
 use Rattle.mps_seg.specs.Segs.{SegsState}
 use Rattle.mps_seg.specs.Collecting.{is_kept_at}
-use Rattle.mps_buffer.specs.Points.{run_of}
+use Rattle.mps_seg.specs.Buffer.{run_of}
 use Rattle.mps_amc.specs.Moving.{IsUnforwarded, BlockStands, size_at}
 use Rattle.mps_amc.specs.Amc.{AmcState, IsFixed, FixesAt, forwards, is_kept, keeps, placement_of_copy, with_place, answer_of_fix, segs_fixed, AreWordsFixed}
 use Rattle.mps_amc.specs.Amc as amc

@@ -13,7 +13,7 @@ use Rattle.mps_base.specs.declared.names.Rank.TheVariants.{Exact}
 use Rattle.mps_format.specs.Layout.{Layout}
 use Rattle.mps_seg.specs.Segs.{SegsState, moves_after}
 use Rattle.mps_seg.specs.Collecting.{is_condemned_at}
-use Rattle.mps_buffer.specs.declared.point.Buffer.{Buffer}
+use Rattle.mps_seg.specs.declared.buffer.Buffer.{Buffer}
 use Rattle.mps_amc.specs.Moving.{moved_to, kept_in_place, size_at}
 use Rattle.mps_amc.specs.Moving as moving
 use Rattle.mps_amc.specs.Amc.{AmcState, HasTail, tails_of, FixesAt, IsFixed, placement_of_copy, answer_of_fix, segs_fixed, moves_fixed, tails_after, with_place, AreWordsFixed}
@@ -42,7 +42,7 @@ use Rattle.mps_trace_laws.proofs.Copied.{has_still, copied_stands}
 use Rattle.mps_trace_laws.proofs.Staying.{stayed_stands}
 use Rattle.mps_trace_laws.proofs.Grown.{buffer_of, grown_in, grown_stands}
 use Rattle.mps_trace_laws.proofs.Steps.{kept_in, stay_step, move_step, new_step}
-use Rattle.mps_trace.specs.declared.trace.Policy.{Policy}
+use Rattle.mps_format.specs.declared.pool.Policy.{Policy}
 
 -- a tail that is written twice is what was written last
 written_twice : (state : AmcState) (pool generation : ℕ) (a c : Buffer) → HasTail state pool generation

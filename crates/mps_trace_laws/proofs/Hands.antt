@@ -13,8 +13,8 @@ use Rattle.mps_format.specs.Layout.{Layout}
 use Rattle.mps_arena.specs.Arena.{answer_of_placement}
 use Rattle.mps_seg.specs.Segs.{SegsState, held_runs, placement_for}
 use Rattle.mps_seg.proofs.Placements.{placement_cases, placed, refused}
-use Rattle.mps_buffer.specs.declared.point.Buffer.{Buffer}
-use Rattle.mps_buffer.specs.Points.{placement_at_front}
+use Rattle.mps_seg.specs.declared.buffer.Buffer.{Buffer}
+use Rattle.mps_seg.specs.Buffer.{placement_at_front}
 use Rattle.mps_laws.proofs.Segments.{IsAmong, among_new, among_aligned, segment_bounds}
 use Rattle.mps_model.specs.Graph.{Object, Point}
 use Rattle.mps_model.specs.World.{PointMemory}

@@ -6,7 +6,7 @@ use Rattle.mps_base.specs.Address.{Address, Id, word_of}
 use Rattle.mps_base.specs.Generation.{target_generation}
 use Rattle.mps_base.specs.Segment.{Segment, segment_over}
 use Rattle.mps_seg.specs.Segs.{SegsState}
-use Rattle.mps_buffer.specs.Points.{run_of}
+use Rattle.mps_seg.specs.Buffer.{run_of}
 use Rattle.mps_amc.specs.Amc.{AmcState, placement_of_copy}
 use Rattle.mps_amc.specs.Amc as amc
 use Rattle.mps_gen.specs.State.{ChainsState}

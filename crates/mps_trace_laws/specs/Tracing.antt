@@ -9,7 +9,7 @@ use Rattle.mps_base.specs.Segment.{Segment, grains_of_segment, end_of_segment}
 use Rattle.mps_bits.specs.Table.{bit}
 use Rattle.mps_format.specs.Layout.{Layout}
 use Rattle.mps_seg.specs.Segs.{SegsState}
-use Rattle.mps_buffer.specs.Points.{run_of}
+use Rattle.mps_seg.specs.Buffer.{run_of}
 use Rattle.mps_amc.specs.Amc.{AmcState, HasTail}
 use Rattle.mps_amc.specs.Amc as amc
 use Rattle.mps_gen.specs.State.{ChainsState}
@@ -22,7 +22,7 @@ use Rattle.mps_image.specs.Memory.{Setting, LiesReserved, memory_in, setting_in,
 use Rattle.mps_image.specs.Image.{CellSet, ImageStands}
 use Rattle.mps_image.specs.AtHand.{Hand, hand_in_tails, HandsStand}
 use Rattle.mps_trace.specs.Trace.{Traced}
-use Rattle.mps_trace.specs.declared.trace.Policy.{Policy}
+use Rattle.mps_format.specs.declared.pool.Policy.{Policy}
 
 -- ---- segments
 

@@ -1,9 +1,9 @@
 use Rattle.std.proofs.Common.{ℕ, ◌≡◌, ◌<◌, List, length, map, set, replicate, sym, ap, ◌∙◌, arith}
 use Rattle.std.proofs.lemmas.List.{map-set, length-map, get_or-map}
 use Rattle.std.proofs.lemmas.List.Edits.{map_over_more}
-use Rattle.mps_buffer.specs.declared.point.Buffer.{Buffer}
+use Rattle.mps_seg.specs.declared.buffer.Buffer.{Buffer}
 use Rattle.mps_amc.specs.Amc.{emptied_row}
-use Rattle.mps_buffer.specs.Points.{empty_buffer}
+use Rattle.mps_seg.specs.Buffer.{empty_buffer}
 use Rattle.std.specs.Vec.{vec_len}
 use Rattle.mps_amc.proofs.amc.empty_rows.Goals as goal
 

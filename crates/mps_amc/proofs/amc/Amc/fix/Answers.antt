@@ -1,5 +1,5 @@
 use Rattle.std.proofs.Common.{ℕ, ◌≡◌, sym, ap, ◌∙◌, subst}
-use Rattle.mps_buffer.specs.Points.{IsAtHand}
+use Rattle.mps_seg.specs.Buffer.{IsAtHand}
 use Rattle.mps_amc.specs.Moving.{IsBlockOf, size_at}
 use Rattle.mps_amc.specs.Amc.{HasTail, tail_of, IsFixed, forwards, is_kept, keeps}
 use Rattle.mps_amc.proofs.amc.Amc.fix.Goals as goal
