@@ -28,6 +28,10 @@ bit_within bits i is =
       | inr past ↦ absurd (both_ways (get_or bits i false) (get_or_past bits i false past) is)
     ]
 
+past_the_table : (bits : List Bool) (i : ℕ) → length bits ≤ i → bit bits i ≡ false
+unfolding bit
+past_the_table bits i past = get_or_past bits i false past
+
 same_bits : (xs ys : List Bool) → length xs ≡ length ys → ((i : ℕ) → i < length xs → bit xs i ≡ bit ys i) → xs ≡ ys
 unfolding bit
 same_bits xs ys size same =
@@ -56,9 +60,9 @@ count_set : (bits : List Bool) (at : ℕ) (value : Bool) → at < length bits
 unfolding bit
 count_set bits at value within = sum_by-set (λ (b : Bool). cond b 1 0) bits at value false within
 
-count_none : (n : ℕ) → count_by (λ b. b) (replicate n false) ≡ 0
-count_none zero = refl
-count_none (suc n) = count_none n
+pub none_counted : (n : ℕ) → count_by (λ b. b) (replicate n false) ≡ 0
+none_counted zero = refl
+none_counted (suc n) = none_counted n
 
 pub clear_where_none : (bits : List Bool) (i : ℕ) → count_by (λ b. b) bits ≡ 0 → bit bits i ≡ false
 clear_where_none bits i none =
@@ -99,19 +103,28 @@ pub no_tally : (grains : ℕ) → words_of_grain * grains < 2 ^ 32
 no_tally grains small = record {
   size = omega (arith, length-replicate (words_of_grain * grains) false, length-replicate grains false);
   small = omega (arith, small, length-replicate (words_of_grain * grains) false);
-  counted = count_none (words_of_grain * grains);
+  counted = none_counted (words_of_grain * grains);
   grain_of_block = λ word is.
       let clear = bit-none (words_of_grain * grains) word in
       absurd (both_ways (bit (replicate (words_of_grain * grains) false) word) clear is);
 }
 
-pub tally_emptied : (blocks grains : List Bool) (n : ℕ) → IsTallied blocks grains n
-    → IsTallied (replicate (length blocks) false) (replicate (length grains) false) 0
-tally_emptied blocks grains n tally = record {
-  size = omega (arith, length-replicate (length blocks) false, length-replicate (length grains) false, tally.size);
+pub all_blocks_cleared : (blocks grains : List Bool) (n : ℕ) → IsTallied blocks grains n
+    → IsTallied (replicate (length blocks) false) grains 0
+all_blocks_cleared blocks grains n tally = record {
+  size = omega (arith, length-replicate (length blocks) false, tally.size);
   small = omega (arith, tally.small, length-replicate (length blocks) false);
-  counted = count_none (length blocks);
+  counted = none_counted (length blocks);
   grain_of_block = λ word is. absurd (both_ways (bit (replicate (length blocks) false) word) (bit-none (length blocks) word) is);
+}
+
+pub all_grains_cleared : (blocks grains : List Bool) (n : ℕ) → IsTallied blocks grains n → count_by (λ b. b) blocks ≡ 0
+    → IsTallied blocks (replicate (length grains) false) n
+all_grains_cleared blocks grains n tally none = record {
+  size = omega (arith, length-replicate (length grains) false, tally.size);
+  small = tally.small;
+  counted = tally.counted;
+  grain_of_block = λ word is. absurd (both_ways (bit blocks word) (clear_where_none blocks word none) is);
 }
 
 pub one_more : (blocks grains : List Bool) (n word : ℕ) → IsTallied blocks grains n → word < length blocks → bit blocks word ≡ false
@@ -159,21 +172,6 @@ none_below bits from to i none above below =
           cc
       | missing is_none clear ↦ clear i above (omega arith)
     ]
-
-pub none_within : (bits : List Bool) (from to from' to' : ℕ) → next_set_below bits from to ≡ None → from ≤ from' → to' ≤ to
-    → next_set_below bits from' to' ≡ None
-unfolding next_set_below
-none_within bits from to from' to' none above below =
-    lowest_from_none (bit bits) from' (to' - from') (λ i higher lower. none_below bits from to i none (omega arith) (omega arith))
-
-pub none_joined : (bits : List Bool) (from middle to : ℕ) → next_set_below bits from middle ≡ None
-    → next_set_below bits middle to ≡ None → next_set_below bits from to ≡ None
-unfolding next_set_below
-none_joined bits from middle to none none' =
-    lowest_from_none (bit bits) from (to - from) (λ i above below. elim (cases_lt i middle) [
-      | inl before ↦ none_below bits from middle i none above before
-      | inr after ↦ none_below bits middle to i none' after (omega arith)
-    ])
 
 pub empty_grain : (blocks grains : List Bool) (n grain : ℕ) → IsTallied blocks grains n
     → next_set_below blocks (words_of_grain * grain) (words_of_grain * grain + words_of_grain) ≡ None
@@ -245,18 +243,46 @@ found_bit bits from to at is_some =
           cc
     ]
 
-pub some_grain : (blocks grains : List Bool) (n from to end grain : ℕ) → IsTallied blocks grains n → end ≡ (to + 511) / words_of_grain
-    → next_set_below grains (from / words_of_grain) end ≡ Some grain
-    → next_set_below blocks (max from (words_of_grain * grain)) to ≡ next_set_below blocks from to
+-- a search that goes on from `later`, since no block from `from` up to `later` is grey: the bits of the grains below that
+-- of `later` are clear, and nothing was found in that grain
+pub later_search : (blocks grains : List Bool) (n from to end grain low later : ℕ) → IsTallied blocks grains n
+    → next_set_below grains (from / words_of_grain) end ≡ Some grain → low ≡ words_of_grain * grain
+    → next_set_below blocks (max from low) later ≡ None → from ≤ later
+    → next_set_below blocks later to ≡ next_set_below blocks from to
 unfolding next_set_below
-some_grain blocks grains n from to end grain tally is is_some =
+later_search blocks grains n from to end grain low later tally is_some is none ordered =
     let lowest = found_bit grains (from / words_of_grain) end grain is_some in
-    later_beginning (bit blocks) from (max from (words_of_grain * grain)) to (omega arith) (λ i above below.
-    clear_grain blocks grains n i tally (lowest.lower (i / words_of_grain) (omega arith) (omega arith)))
+    later_beginning (bit blocks) from later to ordered (λ i above below. elim (cases_lt i low) [
+      | inl before ↦ clear_grain blocks grains n i tally (lowest.lower (i / words_of_grain) (omega arith) (omega (arith, is)))
+      | inr after ↦ none_below blocks (max from low) later i none (omega arith) below
+    ])
+
+-- what the search of one grain finds is what the whole search finds
+pub found_in_grain : (blocks grains : List Bool) (n from to end grain low high word : ℕ) → IsTallied blocks grains n
+    → next_set_below grains (from / words_of_grain) end ≡ Some grain → low ≡ words_of_grain * grain
+    → next_set_below blocks (max from low) high ≡ Some word → high ≤ to
+    → next_set_below blocks from to ≡ Some word
+unfolding next_set_below
+found_in_grain blocks grains n from to end grain low high word tally is_some is found_word inside =
+    let lowest = found_bit grains (from / words_of_grain) end grain is_some in
+    let first = found_bit blocks (max from low) high word found_word in
+    lowest_from_is (bit blocks) from (to - from) word (record {
+      above = omega (arith, first.above);
+      below = omega (arith, first.above, first.below);
+      passes = first.passes;
+      lower = λ i above below. elim (cases_lt i low) [
+        | inl before ↦ clear_grain blocks grains n i tally (lowest.lower (i / words_of_grain) (omega arith) (omega (arith, is)))
+        | inr after ↦ first.lower i (omega arith) below
+      ];
+    })
 
 pub grain_within : (grains : List Bool) (from to grain : ℕ) → next_set_below grains from to ≡ Some grain → grain < length grains
 grain_within grains from to grain is_some =
     let lowest = found_bit grains from to grain is_some in bit_within grains grain lowest.passes
+
+pub none_from : (bits : List Bool) (from to : ℕ) → to ≤ from → next_set_below bits from to ≡ None
+unfolding next_set_below
+none_from bits from to past = lowest_from_none (bit bits) from (to - from) (λ i above below. absurd (omega arith))
 
 pub search_sound : (blocks : List Bool) (from to word : ℕ) → next_set_below blocks from to ≡ Some word → bit blocks word ≡ true
 search_sound blocks from to word is_some = let lowest = found_bit blocks from to word is_some in lowest.passes
@@ -266,4 +292,41 @@ search_complete blocks none word =
     elim (cases_Bool (bit blocks word)) [
       | inr clear ↦ clear
       | inl is ↦ none_below blocks 0 (length blocks) word none (omega arith) (bit_within blocks word is)
+    ]
+
+-- ---- a search over the grains, one after another
+
+pub grain_from : (grains : List Bool) (from to grain : ℕ) → next_set_below grains from to ≡ Some grain → from ≤ grain
+grain_from grains from to grain is_some =
+    let lowest = found_bit grains from to grain is_some in lowest.above
+
+-- no block is grey up to the next grain whose bit is set, nor in that grain
+pub passed_grain : (blocks grains : List Bool) (n first from to grain : ℕ) → IsTallied blocks grains n
+    → next_set_below grains from to ≡ Some grain
+    → next_set_below blocks (words_of_grain * grain) (words_of_grain * grain + words_of_grain) ≡ None
+    → ((word : ℕ) → words_of_grain * first ≤ word → word < words_of_grain * from → bit blocks word ≡ false)
+    → (word : ℕ) → words_of_grain * first ≤ word → word < words_of_grain * (grain + 1) → bit blocks word ≡ false
+passed_grain blocks grains n first from to grain tally is_some none passed word above below =
+    let lowest = found_bit grains from to grain is_some in
+    elim (cases_lt word (words_of_grain * from)) [
+      | inl before ↦ passed word above before
+      | inr after ↦ elim (cases_lt word (words_of_grain * grain)) [
+        | inl between ↦ clear_grain blocks grains n word tally (lowest.lower (word / words_of_grain) (omega arith) (omega arith))
+        | inr there ↦ none_below blocks (words_of_grain * grain) (words_of_grain * grain + words_of_grain) word none there (omega arith)
+      ]
+    ]
+
+pub no_more_blocks : (blocks grains : List Bool) (n first from to : ℕ) → IsTallied blocks grains n → to ≡ length grains
+    → next_set_below grains from to ≡ None
+    → ((word : ℕ) → words_of_grain * first ≤ word → word < words_of_grain * from → bit blocks word ≡ false)
+    → (word : ℕ) → words_of_grain * first ≤ word → bit blocks word ≡ false
+no_more_blocks blocks grains n first from to tally all none passed word above =
+    elim (cases_lt word (words_of_grain * from)) [
+      | inl before ↦ passed word above before
+      | inr after ↦ elim (cases_lt word (length blocks)) [
+        | inl within ↦
+            clear_grain blocks grains n word tally
+            (none_below grains from to (word / words_of_grain) none (omega arith) (omega (arith, tally.size, all, within)))
+        | inr past ↦ past_the_table blocks word past
+      ]
     ]

@@ -19,6 +19,8 @@ pub(crate) struct GreyBlocks {
     blocks: Bits,
     grains: Bits,
     count: usize,
+    // Whether a block was made grey since all bits were clear.
+    is_any_marked: bool,
     hints: Vec<u32>,
     cursor: usize,
 }
@@ -45,6 +47,7 @@ impl GreyBlocks {
             blocks: Bits::new(alloc, WORDS_OF_GRAIN * grains)?,
             grains: Bits::new(alloc, grains)?,
             count: 0,
+            is_any_marked: false,
             hints: Vec::with_capacity(alloc, MAX_HINTS)?,
             cursor: 0,
         })
@@ -88,9 +91,10 @@ impl GreyBlocks {
         self.blocks.set(word);
         self.grains.set(word / WORDS_OF_GRAIN);
         self.count += 1;
+        self.is_any_marked = true;
     }
 
-    /// The block that begins at a word is no longer grey.
+    /// The block that begins at a word is no longer grey. The bit of its grain stays until a search finds no grey block there.
     #[inline(always)]
     #[tactic(auto, using(crate::proofs::Tally::set_again, crate::proofs::Tally::clear_where_none, crate::proofs::Tally::one_fewer))]
     pub(crate) fn clear(&mut self, word: usize)
@@ -105,38 +109,63 @@ impl GreyBlocks {
         }
         self.blocks.clear(word);
         self.count -= 1;
-        if is_clear_around(&self.blocks, word) {
-            self.grains.clear(word / WORDS_OF_GRAIN);
-        }
     }
 
     /// No block is grey.
-    #[tactic(auto, using(crate::proofs::Tally::tally_emptied, crate::proofs::Tally::cleared, crate::proofs::Tally::all_clear))]
+    #[tactic(auto, using(crate::proofs::Tally::none_counted))]
     pub(crate) fn clear_all(&mut self)
         ensures { self.new ≡ replicate (length self.old) false }
     {
         self.hints.clear();
         self.cursor = 0;
+        self.clear_blocks();
+        self.clear_grains();
+    }
+
+    /// No block is grey. Their table is gone over only where one is.
+    #[tactic(auto, using(crate::proofs::Tally::all_blocks_cleared, crate::proofs::Tally::cleared, crate::proofs::Tally::all_clear))]
+    fn clear_blocks(&mut self)
+        ensures { self.new ≡ replicate (length self.old) false }
+    {
         if self.count > 0 {
             let words = self.blocks.len();
-            let grains = self.grains.len();
             self.blocks.clear_range(0, words);
-            self.grains.clear_range(0, grains);
             self.count = 0;
         }
     }
 
-    /// The lowest grey block among those that begin from the word `from` up to, but not at, the word `to`. Grains without a grey block
-    /// are passed over 64 a step.
-    #[tactic(auto, using(crate::proofs::Tally::no_grain, crate::proofs::Tally::some_grain, crate::proofs::Tally::grain_within))]
+    /// Where no block is grey: takes away the bits that are left of grains.
+    #[tactic(auto, using(crate::proofs::Tally::all_grains_cleared, crate::proofs::Tally::cleared))]
+    fn clear_grains(&mut self)
+        requires { count_by (λ b. b) self.old ≡ 0 }
+        ensures { self.new ≡ self.old }
+    {
+        if self.is_any_marked {
+            let grains = self.grains.len();
+            self.grains.clear_range(0, grains);
+            self.is_any_marked = false;
+        }
+    }
+
+    /// The lowest grey block among those that begin from the word `from` up to, but not at, the word `to`. Grains whose bit is clear are
+    /// passed over 64 a step, and each other one is searched by itself.
+    #[tactic(auto, using(crate::proofs::Tally::no_grain, crate::proofs::Tally::grain_within))]
     pub(crate) fn lowest_in(&self, from: usize, to: usize) -> Option<usize>
         requires { to ≤ length self.now }
         ensures { result ≡ next_set_below self.now from to }
     {
         let end = to.div_ceil(WORDS_OF_GRAIN);
-        let grain = self.grains.next_set_below(from / WORDS_OF_GRAIN, end)?;
-        self.blocks
-            .next_set_below(from.max(WORDS_OF_GRAIN * grain), to)
+        let mut at = from;
+        while at < to {
+            let grain = self.grains.next_set_below(at / WORDS_OF_GRAIN, end)?;
+            let low = WORDS_OF_GRAIN * grain;
+            let high = to.min(low + WORDS_OF_GRAIN);
+            if let Some(word) = self.blocks.next_set_below(at.max(low), high) {
+                return Some(word);
+            }
+            at = high;
+        }
+        None
     }
 
     /// A grey block: the latest hint that still is one, else the next from the cursor on.
@@ -173,31 +202,40 @@ impl GreyBlocks {
     /// The lowest grey block from the cursor on, or else the lowest of all.
     #[cold]
     #[inline(never)]
-    #[tactic(auto, using(crate::proofs::Tally::search_sound, crate::proofs::Tally::search_complete))]
-    fn search(&self) -> Option<usize>
-        ensures sound { IfSome result (λ word. bit self.now word ≡ true) }
-        ensures complete { IfNone result ((word : ℕ) → bit self.now word ≡ false) }
+    #[tactic(auto, using(crate::proofs::Tally::search_sound))]
+    fn search(&mut self) -> Option<usize>
+        ensures unchanged { self.new ≡ self.old }
+        ensures sound { IfSome result (λ word. bit self.old word ≡ true) }
+        ensures complete { IfNone result ((word : ℕ) → bit self.old word ≡ false) }
     {
-        let end = self.blocks.len();
-        match self.lowest_in(self.cursor, end) {
-            Some(word) => Some(word),
-            None => self.lowest_in(0, end),
+        let grain = self.cursor / WORDS_OF_GRAIN;
+        let end = WORDS_OF_GRAIN.saturating_mul(grain + 1);
+        if let Some(word) = self.lowest_in(self.cursor, end.min(self.blocks.len())) {
+            return Some(word);
         }
+        if let Some(word) = self.lowest_from(grain + 1) {
+            return Some(word);
+        }
+        self.lowest_from(0)
     }
-}
 
-/// Whether no block of a word's grain is grey. The word itself and those after it come first: what a scan makes grey mostly lies there.
-#[inline(never)]
-#[tactic(auto, using(crate::proofs::Tally::none_joined, crate::proofs::Tally::none_within))]
-fn is_clear_around(blocks: &Bits, word: usize) -> bool
-    requires in_table { words_of_grain * (word / words_of_grain) + words_of_grain ≤ length blocks.now }
-    requires small { length blocks.now < 2 ^ 32 }
-    ensures sound { result ≡ true → next_set_below blocks.now (words_of_grain * (word / words_of_grain))
-        (words_of_grain * (word / words_of_grain) + words_of_grain) ≡ None }
-    ensures complete { next_set_below blocks.now (words_of_grain * (word / words_of_grain))
-        (words_of_grain * (word / words_of_grain) + words_of_grain) ≡ None → result ≡ true }
-{
-    let low = WORDS_OF_GRAIN * (word / WORDS_OF_GRAIN);
-    let high = low + WORDS_OF_GRAIN;
-    blocks.next_set_below(word, high).is_none() && blocks.next_set_below(low, word).is_none()
+    /// The lowest grey block among those of the grains from `first` on. Takes the bit away of each grain where it finds none.
+    #[tactic(auto, using(crate::proofs::Tally::search_sound, crate::proofs::Tally::grain_within))]
+    fn lowest_from(&mut self, first: usize) -> Option<usize>
+        ensures unchanged { self.new ≡ self.old }
+        ensures sound { IfSome result (λ word. bit self.old word ≡ true) }
+        ensures complete { IfNone result ((word : ℕ) → words_of_grain * first ≤ word → bit self.old word ≡ false) }
+    {
+        let end = self.grains.len();
+        let mut from = first;
+        while let Some(grain) = self.grains.next_set_below(from, end) {
+            let low = WORDS_OF_GRAIN * grain;
+            if let Some(word) = self.blocks.next_set_below(low, low + WORDS_OF_GRAIN) {
+                return Some(word);
+            }
+            self.grains.clear(grain);
+            from = grain + 1;
+        }
+        None
+    }
 }
