@@ -206,8 +206,10 @@ def tokens(rows):
 
 
 def is_named(name, places, text):
-    parts = [part for part in name.split("◌") if part]
-    return any(part in places for part in parts) or (name == "[]" and "[]" in text)
+    """Whether a file names this: by a part of an operator, by brackets, or by a `do`, which stands for its two operators."""
+    if name == "[]":
+        return name in text
+    return any(part in places for part in name.split("◌") if part) or (name in ("◌>>=◌", "◌>>◌") and "do" in places)
 
 
 def unused_imports(antt, words):
