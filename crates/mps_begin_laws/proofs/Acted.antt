@@ -48,7 +48,7 @@ use Rattle.mps_flip_laws.proofs.Reservations.{no_reservation_is_live}
 use Rattle.mps_unit_laws.specs.Standing.{AreCondemnedUnreserved, IsMoving, UnitStands, tracing}
 use Rattle.mps_begin_laws.specs.Before.{StandsBefore}
 use Rattle.mps_begin_laws.specs.Begun.{AFlipStands, AreRootsHeld, IsFlipStanding, IsActDone, ACollectionBegins}
-use Rattle.mps_trace.specs.declared.trace.Policy.{Policy}
+use Rattle.mps_format.specs.declared.pool.Policy.{Policy}
 
 -- ---- something is condemned
 

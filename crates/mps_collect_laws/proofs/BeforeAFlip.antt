@@ -11,7 +11,9 @@ use Rattle.mps_seg.specs.Table.{IsMarked}
 use Rattle.mps_trace.specs.Collect.{most_moves}
 use Rattle.mps_trace.specs.Trace.{TraceState}
 use Rattle.mps_begin_laws.specs.Before.{StandsBefore}
-use Rattle.mps_outcome.specs.Collecting.{IsTraceOf, can_collect, is_empty, is_moved_or_manual, most_flips}
+use Rattle.mps_outcome.specs.Collecting.{can_collect, is_empty, most_flips}
+use Rattle.mps_trace.specs.PoolsCollecting.{IsTraceOf}
+use Rattle.mps_format.specs.Pools.{is_moved_or_manual}
 use Rattle.mps_outcome.specs.State.{HeapState}
 use Rattle.mps_refinement.specs.StandsFor.{AreParts, AreSlots, IsReached, Past}
 use Rattle.mps_collect_laws.proofs.CollectRight.{IsBefore}

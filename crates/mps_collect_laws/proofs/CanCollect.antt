@@ -10,7 +10,8 @@ use Rattle.mps_root.specs.State.{RootsState}
 use Rattle.mps_model.specs.Effect.{Everything, condemned_by}
 use Rattle.mps_model.specs.Flip.{is_nothing}
 use Rattle.mps_model.specs.World.{World}
-use Rattle.mps_outcome.specs.Collecting.{CanCollectAll, IsTraceOf}
+use Rattle.mps_outcome.specs.Collecting.{CanCollectAll}
+use Rattle.mps_trace.specs.PoolsCollecting.{IsTraceOf}
 use Rattle.mps_outcome.specs.State.{HeapState}
 use Rattle.mps_trace.specs.Begin.{nailed_at_flip, Begins, CanFixRoots}
 use Rattle.mps_trace.specs.Collect.{CanCollect, CanEnd, most_moves}
@@ -27,7 +28,7 @@ use Rattle.mps_refinement.specs.StandsFor.{StandsFor}
 use Rattle.mps_refinement.proofs.Ready.{all_are_reserved}
 use Rattle.mps_collect_laws.proofs.CollectRight.{IsBefore}
 use Rattle.mps_collect_laws.proofs.NullRoots.{null_roots_can_be_fixed}
-use Rattle.mps_trace.specs.declared.trace.Policy.{Policy}
+use Rattle.mps_format.specs.declared.pool.Policy.{Policy}
 
 -- a trail with just the room that a collection asks for
 abbrev enough : (grains : ℕ) → Moves

@@ -26,8 +26,8 @@ use Rattle.mps_model.proofs.Reaching.{list_all-contains}
 use Rattle.mps_laws.proofs.HeldIds.{all-append}
 use Rattle.mps_laws.proofs.QuietSteps.{IsSound}
 use Rattle.mps_outcome.specs.State.{HeapState}
-use Rattle.mps_outcome.specs.declared.pool.Pool as ours
-use Rattle.mps_outcome.specs.declared.pool.Pool.TheVariants as pool
+use Rattle.mps_format.specs.declared.pool.Pool as ours
+use Rattle.mps_format.specs.declared.pool.Pool.TheVariants as pool
 use Rattle.mps_colours.specs.Colours.{AllReferredLive}
 use Rattle.mps_colours.specs.Collecting.{Collecting}
 use Rattle.mps_colours.specs.Units.{Ends}

@@ -15,7 +15,8 @@ use Rattle.mps_model.specs.Flip.{flip_act, is_nothing}
 use Rattle.mps_model.specs.World.{World, area_words}
 use Rattle.mps_model.proofs.Cutting.{world_after_moves-append}
 use Rattle.mps_root.specs.State.{kept, RootsState}
-use Rattle.mps_outcome.specs.Collecting.{IsTraceOf, IsCollected}
+use Rattle.mps_outcome.specs.Collecting.{IsCollected}
+use Rattle.mps_trace.specs.PoolsCollecting.{IsTraceOf}
 use Rattle.mps_outcome.specs.State.{HeapState}
 use Rattle.mps_colours.specs.Collecting.{Collecting}
 use Rattle.mps_colours.specs.FlipLaws.{IsAtRest, IsFlipDone}
@@ -47,7 +48,7 @@ use Rattle.mps_collect_laws.proofs.RoomKept.{begin_pushes, units_keep_room, at_o
 use Rattle.mps_collect_laws.proofs.RootsAfter.{roots_stay, messages_after, tables_after, AreRootsAfter}
 use Rattle.mps_gen.specs.State.{ChainsState}
 use Rattle.mps_final.specs.State.{FinalsState}
-use Rattle.mps_trace.specs.declared.trace.Policy.{Policy}
+use Rattle.mps_format.specs.declared.pool.Policy.{Policy}
 
 -- what has to be known of a heap that stands for a world before it collects everything: how its roots stand for those of the world, and
 -- all that a flip needs, whatever words are at hand for its pools

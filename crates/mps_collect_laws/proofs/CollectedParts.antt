@@ -22,7 +22,8 @@ use Rattle.mps_root.specs.State.{kept}
 use Rattle.mps_colours.proofs.Lists.{contains_left, contains_right}
 use Rattle.mps_colours.specs.Collecting.{Collecting}
 use Rattle.mps_names.specs.State.{thing_named}
-use Rattle.mps_outcome.specs.State.{HeapState, size_of_pool}
+use Rattle.mps_outcome.specs.State.{HeapState}
+use Rattle.mps_format.specs.Pools.{size_of_pool}
 use Rattle.mps_refinement.specs.StandsFor.{AreParts, ArePools, IsPoint, Past, address_of_id, state_of}
 use Rattle.mps_refinement.specs.Numbering.{AreNumbered}
 use Rattle.mps_refinement.proofs.Named.{ThingsStay, named_alike}

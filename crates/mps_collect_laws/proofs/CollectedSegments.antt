@@ -19,7 +19,7 @@ use Rattle.mps_trace.proofs.Ending.{segments_stay}
 use Rattle.mps_flip_laws.proofs.Reservations.{flip_moves_nothing}
 use Rattle.mps_unit_laws.specs.Laws.{HasSegmentsOf}
 use Rattle.mps_collect_laws.specs.Leaving.{IsButMoved}
-use Rattle.mps_trace.specs.declared.trace.Policy.{Policy}
+use Rattle.mps_format.specs.declared.pool.Policy.{Policy}
 
 -- ---- condemned and kept
 

@@ -22,7 +22,7 @@ use Rattle.mps_trace.specs.Trace.{TraceState, Traced}
 use Rattle.mps_slot_laws.specs.Rows.{HoldsAtFlip, WasAt, AreHeldAtFlip}
 use Rattle.mps_begin_laws.specs.Begun.{AreRootsHeld}
 use Rattle.mps_collect_laws.proofs.CollectIsRight.{something}
-use Rattle.mps_trace.specs.declared.trace.Policy.{Policy}
+use Rattle.mps_format.specs.declared.pool.Policy.{Policy}
 
 -- ---- lists
 

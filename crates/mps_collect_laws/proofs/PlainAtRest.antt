@@ -8,10 +8,11 @@ use Rattle.mps_model.specs.World.{World}
 use Rattle.mps_image.proofs.Laws.{well_formed_is_shaped}
 use Rattle.mps_image.proofs.Shaped.{all_at}
 use Rattle.mps_begin_laws.specs.Before.{IsPlainAtRest}
-use Rattle.mps_outcome.specs.Collecting.{is_empty, is_moved_or_manual}
-use Rattle.mps_outcome.specs.State.{HeapState, is_weak_pool}
-use Rattle.mps_outcome.specs.declared.pool.Pool.{Pool}
-use Rattle.mps_outcome.specs.declared.pool.Pool.TheVariants as pool
+use Rattle.mps_outcome.specs.Collecting.{is_empty}
+use Rattle.mps_format.specs.Pools.{is_moved_or_manual, is_weak_pool}
+use Rattle.mps_outcome.specs.State.{HeapState}
+use Rattle.mps_format.specs.declared.pool.Pool.{Pool}
+use Rattle.mps_format.specs.declared.pool.Pool.TheVariants as pool
 use Rattle.mps_refinement.specs.StandsFor.{AreParts, IsReached, Past}
 use Rattle.mps_refinement.proofs.BlockRuns.{targets_live}
 use Rattle.mps_refinement.proofs.Reached.{reached_sound, reached_well_formed}

@@ -11,9 +11,10 @@ use Rattle.mps_model.specs.Graph.{Body, Automatic, Manual, Object, is_weak_body,
 use Rattle.mps_model.specs.World as world
 use Rattle.mps_model.specs.World.{World, is_automatic_kind, is_weak_kind, object_is}
 use Rattle.mps_model.specs.WellFormed.{are_right_cells, is_right_body}
-use Rattle.mps_outcome.specs.State.{HeapState, is_weak_pool}
-use Rattle.mps_outcome.specs.declared.pool.Pool.{Pool}
-use Rattle.mps_outcome.specs.declared.pool.Pool.TheVariants as pool
+use Rattle.mps_outcome.specs.State.{HeapState}
+use Rattle.mps_format.specs.Pools.{is_weak_pool}
+use Rattle.mps_format.specs.declared.pool.Pool.{Pool}
+use Rattle.mps_format.specs.declared.pool.Pool.TheVariants as pool
 use Rattle.mps_refinement.specs.StandsFor.{AreParts, IsReached, Past, address_of_id}
 use Rattle.mps_refinement.proofs.PoolKinds.{kind_of, kinds_alike}
 use Rattle.mps_refinement.proofs.ReachedGraph.{reached_graph}

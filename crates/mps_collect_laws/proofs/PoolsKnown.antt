@@ -21,14 +21,14 @@ use Rattle.mps_trace.specs.Trace.{TraceState}
 use Rattle.mps_trace_laws.specs.Tracing.{AreKnownPools}
 use Rattle.mps_flip_laws.specs.Condemned.{AreFormatsOf, AllCopying}
 use Rattle.mps_begin_laws.specs.Before.{ArePoolsKnown}
-use Rattle.mps_outcome.specs.Collecting.{IsTraceOf, is_moved_or_manual}
-use Rattle.mps_outcome.specs.State.{policy_of_pool, is_copying_pool}
-use Rattle.mps_outcome.specs.declared.pool.Pool.{Pool}
-use Rattle.mps_outcome.specs.declared.pool.Pool.TheVariants as pool
+use Rattle.mps_trace.specs.PoolsCollecting.{IsTraceOf}
+use Rattle.mps_format.specs.Pools.{is_moved_or_manual, policy_of_pool, is_copying_pool}
+use Rattle.mps_format.specs.declared.pool.Pool.{Pool}
+use Rattle.mps_format.specs.declared.pool.Pool.TheVariants as pool
 use Rattle.mps_refinement.specs.StandsFor.{ArePools, IsPool}
 use Rattle.mps_refinement.proofs.PoolKinds.{copying_by_number, kind_of, kinds_alike}
 use Rattle.mps_collect_laws.proofs.CollectIsRight.{something}
-use Rattle.mps_trace.specs.declared.trace.Policy.{Policy}
+use Rattle.mps_format.specs.declared.pool.Policy.{Policy}
 
 -- ---- one pool
 

@@ -30,7 +30,7 @@ use Rattle.mps_trace.specs.Trace.{Traced, FixesTo, passes, fixes, marks, target_
 use Rattle.mps_trace.specs.Unit as units
 use Rattle.mps_trace.specs.Unit.{UnitTo, UnitsTo}
 use Rattle.mps_trace.specs.declared.running.Running.{Running}
-use Rattle.mps_trace.specs.declared.trace.Policy.{Policy}
+use Rattle.mps_format.specs.declared.pool.Policy.{Policy}
 
 -- ---- trails
 

@@ -11,7 +11,7 @@ use Rattle.mps_root.specs.State.{RootsState, kept, items_of, with_item}
 use Rattle.mps_colours.proofs.ClientCells.{length_set}
 use Rattle.mps_trace.specs.Trace.{Traced}
 use Rattle.mps_trace.specs.Roots.{FixesSlots, FixesTables, FixesMessages, begins, goes_on, key_at, with_slot}
-use Rattle.mps_trace.specs.declared.trace.Policy.{Policy}
+use Rattle.mps_format.specs.declared.pool.Policy.{Policy}
 
 -- ---- rows
 

@@ -10,7 +10,7 @@ use Rattle.mps_model.specs.World.{World, Parked}
 use Rattle.mps_model.specs.Effect.{Everything, condemned_zones, world_after_moves}
 use Rattle.mps_root.specs.State.{kept}
 use Rattle.mps_outcome.specs.State.{HeapState}
-use Rattle.mps_outcome.specs.declared.pool.ArenaState.TheVariants as arena
+use Rattle.mps_outcome.specs.declared.arena.ArenaState.TheVariants as arena
 use Rattle.mps_refinement.specs.Numbering.{AreNumbered}
 use Rattle.mps_refinement.specs.StandsFor.{AreSlots, Past, address_of_id}
 

@@ -15,7 +15,7 @@ use Rattle.mps_model.specs.Flip.{flip_of}
 use Rattle.mps_seg.specs.Segs.{SegsState}
 use Rattle.mps_trace.specs.Flip.{is_automatic, automatic_of, zones_of, at_flip}
 use Rattle.mps_trace.specs.Trace.{Traced}
-use Rattle.mps_trace.specs.declared.trace.Policy.{Policy}
+use Rattle.mps_format.specs.declared.pool.Policy.{Policy}
 
 -- a collector has the format of a pool exactly where the pool is automatic
 abbrev pub AreFormatsOf : {F : Type 0} → (formats : List (Option (Policy F))) → (is_automatic_pool : ℕ → Bool) → Type 0

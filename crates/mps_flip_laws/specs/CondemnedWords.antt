@@ -13,7 +13,7 @@ use Rattle.mps_trace.specs.Condemned.{AreAscending}
 use Rattle.mps_trace.specs.Flip.{is_automatic, at_flip}
 use Rattle.mps_trace.specs.Trace.{Traced}
 use Rattle.mps_flip_laws.specs.Condemned.{BeginInTable, known_formats, segment_at}
-use Rattle.mps_trace.specs.declared.trace.Policy.{Policy}
+use Rattle.mps_format.specs.declared.pool.Policy.{Policy}
 
 -- segments in which nothing is condemned yet, in ascending order
 pub record AreReadyToCondemn (s : SegsState) : Type 0 where

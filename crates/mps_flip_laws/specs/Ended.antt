@@ -14,7 +14,7 @@ use Rattle.mps_model.specs.World.{extents_of, reserved_extents}
 use Rattle.mps_seg.specs.Segs.{SegsState, new_segments}
 use Rattle.mps_trace.specs.Flip.{at_flip}
 use Rattle.mps_trace.specs.Trace.{Traced}
-use Rattle.mps_trace.specs.declared.trace.Policy.{Policy}
+use Rattle.mps_format.specs.declared.pool.Policy.{Policy}
 
 -- the run of a reservation that still covers its words
 abbrev pub open_run : (flips : ℕ) → Option Held → List Run

@@ -9,7 +9,7 @@ use Rattle.mps_model.specs.Effect.{doomed, without_buffer}
 use Rattle.mps_seg.specs.Segs.{SegsState}
 use Rattle.mps_trace.specs.Flip.{at_flip}
 use Rattle.mps_trace.specs.Trace.{Traced}
-use Rattle.mps_trace.specs.declared.trace.Policy.{Policy}
+use Rattle.mps_format.specs.declared.pool.Policy.{Policy}
 
 -- no reservation of these points is live, so none covers words
 pub record AreNoneLive (points : List (Option Point)) (memories : List PointMemory) : Type 0 where

@@ -9,7 +9,8 @@ use Rattle.mps_format.specs.Layout.{Layout}
 use Rattle.mps_model.specs.World.{World}
 use Rattle.mps_seg.specs.Table.{IsMarked}
 use Rattle.mps_trace.specs.Collect.{most_moves}
-use Rattle.mps_outcome.specs.Collecting.{CanCollectAll, IsCollected, can_collect, is_empty, is_moved_or_manual, most_flips}
+use Rattle.mps_outcome.specs.Collecting.{CanCollectAll, IsCollected, can_collect, is_empty, most_flips}
+use Rattle.mps_format.specs.Pools.{is_moved_or_manual}
 use Rattle.mps_outcome.specs.State.{HeapState}
 use Rattle.mps_refinement.specs.StandsFor.{StandsFor}
 use Rattle.mps_refinement.specs.StandsForSome.{StandsForSome}

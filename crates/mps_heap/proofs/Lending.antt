@@ -28,11 +28,12 @@ use Rattle.mps_outcome.specs.Coming.{answered, done, state_from}
 use Rattle.mps_outcome.specs.Finding.{block_place_in, with_words}
 use Rattle.mps_outcome.specs.declared.found.Block.{Block}
 use Rattle.mps_outcome.specs.declared.found.Entry.{Entry}
-use Rattle.mps_outcome.specs.declared.pool.Pool.{Pool}
-use Rattle.mps_outcome.specs.declared.pool.Pool.TheVariants as pool
+use Rattle.mps_format.specs.declared.pool.Pool.{Pool}
+use Rattle.mps_format.specs.declared.pool.Pool.TheVariants as pool
 use Rattle.mps_outcome.specs.Manual.{block_in, is_block_over, word_in_block, word_stored}
 use Rattle.mps_outcome.specs.Objects.{with_word}
-use Rattle.mps_outcome.specs.State.{HeapState, is_leaf_pool, pool_over}
+use Rattle.mps_outcome.specs.State.{HeapState, pool_over}
+use Rattle.mps_format.specs.Pools.{is_leaf_pool}
 use Rattle.mps_refinement.specs.StandsFor.{StandsFor}
 use Rattle.mps_refinement.specs.RightStep.{step_of}
 use Rattle.mps_refinement.specs.StandsForSome.{StandsForSome, StandsWith}

@@ -14,13 +14,14 @@ use Rattle.mps_format.specs.Layout.{Layout}
 use Rattle.mps_model.specs.Checked.{Checked, ◌>>=◌, ◌>>◌, required, refuse_when}
 use Rattle.mps_model.specs.Graph.{has_references}
 use Rattle.mps_seg.specs.Segs.{moves_after}
-use Rattle.mps_outcome.specs.State.{HeapState, format_of_pool, is_leaf_pool}
+use Rattle.mps_outcome.specs.State.{HeapState}
+use Rattle.mps_format.specs.Pools.{format_of_pool, is_leaf_pool}
 use Rattle.mps_outcome.specs.declared.found.Block.{Block}
 use Rattle.mps_outcome.specs.declared.found.Committed.{Committed}
 use Rattle.mps_outcome.specs.declared.found.Committed.TheVariants.{AsBlock, AsFlipped}
 use Rattle.mps_outcome.specs.declared.found.Kept.{Kept}
 use Rattle.mps_outcome.specs.declared.found.Reserving.{Reserving}
-use Rattle.mps_outcome.specs.declared.pool.Pool.{Pool}
+use Rattle.mps_format.specs.declared.pool.Pool.{Pool}
 use Rattle.mps_outcome.specs.Coming.{Outcome, Moved, done}
 use Rattle.mps_outcome.specs.Finding.{point_named, slot_in, number_cell_at, reference_cell_at, retargeted}
 use Rattle.mps_outcome.specs.Objects.{with_slot, with_word}

@@ -10,8 +10,9 @@ use Rattle.mps_root.specs.State.{with_item}
 use Rattle.mps_root.specs.declared.roots.Stored.{Stored}
 use Rattle.mps_seg.specs.Segs.{SegsState, at_word}
 use Rattle.mps_seg.specs.Collecting.{is_white_at}
-use Rattle.mps_outcome.specs.State.{HeapState, pool_over, is_automatic_pool, is_copying_pool}
-use Rattle.mps_outcome.specs.declared.pool.Pool.{Pool}
+use Rattle.mps_outcome.specs.State.{HeapState, pool_over}
+use Rattle.mps_format.specs.Pools.{is_automatic_pool, is_copying_pool}
+use Rattle.mps_format.specs.declared.pool.Pool.{Pool}
 use Rattle.mps_outcome.specs.Coming.{Outcome, done}
 use Rattle.mps_outcome.specs.Finding.{slot_in, word_in, object_in}
 use Rattle.mps_outcome.specs.declared.found.Entry.{Entry}

@@ -11,8 +11,8 @@ use Rattle.mps_names.specs.State.{NamesState}
 use Rattle.mps_root.specs.State.{no_roots}
 use Rattle.mps_seg.specs.Segs.{new_segments, held_runs}
 use Rattle.mps_outcome.specs.State.{HeapState}
-use Rattle.mps_outcome.specs.declared.pool.ArenaState.{ArenaState}
-use Rattle.mps_outcome.specs.declared.pool.ArenaState.TheVariants as arena
+use Rattle.mps_outcome.specs.declared.arena.ArenaState.{ArenaState}
+use Rattle.mps_outcome.specs.declared.arena.ArenaState.TheVariants as arena
 use Rattle.mps_outcome.specs.Coming.{Outcome, done}
 use Rattle.mps_outcome.specs.Manual.{is_block_over}
 

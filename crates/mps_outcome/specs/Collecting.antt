@@ -1,19 +1,17 @@
 -- What a collection of everything comes to, and when a heap can do one.
-use Rattle.std.specs.Prelude.{ℕ, ◌≡◌, ◌^◌, ◌<◌, Bool, true, false, not, ◌&&◌, ◌||◌, nat_lt, None, List, [], ◌∷◌, map, length, replicate, refl}
+use Rattle.std.specs.Prelude.{ℕ, ◌≡◌, ◌^◌, Bool, true, false, ◌&&◌, nat_lt, List, [], ◌∷◌}
 use Rattle.std.specs.List.{list_all}
 use Rattle.mps_base.specs.Trail.{Moves}
-use Rattle.mps_base.specs.declared.names.Kind.TheVariants as kind
 use Rattle.mps_buffer.specs.Points.{flipped}
 use Rattle.mps_format.specs.Layout.{Layout}
 use Rattle.mps_ld.specs.State as ld
-use Rattle.mps_amc.specs.Amc.{HasTail}
 use Rattle.mps_trace.specs.Trace.{TraceState, traced}
 use Rattle.mps_trace.specs.Collect.{CanCollect, Collects, most_moves}
 use Rattle.mps_trace.specs.Flip.{automatic_of, zones_of}
-use Rattle.mps_outcome.specs.State.{HeapState, policy_of_pool, is_automatic_pool, is_copying_pool}
-use Rattle.mps_outcome.specs.declared.pool.ArenaState.TheVariants as arena
-use Rattle.mps_outcome.specs.declared.pool.Pool.{Pool}
-use Rattle.mps_outcome.specs.declared.pool.Pool.TheVariants as pool
+use Rattle.mps_trace.specs.PoolsCollecting.{IsTraceOf}
+use Rattle.mps_outcome.specs.State.{HeapState}
+use Rattle.mps_format.specs.Pools.{is_moved_or_manual}
+use Rattle.mps_outcome.specs.declared.arena.ArenaState.TheVariants as arena
 
 -- the most flips that a heap counts
 abbrev pub most_flips : ℕ
@@ -24,19 +22,9 @@ is_empty [] = true
 is_empty (x ∷ xs) = false
 
 module _ {F : Type 0} where
-  -- the blocks of a pool are moved by a collection, or it isn't collected
-  abbrev pub is_moved_or_manual : Pool F → Bool
-  is_moved_or_manual p = not (is_automatic_pool p) || is_copying_pool p
-
   -- whether a heap can collect everything: each automatic pool moves its blocks, nothing is registered, and one flip more can be counted
   abbrev pub can_collect : HeapState F → Bool
   can_collect h = list_all is_moved_or_manual h.pools && is_empty h.finals.registered && nat_lt h.points.flips most_flips
-
-  -- what a collector knows of pools: their policies, none is on a chain, and each has words at hand for its one generation
-  pub record IsTraceOf (pools : List (Pool F)) (t : TraceState F) : Type 0 where
-    pub formats : t.formats ≡ map policy_of_pool pools
-    pub chains : t.chains ≡ record { chains = []; of_pool = replicate (length pools) None }
-    pub tails : (number : ℕ) → number < length pools → HasTail t.amc number 0
 
   -- whatever words are at hand for its pools, a heap can do a collection of everything within this trail
   abbrev pub CanCollectAll : (F → Layout) → HeapState F → Moves → Type 0
@@ -59,11 +47,3 @@ module _ {F : Type 0} where
       epochs = ld.flipped h.epochs (zones_of (automatic_of before.formats h.segs.segments));
       arena = arena.Parked;
     }
-
--- ---- vectors
-
-pub a_pool_that_marks_is_not_moved : is_moved_or_manual {F = ℕ} (pool.Automatic kind.Ams 7) ≡ false
-a_pool_that_marks_is_not_moved = refl
-
-pub a_manual_pool_is_left_alone : is_moved_or_manual {F = ℕ} (pool.OneSize 4) ≡ true
-a_manual_pool_is_left_alone = refl

@@ -19,7 +19,7 @@ use Rattle.mps_outcome.specs.declared.found.Block.{Block}
 use Rattle.mps_outcome.specs.declared.found.CellFound.{CellFound}
 use Rattle.mps_outcome.specs.declared.found.Entry.{Entry}
 use Rattle.mps_outcome.specs.declared.found.Kept.{Kept}
-use Rattle.mps_outcome.specs.declared.pool.Pool.{Pool}
+use Rattle.mps_format.specs.declared.pool.Pool.{Pool}
 
 -- ---- things by name
 

@@ -14,8 +14,9 @@ use Rattle.mps_names.specs.declared.names.Thing.{Thing}
 use Rattle.mps_names.specs.declared.names.Thing.TheVariants as thing
 use Rattle.mps_root.specs.State.{RootsState, IsTableMade, IsAreaMade, kept, without, without_key}
 use Rattle.mps_root.specs.declared.roots.Stored.{Stored}
-use Rattle.mps_outcome.specs.State.{HeapState, is_automatic_pool, is_copying_pool, is_weak_pool, size_of_pool}
-use Rattle.mps_outcome.specs.declared.pool.Pool.{Pool}
+use Rattle.mps_outcome.specs.State.{HeapState}
+use Rattle.mps_format.specs.Pools.{is_automatic_pool, is_copying_pool, is_weak_pool, size_of_pool}
+use Rattle.mps_format.specs.declared.pool.Pool.{Pool}
 use Rattle.mps_outcome.specs.Finding.{pool_named, point_named}
 use Rattle.mps_outcome.specs.declared.found.Kept.{Kept}
 

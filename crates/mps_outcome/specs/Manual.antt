@@ -11,7 +11,8 @@ use Rattle.mps_manual.specs.Manual.{has_blocks_of, answer_of_alloc, allocated, m
 use Rattle.mps_model.specs.Checked.{Checked, ◌>>=◌, ◌>>◌, required, refuse_when}
 use Rattle.mps_root.specs.State.{with_place}
 use Rattle.mps_seg.specs.Segs.{SegsState}
-use Rattle.mps_outcome.specs.State.{HeapState, is_automatic_pool}
+use Rattle.mps_outcome.specs.State.{HeapState}
+use Rattle.mps_format.specs.Pools.{is_automatic_pool}
 use Rattle.mps_outcome.specs.Coming.{Outcome, Moved, done}
 use Rattle.mps_outcome.specs.Areas.{block_over}
 use Rattle.mps_outcome.specs.Finding.{pool_named, block_place_in}

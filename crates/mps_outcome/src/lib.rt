@@ -1,9 +1,19 @@
-//! The state of a heap, and what each call of a client makes of it. It has no code: it is the types of a heap's pools, of its arena's
-//! state and of what calls find, and definitions over plain lists.
+//! The state of a heap, and what each call of a client makes of it: definitions over plain lists, the types of what calls find, and
+//! the blocks and cells that they find it in.
 #![tactic(auto)]
 
+mod arena;
+mod blocks;
+mod cells;
+mod checks;
 mod found;
-mod pool;
+mod items;
 
+pub use arena::ArenaState;
+pub use blocks::{
+    begins_block, block_over, is_block_over, is_of_pool, pool_of_segment, takes_head,
+};
+pub use cells::{number_cell_at, reference_cell_at, with_target, write_word};
+pub use checks::{may_have_point, refuse_at_limit, reservation_of};
 pub use found::{Block, CellFound, Committed, Entry, Kept, Reserving};
-pub use pool::{ArenaState, Pool};
+pub use items::item;

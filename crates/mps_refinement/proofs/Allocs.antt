@@ -38,9 +38,10 @@ use Rattle.mps_outcome.specs.Finding.{block_place_in, pool_named}
 use Rattle.mps_outcome.specs.declared.found.Entry.{Entry}
 use Rattle.mps_outcome.specs.declared.found.Kept.{Kept}
 use Rattle.mps_outcome.specs.Manual.{block_allocated, with_block_place}
-use Rattle.mps_outcome.specs.State.{HeapState, is_automatic_pool, size_of_pool}
-use Rattle.mps_outcome.specs.declared.pool.Pool.{Pool}
-use Rattle.mps_outcome.specs.declared.pool.Pool.TheVariants as pool
+use Rattle.mps_outcome.specs.State.{HeapState}
+use Rattle.mps_format.specs.Pools.{is_automatic_pool, size_of_pool}
+use Rattle.mps_format.specs.declared.pool.Pool.{Pool}
+use Rattle.mps_format.specs.declared.pool.Pool.TheVariants as pool
 use Rattle.mps_seg.specs.Placing.{placement_in_gaps}
 use Rattle.mps_seg.specs.Segs.{moves_after}
 use Rattle.mps_refinement.specs.Answering.{answer_to, says_ok}

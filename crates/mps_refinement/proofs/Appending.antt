@@ -28,7 +28,8 @@ use Rattle.mps_outcome.specs.Allocating.{reserved, committed, check_reserve}
 use Rattle.mps_outcome.specs.Coming.{Moved, ComesMoving}
 use Rattle.mps_outcome.specs.Finding.{block_place_in, point_named, pool_named, slot_in}
 use Rattle.mps_outcome.specs.Manual.{block_allocated, block_freed, block_in, with_block_place}
-use Rattle.mps_outcome.specs.State.{HeapState, is_automatic_pool}
+use Rattle.mps_outcome.specs.State.{HeapState}
+use Rattle.mps_format.specs.Pools.{is_automatic_pool}
 use Rattle.mps_outcome.specs.declared.found.Committed.{Committed}
 use Rattle.mps_outcome.specs.declared.found.Committed.TheVariants.{AsBlock, AsFlipped}
 use Rattle.mps_refinement.specs.Answering.{answer_to, says_committed, says_ok}

@@ -20,8 +20,8 @@ use Rattle.mps_outcome.specs.Arena.{held_grains, limit_set, with_arena}
 use Rattle.mps_outcome.specs.Coming as ours
 use Rattle.mps_outcome.specs.Coming.{Comes}
 use Rattle.mps_outcome.specs.State.{HeapState}
-use Rattle.mps_outcome.specs.declared.pool.ArenaState.{ArenaState}
-use Rattle.mps_outcome.specs.declared.pool.ArenaState.TheVariants as arena
+use Rattle.mps_outcome.specs.declared.arena.ArenaState.{ArenaState}
+use Rattle.mps_outcome.specs.declared.arena.ArenaState.TheVariants as arena
 use Rattle.mps_refinement.specs.Answering.{answer_to, says_number, says_ok}
 use Rattle.mps_refinement.specs.RightStep.{IsRight}
 use Rattle.mps_refinement.specs.StandsFor.{AreParts, Past, state_of}

@@ -29,9 +29,10 @@ use Rattle.mps_model.specs.World.{World, Collected, OneSize, AnySize, begins_in,
 use Rattle.mps_model.specs.Effect.{with_address}
 use Rattle.mps_seg.specs.Segs.{SegsState}
 use Rattle.mps_outcome.specs.declared.found.Entry.{Entry}
-use Rattle.mps_outcome.specs.State.{HeapState, size_of_pool}
-use Rattle.mps_outcome.specs.declared.pool.Pool.{Pool}
-use Rattle.mps_outcome.specs.declared.pool.Pool.TheVariants as pool
+use Rattle.mps_outcome.specs.State.{HeapState}
+use Rattle.mps_format.specs.Pools.{size_of_pool}
+use Rattle.mps_format.specs.declared.pool.Pool.{Pool}
+use Rattle.mps_format.specs.declared.pool.Pool.TheVariants as pool
 use Rattle.mps_model.specs.Checked.{Found}
 use Rattle.mps_root.specs.State.{with_place}
 use Rattle.mps_refinement.specs.StandsFor.{AreParts, IsPool, Past, address_of_target}

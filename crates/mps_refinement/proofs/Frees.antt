@@ -28,7 +28,8 @@ use Rattle.mps_outcome.specs.Coming.{ComesMoving, Moved}
 use Rattle.mps_outcome.specs.Finding.{block_place_in}
 use Rattle.mps_outcome.specs.declared.found.Entry.{Entry}
 use Rattle.mps_outcome.specs.Manual.{block_freed, block_in, with_block_place}
-use Rattle.mps_outcome.specs.State.{HeapState, size_of_pool}
+use Rattle.mps_outcome.specs.State.{HeapState}
+use Rattle.mps_format.specs.Pools.{size_of_pool}
 use Rattle.mps_refinement.specs.Answering.{answer_to, says_ok}
 use Rattle.mps_refinement.specs.RightStep.{IsRight, step_of, IsRightIn}
 use Rattle.mps_refinement.specs.StandsFor.{AreParts, IsReached, Past}

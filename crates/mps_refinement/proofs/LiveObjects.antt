@@ -33,9 +33,10 @@ use Rattle.mps_outcome.specs.Finding.{object_at, object_in, number_cell_at, refe
 use Rattle.mps_outcome.specs.declared.found.Block.{Block}
 use Rattle.mps_outcome.specs.declared.found.CellFound.{CellFound}
 use Rattle.mps_outcome.specs.declared.found.Entry.{Entry}
-use Rattle.mps_outcome.specs.State.{HeapState, format_of_pool, format_over, pool_over}
-use Rattle.mps_outcome.specs.declared.pool.Pool.{Pool}
-use Rattle.mps_outcome.specs.declared.pool.Pool.TheVariants as pool
+use Rattle.mps_outcome.specs.State.{HeapState, format_over, pool_over}
+use Rattle.mps_format.specs.Pools.{format_of_pool}
+use Rattle.mps_format.specs.declared.pool.Pool.{Pool}
+use Rattle.mps_format.specs.declared.pool.Pool.TheVariants as pool
 use Rattle.mps_refinement.specs.StandsFor.{Past, AreParts, IsPool, address_of_target}
 use Rattle.mps_refinement.proofs.Found.{same_of, in_a_row, mapped_some, some_there}
 use Rattle.mps_refinement.proofs.Known.{IsKnown}

@@ -33,8 +33,9 @@ use Rattle.mps_root.specs.State.{kept}
 use Rattle.mps_outcome.specs.Finding.{as_point, point_named, pool_named, under}
 use Rattle.mps_outcome.specs.declared.found.Kept.{Kept}
 use Rattle.mps_outcome.specs.Making.{IsDropping, IsMaking, MakesPoint, MakesPointIn, check_point, may_have_point, passed, point_dropped, refuse_taken}
-use Rattle.mps_outcome.specs.State.{HeapState, is_copying_pool}
-use Rattle.mps_outcome.specs.declared.pool.Pool.{Pool}
+use Rattle.mps_outcome.specs.State.{HeapState}
+use Rattle.mps_format.specs.Pools.{is_copying_pool}
+use Rattle.mps_format.specs.declared.pool.Pool.{Pool}
 use Rattle.mps_refinement.specs.Answering.{answer_to, says_ok}
 use Rattle.mps_refinement.specs.Making.{IsRightMaking}
 use Rattle.mps_refinement.specs.Numbering.{renumbered}

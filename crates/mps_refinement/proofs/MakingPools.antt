@@ -29,9 +29,10 @@ use Rattle.mps_model.specs.World.{World, Collected, OneSize, AnySize, empty_worl
 use Rattle.mps_names.specs.State.{thing_named}
 use Rattle.mps_names.specs.declared.names.Thing.TheVariants as thing
 use Rattle.mps_outcome.specs.Making.{IsMaking, MakesPool, check_pool, check_pool_of_size, refuse_taken}
-use Rattle.mps_outcome.specs.State.{HeapState, size_of_pool}
-use Rattle.mps_outcome.specs.declared.pool.Pool.{Pool}
-use Rattle.mps_outcome.specs.declared.pool.Pool.TheVariants as pool
+use Rattle.mps_outcome.specs.State.{HeapState}
+use Rattle.mps_format.specs.Pools.{size_of_pool}
+use Rattle.mps_format.specs.declared.pool.Pool.{Pool}
+use Rattle.mps_format.specs.declared.pool.Pool.TheVariants as pool
 use Rattle.mps_refinement.specs.Making.{IsRightMaking, IsRightMakingIn, MeansLayout}
 use Rattle.mps_refinement.specs.StandsFor.{AreParts, ArePools, IsPool, IsReached, Past}
 use Rattle.mps_refinement.proofs.MakingSteps.{MakesAlike, checks_then, first_passed, free_name, making_is_right, making_is_right_in, taken_same}

@@ -9,7 +9,8 @@ use Rattle.mps_model.specs.Making.{live_roots, live_slots, live_points}
 use Rattle.mps_model.specs.World as world
 use Rattle.mps_model.specs.World.{World}
 use Rattle.mps_root.specs.State.{kept}
-use Rattle.mps_outcome.specs.State.{HeapState, size_of_pool}
+use Rattle.mps_outcome.specs.State.{HeapState}
+use Rattle.mps_format.specs.Pools.{size_of_pool}
 use Rattle.mps_refinement.specs.Numbering.{AreNumbered, AreOrdered}
 use Rattle.mps_refinement.specs.StandsFor.{AreNamed, AreParts, ArePools, AreSlots, AreWords, IsArenaAtRest, IsPoint, Past, address_of_id, address_of_target, kept_of, state_of}
 

@@ -14,9 +14,10 @@ use Rattle.mps_model.specs.Checked.{with_graph}
 use Rattle.mps_names.specs.State.{NamesState, IsSameMap}
 use Rattle.mps_root.specs.State.{RootsState, kept}
 use Rattle.mps_outcome.specs.Making.{IsUntouched}
-use Rattle.mps_outcome.specs.State.{HeapState, size_of_pool}
-use Rattle.mps_outcome.specs.declared.pool.ArenaState.{ArenaState}
-use Rattle.mps_outcome.specs.declared.pool.Pool.{Pool}
+use Rattle.mps_outcome.specs.State.{HeapState}
+use Rattle.mps_format.specs.Pools.{size_of_pool}
+use Rattle.mps_outcome.specs.declared.arena.ArenaState.{ArenaState}
+use Rattle.mps_format.specs.declared.pool.Pool.{Pool}
 use Rattle.mps_refinement.specs.Numbering.{AreNumbered, AreOrdered}
 use Rattle.mps_refinement.specs.StandsFor.{AreNamed, AreParts, ArePools, AreSlots, AreWords, IsPoint, Past, StandsFor, address_of_target, kept_of, state_of, IsArenaAtRest}
 use Rattle.mps_refinement.proofs.Named.{ThingsStay, named_alike}

@@ -21,8 +21,9 @@ use Rattle.mps_model.specs.World.{World, PointMemory, is_copying_pool, is_leaf_k
 use Rattle.mps_outcome.specs.Allocating.{check_reserve, takes_head}
 use Rattle.mps_outcome.specs.declared.found.Kept.{Kept}
 use Rattle.mps_outcome.specs.declared.found.Reserving.{Reserving}
-use Rattle.mps_outcome.specs.State.{HeapState, format_of_pool, is_leaf_pool}
-use Rattle.mps_outcome.specs.declared.pool.Pool.{Pool}
+use Rattle.mps_outcome.specs.State.{HeapState}
+use Rattle.mps_format.specs.Pools.{format_of_pool, is_leaf_pool}
+use Rattle.mps_format.specs.declared.pool.Pool.{Pool}
 use Rattle.mps_refinement.specs.StandsFor.{AreParts, Past}
 use Rattle.mps_refinement.proofs.MakingPoints.{held_alike}
 use Rattle.mps_refinement.proofs.Lookups.{IsPointFound, point_same}

@@ -23,7 +23,8 @@ use Rattle.mps_outcome.specs.Allocating.{reserved, committed, check_reserve}
 use Rattle.mps_outcome.specs.Coming.{Moved, ComesMoving, trail_moved}
 use Rattle.mps_outcome.specs.Finding.{block_place_in, point_named, pool_named, slot_in}
 use Rattle.mps_outcome.specs.Manual.{block_allocated, block_freed, block_in}
-use Rattle.mps_outcome.specs.State.{HeapState, is_automatic_pool}
+use Rattle.mps_outcome.specs.State.{HeapState}
+use Rattle.mps_format.specs.Pools.{is_automatic_pool}
 use Rattle.mps_outcome.specs.declared.found.Committed.TheVariants.{AsBlock, AsFlipped}
 use Rattle.mps_refinement.specs.RightMoving.{KeepsRoom}
 

@@ -18,9 +18,10 @@ use Rattle.mps_model.specs.Making.{is_block_size}
 use Rattle.mps_model.specs.WellFormed.{are_right_cells, is_right_body}
 use Rattle.mps_seg.specs.Collecting.{is_condemned_at, is_kept_at, is_white_at}
 use Rattle.mps_outcome.specs.Areas.{block_over, is_hold, is_of_pool}
-use Rattle.mps_outcome.specs.State.{HeapState, is_automatic_pool, is_copying_pool}
-use Rattle.mps_outcome.specs.declared.pool.Pool.{Pool}
-use Rattle.mps_outcome.specs.declared.pool.Pool.TheVariants as pool
+use Rattle.mps_outcome.specs.State.{HeapState}
+use Rattle.mps_format.specs.Pools.{is_automatic_pool, is_copying_pool}
+use Rattle.mps_format.specs.declared.pool.Pool.{Pool}
+use Rattle.mps_format.specs.declared.pool.Pool.TheVariants as pool
 use Rattle.mps_refinement.specs.StandsFor.{AreParts, IsPool, Past}
 use Rattle.mps_refinement.proofs.BlocksOver.{IsByteOf, block_over_found, block_over_live, byte_of_one}
 use Rattle.mps_refinement.proofs.Known.{IsKnown}

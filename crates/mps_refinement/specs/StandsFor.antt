@@ -29,11 +29,12 @@ use Rattle.mps_names.specs.declared.names.Thing.{Thing}
 use Rattle.mps_names.specs.declared.names.Thing.TheVariants as thing
 use Rattle.mps_root.specs.State.{kept}
 use Rattle.mps_root.specs.declared.roots.Stored.{Stored}
-use Rattle.mps_outcome.specs.State.{HeapState, size_of_pool}
-use Rattle.mps_outcome.specs.declared.pool.ArenaState.{ArenaState}
-use Rattle.mps_outcome.specs.declared.pool.ArenaState.TheVariants as arena
-use Rattle.mps_outcome.specs.declared.pool.Pool.{Pool}
-use Rattle.mps_outcome.specs.declared.pool.Pool.TheVariants as pool
+use Rattle.mps_outcome.specs.State.{HeapState}
+use Rattle.mps_format.specs.Pools.{size_of_pool}
+use Rattle.mps_outcome.specs.declared.arena.ArenaState.{ArenaState}
+use Rattle.mps_outcome.specs.declared.arena.ArenaState.TheVariants as arena
+use Rattle.mps_format.specs.declared.pool.Pool.{Pool}
+use Rattle.mps_format.specs.declared.pool.Pool.TheVariants as pool
 use Rattle.mps_refinement.specs.Numbering.{AreNumbered, AreOrdered}
 
 -- What the heap doesn't keep: the model's number of what is kept under a key.

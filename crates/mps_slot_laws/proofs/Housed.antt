@@ -21,7 +21,7 @@ use Rattle.mps_trace_laws.proofs.Ranks.{fix_strong}
 use Rattle.mps_slot_laws.specs.Housed.{RootsKeepHoused}
 use Rattle.mps_slot_laws.specs.Rows.{AreHeldAtFlip}
 use Rattle.mps_slot_laws.proofs.Tables.{all_of}
-use Rattle.mps_trace.specs.declared.trace.Policy.{Policy}
+use Rattle.mps_format.specs.declared.pool.Policy.{Policy}
 
 -- ---- what is held is live
 

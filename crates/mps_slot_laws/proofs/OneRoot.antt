@@ -17,7 +17,7 @@ use Rattle.mps_trace_laws.specs.Tracing.{TracingStands, setting_of}
 use Rattle.mps_trace_laws.proofs.Found.{target_can_be_fixed}
 use Rattle.mps_trace_laws.proofs.EachFix.{fix_is_a_step}
 use Rattle.mps_slot_laws.specs.OneRoot.{AreFixed, MeansLive, RefersTo, IsRootStep, ARootCanBeFixed, ARootIsAStep}
-use Rattle.mps_trace.specs.declared.trace.Policy.{Policy}
+use Rattle.mps_format.specs.declared.pool.Policy.{Policy}
 
 -- nothing was fixed, where the targets are null
 pub none_fixed : {F : Type 0} (layout : F → Layout) (formats : List (Option (Policy F))) (of : ChainsState) (at_flip : List (Option Address))

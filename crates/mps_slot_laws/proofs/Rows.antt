@@ -26,7 +26,7 @@ use Rattle.mps_trace_laws.proofs.ScanRun.{both_same, shaped_still}
 use Rattle.mps_slot_laws.specs.OneRoot.{RefersTo, IsWhere, AreFixed}
 use Rattle.mps_slot_laws.specs.Rows.{HoldsAtFlip, AreHeldAtFlip, AreFixedBefore, SlotsAreSteps, SlotsAreReady, MessagesAreSteps, MessagesAreReady}
 use Rattle.mps_slot_laws.proofs.OneRoot.{can_root, none_fixed, root_step}
-use Rattle.mps_trace.specs.declared.trace.Policy.{Policy}
+use Rattle.mps_format.specs.declared.pool.Policy.{Policy}
 
 -- ---- lists
 

@@ -23,7 +23,7 @@ use Rattle.mps_slot_laws.specs.Rows.{HoldsAtFlip, AreHeldAtFlip}
 use Rattle.mps_slot_laws.specs.Tables.{AreTablesHeld, AreTablesFixed, TablesAreSteps, TablesAreReady}
 use Rattle.mps_slot_laws.proofs.OneRoot.{none_fixed}
 use Rattle.mps_slot_laws.proofs.Rows.{joined, still_where, run_slots, ready_slots}
-use Rattle.mps_trace.specs.declared.trace.Policy.{Policy}
+use Rattle.mps_format.specs.declared.pool.Policy.{Policy}
 
 -- ---- lists
 

@@ -19,7 +19,7 @@ use Rattle.mps_trace_laws.specs.Tracing.{TracingStands}
 use Rattle.mps_slot_laws.specs.OneRoot.{AreFixed, IsWhere}
 use Rattle.mps_slot_laws.specs.Rows.{AreHeldAtFlip}
 use Rattle.mps_slot_laws.specs.Tables.{AreTablesHeld}
-use Rattle.mps_trace.specs.declared.trace.Policy.{Policy}
+use Rattle.mps_format.specs.declared.pool.Policy.{Policy}
 
 -- all were fixed, slots before messages, and hold where their objects are then
 pub record AreRootsFixed {F : Type 0} (layout : F → Layout) (formats : List (Option (Policy F))) (of : ChainsState)

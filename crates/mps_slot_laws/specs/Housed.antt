@@ -14,7 +14,7 @@ use Rattle.mps_trace_laws.specs.Tracing.{TracingStands}
 use Rattle.mps_slot_laws.specs.Beginning.{AreRootsFixed}
 use Rattle.mps_slot_laws.specs.Rows.{AreHeldAtFlip}
 use Rattle.mps_slot_laws.specs.Tables.{AreTablesHeld}
-use Rattle.mps_trace.specs.declared.trace.Policy.{Policy}
+use Rattle.mps_format.specs.declared.pool.Policy.{Policy}
 
 -- each object lies in one segment, and neither a segment nor a grey block is weak
 pub record AreRootsHoused (z : Traced) (after : Collecting) : Type 0 where

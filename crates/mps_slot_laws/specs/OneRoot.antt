@@ -14,7 +14,7 @@ use Rattle.mps_trace.specs.Trace.{Traced}
 use Rattle.mps_trace.specs.Roots.{FixesRoot, CanFixRootAt}
 use Rattle.mps_trace_laws.specs.Tracing.{TracingStands}
 use Rattle.mps_trace_laws.specs.Steps.{IsSameGraph}
-use Rattle.mps_trace.specs.declared.trace.Policy.{Policy}
+use Rattle.mps_format.specs.declared.pool.Policy.{Policy}
 
 -- an address that isn't null means a live automatic object: the object is there now, or was there at the flip
 pub record MeansLive (at_flip : List (Option Address)) (y : Collecting) (at : Address) (t : Id) : Type 0 where

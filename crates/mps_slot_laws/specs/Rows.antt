@@ -13,7 +13,7 @@ use Rattle.mps_trace.specs.Trace.{Traced}
 use Rattle.mps_trace.specs.Roots.{FixesSlots, FixesMessages, CanFixRootAt, slot_of, message_of}
 use Rattle.mps_trace_laws.specs.Tracing.{TracingStands}
 use Rattle.mps_slot_laws.specs.OneRoot.{AreFixed, IsWhere}
-use Rattle.mps_trace.specs.declared.trace.Policy.{Policy}
+use Rattle.mps_format.specs.declared.pool.Policy.{Policy}
 
 -- an address is the one that a live automatic object had at the flip, and isn't null
 pub record WasAt (at_flip : List (Option Address)) (y : Collecting) (at : Address) (t : Id) : Type 0 where

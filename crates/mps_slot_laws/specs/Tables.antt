@@ -13,7 +13,7 @@ use Rattle.mps_trace.specs.Roots.{FixesSlots, FixesTables, CanFixRootAt, key_at,
 use Rattle.mps_trace_laws.specs.Tracing.{TracingStands}
 use Rattle.mps_slot_laws.specs.OneRoot.{AreFixed, IsWhere}
 use Rattle.mps_slot_laws.specs.Rows.{AreHeldAtFlip}
-use Rattle.mps_trace.specs.declared.trace.Policy.{Policy}
+use Rattle.mps_format.specs.declared.pool.Policy.{Policy}
 
 -- the tables, in order, hold what they held at the flip, and no table is in that order twice
 pub record AreTablesHeld (at_flip : List (Option Address)) (y : Collecting) (roots : RootsState) (rows : List (List (Option Id)))

@@ -8,10 +8,11 @@ use Rattle.mps_ld.specs.State as ld
 use Rattle.mps_trace.specs.Collect.{most_moves}
 use Rattle.mps_trace.specs.Flip.{automatic_of, zones_of}
 use Rattle.mps_outcome.specs.Collecting.{CanCollectAll, IsCollected, is_empty}
-use Rattle.mps_outcome.specs.State.{HeapState, policy_of_pool}
-use Rattle.mps_outcome.specs.declared.pool.ArenaState.TheVariants as arena
-use Rattle.mps_pools.specs.Collecting.{CanCollectPools, ArePoolsCollected}
-use Rattle.mps_trace.specs.declared.trace.Policy.{Policy}
+use Rattle.mps_outcome.specs.State.{HeapState}
+use Rattle.mps_format.specs.Pools.{policy_of_pool}
+use Rattle.mps_outcome.specs.declared.arena.ArenaState.TheVariants as arena
+use Rattle.mps_trace.specs.PoolsCollecting.{CanCollectPools, ArePoolsCollected}
+use Rattle.mps_format.specs.declared.pool.Policy.{Policy}
 
 -- a list of no entries is empty
 pub no_entries : {A : Type 0} (xs : List A) → (length xs == 0) ≡ is_empty xs

@@ -7,7 +7,7 @@ use Rattle.mps_model.specs.Checked.{Checked}
 use Rattle.mps_outcome.specs.State.{HeapState}
 use Rattle.mps_outcome.specs.Making.{IsUntouched, IsMaking, Refused, OutOfMemory, Made, MakesPoint, MakesPointIn, check_point, passed}
 use Rattle.mps_outcome.specs.declared.found.Kept.{Kept}
-use Rattle.mps_outcome.specs.declared.pool.Pool.{Pool}
+use Rattle.mps_format.specs.declared.pool.Pool.{Pool}
 use Rattle.mps_state.specs.Made.{IsMade}
 
 module _ {F : Type 0} where

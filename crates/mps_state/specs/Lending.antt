@@ -10,7 +10,8 @@ use Rattle.mps_arena.specs.Arena as arena
 use Rattle.mps_model.specs.Checked.{Checked, ◌>>=◌, ◌>>◌, refuse_when}
 use Rattle.mps_outcome.specs.Finding.{block_place_in, object_in, with_words}
 use Rattle.mps_outcome.specs.Manual.{block_in, is_block_over}
-use Rattle.mps_outcome.specs.State.{HeapState, is_leaf_pool, pool_over}
+use Rattle.mps_outcome.specs.State.{HeapState, pool_over}
+use Rattle.mps_format.specs.Pools.{is_leaf_pool}
 
 -- these are the words of the block that begins at an address, all of them
 pub record AreBlockWords {F : Type 0} (h : HeapState F) (at : Address) (words : List ℕ) : Type 0 where

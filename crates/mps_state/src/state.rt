@@ -24,9 +24,9 @@ use mps_format::Format;
 use mps_ld::{Epochs, Ld};
 use mps_names::Names;
 use mps_outcome::ArenaState;
-use mps_pools::Pools;
 use mps_root::Roots;
 use mps_seg::Segs;
+use mps_trace::Pools;
 use std::alloc::{AllocError, Global};
 use std::marker::Model;
 

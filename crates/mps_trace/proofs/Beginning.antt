@@ -16,7 +16,7 @@ use Rattle.mps_trace.specs.Roots.{AreMessagesReady, FixesTables}
 use Rattle.mps_trace.specs.Trace.{TraceState, Traced}
 use Rattle.mps_trace.proofs.Ending.{blocks_stay}
 use Rattle.mps_trace.proofs.Nailing.{AreBlocksSame}
-use Rattle.mps_trace.specs.declared.trace.Policy.{Policy}
+use Rattle.mps_format.specs.declared.pool.Policy.{Policy}
 
 condemned_same : (ts : List Segment) (s : SegsState) → AreBlocksSame s (condemning_all ts s)
 condemned_same [] s = record { blocks = refl; grains = refl }

@@ -13,7 +13,7 @@ use Rattle.mps_trace.specs.Condemned.{AreAscending}
 use Rattle.mps_trace.specs.Flip.{is_automatic, automatic_of, condemning_all, all_condemned, zones_of}
 use Rattle.mps_trace.proofs.Ordered.{Lowest, lowest_found, rest_from, rest_low, rest_none}
 use Rattle.mps_trace.proofs.Zones.{or_assoc_below, runs_small, zones_small}
-use Rattle.mps_trace.specs.declared.trace.Policy.{Policy}
+use Rattle.mps_format.specs.declared.pool.Policy.{Policy}
 
 module _ {F : Type 0} (formats : List (Option (Policy F))) (t : Segment) (ts : List Segment) where
   pub automatic_here : is_automatic formats t.pool ≡ true → automatic_of formats (t ∷ ts) ≡ t ∷ automatic_of formats ts

@@ -14,7 +14,7 @@ use Rattle.mps_amc.proofs.Found.{over_is_there}
 use Rattle.mps_gen.specs.State.{ChainsState, generations_of}
 use Rattle.mps_base.specs.Trail.{Moves}
 use Rattle.mps_trace.specs.Trace.{TraceState, Traced, traced, CanKeep, CanFix, target_of}
-use Rattle.mps_trace.specs.declared.trace.Policy.{Policy}
+use Rattle.mps_format.specs.declared.pool.Policy.{Policy}
 
 pub some_over : (o : Option Segment) (base : Addr) → Some base ≡ option_map base_address o → (t : Segment) × (o ≡ Some t)
 some_over None base is = let never : Some base ≡ None = is in cc

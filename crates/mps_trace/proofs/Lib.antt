@@ -11,3 +11,6 @@ pub mod Rooted
 pub mod Scanned
 pub mod Units
 pub mod Zones
+pub mod PoolsCollecting
+pub mod PoolsRows
+pub mod PoolsSound

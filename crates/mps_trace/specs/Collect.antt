@@ -14,7 +14,7 @@ use Rattle.mps_trace.specs.Condemned.{AreInOrder}
 use Rattle.mps_trace.specs.Trace.{TraceState, Traced, traced}
 use Rattle.mps_trace.specs.Unit.{UnitsTo, EndsWithin, AreUnitsReady}
 use Rattle.mps_trace.specs.declared.running.Running.{Running}
-use Rattle.mps_trace.specs.declared.trace.Policy.{Policy}
+use Rattle.mps_format.specs.declared.pool.Policy.{Policy}
 
 -- a collection of everything, from its flip to its end: it ends at once where nothing is condemned, and else within n units
 pub data Collects {F : Type 0} (layout : F → Layout) (formats : List (Option (Policy F))) (chains : ChainsState) (points : PointsState)

@@ -15,7 +15,7 @@ use Rattle.mps_root.specs.declared.roots.Stored.{Stored}
 use Rattle.mps_seg.specs.Segs.{SegsState}
 use Rattle.mps_seg.specs.Collecting.{condemning, is_condemned_at}
 use Rattle.mps_trace.specs.Trace.{Traced}
-use Rattle.mps_trace.specs.declared.trace.Policy.{Policy}
+use Rattle.mps_format.specs.declared.pool.Policy.{Policy}
 
 -- ---- what is condemned
 

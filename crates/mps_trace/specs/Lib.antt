@@ -1,6 +1,9 @@
 pub mod Begin
 pub mod Condemned
 pub mod Flip
+pub mod Pools
+pub mod PoolsCollecting
+pub mod PoolsInside
 pub mod Reclaim
 pub mod Roots
 pub mod Scan

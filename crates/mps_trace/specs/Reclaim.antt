@@ -8,7 +8,7 @@ use Rattle.mps_format.specs.Layout.{Layout}
 use Rattle.mps_seg.specs.Segs.{SegsState}
 use Rattle.mps_amc.specs.Reclaiming.{CanReclaim, IsReclaimed}
 use Rattle.mps_trace.specs.Trace.{TraceState}
-use Rattle.mps_trace.specs.declared.trace.Policy.{Policy}
+use Rattle.mps_format.specs.declared.pool.Policy.{Policy}
 
 -- a segment of an automatic pool begins at an address, and its pool can reclaim it
 pub record CanReclaimAt {F : Type 0} (layout : F → Layout) (t : TraceState F) (s : SegsState) (m : Moves) (base : Addr) : Type 0 where

@@ -13,7 +13,7 @@ use Rattle.mps_seg.specs.Collecting.{noting, blackening}
 use Rattle.mps_amc.specs.Amc as amc
 use Rattle.mps_gen.specs.State.{ChainsState}
 use Rattle.mps_trace.specs.Trace.{TraceState, Traced, traced, CanFixAt, FixesTo}
-use Rattle.mps_trace.specs.declared.trace.Policy.{Policy}
+use Rattle.mps_format.specs.declared.pool.Policy.{Policy}
 
 -- the word of a cell, and the address to which it leads
 abbrev pub word_at : Traced → (at : Addr) → (cell : ℕ) → ℕ

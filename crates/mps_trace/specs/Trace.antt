@@ -14,7 +14,7 @@ use Rattle.mps_amc.specs.Moving.{IsForwarded, IsUnforwarded, BlockStands, IsBloc
 use Rattle.mps_amc.specs.Amc.{AmcState, HasTail, tail_of, FixesAt}
 use Rattle.mps_amc.specs.Amc as amc
 use Rattle.mps_gen.specs.State.{ChainsState, no_chains, generations_of}
-use Rattle.mps_trace.specs.declared.trace.Policy.{Policy}
+use Rattle.mps_format.specs.declared.pool.Policy.{Policy}
 
 pub record TraceState (F : Type 0) : Type 0 where
   -- by pool, the format of its objects; none for a pool that isn't collected

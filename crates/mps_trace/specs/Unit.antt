@@ -17,7 +17,7 @@ use Rattle.mps_trace.specs.Scan.{CanScanGrey, ScansOne, IsDrained}
 use Rattle.mps_trace.specs.Trace.{TraceState, Traced, traced}
 use Rattle.mps_trace.specs.declared.running.Running.{Running}
 use Rattle.mps_trace.specs.declared.running.Band.TheVariants.{Exact, Reclaim}
-use Rattle.mps_trace.specs.declared.trace.Policy.{Policy}
+use Rattle.mps_format.specs.declared.pool.Policy.{Policy}
 
 -- a collection after the segment at an address was reclaimed
 abbrev pub reclaimed_at : (base : Addr) → Running → Running

@@ -1,4 +1,5 @@
-//! The tracing collector: where the blocks lie that references lead to, what blocks refer to, and how a collection runs.
+//! The tracing collector: where the blocks lie that references lead to, what blocks refer to, and how a collection runs; and a heap's
+//! pools, as its calls, its manual blocks and its collector know them.
 #![tactic(auto)]
 
 mod begin;
@@ -6,12 +7,14 @@ mod collect;
 mod collection;
 mod finding;
 mod flip;
+mod pools;
 mod roots;
 mod running;
 mod trace;
 
+pub use pools::{Pools, most_moves};
 pub use running::{Band, Running};
-pub use trace::{Policy, Trace};
+pub use trace::Trace;
 
 #[cfg(test)]
 mod tests;

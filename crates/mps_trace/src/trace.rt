@@ -17,18 +17,11 @@ ghost use Rattle.mps_trace.specs.Scan.{FixesCell, CanFixCell, AreReadyIn, ScansA
 use crate::finding::segment_at;
 use mps_amc::Amc;
 use mps_base::{Addr, BYTES_OF_WORD, Rank, Trail};
-use mps_format::Format;
+use mps_format::{Format, Policy};
 use mps_gen::Chains;
 use mps_seg::Segs;
 use std::alloc::{AllocError, Global};
 use std::marker::Model;
-
-/// What a collection knows of an automatic pool: the format of its objects, and whether it moves them.
-#[derive(Clone, Copy)]
-pub struct Policy<F> {
-    pub format: F,
-    pub moves: bool,
-}
 
 /// What a collection knows of pools: the policy of each automatic pool, the words at hand of copying pools, and the chains.
 #[derive(Drop)]

@@ -13,7 +13,7 @@ use Rattle.mps_image.specs.Memory.{memory_in}
 use Rattle.mps_trace.specs.Trace.{Traced}
 use Rattle.mps_trace_laws.specs.Tracing.{TracingStands, setting_of}
 use Rattle.mps_trace_laws.specs.Scanning.{with_cells}
-use Rattle.mps_trace.specs.declared.trace.Policy.{Policy}
+use Rattle.mps_format.specs.declared.pool.Policy.{Policy}
 
 -- what a cell more refers to
 pub targets_more : (cells : List Cell) (k : ℕ) (c : Cell) (ids : List ℕ) → slice_get cells k ≡ Some c

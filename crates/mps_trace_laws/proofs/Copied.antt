@@ -40,7 +40,7 @@ use Rattle.mps_trace_laws.proofs.Hands.{contains_among}
 use Rattle.mps_trace_laws.proofs.Copying.{tables_moved, has_marks}
 use Rattle.mps_trace_laws.proofs.Taking.{IsFirstTaken, rest_of, tails_after, which}
 use Rattle.mps_trace_laws.proofs.Objects.{pool_is, words_are}
-use Rattle.mps_trace.specs.declared.trace.Policy.{Policy}
+use Rattle.mps_format.specs.declared.pool.Policy.{Policy}
 use Rattle.mps_image.proofs.Entries.{entry_at-set_other}
 use Rattle.std.proofs.lemmas.Option.{same_Some}
 

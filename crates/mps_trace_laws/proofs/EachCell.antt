@@ -28,7 +28,7 @@ use Rattle.mps_trace_laws.specs.Cells.{HoldsReference, IsCellStep, ACellCanBeFix
 use Rattle.mps_trace_laws.proofs.CellLists.{image_again}
 use Rattle.mps_trace_laws.proofs.Found.{can_fix}
 use Rattle.mps_trace_laws.proofs.EachFix.{each_step}
-use Rattle.mps_trace.specs.declared.trace.Policy.{Policy}
+use Rattle.mps_format.specs.declared.pool.Policy.{Policy}
 
 -- the state stands where only words and the zones of a segment changed, and the image does
 module _ {F : Type 0} (layout : F → Layout) (formats : List (Option (Policy F))) (of : ChainsState) (at_flip : List (Option Address))

@@ -15,6 +15,7 @@ use Rattle.mps_arena.specs.Arena.{answer_of_placement}
 use Rattle.mps_seg.specs.Segs.{SegsState, moves_after}
 use Rattle.mps_seg.specs.Collecting.{is_condemned_at, is_kept_at}
 use Rattle.mps_seg.specs.declared.buffer.Buffer.{Buffer}
+use Rattle.mps_seg.specs.Buffer.{empty_buffer}
 use Rattle.mps_amc.specs.Moving.{moved_to, kept_in_place, size_at, nailed}
 use Rattle.mps_amc.specs.Amc.{AmcState, tails_of, FixesAt, forwards, is_kept, keeps, IsFixed, placement_of_copy, answer_of_fix, segs_fixed, moves_fixed, tails_after, with_place, AreWordsFixed}
 use Rattle.mps_amc.specs.Amc as amc
@@ -33,7 +34,7 @@ use Rattle.mps_trace_laws.proofs.Hands.{IsPlacedAt, in_tail, in_new, is_over, ha
 use Rattle.mps_trace_laws.proofs.Found as found
 use Rattle.mps_trace_laws.proofs.Steps.{nothing_done, mark_step}
 use Rattle.mps_trace_laws.proofs.FixSteps.{place_is, stays_there, moves_there, new_there}
-use Rattle.mps_trace.specs.declared.trace.Policy.{Policy}
+use Rattle.mps_format.specs.declared.pool.Policy.{Policy}
 use Rattle.mps_model.specs.World.{is_copying_pool}
 use Rattle.mps_trace_laws.proofs.Staying.{marked_stands}
 use Rattle.std.specs.Option.{option_map_or}
@@ -42,7 +43,7 @@ use Rattle.std.specs.Option.{option_map_or}
 same_tail : (state : AmcState) (pool generation : ℕ) → amc.with_tail state pool generation (amc.tail_of state pool generation) ≡ state
 same_tail state pool generation =
     ap (λ row. record { tails = slice_set state.tails pool row })
-    (set-get_or (tails_of state pool) generation Rattle.mps_buffer.specs.Points.empty_buffer)
+    (set-get_or (tails_of state pool) generation empty_buffer)
     ∙ ap (λ rows. record { tails = rows }) (set-get_or state.tails pool [])
 
 module _ (F : Type 0) (layout : F → Layout) (formats : List (Option (Policy F))) (of : ChainsState) (at_flip : List (Option Address))

@@ -42,7 +42,7 @@ use Rattle.mps_trace_laws.proofs.Copied.{has_still, copied_stands}
 use Rattle.mps_trace_laws.proofs.Staying.{stayed_stands}
 use Rattle.mps_trace_laws.proofs.Grown.{buffer_of, grown_in, grown_stands}
 use Rattle.mps_trace_laws.proofs.Steps.{kept_in, stay_step, move_step, new_step}
-use Rattle.mps_trace.specs.declared.trace.Policy.{Policy}
+use Rattle.mps_format.specs.declared.pool.Policy.{Policy}
 
 -- a tail that is written twice is what was written last
 written_twice : (state : AmcState) (pool generation : ℕ) (a c : Buffer) → HasTail state pool generation

@@ -31,7 +31,7 @@ use Rattle.mps_trace.specs.Trace.{Traced, CanFixAt, CanKeep, target_of}
 use Rattle.mps_trace_laws.specs.Tracing.{setting_of, TracingStands}
 use Rattle.mps_trace_laws.specs.Fixing.{ATargetCanBeFixed}
 use Rattle.mps_trace_laws.proofs.Hands.{contains_among, in_hand}
-use Rattle.mps_trace.specs.declared.trace.Policy.{Policy}
+use Rattle.mps_format.specs.declared.pool.Policy.{Policy}
 
 -- ---- runs
 

@@ -27,7 +27,7 @@ use Rattle.mps_trace_laws.proofs.Taking.{which}
 use Rattle.mps_trace_laws.proofs.NewTail.{IsNewTail, among_contains, new_tails}
 use Rattle.mps_trace_laws.proofs.Copied.{has_still, other_buffer}
 use Rattle.mps_trace_laws.proofs.OneFix.{image_grown}
-use Rattle.mps_trace.specs.declared.trace.Policy.{Policy}
+use Rattle.mps_format.specs.declared.pool.Policy.{Policy}
 
 -- the words of a segment
 abbrev pub buffer_of : Segment → Buffer
@@ -115,7 +115,7 @@ module _ (F : Type 0) (layout : F → Layout) (formats : List (Option (Policy F)
             image_grown s (with_one s u) grown at_flip y (memory_in s) y.world.addresses y.colours done stands.image;
         pools = stands.pools;
         collected = stands.collected;
-    still = stands.still;
+        still = stands.still;
         tails = record {
           has = λ p g is. has_still state u.pool u.generation (buffer_of u) has p _ (stands.tails.has p g is);
           same = same_tails;

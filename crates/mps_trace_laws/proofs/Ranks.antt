@@ -27,7 +27,7 @@ use Rattle.mps_trace.specs.Scan.{FixesCell, is_null, leads, ScansTo, begins, goe
 use Rattle.mps_trace_laws.specs.Housed.{AreAllExact, IsStrong, AFixKeepsRanks, AScanKeepsRanks}
 use Rattle.mps_trace_laws.proofs.Hands.{contains_among}
 use Rattle.mps_trace_laws.proofs.NewTail.{among_contains}
-use Rattle.mps_trace.specs.declared.trace.Policy.{Policy}
+use Rattle.mps_format.specs.declared.pool.Policy.{Policy}
 
 -- ---- bits
 

@@ -30,7 +30,7 @@ use Rattle.mps_trace_laws.specs.Cells.{HoldsReference}
 use Rattle.mps_trace_laws.specs.Scanning.{with_cells, IsToBeScanned, IsScannedTo, AScanIsReady, AScanIsOfSteps}
 use Rattle.mps_trace_laws.proofs.CellLists.{targets_more, fewer_done, image_again, next_cells, no_cells}
 use Rattle.mps_trace_laws.proofs.EachCell.{can_cell, cell_step}
-use Rattle.mps_trace.specs.declared.trace.Policy.{Policy}
+use Rattle.mps_format.specs.declared.pool.Policy.{Policy}
 
 -- ---- a world with the same objects and pools
 

@@ -27,7 +27,7 @@ use Rattle.mps_trace_laws.specs.Tracing.{TracingStands, setting_of}
 use Rattle.mps_trace_laws.specs.Scanning.{with_cells, IsToBeScanned, IsScannedTo, IsScan, AScanIsAScan}
 use Rattle.mps_trace_laws.proofs.Found as found
 use Rattle.mps_trace_laws.proofs.ScanRun.{run_to, pass_all, inside}
-use Rattle.mps_trace.specs.declared.trace.Policy.{Policy}
+use Rattle.mps_format.specs.declared.pool.Policy.{Policy}
 
 -- what all cells of a block refer to
 targets_are : (b : Body) → IsTrue (is_automatic_body b) → targets_of_cells (take (size_of_body b) (all_cells b)) ≡ targets_of_body b

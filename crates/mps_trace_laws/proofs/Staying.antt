@@ -19,7 +19,7 @@ use Rattle.mps_image.proofs.Marked as marking
 use Rattle.mps_image.proofs.SegmentMarks.{HasMarks, keeping_marks, greying_marks, greying_keeps}
 use Rattle.mps_trace_laws.specs.Tracing.{StateStands, setting_of}
 use Rattle.mps_trace_laws.proofs.Copying.{tables_kept, has_marks}
-use Rattle.mps_trace.specs.declared.trace.Policy.{Policy}
+use Rattle.mps_format.specs.declared.pool.Policy.{Policy}
 use Rattle.mps_colours.specs.Fixing.{kept_by}
 
 -- the abstract collector after an object that was white stays

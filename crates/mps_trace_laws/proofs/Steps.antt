@@ -33,7 +33,7 @@ use Rattle.mps_trace_laws.specs.Tracing.{StateStands, TracingStands, setting_of,
 use Rattle.mps_trace_laws.specs.Steps.{IsSameGraph, IsFixStep}
 use Rattle.mps_trace_laws.proofs.Objects.{different, lives, address_is}
 use Rattle.mps_trace_laws.proofs.Room.{fewer_white, same_live_moved}
-use Rattle.mps_trace.specs.declared.trace.Policy.{Policy}
+use Rattle.mps_format.specs.declared.pool.Policy.{Policy}
 
 -- the abstract collector after an object was kept in a world
 abbrev pub kept_in : Collecting → Id → World → Collecting

@@ -15,7 +15,7 @@ use Rattle.mps_trace.specs.Trace.{Traced}
 use Rattle.mps_trace.specs.Scan.{FixesCell, CanFixCellAt}
 use Rattle.mps_trace_laws.specs.Tracing.{TracingStands}
 use Rattle.mps_trace_laws.specs.Steps.{IsSameGraph}
-use Rattle.mps_trace.specs.declared.trace.Policy.{Policy}
+use Rattle.mps_format.specs.declared.pool.Policy.{Policy}
 
 -- a live object that isn't white has a reference in a cell, to null or to a live object
 pub record HoldsReference (y : Collecting) (holder i : ℕ) (at : Address) (o : Object) (target : Option Id) (tag : ℕ) : Type 0 where

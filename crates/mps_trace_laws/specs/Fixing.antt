@@ -13,7 +13,7 @@ use Rattle.mps_image.specs.Fixing.{FixAt, Target, IsFixedAt}
 use Rattle.mps_image.specs.Scanning.{HoldsMore}
 use Rattle.mps_trace.specs.Trace.{Traced, CanFixAt, FixesTo}
 use Rattle.mps_trace_laws.specs.Tracing.{AreHeld, HasTables, setting_of, TracingStands}
-use Rattle.mps_trace.specs.declared.trace.Policy.{Policy}
+use Rattle.mps_format.specs.declared.pool.Policy.{Policy}
 
 -- segments hold what they held, and as much of it is condemned
 pub record Grows (s s' : SegsState) : Type 0 where

@@ -19,7 +19,7 @@ use Rattle.mps_image.specs.Image.{CellSet}
 use Rattle.mps_trace.specs.Scan.{ScansOne}
 use Rattle.mps_trace.specs.Trace.{Traced, FixesTo}
 use Rattle.mps_trace_laws.specs.Tracing.{TracingStands}
-use Rattle.mps_trace.specs.declared.trace.Policy.{Policy}
+use Rattle.mps_format.specs.declared.pool.Policy.{Policy}
 
 -- ---- objects
 

@@ -20,7 +20,7 @@ use Rattle.mps_seg.specs.Segs.{SegsState}
 use Rattle.mps_base.specs.Trail.{Moves}
 use Rattle.mps_trace_laws.specs.Tracing.{TracingStands}
 use Rattle.mps_trace_laws.specs.Steps.{IsSameGraph}
-use Rattle.mps_trace.specs.declared.trace.Policy.{Policy}
+use Rattle.mps_format.specs.declared.pool.Policy.{Policy}
 
 -- the cells of an object before one of them are fixed too
 abbrev pub with_cells : CellSet → (id before : ℕ) → CellSet

@@ -14,7 +14,7 @@ use Rattle.mps_image.specs.Image.{CellSet, AreShaped}
 use Rattle.mps_image.specs.Fixing.{FixesOne, Target}
 use Rattle.mps_trace.specs.Trace.{Traced, FixesTo}
 use Rattle.mps_trace_laws.specs.Tracing.{setting_of, TracingStands}
-use Rattle.mps_trace.specs.declared.trace.Policy.{Policy}
+use Rattle.mps_format.specs.declared.pool.Policy.{Policy}
 
 -- what fixes leave of a world: all objects, and the pools
 pub record IsSameGraph (w w' : World) : Type 0 where

@@ -22,7 +22,7 @@ use Rattle.mps_image.specs.Memory.{Setting, LiesReserved, memory_in, setting_in,
 use Rattle.mps_image.specs.Image.{CellSet, ImageStands}
 use Rattle.mps_image.specs.AtHand.{Hand, hand_in_tails, HandsStand}
 use Rattle.mps_trace.specs.Trace.{Traced}
-use Rattle.mps_trace.specs.declared.trace.Policy.{Policy}
+use Rattle.mps_format.specs.declared.pool.Policy.{Policy}
 
 -- ---- segments
 

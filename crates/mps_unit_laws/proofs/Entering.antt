@@ -22,7 +22,7 @@ use Rattle.mps_reclaim_laws.proofs.SegmentBounds.{segment_cases, contains_no_seg
 use Rattle.mps_reclaim_laws.proofs.LastBand.{the_last_band_begins}
 use Rattle.mps_unit_laws.specs.Standing.{StandsTracing, StandsReclaiming, tracing, reclaiming, AreInArena}
 use Rattle.mps_unit_laws.specs.Laws.{TheLastBandIsEntered}
-use Rattle.mps_trace.specs.declared.trace.Policy.{Policy}
+use Rattle.mps_format.specs.declared.pool.Policy.{Policy}
 
 -- ---- segments
 

@@ -39,7 +39,7 @@ use Rattle.mps_unit_laws.specs.Laws.{HasSegmentsOf, IsTracedUnitDone, AReclaimIs
 use Rattle.mps_trace_laws.specs.Tracing.{moves_left}
 use Rattle.mps_unit_laws.proofs.Entering.{the_last_band_is_entered}
 use Rattle.mps_unit_laws.proofs.RoomLeft.{moves_left_after, spare_after}
-use Rattle.mps_trace.specs.declared.trace.Policy.{Policy}
+use Rattle.mps_format.specs.declared.pool.Policy.{Policy}
 
 -- ---- what a reclaim leaves of segments
 

@@ -17,7 +17,7 @@ use Rattle.mps_trace.specs.declared.running.Running.{Running as RunningState}
 use Rattle.mps_unit_laws.specs.Standing.{UnitStands}
 use Rattle.mps_unit_laws.specs.Laws.{HasSegmentsOf, AreScansDone, IsTracedUnitDone, AreTracedUnitsDone, UnitsAreDone, TheEndIsDone, TracedUnitsRunOut}
 use Rattle.mps_unit_laws.proofs.Reclaiming.{a_reclaim_is_done, the_last_unit_is_done}
-use Rattle.mps_trace.specs.declared.trace.Policy.{Policy}
+use Rattle.mps_format.specs.declared.pool.Policy.{Policy}
 
 module _ {F : Type 0} (layout : F → Layout) (formats : List (Option (Policy F))) (of : ChainsState) (at_flip : List (Option Address))
     (scanning : AreScansDone layout formats of at_flip) where

@@ -41,7 +41,7 @@ use Rattle.mps_reclaim_laws.proofs.HeldSegments.{found_at, found_held, same_base
 use Rattle.mps_unit_laws.proofs.Entering.{held_in_order}
 use Rattle.mps_unit_laws.specs.Standing.{AreCondemnedUnreserved, StandsTracing, UnitStands, IsMoving, tracing, reclaiming}
 use Rattle.mps_unit_laws.specs.Laws.{ScansAreDone, ScansAreReady, IsTracedUnitDone}
-use Rattle.mps_trace.specs.declared.trace.Policy.{Policy}
+use Rattle.mps_format.specs.declared.pool.Policy.{Policy}
 
 -- ---- what fixes leave of a world
 

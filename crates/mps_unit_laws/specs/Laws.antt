@@ -19,7 +19,7 @@ use Rattle.mps_trace.specs.Unit.{ReclaimsNext, LastUnitTo, UnitsTo, EndsWithin, 
 use Rattle.mps_trace.specs.declared.running.Running.{Running as RunningState}
 use Rattle.mps_trace_laws.specs.Tracing.{AreSegmentsOf}
 use Rattle.mps_unit_laws.specs.Standing.{StandsReclaiming, UnitStands}
-use Rattle.mps_trace.specs.declared.trace.Policy.{Policy}
+use Rattle.mps_format.specs.declared.pool.Policy.{Policy}
 
 -- the segments are those of this world
 abbrev pub HasSegmentsOf : SegsState → World → Type 0

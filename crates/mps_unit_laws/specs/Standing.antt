@@ -19,7 +19,7 @@ use Rattle.mps_trace_laws.specs.Housed.{AreAllExact, AreHoused, HasNoWeakMark}
 use Rattle.mps_trace_laws.specs.Tracing.{AreKnownPools, AreSegmentsOf, TracingStands, moves_left}
 use Rattle.mps_reclaim_laws.specs.Left.{IsUnreserved}
 use Rattle.mps_reclaim_laws.specs.Units.{FreesFor}
-use Rattle.mps_trace.specs.declared.trace.Policy.{Policy}
+use Rattle.mps_format.specs.declared.pool.Policy.{Policy}
 
 -- what units leave as it is of a world: its objects, its pools, and that none is weak
 pub record IsMoving {F : Type 0} (layout : F → Layout) (formats : List (Option (Policy F))) (of : ChainsState) (w : World) : Type 0 where

@@ -9,12 +9,11 @@ ghost use Rattle.mps_outcome.specs.Allocating.{check_reserve, reserved, block_he
 use super::State;
 use mps_base::{Name, Refusal, Slot, Trail};
 use mps_buffer::{Held, Point};
-use mps_cells::{
-    number_cell_at, reference_cell_at, reservation_of, takes_head, with_target, write_word,
+use mps_format::{Format, format_of_pool};
+use mps_outcome::{
+    Block, Committed, Reserving, number_cell_at, reference_cell_at, reservation_of, takes_head,
+    with_target, write_word,
 };
-use mps_format::Format;
-use mps_outcome::{Block, Committed, Reserving};
-use mps_pools::format_of_pool;
 
 impl<F: Format> State<F> {
     /// The point at which a block is to be reserved, and the size of the block.

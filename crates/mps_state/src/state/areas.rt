@@ -6,9 +6,8 @@ ghost use Rattle.mps_outcome.specs.Areas.{block_over, lies_in_object, is_of_pool
 
 use super::State;
 use mps_base::{Addr, Refusal, Slot};
-use mps_cells::{block_over, is_of_pool};
 use mps_format::Format;
-use mps_outcome::Entry;
+use mps_outcome::{Entry, block_over, is_of_pool};
 use mps_root::Stored;
 
 impl<F: Format> State<F> {

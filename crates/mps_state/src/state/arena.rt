@@ -1,16 +1,15 @@
 // The calls on the arena.
 ghost use Rattle.std.specs.Prelude.{◌≡◌, length, false, MatchResult};
 ghost use Rattle.mps_base.specs.Run.{total};
-ghost use Rattle.mps_outcome.specs.declared.pool.ArenaState.TheVariants as arena;
+ghost use Rattle.mps_outcome.specs.declared.arena.ArenaState.TheVariants as arena;
 ghost use Rattle.mps_outcome.specs.Coming.{Comes};
 ghost use Rattle.mps_outcome.specs.Manual.{is_block_over};
 ghost use Rattle.mps_outcome.specs.Arena.{held_grains, limit_set, with_arena, BlockBegins};
 
 use super::State;
 use mps_base::{Addr, Refusal};
-use mps_cells::begins_block;
 use mps_format::Format;
-use mps_outcome::ArenaState;
+use mps_outcome::{ArenaState, begins_block};
 
 impl<F: Format> State<F> {
     /// Sets the commit limit, in grains. Refuses `BelowCommitted` where more grains than that are held.

@@ -9,7 +9,7 @@ use super::State;
 use mps_base::Trail;
 use mps_format::Format;
 use mps_outcome::ArenaState;
-use mps_pools::most_moves;
+use mps_trace::most_moves;
 
 /// The most flips that a heap counts.
 const MAX_FLIPS: u64 = 1 << 63;

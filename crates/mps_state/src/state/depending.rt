@@ -7,11 +7,10 @@ ghost use Rattle.mps_outcome.specs.Depending.{with_dependency, dependency_reset,
 
 use super::State;
 use mps_base::{Addr, Name, Refusal, Slot};
-use mps_cells::item;
 use mps_format::Format;
 use mps_ld::Ld;
 use mps_names::Thing;
-use mps_outcome::Kept;
+use mps_outcome::{Kept, item};
 
 impl<F: Format> State<F> {
     /// The dependency that has a name.

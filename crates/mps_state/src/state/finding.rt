@@ -9,11 +9,9 @@ ghost use Rattle.mps_outcome.specs.Finding.{pool_named, point_named, slot_in, wo
 use super::State;
 use mps_base::{Addr, Name, Refusal, Slot};
 use mps_buffer::Point;
-use mps_cells::{item, pool_of_segment};
-use mps_format::Format;
+use mps_format::{Format, Pool, format_of_pool};
 use mps_names::Thing;
-use mps_outcome::{Block, Entry, Kept, Pool};
-use mps_pools::format_of_pool;
+use mps_outcome::{Block, Entry, Kept, item, pool_of_segment};
 use mps_root::Stored;
 
 impl<F: Format> State<F> {

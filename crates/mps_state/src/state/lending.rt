@@ -6,10 +6,9 @@ ghost use Rattle.mps_state.specs.Lending.{block_named, leaf_named, IsBlockBorrow
 
 use super::State;
 use mps_base::{Addr, Refusal, Slot};
-use mps_cells::begins_block;
-use mps_format::Format;
+use mps_format::{Format, is_leaf};
 use mps_manual::Manual;
-use mps_pools::is_leaf;
+use mps_outcome::begins_block;
 
 impl<F: Format> State<F> {
     /// The address of the manual block in a place.

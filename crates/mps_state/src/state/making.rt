@@ -3,18 +3,16 @@ ghost use Rattle.std.specs.Prelude.{◌≡◌, ◌+◌, ◌<◌, ◌≤◌, None
 ghost use Rattle.std.specs.Option.{option_map_or};
 ghost use Rattle.mps_names.specs.State.{thing_named, Updates};
 ghost use Rattle.mps_names.specs.declared.names.Thing.TheVariants as thing;
-ghost use Rattle.mps_outcome.specs.declared.pool.Pool.TheVariants as kind_of_pool;
+ghost use Rattle.mps_format.specs.declared.pool.Pool.TheVariants as kind_of_pool;
 ghost use Rattle.mps_outcome.specs.Making.{IsUntouched, IsMaking, IsDropping, check_root, with_root, MakesTable, MakesArea, MakesBlocks, roots_without, root_dropped, point_dropped, passed, check_point, MakesPoint, MakesPointIn, check_pool, check_pool_of_size, MakesPool, check_dependency, MakesDependency};
 ghost use Rattle.mps_state.specs.Made.{IsMade};
 
 use super::State;
 use mps_base::{Kind, Name, Rank, Refusal};
-use mps_cells::refuse_at_limit;
-use mps_format::Format;
+use mps_format::{Format, Pool, is_copying};
 use mps_ld::Ld;
 use mps_names::Thing;
-use mps_outcome::{Kept, Pool};
-use mps_pools::{is_copying, may_have_point};
+use mps_outcome::{Kept, may_have_point, refuse_at_limit};
 
 /// How many roots, slots of all roots together, points, pools and dependencies there may be.
 const MAX_ROOTS: u32 = 256;

@@ -8,10 +8,8 @@ ghost use Rattle.mps_state.specs.Placed.{allocated_into, freed_at};
 
 use super::State;
 use mps_base::{Addr, BYTES_OF_WORD, Name, Refusal, Slot, Trail};
-use mps_cells::{begins_block, is_block_over, pool_of_segment, write_word};
-use mps_format::Format;
-use mps_outcome::Entry;
-use mps_pools::is_automatic;
+use mps_format::{Format, is_automatic};
+use mps_outcome::{Entry, begins_block, is_block_over, pool_of_segment, write_word};
 
 /// The most words that a block may have.
 const MAX_BLOCK_WORDS: u64 = 65_536;

@@ -6,9 +6,8 @@ ghost use Rattle.mps_outcome.specs.Objects.{with_slot, copied, cleared, are_same
 
 use super::State;
 use mps_base::{Refusal, Slot};
-use mps_cells::{number_cell_at, reference_cell_at, with_target, write_word};
 use mps_format::Format;
-use mps_outcome::Entry;
+use mps_outcome::{Entry, number_cell_at, reference_cell_at, with_target, write_word};
 
 impl<F: Format> State<F> {
     /// Writes a slot that was found.

@@ -6,7 +6,7 @@ use Rattle.mps_amc.specs.Amc.{HasTail, tail_of, FixesAt}
 use Rattle.mps_trace.specs.Trace.{TraceState, Traced, traced, FixesTo, passes, fixes, marks, target_of}
 use Rattle.mps_trace.proofs.Fixed.{fixed_aligned, fixed_long}
 use Rattle.mps_trace.proofs.Known.{not_true, not_false, same_format, format_read, keep_there, pool_within, listed_is, target_is}
-use Rattle.mps_trace.specs.declared.trace.Policy.{Policy}
+use Rattle.mps_format.specs.declared.pool.Policy.{Policy}
 use Rattle.mps_trace.proofs.trace.Trace.fix.Goals as goal
 
 pub returns-in_default-clause-fixed : goal.returns-in_default-clause-fixed

@@ -3,7 +3,7 @@ use Rattle.mps_amc.specs.Reclaiming.{IsReclaimed}
 use Rattle.mps_amc.proofs.Found.{over_is_there}
 use Rattle.mps_trace.specs.Trace.{TraceState}
 use Rattle.mps_trace.proofs.Known.{format_at, within_at, same_format}
-use Rattle.mps_trace.specs.declared.trace.Policy.{Policy}
+use Rattle.mps_format.specs.declared.pool.Policy.{Policy}
 use Rattle.mps_trace.proofs.trace.Trace.reclaim.Goals as goal
 
 pub segment-pool-requires : goal.segment-pool-requires

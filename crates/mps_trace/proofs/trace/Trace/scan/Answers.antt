@@ -5,7 +5,7 @@ use Rattle.mps_seg.specs.Segs.{SegsState}
 use Rattle.mps_trace.specs.Trace.{TraceState, Traced, traced}
 use Rattle.mps_trace.specs.Scan.{AreReadyIn, ScansAll}
 use Rattle.mps_trace.proofs.Known.{format_is}
-use Rattle.mps_trace.specs.declared.trace.Policy.{Policy}
+use Rattle.mps_format.specs.declared.pool.Policy.{Policy}
 use Rattle.mps_trace.proofs.trace.Trace.scan.Goals as goal
 
 pub fix_cells-requires-clause-ready : goal.fix_cells-requires-clause-ready

@@ -1,8 +1,0 @@
-//! A heap's pools, as its calls, its manual blocks and its collector know them.
-#![tactic(auto)]
-
-mod kinds;
-mod pools;
-
-pub use kinds::{format_of_pool, is_automatic, is_copying, is_leaf, may_have_point};
-pub use pools::{Pools, most_moves};

@@ -1,0 +1,41 @@
+-- A collection of what the collector knows of the pools is one of the pools.
+use Rattle.std.proofs.Common.{ℕ, ◌≡◌, ◌∙◌, List, Option, map, ap, subst}
+use Rattle.mps_base.specs.Trail.{Moves}
+use Rattle.mps_buffer.specs.Points.{PointsState}
+use Rattle.mps_final.specs.State.{FinalsState}
+use Rattle.mps_format.specs.Layout.{Layout}
+use Rattle.mps_root.specs.State.{RootsState}
+use Rattle.mps_seg.specs.Segs.{SegsState}
+use Rattle.mps_ld.specs.State.{EpochsState}
+use Rattle.mps_ld.specs.State as ld
+use Rattle.mps_format.specs.declared.pool.Policy.{Policy}
+use Rattle.mps_trace.specs.Flip.{automatic_of, zones_of}
+use Rattle.mps_trace.specs.Collect.{CanCollect, Collects}
+use Rattle.mps_trace.specs.Trace.{TraceState, traced}
+use Rattle.mps_trace.specs.PoolsCollecting.{IsTraceOf}
+use Rattle.mps_format.specs.Pools.{policy_of_pool}
+use Rattle.mps_trace.specs.PoolsCollecting.{CanCollectPools, ArePoolsCollected}
+use Rattle.mps_trace.specs.PoolsInside.{IsSoundTrace}
+use Rattle.mps_trace.specs.Pools.{PoolsState}
+use Rattle.mps_trace.proofs.PoolsSound.{is_trace}
+
+-- the pools are seen in two ways
+module _ {F : Type 0} (layout : F → Layout) (seen value : PoolsState F) (is : seen ≡ value) (t : TraceState F)
+    (sound : IsSoundTrace seen.pools t) (points : PointsState) (roots : RootsState) (finals : FinalsState) (s : SegsState) (m : Moves)
+    (most : ℕ) where
+  known : IsTraceOf value.pools t
+  known = let P : PoolsState F → Type 0 = λ v. IsTraceOf v.pools t in subst P is (is_trace seen.pools t sound)
+
+  pub can_trace : CanCollectPools layout value.pools points roots finals s m most → CanCollect layout t points roots finals s m most
+  can_trace can = can t known
+
+  pub are_collected : (roots' : RootsState) (finals' : FinalsState) (t' : TraceState F) (s' : SegsState) (m' : Moves)
+      → Collects layout t.formats t.chains points roots finals (traced t s m) most roots' finals' (traced t' s' m')
+      → ArePoolsCollected layout value.pools points roots finals s m most roots' finals' s' m'
+  are_collected roots' finals' t' s' m' collects = record { before = t; after = t'; of_pools = known; collects = collects }
+
+  -- the zones of the segments of automatic pools are flipped
+  pub are_flipped : (epochs epochs' : EpochsState) → epochs' ≡ ld.flipped epochs (zones_of (automatic_of t.formats s.segments))
+      → epochs' ≡ ld.flipped epochs (zones_of (automatic_of (map policy_of_pool value.pools) s.segments))
+  are_flipped epochs epochs' is =
+      is ∙ ap (λ (formats : List (Option (Policy F))). ld.flipped epochs (zones_of (automatic_of formats s.segments))) known.formats

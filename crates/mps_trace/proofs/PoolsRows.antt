@@ -1,0 +1,112 @@
+-- A collection leaves each pool as many generations with words at hand as it had.
+use Rattle.std.proofs.Common.{ℕ, ◌≡◌, ◌∙◌, Option, List, [], ◌∷◌, length, map, refl, ap}
+use Rattle.std.proofs.Math.Seq.{map-set_same}
+use Rattle.std.proofs.lemmas.List.{length-set, length-replicate}
+use Rattle.std.specs.Prelude.{slice_set}
+use Rattle.mps_base.specs.Address.{Address}
+use Rattle.mps_base.specs.Trail.{Moves}
+use Rattle.mps_base.specs.declared.address.Addr.{Addr}
+use Rattle.mps_seg.specs.declared.buffer.Buffer.{Buffer}
+use Rattle.mps_buffer.specs.Points.{PointsState}
+use Rattle.mps_seg.specs.Buffer.{empty_buffer}
+use Rattle.mps_final.specs.State.{FinalsState}
+use Rattle.mps_format.specs.Layout.{Layout}
+use Rattle.mps_gen.specs.State.{ChainsState}
+use Rattle.mps_root.specs.State.{RootsState}
+use Rattle.mps_seg.specs.Segs.{SegsState}
+use Rattle.mps_amc.specs.Amc.{AmcState, FixesAt, forwards, is_kept, keeps, emptied_row, tails_of, with_tail}
+use Rattle.mps_trace.specs.Trace.{Traced, FixesTo, passes, fixes, marks}
+use Rattle.mps_trace.specs.Scan as scan
+use Rattle.mps_trace.specs.Roots as roots
+use Rattle.mps_trace.specs.Unit as units
+use Rattle.mps_trace.specs.Collect.{Collects, at_once, in_units}
+use Rattle.mps_trace.specs.declared.running.Running.{Running}
+use Rattle.mps_trace.specs.PoolsInside.{rows_of}
+use Rattle.mps_format.specs.declared.pool.Policy.{Policy}
+
+tail_written : (amc : AmcState) (pool generation : ℕ) (tail : Buffer) → rows_of (with_tail amc pool generation tail) ≡ rows_of amc
+tail_written amc pool generation tail =
+    map-set_same length amc.tails pool (slice_set (tails_of amc pool) generation tail) []
+    (length-set (tails_of amc pool) generation tail)
+
+emptied : (rows : List (List Buffer)) → map length (map emptied_row rows) ≡ map length rows
+emptied [] = refl
+emptied (row ∷ rows) =
+    ap (λ n. n ∷ map length (map emptied_row rows)) (length-replicate (length row) empty_buffer)
+    ∙ ap (λ ns. length row ∷ ns) (emptied rows)
+
+fixed_at : {f : Layout} {amc amc' : AmcState} {s s' : SegsState} {m m' : Moves} {at answer : Addr} {generation : ℕ}
+    → FixesAt f amc s m at generation amc' s' m' answer → rows_of amc' ≡ rows_of amc
+fixed_at (forwards to is) = refl
+fixed_at (is_kept unforwarded kept) = refl
+fixed_at {amc = amc} {generation = generation} (keeps t answer unforwarded kept over fixed) =
+    ap rows_of fixed.tails ∙ tail_written amc t.pool generation _
+
+module _ {F : Type 0} (layout : F → Layout) (formats : List (Option (Policy F))) (chains : ChainsState) where
+  fixed : {x y : Traced} {at answer : Addr} → FixesTo layout formats chains x at y answer → rows_of y.amc ≡ rows_of x.amc
+  fixed (passes calm) = refl
+  fixed (fixes t format answer condemned over listed moves is) = fixed_at is
+  fixed {x} (marks t format condemned over listed stays is) = ap (λ (w : Traced). rows_of w.amc) is
+
+  -- ---- references of blocks
+
+  in_cell : {f : Layout} {at : Addr} {cell : ℕ} {x z : Traced} → scan.FixesCell layout f formats chains at cell x z
+      → rows_of z.amc ≡ rows_of x.amc
+  in_cell (scan.is_null null) = refl
+  in_cell (scan.leads to some one is) = ap (λ (w : Traced). rows_of w.amc) is ∙ fixed one
+
+  in_cells : {f : Layout} {head : ℕ} {at : Addr} {x : Traced} {from : ℕ} {y : Traced}
+      → scan.ScansTo layout f formats chains head at x from y
+      → rows_of y.amc ≡ rows_of x.amc
+  in_cells scan.begins = refl
+  in_cells (scan.goes_on from cell before first one) = in_cell one ∙ in_cells before
+
+  scanned : {x z : Traced} {at : Addr} → scan.Scanned layout formats chains x at z → rows_of z.amc ≡ rows_of x.amc
+  scanned s = ap (λ (w : Traced). rows_of w.amc) s.black ∙ in_cells s.all.run
+
+  -- ---- slots and messages
+
+  in_root : {x y : Traced} {at answer : Address} → roots.FixesRoot layout formats chains x at y answer → rows_of y.amc ≡ rows_of x.amc
+  in_root (roots.is_null null) = refl
+  in_root (roots.leads to some one) = fixed one
+
+  in_slots : {key : ℕ} {r : RootsState} {x : Traced} {count : ℕ} {r' : RootsState} {y : Traced}
+      → roots.FixesSlots layout formats chains key r x count r' y
+      → rows_of y.amc ≡ rows_of x.amc
+  in_slots roots.begins = refl
+  in_slots (roots.goes_on count at before root is) = in_root root ∙ in_slots before
+
+  in_tables : {r : RootsState} {x : Traced} {count : ℕ} {r' : RootsState} {y : Traced}
+      → roots.FixesTables layout formats chains r x count r' y
+      → rows_of y.amc ≡ rows_of x.amc
+  in_tables roots.begins = refl
+  in_tables (roots.goes_on count before table) = in_slots table ∙ in_tables before
+
+  in_messages : {f : FinalsState} {x : Traced} {count : ℕ} {f' : FinalsState} {y : Traced}
+      → roots.FixesMessages layout formats chains f x count f' y
+      → rows_of y.amc ≡ rows_of x.amc
+  in_messages roots.begins = refl
+  in_messages (roots.goes_on count at before root is) = in_root root ∙ in_messages before
+
+  -- ---- units
+
+  in_unit : {x y : Traced} {run run' : Running} → units.UnitTo layout formats chains x run y run' → rows_of y.amc ≡ rows_of x.amc
+  in_unit (units.scans one) = scanned one.scanned
+  in_unit (units.reclaims base left next others is) = ap rows_of next.at_hand
+
+  in_last : {x z : Traced} {run : Running} → units.LastUnitTo layout formats x run z → rows_of z.amc ≡ rows_of x.amc
+  in_last last = ap (λ (w : Traced). rows_of w.amc) last.over ∙ ap rows_of last.reclaimed.at_hand
+
+  in_units_to : {x : Traced} {run : Running} {count : ℕ} {y : Traced} {run' : Running}
+      → units.UnitsTo layout formats chains x run count y run'
+      → rows_of y.amc ≡ rows_of x.amc
+  in_units_to units.begins = refl
+  in_units_to (units.goes_on count before one) = in_unit one ∙ in_units_to before
+
+  -- ---- a whole collection
+
+  pub collected : {points : PointsState} {r r' : RootsState} {f f' : FinalsState} {x z : Traced} {most : ℕ}
+      → Collects layout formats chains points r f x most r' f' z → rows_of z.amc ≡ rows_of x.amc
+  collected {x = x} (at_once ends) = ap (λ (w : Traced). rows_of w.amc) ends.over ∙ emptied x.amc.tails
+  collected {x = x} (in_units run begins ends) =
+      in_last ends.last ∙ in_units_to ends.units ∙ in_messages begins.messages ∙ in_tables begins.slots ∙ emptied x.amc.tails

@@ -1,0 +1,145 @@
+// The pools of a heap.
+#![tactic(auto)]
+
+ghost use Rattle.std.specs.Prelude.{◌≡◌, ◌^◌, ◌<◌, ◌≤◌, length, map, slice_get, MatchResult};
+ghost use Rattle.std.specs.List.{list_all};
+ghost use Rattle.mps_base.specs.Address.{max_grains};
+ghost use Rattle.mps_buffer.specs.Points as buffer;
+ghost use Rattle.mps_gen.specs.State.{max_pools};
+ghost use Rattle.mps_ld.specs.State as ld;
+ghost use Rattle.mps_format.specs.Pools.{is_moved_or_manual, policy_of_pool};
+ghost use Rattle.mps_trace.specs.Collect.{most_moves};
+ghost use Rattle.mps_trace.specs.Flip.{automatic_of, zones_of};
+ghost use Rattle.mps_trace.specs.PoolsCollecting.{CanCollectPools, ArePoolsCollected};
+ghost use Rattle.mps_trace.specs.Pools.{none_made, with_one_more};
+
+use crate::Trace;
+use mps_base::{Trail, WORDS_OF_GRAIN};
+use mps_buffer::OpenPoints;
+use mps_final::Finals;
+use mps_format::{Format, Pool, is_moved_or_manual, policy_of_pool, size_of_pool};
+use mps_ld::Epochs;
+use mps_manual::Manual;
+use mps_root::Roots;
+use mps_seg::Segs;
+use std::alloc::{AllocError, Global};
+use std::marker::Model;
+
+/// The pools of a heap by their numbers, the sizes of their manual blocks, and what its collector knows of them.
+#[derive(Drop)]
+pub struct Pools<F: Format> {
+    pools: Vec<Pool<F>>,
+    manual: Manual,
+    trace: Trace<F>,
+}
+
+impl<F: Format> Model for Pools<F> {
+    ghost use Rattle.mps_trace.specs.PoolsInside.{IsSoundTrace};
+    ghost use Rattle.mps_trace.specs.Pools.{PoolsState};
+
+    ghost Value = { PoolsState F };
+
+    ghost view = { λ p. record { pools = p.pools.items; sizes = p.manual } };
+
+    ghost invariant = { λ p. IsSoundTrace p.pools.items p.trace };
+}
+
+impl<F: Format> Pools<F> {
+    /// No pools. Takes no memory.
+    pub fn new(alloc: Global) -> Pools<F>
+        ensures { result ≡ none_made }
+    {
+        Pools {
+            pools: Vec::new(alloc),
+            manual: Manual::new(alloc),
+            trace: Trace::new(alloc),
+        }
+    }
+
+    /// How many pools there are.
+    pub fn count(&self) -> usize
+        ensures { result ≡ length self.now.pools }
+    {
+        self.pools.len()
+    }
+
+    /// The pool with a number, where there is one.
+    #[inline(always)]
+    pub fn get(&self, number: u32) -> Option<Pool<F>>
+        ensures { result ≡ slice_get self.now.pools number }
+    {
+        self.pools.get(number as usize).copied()
+    }
+
+    /// The sizes of manual blocks, by the number of the pool.
+    pub fn manual(&self) -> &Manual
+        ensures { result.now ≡ self.now.sizes }
+    {
+        &self.manual
+    }
+
+    /// Makes one pool more.
+    pub fn add(&mut self, pool: Pool<F>) -> Result<(), AllocError>
+        requires { length self.old.pools < max_pools }
+        ensures state { MatchResult result (λ _. self.new ≡ with_one_more self.old pool) (λ _. self.new ≡ self.old) }
+    {
+        let alloc = *self.pools.allocator();
+        self.pools.reserve(1)?;
+        self.manual.add(size_of_pool(pool))?;
+        if let Err(error) = self.trace.add_pool(alloc, policy_of_pool(pool)) {
+            self.manual.remove_last();
+            return Err(error);
+        }
+        let Ok(()) = self.pools.push(pool) else {
+            unreachable!()
+        };
+        Ok(())
+    }
+
+    /// Whether a collection moves the blocks of each automatic pool.
+    pub fn are_moved(&self) -> bool
+        ensures { result ≡ list_all is_moved_or_manual self.now.pools }
+    {
+        are_moved(&self.pools)
+    }
+
+    /// Collects everything, from the flip to the end, within `most` units.
+    pub fn collect(
+        &mut self,
+        segs: &mut Segs,
+        trail: &mut Trail,
+        roots: &mut Roots,
+        points: &mut OpenPoints,
+        finals: &mut Finals,
+        epochs: &mut Epochs,
+        most: u64,
+    )
+        requires few_flips { points.old.flips < 2 ^ 63 }
+        requires few_epochs { epochs.old.count < 2 ^ 63 }
+        requires can { CanCollectPools F.layout self.old.pools points.old roots.old finals.old segs.old trail.old most }
+        ensures unchanged { self.new ≡ self.old }
+        ensures collected { ArePoolsCollected F.layout self.old.pools points.old roots.old finals.old segs.old trail.old most
+            roots.new finals.new segs.new trail.new }
+        ensures points { points.new ≡ buffer.flipped points.old }
+        ensures epochs { epochs.new
+            ≡ ld.flipped epochs.old (zones_of (automatic_of (map policy_of_pool self.old.pools) segs.old.segments)) }
+    {
+        self.trace
+            .collect(segs, trail, roots, points, finals, epochs, most);
+    }
+}
+
+/// Whether a collection moves the blocks of each automatic one of these pools.
+fn are_moved<F: Format>(pools: &[Pool<F>]) -> bool
+    ensures { result ≡ list_all is_moved_or_manual pools.now }
+{
+    pools.iter().all(|pool| is_moved_or_manual(*pool))
+}
+
+/// The most moves, and the most units, of a collection of everything in an arena of these grains.
+pub fn most_moves(grains: u32) -> u32
+    requires at_most { grains ≤ max_grains }
+    ensures value { result ≡ most_moves grains }
+{
+    2 * (WORDS_OF_GRAIN as u32 * (grains + 1)) + grains + 4
+}
