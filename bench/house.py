@@ -1,5 +1,6 @@
 #!/usr/bin/env python3
-"""Measures how the tree is kept: long functions, files and lines, notions that are defined twice, and code that stands twice.
+"""Measures how the tree is kept: the longest chain of crates, long functions, files and lines, notions that are defined twice, and
+code that stands twice.
 
 Run it anywhere in the repository. It prints a line for each finding and a count for each kind, and changes nothing.
 """
@@ -81,6 +82,34 @@ def shared_runs(texts):
                 yield path, rows[path][at][0], other, rows[other][there][0], count
 
 
+def listed():
+    """The crates of crates.txt, each with those of them that it lists."""
+    rows = [row.split("#")[0] for row in (HOME / "crates.txt").read_text().splitlines()]
+    crates = {row.split(":")[0].split()[0]: row.split(":")[1].split() for row in rows if ":" in row}
+    return {name: [low for low in lows if low in crates] for name, lows in crates.items()}
+
+
+def named_by_code(crates, texts):
+    """The same, but each with those alone that a line of its products names."""
+    named = collections.defaultdict(set)
+    for path, rows in texts.items():
+        if is_product(path):
+            named[path.parts[1]].update(re.findall(r"^(?:pub )?use (mps_\w+)::", "\n".join(rows), re.M))
+    return {name: [low for low in lows if low in named[name]] for name, lows in crates.items()}
+
+
+def longest_chain(crates):
+    """The most crates of which each stands on the one before it."""
+    chains = {}
+
+    def chain_to(name):
+        if name not in chains:
+            chains[name] = max((chain_to(low) for low in crates[name]), key=len, default=[]) + [name]
+        return chains[name]
+
+    return max((chain_to(name) for name in crates), key=len, default=[])
+
+
 def report(title, findings):
     print(f"{title}: {len(findings)}")
     for finding in findings:
@@ -89,6 +118,10 @@ def report(title, findings):
 
 def main():
     texts = {path: (HOME / path).read_text().splitlines() for path in sources()}
+    crates = listed()
+    print(f"crates: {len(crates)}")
+    report("longest chain", longest_chain(crates))
+    report("longest chain by code", longest_chain(named_by_code(crates, texts)))
     report(f"functions of products over {MAX_FUNCTION} lines",
            [f"{path}: {name}, {count}" for path, rows in texts.items() if is_product(path)
             for name, count in functions(path, rows) if count > MAX_FUNCTION])
