@@ -114,7 +114,7 @@ impl Frames {
     /// Takes the last block of a pool that was made since a frame was opened. Where there is none, closes that frame and those above.
     pub fn pop(&mut self, pool: u32, frame: u32) -> Option<Block>
         requires there { IsSome (pool_at self.old pool) }
-        requires open { frame < length (state_of self.old pool).frames }
+        requires opened { frame < length (state_of self.old pool).frames }
         ensures { MatchOption result
             ((length (state_of self.old pool).blocks ≤ opened_at (state_of self.old pool) frame)
             × (self.new ≡ with_pool self.old pool (with_frames (state_of self.old pool) (take frame (state_of self.old pool).frames))))

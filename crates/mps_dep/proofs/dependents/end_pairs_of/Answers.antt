@@ -1,0 +1,7 @@
+use Rattle.std.proofs.Common.{not, rules}
+use Rattle.std.proofs.lemmas.Fn.{filter_same}
+use Rattle.mps_dep.specs.State.{is_of}
+use Rattle.mps_dep.proofs.dependents.end_pairs_of.Goals as goal
+
+pub returns-clause-items : goal.returns-clause-items
+returns-clause-items c = filter_same _ (λ p. not (is_of c.args.holder.0 p)) _ (λ x b f' k. search rules) _ _ c.retain.ensures.filtered
