@@ -1,6 +1,7 @@
 // Printing the live blocks.
 
 ghost use Rattle.std.specs.Prelude.{◌≡◌, ◌≤◌, ◌+◌, ◌++◌, [], length, map, IfOk, OnOk, OnErr};
+ghost use Rattle.mps_desk.specs.Desk.{NothingWaits};
 ghost use Rattle.mps_report.specs.Streams.{Prints, PrintsPart, Gathers};
 ghost use Rattle.mps_blocks.specs.Entries.{store_of, block_of};
 ghost use Rattle.mps_blocks.specs.Listing.{block_line, listing};
@@ -32,6 +33,7 @@ pub(crate) fn print_listing<D: Desk>(
     requires { output.old ≡ [] }
     ensures printed { OnOk result (Prints (D.outside desk.old) (D.outside desk.new) (listing (map block_of blocks.now))) }
     ensures part { OnErr result (PrintsPart (D.outside desk.old) (D.outside desk.new) (listing (map block_of blocks.now))) }
+    ensures written { OnOk result (NothingWaits (D.outside desk.new)) }
 {
     gather_blocks(blocks, output, desk)?;
     output.flush(desk)

@@ -1,7 +1,8 @@
--- What `gen` asks for by name: nothing.
-use Rattle.std.proofs.Common.{◌≡◌, ◌⊎◌, ℕ, List, ◌∙◌, inl, inr}
+-- What `gen` asks for by name, which is nothing, and what of its script is written.
+use Rattle.std.proofs.Common.{◌≡◌, ◌⊎◌, ℕ, List, true, subst, ◌∙◌, inl, inr}
 use Rattle.std.specs.Prelude.{codes}
-use Rattle.mps_desk.specs.Desk.{Outside}
+use Rattle.mps_desk.specs.Desk.{Outside, NothingWaits}
+use Rattle.mps_log_reader.specs.Ending.{is_input_verdict}
 use Rattle.mps_report.specs.Streams.{Prints, Reports}
 use Rattle.mps_workload.specs.Ending.{FailsWithin}
 
@@ -11,3 +12,11 @@ pub generated_asks_nothing : (status : ℕ) (old new : Outside) (text : List ℕ
 generated_asks_nothing status old new text (inl is) whole cut memory = (whole is).others.asked
 generated_asks_nothing status old new text (inr (inl is)) whole cut memory = (cut is).reported.others.asked ∙ (cut is).part.others.asked
 generated_asks_nothing status old new text (inr (inr is)) whole cut memory = (memory is).others.asked
+
+pub generated_written : (status : ℕ) (new : Outside) → (status ≡ 0) ⊎ (status ≡ 4) ⊎ (status ≡ 8) → (status ≡ 0 → NothingWaits new)
+    → is_input_verdict status ≡ true → NothingWaits new
+generated_written status new (inl is) written verdict = written is
+generated_written status new (inr (inl is)) written verdict =
+    let wrong : is_input_verdict 4 ≡ true = subst (λ n. is_input_verdict n ≡ true) is verdict in cc
+generated_written status new (inr (inr is)) written verdict =
+    let wrong : is_input_verdict 8 ≡ true = subst (λ n. is_input_verdict n ≡ true) is verdict in cc

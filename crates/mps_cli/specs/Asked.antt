@@ -1,7 +1,7 @@
 -- What the program does, by what its words ask for. In the files of the outside a script, a log to read and a text are
 -- found by their names; `-` is standard input.
 use Rattle.std.specs.Prelude.{ℕ, ◌≡◌, ◌≢◌, ◌⊎◌, true, codes, Option, Some, None, List, [], ◌∷◌, refl}
-use Rattle.mps_desk.specs.Desk.{Outside}
+use Rattle.mps_desk.specs.Desk.{Outside, NothingWaits}
 use Rattle.mps_report.specs.declared.stop.Stop.TheVariants as stop
 use Rattle.mps_report.specs.Reports.{report_of, ReportsStatus}
 use Rattle.mps_report.specs.Streams.{Prints, Reports}
@@ -27,9 +27,10 @@ use Rattle.mps_run.specs.Run.{RunsScript}
 abbrev pub usage : List ℕ
 usage = codes "mps: usage: run, cnv, txt, blocks or gen\n"
 
--- only the line of the usage was reported, and nothing else happened
-abbrev pub ReportsUsage : (old new : Outside) → Type 0
-ReportsUsage old new = Reports old new usage
+-- the status is 2, and only the line of the usage was reported: nothing else happened
+pub record ReportsUsage (status : ℕ) (old new : Outside) : Type 0 where
+  pub status_is : status ≡ 2
+  pub reports : Reports old new usage
 
 -- `cnv`
 pub record ConvertsLog (log : List ℕ) (kinds : ℕ) (status : ℕ) (old new : Outside) : Type 0 where
@@ -96,6 +97,8 @@ pub record GeneratesScript (seed count : ℕ) (status : ℕ) (old new : Outside)
   pub asked : new.asked ≡ old.asked
   -- all of the script was printed, and nothing else happened
   pub whole : status ≡ 0 → Prints old new (generated_script seed count)
+  -- and it is written
+  pub written : status ≡ 0 → NothingWaits new
   -- a prefix of the script was printed, a write failed, and that was reported
   pub cut : status ≡ 4 → FailsWithin old new (generated_script seed count)
   -- only that there is no memory was reported
@@ -103,7 +106,7 @@ pub record GeneratesScript (seed count : ℕ) (status : ℕ) (old new : Outside)
 
 -- what is done with a status, by what the words ask for
 abbrev pub DoesAsAsked : Option Meaning → (status : ℕ) → (old new : Outside) → Type 0
-DoesAsAsked None status old new = ReportsUsage old new
+DoesAsAsked None status old new = ReportsUsage status old new
 DoesAsAsked (Some (Runs log script)) status old new = RunsScript session_built log script status old new
 DoesAsAsked (Some (Converts log kinds)) status old new = ConvertsLog log kinds status old new
 DoesAsAsked (Some (Reads text)) status old new = ReadsText text status old new
@@ -112,7 +115,10 @@ DoesAsAsked (Some (Generates seed count)) status old new = GeneratesScript seed 
 
 pub help_prints_nothing : (status : ℕ) (old new : Outside) → DoesAsAsked (meaning (codes "run" ∷ codes "--help" ∷ [])) status old new
     → new.printed ≡ old.printed
-help_prints_nothing status old new does = does.others.printed
+help_prints_nothing status old new does = does.reports.others.printed
+
+pub no_words_have_status_2 : (status : ℕ) (old new : Outside) → DoesAsAsked (meaning []) status old new → status ≡ 2
+no_words_have_status_2 status old new does = does.status_is
 
 pub a_log_by_its_name : (old new : Outside) → DoesAsAsked (meaning (codes "run" ∷ codes "-o" ∷ codes "a" ∷ codes "s" ∷ [])) 0 old new
     → IsInFile (codes "a") old new

@@ -4,19 +4,21 @@
 
 mod laws;
 mod mps;
+mod over;
 #[cfg(test)]
 mod tests;
 
-use mps::{NoWords, start};
+use mps::NoWords;
 use mps_desk::HostDesk;
+use over::start_over;
 use std::alloc::AllocError;
 use std::io::ErrorKind;
 use std::process::ExitCode;
 use std::{env, io};
 
 fn main(rt: HostRuntime) -> ExitCode {
-    let mut desk = HostDesk::new(&rt, rt.alloc());
-    ExitCode::from(start(rt.alloc(), words(&rt), &mut desk))
+    let (status, _desk) = start_over(rt.alloc(), words(&rt), HostDesk::new(&rt));
+    ExitCode::from(status)
 }
 
 /// The words of the command line after the program's name.

@@ -1,6 +1,6 @@
 // The top call.
 ghost use Rattle.std.specs.Prelude.{◌≡◌, ◌≢◌, ◌↔◌, None, Some, Err, IfOk, codes, true};
-ghost use Rattle.mps_desk.specs.Desk.{HasRisen, IsSteady};
+ghost use Rattle.mps_desk.specs.Desk.{HasRisen, IsSteady, NothingWaits};
 ghost use Rattle.mps_log_reader.specs.Ending.{is_input_verdict};
 ghost use Rattle.mps_args.specs.Runnable.{IsRunnable};
 ghost use Rattle.mps_args.specs.Seen.{meaning_of, texts};
@@ -34,6 +34,17 @@ pub fn start<D: Desk>(alloc: Global, words: Result<Vec<String>, NoWords>, desk: 
     ensures no_text { words ≡ Err NotText → DoesAsAsked None result (D.outside desk.old) (D.outside desk.new) }
     ensures no_memory { words ≡ Err OutOfMemory → Reports (D.outside desk.old) (D.outside desk.new) (codes "mps: out of memory\n") }
     ensures status { words ≡ Err OutOfMemory → result ≡ 8 }
+
+    // What follows for words that are text, and for any words.
+    ensures usage { IfOk words (λ given. (result ≡ 2) ↔ (meaning (texts given.items) ≡ None)) }
+    ensures read_failed { result ≡ 3 → HasRisen (D.outside desk.old).in_faults (D.outside desk.new).in_faults }
+    ensures write_failed { result ≡ 4 → HasRisen (D.outside desk.old).out_faults (D.outside desk.new).out_faults }
+    ensures log_failed { result ≡ 5 → HasRisen (D.outside desk.old).log_faults (D.outside desk.new).log_faults }
+    ensures counts { CountsGrow (D.outside desk.old) (D.outside desk.new) }
+    ensures steady { result ≡ 0 → IsSteady (D.outside desk.old) (D.outside desk.new) }
+    ensures written { is_input_verdict result ≡ true → NothingWaits (D.outside desk.old) → NothingWaits (D.outside desk.new) }
+    ensures complete { IfOk words (λ given. meaning (texts given.items) ≢ None → NoFaultRose (D.outside desk.old) (D.outside desk.new)
+        → result ≢ 8 → is_input_verdict result ≡ true) }
 {
     match words {
         Ok(words) => mps(alloc, &words, desk),
@@ -58,6 +69,9 @@ pub fn mps<D: Desk>(alloc: Global, words: &[String], desk: &mut D) -> u8
 
     // The first fault ends the program: with status 0 there was none, but of reporting.
     ensures steady { result ≡ 0 → IsSteady (D.outside desk.old) (D.outside desk.new) }
+
+    // With status 0, 6 and 7 no byte that the desk took waits to be written.
+    ensures written { is_input_verdict result ≡ true → NothingWaits (D.outside desk.old) → NothingWaits (D.outside desk.new) }
 
     // Words with a meaning, no fault and no out of memory: the status is 0, 6 or 7.
     ensures complete { meaning (texts words.now) ≢ None → NoFaultRose (D.outside desk.old) (D.outside desk.new)
@@ -92,6 +106,7 @@ fn run_command<D: Desk>(alloc: Global, command: Command<'_>, desk: &mut D) -> u8
     ensures log_failed { result ≡ 5 → HasRisen (D.outside desk.old).log_faults (D.outside desk.new).log_faults }
     ensures counts { CountsGrow (D.outside desk.old) (D.outside desk.new) }
     ensures steady { result ≡ 0 → IsSteady (D.outside desk.old) (D.outside desk.new) }
+    ensures written { is_input_verdict result ≡ true → NothingWaits (D.outside desk.old) → NothingWaits (D.outside desk.new) }
     ensures complete { NoFaultRose (D.outside desk.old) (D.outside desk.new) → result ≢ 8 → is_input_verdict result ≡ true }
 {
     match command {

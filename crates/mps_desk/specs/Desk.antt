@@ -45,6 +45,9 @@ pub record Outside : Type 0 where
   pub log_faults : ℕ
   pub out_faults : ℕ
   pub err_faults : ℕ
+  -- whether bytes that the log took may wait to be written, and bytes that are to be printed
+  pub log_waits : Bool
+  pub out_waits : Bool
 
 -- the name of standard input
 abbrev pub standard_input : List ℕ
@@ -123,6 +126,8 @@ pub record OnlyOpens (old new : Outside) : Type 0 where
   pub out_faults : new.out_faults ≡ old.out_faults
   pub reported : new.reported ≡ old.reported
   pub err_faults : new.err_faults ≡ old.err_faults
+  pub log_waits : new.log_waits ≡ true → old.log_waits ≡ true
+  pub out_waits : new.out_waits ≡ true → old.out_waits ≡ true
 
 -- only the input and its count may have changed
 pub record OnlyReads (old new : Outside) : Type 0 where
@@ -135,6 +140,8 @@ pub record OnlyReads (old new : Outside) : Type 0 where
   pub out_faults : new.out_faults ≡ old.out_faults
   pub reported : new.reported ≡ old.reported
   pub err_faults : new.err_faults ≡ old.err_faults
+  pub log_waits : new.log_waits ≡ true → old.log_waits ≡ true
+  pub out_waits : new.out_waits ≡ true → old.out_waits ≡ true
 
 -- only the files, the bytes logged, their count and the requests may have changed
 pub record OnlyCreates (old new : Outside) : Type 0 where
@@ -144,6 +151,7 @@ pub record OnlyCreates (old new : Outside) : Type 0 where
   pub out_faults : new.out_faults ≡ old.out_faults
   pub reported : new.reported ≡ old.reported
   pub err_faults : new.err_faults ≡ old.err_faults
+  pub out_waits : new.out_waits ≡ old.out_waits
 
 -- only the files, the bytes logged and their count may have changed
 pub record OnlyLogs (old new : Outside) : Type 0 where
@@ -154,6 +162,7 @@ pub record OnlyLogs (old new : Outside) : Type 0 where
   pub out_faults : new.out_faults ≡ old.out_faults
   pub reported : new.reported ≡ old.reported
   pub err_faults : new.err_faults ≡ old.err_faults
+  pub out_waits : new.out_waits ≡ old.out_waits
 
 -- only the bytes printed and their count may have changed
 pub record OnlyPrints (old new : Outside) : Type 0 where
@@ -166,6 +175,7 @@ pub record OnlyPrints (old new : Outside) : Type 0 where
   pub log_faults : new.log_faults ≡ old.log_faults
   pub reported : new.reported ≡ old.reported
   pub err_faults : new.err_faults ≡ old.err_faults
+  pub log_waits : new.log_waits ≡ true → old.log_waits ≡ true
 
 -- only the bytes reported and their count may have changed
 pub record OnlyReports (old new : Outside) : Type 0 where
@@ -178,6 +188,13 @@ pub record OnlyReports (old new : Outside) : Type 0 where
   pub log_faults : new.log_faults ≡ old.log_faults
   pub printed : new.printed ≡ old.printed
   pub out_faults : new.out_faults ≡ old.out_faults
+  pub log_waits : new.log_waits ≡ old.log_waits
+  pub out_waits : new.out_waits ≡ old.out_waits
+
+-- no byte that was taken waits to be written
+pub record NothingWaits (o : Outside) : Type 0 where
+  pub log : o.log_waits ≡ false
+  pub out : o.out_waits ≡ false
 
 -- the files are as they were
 pub record SameFiles (old new : Outside) : Type 0 where

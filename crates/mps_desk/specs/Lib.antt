@@ -1,5 +1,4 @@
 pub mod Desk
-pub mod Held
 pub mod HostDesk
 pub mod MemDesk
 pub mod QuietDesk

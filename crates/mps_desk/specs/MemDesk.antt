@@ -1,5 +1,5 @@
 -- A desk in memory: its files, what was read and written, and which of its calls are to fail.
-use Rattle.std.specs.Prelude.{ℕ, ◌≡◌, ◌+◌, ◌-◌, ◌^◌, nat_lt, Option, Some, None, List, [], ◌∷◌, ◌++◌, Contains, if◌then◌else◌, refl}
+use Rattle.std.specs.Prelude.{ℕ, ◌≡◌, ◌+◌, ◌-◌, ◌^◌, nat_lt, Option, Some, None, List, [], ◌∷◌, ◌++◌, false, Contains, if◌then◌else◌, refl}
 use Rattle.std.specs.Str.{bytes_eq}
 use Rattle.mps_desk.specs.Desk.{Outside, File, Files, Request, text_in, last_count}
 use Rattle.mps_desk.specs.declared.mem_desk.DeskCall.{DeskCall}
@@ -82,6 +82,8 @@ outside_of d = record {
   log_faults = d.log_faults;
   out_faults = d.out_faults;
   err_faults = d.err_faults;
+  log_waits = false;
+  out_waits = false;
 }
 
 -- the index of the first file of this name, or after the last where there is none

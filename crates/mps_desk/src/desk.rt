@@ -1,7 +1,7 @@
 // The outside world as the program sees it: one input, one log, what is printed and what is reported.
-ghost use Rattle.std.specs.Prelude.{◌≡◌, ◌<◌, ◌≤◌, ◌++◌, ◌↔◌, [], ◌∷◌, ℕ, List, length, take, IfOk, IfSome, IsSome, OnOk, OnErr};
+ghost use Rattle.std.specs.Prelude.{◌≡◌, ◌<◌, ◌≤◌, ◌++◌, ◌↔◌, false, [], ◌∷◌, ℕ, List, length, take, IfOk, IfSome, IsNone, IsSome, OnOk, OnErr};
 ghost use Rattle.std.specs.Option.{option_map};
-ghost use Rattle.mps_desk.specs.Desk.{Outside, HasRisen, Asks, OnlyOpens, OnlyReads, OnlyCreates, OnlyLogs, OnlyPrints, OnlyReports, SameFiles, SameElsewhere, opening, making, made_for_log, after_log, text_in, added};
+ghost use Rattle.mps_desk.specs.Desk.{Outside, HasRisen, Asks, OnlyOpens, OnlyReads, OnlyCreates, OnlyLogs, OnlyPrints, OnlyReports, NothingWaits, SameFiles, SameElsewhere, opening, making, made_for_log, after_log, text_in, added};
 
 use thiserror::Error;
 
@@ -17,8 +17,8 @@ pub struct Failed;
 /// desk doesn't know of the outside it never knows. A desk may also know what it was asked for by name, until it forgets
 /// that.
 ///
-/// A desk may gather the bytes that it takes and write them later. `settle_log` and `settle_out` have them written, so
-/// that a fault is known at once.
+/// A desk may gather the bytes that it takes and write them later: those wait. `settle_log` and `settle_out` have them
+/// written, so that a fault is known at once. Where one of them is accepted, no byte of its side waits.
 pub trait Desk {
     /// What the desk knows of the outside.
     ghost outside: { Self → Outside };
@@ -70,6 +70,7 @@ pub trait Desk {
         ensures logged { IfOk result (λ n. (outside self.new).logged ≡ added (outside self.old).logged bytes.now n) }
         ensures filed { IfOk result (λ n. (outside self.new).files
             ≡ option_map (after_log (take n bytes.now)) (outside self.old).files) }
+        ensures text { IsNone (outside self.old).files → (outside self.new).text ≡ (outside self.old).text }
         ensures unchanged { OnErr result ((outside self.new).logged ≡ (outside self.old).logged) }
         ensures files { OnErr result (SameFiles (outside self.old) (outside self.new)) }
         ensures steady { OnOk result ((outside self.new).log_faults ≡ (outside self.old).log_faults) }
@@ -99,7 +100,7 @@ pub trait Desk {
         ensures cause { OnErr result (HasRisen (outside self.old).err_faults (outside self.new).err_faults) }
         ensures others { OnlyReports (outside self.old) (outside self.new) };
 
-    /// Has the bytes written that the log took and that wait. By default none wait.
+    /// Has the bytes written that the log took and that wait.
     fn settle_log(&mut self) -> Result<(), Failed>
         ensures logged { (outside self.new).logged ≡ (outside self.old).logged }
         ensures files { SameFiles (outside self.old) (outside self.new) }
@@ -107,20 +108,16 @@ pub trait Desk {
         ensures counted { (outside self.old).log_faults ≤ (outside self.new).log_faults }
         ensures cause { OnErr result (HasRisen (outside self.old).log_faults (outside self.new).log_faults) }
         ensures others { OnlyLogs (outside self.old) (outside self.new) }
-    {
-        Ok(())
-    }
+        ensures written { OnOk result ((outside self.new).log_waits ≡ false) };
 
-    /// Has the bytes written that were taken to be printed and that wait, after those of the log. By default none wait.
+    /// Has all bytes written that were taken and that wait: first those of the log, and then those to be printed.
     fn settle_out(&mut self) -> Result<(), Failed>
         ensures printed { (outside self.new).printed ≡ (outside self.old).printed }
         ensures steady { OnOk result ((outside self.new).out_faults ≡ (outside self.old).out_faults) }
         ensures counted { (outside self.old).out_faults ≤ (outside self.new).out_faults }
         ensures cause { OnErr result (HasRisen (outside self.old).out_faults (outside self.new).out_faults) }
         ensures others { OnlyPrints (outside self.old) (outside self.new) }
-    {
-        Ok(())
-    }
+        ensures written { OnOk result (NothingWaits (outside self.new)) };
 
     /// Where the files are known, so is what opening a name gives.
     ghost text_of_files: { (desk : Self) (name : List ℕ)

@@ -1,23 +1,17 @@
 // The desk over real files and the standard streams.
-ghost use Rattle.std.specs.Prelude.{◌≡◌, ◌<◌, ◌≤◌, None, length, IfSome};
+ghost use Rattle.std.specs.Prelude.{◌≡◌, ◌<◌, ◌≤◌, None, false, length, IfSome};
 ghost use Rattle.mps_desk.specs.Desk.{Outside};
 
-use crate::held::Held;
 use crate::host_file::{
     FileIdentity, OpenInput, make_for_log, open_to_read, read_some, standard_input, write_some,
 };
 use crate::{Desk, Failed};
-use std::alloc::Global;
 use std::fs::File;
 use std::io::Stdin;
 use std::marker::Model;
 
 /// A desk over real files and the standard streams. It knows no content: what a real file holds, no clause can say.
-///
-/// It gathers what is logged and printed and writes it in large pieces: where too many bytes wait, and where they are
-/// settled. The log's bytes are written first, and once that failed nothing more is printed, so no answer is seen whose
-/// records the log lacks. A fault of the log that comes to light in `out` is answered and counted by the log's next call.
-/// A side that failed fails from then on.
+/// Each call is one system call, or the few that an opening takes; nothing waits.
 ///
 /// No file gets the number of a standard stream. A directory isn't opened, and no log is made of the open input. A read
 /// or a write that a signal interrupted is tried again, and where the input came to its end it stays there.
@@ -27,8 +21,6 @@ pub struct HostDesk {
     input: Input,
     input_file: Option<FileIdentity>,
     log_file: Option<File>,
-    log: Held,
-    out: Held,
     in_faults: u64,
     log_faults: u64,
     out_faults: u64,
@@ -60,7 +52,7 @@ impl HostDesk {
     ghost use Rattle.mps_desk.specs.HostDesk.{no_faults};
 
     /// A desk with no input and no log yet.
-    pub fn new(rt: &HostRuntime, alloc: Global) -> HostDesk
+    pub fn new(rt: &HostRuntime) -> HostDesk
         ensures { result ≡ no_faults }
     {
         HostDesk {
@@ -68,8 +60,6 @@ impl HostDesk {
             input: Input::Nothing,
             input_file: None,
             log_file: None,
-            log: Held::new(alloc),
-            out: Held::new(alloc),
             in_faults: 0,
             log_faults: 0,
             out_faults: 0,
@@ -108,43 +98,6 @@ impl HostDesk {
             Input::Named(file) => read_some(file, buf),
         }
     }
-
-    /// Takes some of a piece for the log, and writes the bytes that wait where that needs room. None where a write failed.
-    #[inline(never)]
-    fn take_for_log(&mut self, piece: &[u8]) -> Option<usize>
-        ensures same { self.new ≡ self.old }
-        ensures at_most { IfSome result (λ n. n ≤ length piece.now) }
-        ensures nonzero { IfSome result (λ n. 0 < length piece.now → 0 < n) }
-    {
-        match &mut self.log_file {
-            Some(file) => self.log.take(piece, file),
-            None => Some(piece.len()),
-        }
-    }
-
-    /// Makes a file the log's. False where it can't be made, or the log failed.
-    fn make_log(&mut self, name: &str) -> bool
-        ensures { self.new ≡ self.old }
-    {
-        self.write_log();
-        if self.log.has_failed() {
-            return false;
-        }
-        let Some(file) = make_for_log(&self.rt, name, self.input_file) else {
-            return false;
-        };
-        self.log_file = Some(file);
-        true
-    }
-
-    /// Writes the log's bytes.
-    fn write_log(&mut self)
-        ensures { self.new ≡ self.old }
-    {
-        if let Some(file) = &mut self.log_file {
-            self.log.write_to(file);
-        }
-    }
 }
 
 impl Desk for HostDesk {
@@ -160,6 +113,8 @@ impl Desk for HostDesk {
       log_faults = d.log_faults;
       out_faults = d.out_faults;
       err_faults = d.err_faults;
+      log_waits = false;
+      out_waits = false;
     } };
 
     fn open(&mut self, name: &str) -> Result<(), Failed> {
@@ -182,37 +137,28 @@ impl Desk for HostDesk {
     }
 
     fn create(&mut self, name: &str) -> Result<(), Failed> {
-        if self.make_log(name) {
-            return Ok(());
-        }
-        self.log_faults = self.log_faults.saturating_add(1);
-        Err(Failed)
+        let Some(file) = make_for_log(&self.rt, name, self.input_file) else {
+            self.log_faults = self.log_faults.saturating_add(1);
+            return Err(Failed);
+        };
+        self.log_file = Some(file);
+        Ok(())
     }
 
-    #[inline(always)]
     fn log(&mut self, bytes: &[u8]) -> Result<usize, Failed> {
-        if self.log_file.is_some() && self.log.hold(bytes) {
-            return Ok(bytes.len());
-        }
-        let Some(count) = self.take_for_log(bytes) else {
+        let count = match &mut self.log_file {
+            Some(file) => write_some(bytes, file),
+            None => Some(bytes.len()),
+        };
+        let Some(count) = count else {
             self.log_faults = self.log_faults.saturating_add(1);
             return Err(Failed);
         };
         Ok(count)
     }
 
-    #[inline(always)]
     fn out(&mut self, bytes: &[u8]) -> Result<usize, Failed> {
-        if self.out.hold(bytes) {
-            return Ok(bytes.len());
-        }
-        self.write_log();
-        if self.log.has_failed() {
-            // What the log lacks isn't printed: the log's fault is answered by its own next call.
-            self.out.let_go();
-            return Ok(bytes.len());
-        }
-        let Some(count) = self.out.take(bytes, &mut self.rt.stdout()) else {
+        let Some(count) = write_some(bytes, &mut self.rt.stdout()) else {
             self.out_faults = self.out_faults.saturating_add(1);
             return Err(Failed);
         };
@@ -228,25 +174,10 @@ impl Desk for HostDesk {
     }
 
     fn settle_log(&mut self) -> Result<(), Failed> {
-        self.write_log();
-        if self.log.has_failed() {
-            self.log_faults = self.log_faults.saturating_add(1);
-            return Err(Failed);
-        }
         Ok(())
     }
 
     fn settle_out(&mut self) -> Result<(), Failed> {
-        self.write_log();
-        if self.log.has_failed() {
-            self.out.let_go();
-            return Ok(());
-        }
-        self.out.write_to(&mut self.rt.stdout());
-        if self.out.has_failed() {
-            self.out_faults = self.out_faults.saturating_add(1);
-            return Err(Failed);
-        }
         Ok(())
     }
 

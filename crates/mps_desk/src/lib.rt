@@ -3,7 +3,6 @@
 
 mod calls;
 mod desk;
-mod held;
 mod host_desk;
 mod host_file;
 mod mem_desk;

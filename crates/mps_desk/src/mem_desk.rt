@@ -313,6 +313,14 @@ impl Desk for MemDesk {
         Err(Failed)
     }
 
+    fn settle_log(&mut self) -> Result<(), Failed> {
+        Ok(())
+    }
+
+    fn settle_out(&mut self) -> Result<(), Failed> {
+        Ok(())
+    }
+
     ghost text_of_files = { λ desk name. refl };
 }
 

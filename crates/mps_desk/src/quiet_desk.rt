@@ -1,5 +1,5 @@
 // A desk that reads a borrowed text and forgets what is written.
-ghost use Rattle.std.specs.Prelude.{◌≡◌, [], None, Some};
+ghost use Rattle.std.specs.Prelude.{◌≡◌, [], None, Some, false};
 ghost use Rattle.mps_desk.specs.Desk.{Outside};
 
 use crate::{Desk, Failed};
@@ -46,6 +46,8 @@ impl Desk for QuietDesk<'_> {
       log_faults = 0;
       out_faults = 0;
       err_faults = 0;
+      log_waits = false;
+      out_waits = false;
     } };
 
     fn open(&mut self, _name: &str) -> Result<(), Failed> {
@@ -75,6 +77,14 @@ impl Desk for QuietDesk<'_> {
 
     fn err(&mut self, bytes: &[u8]) -> Result<usize, Failed> {
         Ok(bytes.len())
+    }
+
+    fn settle_log(&mut self) -> Result<(), Failed> {
+        Ok(())
+    }
+
+    fn settle_out(&mut self) -> Result<(), Failed> {
+        Ok(())
     }
 
     ghost text_of_files = { λ _ _. tt };

@@ -1,15 +1,16 @@
 -- Runs that leave the log alone, one after the other, and the causes of their stops.
 use Rattle.std.proofs.Common.{◌≡◌, ℕ, ◌≤◌, true, false, List, Result, Ok, Err, refl, sym, subst, ◌∙◌, arith, inl, inr}
 use Rattle.std.specs.Prelude.{OnOk, IfErr}
-use Rattle.mps_desk.specs.Desk.{Outside, HasRisen, OnlyOpens, OnlyReads, OnlyPrints, IsSteady}
+use Rattle.mps_desk.specs.Desk.{Outside, HasRisen, NothingWaits, OnlyOpens, OnlyReads, OnlyPrints, IsSteady}
 use Rattle.mps_report.specs.declared.stop.Stop.{Stop}
 use Rattle.mps_report.specs.declared.stop.Stop.TheVariants as stop
 use Rattle.mps_log_reader.specs.Input.{Buffered, ReadsMore}
 use Rattle.mps_report.specs.Reports.{status_of, report_of}
 use Rattle.mps_report.specs.Streams.{LeavesLogAlone, Prints, PrintsPart, Reports}
-use Rattle.mps_log_reader.specs.Causes.{IsFaulty, CauseOfReader, IsCaused, CauseFrom, IsCausedFrom, StopIsJustified, KeepsPrinting, IsStatus, WorksOnInput, AsksForInput, AsksWith, StatusIsJustified}
+use Rattle.mps_log_reader.specs.Causes.{IsFaulty, CauseOfReader, IsCaused, CauseFrom, IsCausedFrom, StopIsJustified, PrintsSafely, KeepsPrinting, IsStatus, WorksOnInput, AsksForInput, AsksWith, StatusIsJustified}
 use Rattle.mps_log_reader.specs.Ending.{is_input_verdict}
 use Rattle.mps_report.proofs.Outside.{risen_later, risen_earlier}
+use Rattle.mps_report.proofs.Waiting.{reads_written, reports_written}
 
 pub runs-none : (o : Outside) → LeavesLogAlone o o
 runs-none o = record {
@@ -168,24 +169,30 @@ caused_after : {E : Type 0} (T : Type 0) (a b c : Outside) (x y : Buffered) (end
 caused_after T a b c x y (Ok value) r f s h = tt
 caused_after T a b c x y (Err why) r f s h = cause_after a b c x y why r f s h
 
+pub safely_self : (o : Outside) → PrintsSafely o o
+safely_self o = record { steady = refl; written = λ none. none }
+
+pub safely_then : (a b c : Outside) → PrintsSafely a b → PrintsSafely b c → PrintsSafely a c
+safely_then a b c e f = record { steady = f.steady ∙ e.steady; written = λ none. f.written (e.written none) }
+
 keeps_printing_self : {T E : Type 0} (o : Outside) (ending : Result T (Stop E)) → KeepsPrinting o o ending
-keeps_printing_self o (Ok value) = refl
+keeps_printing_self o (Ok value) = safely_self o
 keeps_printing_self o (Err stop.ReadFailed) = tt
 keeps_printing_self o (Err stop.WriteFailed) = tt
-keeps_printing_self o (Err stop.LogFailed) = refl
-keeps_printing_self o (Err stop.TooLong) = refl
-keeps_printing_self o (Err stop.OutOfMemory) = refl
-keeps_printing_self o (Err (stop.Bad place)) = refl
+keeps_printing_self o (Err stop.LogFailed) = safely_self o
+keeps_printing_self o (Err stop.TooLong) = safely_self o
+keeps_printing_self o (Err stop.OutOfMemory) = safely_self o
+keeps_printing_self o (Err (stop.Bad place)) = safely_self o
 
-keeps_printing_after : {T E : Type 0} (a b c : Outside) (ending : Result T (Stop E)) → b.out_faults ≡ a.out_faults
+keeps_printing_after : {T E : Type 0} (a b c : Outside) (ending : Result T (Stop E)) → PrintsSafely a b
     → KeepsPrinting b c ending → KeepsPrinting a c ending
-keeps_printing_after a b c (Ok value) e f = f ∙ e
+keeps_printing_after a b c (Ok value) e f = safely_then a b c e f
 keeps_printing_after a b c (Err stop.ReadFailed) e f = tt
 keeps_printing_after a b c (Err stop.WriteFailed) e f = tt
-keeps_printing_after a b c (Err stop.LogFailed) e f = f ∙ e
-keeps_printing_after a b c (Err stop.TooLong) e f = f ∙ e
-keeps_printing_after a b c (Err stop.OutOfMemory) e f = f ∙ e
-keeps_printing_after a b c (Err (stop.Bad place)) e f = f ∙ e
+keeps_printing_after a b c (Err stop.LogFailed) e f = safely_then a b c e f
+keeps_printing_after a b c (Err stop.TooLong) e f = safely_then a b c e f
+keeps_printing_after a b c (Err stop.OutOfMemory) e f = safely_then a b c e f
+keeps_printing_after a b c (Err (stop.Bad place)) e f = safely_then a b c e f
 
 -- the same stop of a value of another type
 keeps_printing_at : {E : Type 0} (T U : Type 0) (a b : Outside) (why : Stop E) → KeepsPrinting {T = T} a b (Err why)
@@ -219,7 +226,7 @@ works-none o x value = record {
   cause = tt;
   asked = refl;
   steady = λ h. (h, refl);
-  printing = refl;
+  printing = safely_self o;
 }
 
 -- the same stop of a value of another type
@@ -253,19 +260,19 @@ works_reading a b x y value r = record {
   cause = tt;
   asked = r.others.asked;
   steady = r.steady;
-  printing = r.others.out_faults;
+  printing = record { steady = r.others.out_faults; written = reads_written a b r.others };
 }
 
 -- what does not touch the input
 pub works_beside : {T E : Type 0} (a b : Outside) (x : Buffered) (value : T) → LeavesLogAlone a b → OnlyPrints a b
-    → b.out_faults ≡ a.out_faults → WorksOnInput {E = E} a b x x (Ok value)
-works_beside a b x value r o steady = record {
+    → b.out_faults ≡ a.out_faults → (NothingWaits a → NothingWaits b) → WorksOnInput {E = E} a b x x (Ok value)
+works_beside a b x value r o steady written = record {
   runs = r;
   fault = λ h. inl h;
   cause = tt;
   asked = o.asked;
   steady = λ h. (h, o.in_faults);
-  printing = steady;
+  printing = record { steady = steady; written = written };
 }
 
 pub works_write_failed : {T E : Type 0} (a b : Outside) (x : Buffered) → LeavesLogAlone a b → OnlyPrints a b
@@ -320,10 +327,19 @@ printing_status : {E : Type 0} (T : Type 0) (a b c : Outside) (why : Stop E) →
     → is_input_verdict (status_of why) ≡ true → c.out_faults ≡ a.out_faults
 printing_status T a b c stop.ReadFailed h e v = absurd (let wrong : false ≡ true = v in cc)
 printing_status T a b c stop.WriteFailed h e v = absurd (let wrong : false ≡ true = v in cc)
-printing_status T a b c stop.LogFailed h e v = e ∙ h
-printing_status T a b c stop.TooLong h e v = e ∙ h
-printing_status T a b c stop.OutOfMemory h e v = e ∙ h
-printing_status T a b c (stop.Bad place) h e v = e ∙ h
+printing_status T a b c stop.LogFailed h e v = e ∙ h.steady
+printing_status T a b c stop.TooLong h e v = e ∙ h.steady
+printing_status T a b c stop.OutOfMemory h e v = e ∙ h.steady
+printing_status T a b c (stop.Bad place) h e v = e ∙ h.steady
+
+written_status : {E : Type 0} (T : Type 0) (a b c : Outside) (why : Stop E) → KeepsPrinting {T = T} a b (Err why)
+    → (NothingWaits b → NothingWaits c) → is_input_verdict (status_of why) ≡ true → NothingWaits a → NothingWaits c
+written_status T a b c stop.ReadFailed h e v none = absurd (let wrong : false ≡ true = v in cc)
+written_status T a b c stop.WriteFailed h e v none = absurd (let wrong : false ≡ true = v in cc)
+written_status T a b c stop.LogFailed h e v none = e (h.written none)
+written_status T a b c stop.TooLong h e v none = e (h.written none)
+written_status T a b c stop.OutOfMemory h e v none = e (h.written none)
+written_status T a b c (stop.Bad place) h e v none = e (h.written none)
 
 -- what the status of the program says after an ending and its report
 pub status_is_justified : {T E : Type 0} (a b c : Outside) (text : E → List ℕ) (ending : Result T (Stop E)) (status : ℕ)
@@ -336,7 +352,8 @@ status_is_justified a b c text (Ok value) status r f steady printing zero same i
   write_fault = λ e. absurd (omega (arith, zero, e));
   runs = subst (λ (o : Outside). LeavesLogAlone a o) (sym same) r;
   steady = λ e. subst (λ (o : Outside). IsSteady a o) (sym same) steady;
-  printing = λ v. subst (λ (o : Outside). o.out_faults ≡ a.out_faults) (sym same) printing;
+  printing = λ v. subst (λ (o : Outside). o.out_faults ≡ a.out_faults) (sym same) printing.steady;
+  written = λ v none. subst (λ (o : Outside). NothingWaits o) (sym same) (printing.written none);
 }
 status_is_justified {T = T} a b c text (Err why) status r f steady printing zero same is reports =
     let s = runs_reports b c (report_of text why) reports in
@@ -348,6 +365,8 @@ status_is_justified {T = T} a b c text (Err why) status r f steady printing zero
       runs = runs-then a b c r s;
       steady = λ e. steady_status why (IsSteady a c) (sym is ∙ e);
       printing = λ v. printing_status T a b c why printing reports.others.out_faults
+          (subst (λ (n : ℕ). is_input_verdict n ≡ true) is v);
+      written = λ v. written_status T a b c why printing (reports_written b c reports.others)
           (subst (λ (n : ℕ). is_input_verdict n ≡ true) is v);
     }
 

@@ -42,6 +42,8 @@ reads_only-same o = record {
   out_faults = refl;
   reported = refl;
   err_faults = refl;
+  log_waits = λ waits. waits;
+  out_waits = λ waits. waits;
 }
 
 reads_only-then : (a b c : Outside) → OnlyReads a b → OnlyReads b c → OnlyReads a c
@@ -55,6 +57,8 @@ reads_only-then a b c e f = record {
   out_faults = f.out_faults ∙ e.out_faults;
   reported = f.reported ∙ e.reported;
   err_faults = f.err_faults ∙ e.err_faults;
+  log_waits = λ waits. e.log_waits (f.log_waits waits);
+  out_waits = λ waits. e.out_waits (f.out_waits waits);
 }
 
 pub reads-none : (o : Outside) (b : Buffered) → ReadsMore o o b b

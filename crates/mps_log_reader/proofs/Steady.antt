@@ -5,7 +5,9 @@ use Rattle.mps_desk.specs.Desk.{Outside, Request, HasRisen, OnlyOpens, OnlyPrint
 use Rattle.mps_report.specs.declared.stop.Stop.{Stop}
 use Rattle.mps_report.specs.declared.stop.Stop.TheVariants as stop
 use Rattle.mps_log_reader.specs.Input.{Buffered}
-use Rattle.mps_log_reader.specs.Causes.{KeepsPrinting, WorksOnInput, AsksForInput}
+use Rattle.mps_report.proofs.Waiting.{opens_written}
+use Rattle.mps_log_reader.proofs.Causes.{safely_then}
+use Rattle.mps_log_reader.specs.Causes.{PrintsSafely, KeepsPrinting, WorksOnInput, AsksForInput}
 
 -- ---- what was asked for by name
 
@@ -36,7 +38,7 @@ asks_before name a = inl (asks_nothing a a refl)
 
 -- ---- faults that did not come
 
-pub keeps_printing_same : {T E : Type 0} (a b : Outside) (ending : Result T (Stop E)) → b.out_faults ≡ a.out_faults
+pub keeps_printing_same : {T E : Type 0} (a b : Outside) (ending : Result T (Stop E)) → PrintsSafely a b
     → KeepsPrinting a b ending
 keeps_printing_same a b (Ok value) same = same
 keeps_printing_same a b (Err stop.OutOfMemory) same = same
@@ -46,15 +48,18 @@ keeps_printing_same a b (Err stop.LogFailed) same = same
 keeps_printing_same a b (Err stop.TooLong) same = same
 keeps_printing_same a b (Err (stop.Bad place)) same = same
 
-both_keep : {E : Type 0} (a b c d : Outside) (ending : Result (Unit {0}) (Stop E)) → b.out_faults ≡ a.out_faults
+opens_safely : (a b : Outside) → OnlyOpens a b → PrintsSafely a b
+opens_safely a b o = record { steady = o.out_faults; written = opens_written a b o }
+
+both_keep : {E : Type 0} (a b c d : Outside) (ending : Result (Unit {0}) (Stop E)) → PrintsSafely a b
     → KeepsPrinting b c ending → KeepsPrinting c d ending → KeepsPrinting a d ending
-both_keep a b c d (Ok value) same h k = k ∙ (h ∙ same)
-both_keep a b c d (Err stop.OutOfMemory) same h k = k ∙ (h ∙ same)
+both_keep a b c d (Ok value) same h k = safely_then a c d (safely_then a b c same h) k
+both_keep a b c d (Err stop.OutOfMemory) same h k = safely_then a c d (safely_then a b c same h) k
 both_keep a b c d (Err stop.ReadFailed) same h k = tt
 both_keep a b c d (Err stop.WriteFailed) same h k = tt
-both_keep a b c d (Err stop.LogFailed) same h k = k ∙ (h ∙ same)
-both_keep a b c d (Err stop.TooLong) same h k = k ∙ (h ∙ same)
-both_keep a b c d (Err (stop.Bad place)) same h k = k ∙ (h ∙ same)
+both_keep a b c d (Err stop.LogFailed) same h k = safely_then a c d (safely_then a b c same h) k
+both_keep a b c d (Err stop.TooLong) same h k = safely_then a c d (safely_then a b c same h) k
+both_keep a b c d (Err (stop.Bad place)) same h k = safely_then a c d (safely_then a b c same h) k
 
 -- an input was opened, worked on, and what was gathered was printed
 module _ {E : Type 0} (a b c d : Outside) (x y : Buffered) (ending : Result (Unit {0}) (Stop E)) (opens : OnlyOpens a b)
@@ -63,7 +68,7 @@ module _ {E : Type 0} (a b c d : Outside) (x y : Buffered) (ending : Result (Uni
       → (result ≡ ending) ⊎ ((result ≡ Err stop.WriteFailed) × HasRisen c.out_faults d.out_faults) → KeepsPrinting a d result
   keeps_flushed result keeps (inl same) =
       subst (λ (r : Result (Unit {0}) (Stop E)). KeepsPrinting a d r) (sym same)
-      (both_keep a b c d ending opens.out_faults works.printing
+      (both_keep a b c d ending (opens_safely a b opens) works.printing
       (subst (λ (r : Result (Unit {0}) (Stop E)). KeepsPrinting c d r) same keeps))
   keeps_flushed result keeps (inr failed) =
       subst (λ (r : Result (Unit {0}) (Stop E)). KeepsPrinting a d r) (sym failed.0) tt
@@ -78,7 +83,7 @@ steady_flushed a b c d x y (Ok value) (Ok done) opens opened works whole prints 
     record {
       in_faults = prints.in_faults ∙ (read.1 ∙ opened read.0);
       log_faults = prints.log_faults ∙ (works.runs.log_faults ∙ opens.log_faults);
-      out_faults = steady ∙ (works.printing ∙ opens.out_faults);
+      out_faults = steady ∙ (works.printing.steady ∙ opens.out_faults);
     }
 steady_flushed a b c d x y (Err why) (Ok done) opens opened works whole prints steady (inl same) =
     absurd (let wrong : Ok done ≡ Err why = same in cc)

@@ -1,6 +1,6 @@
 -- The causes of a reader's stop, and what its status says of the outside.
 use Rattle.std.specs.Prelude.{◌≡◌, ◌≢◌, ℕ, ◌⊎◌, true, false, Result, Ok, Err, List, [], ◌∷◌}
-use Rattle.mps_desk.specs.Desk.{Outside, HasRisen, IsSteady, Asks, opening}
+use Rattle.mps_desk.specs.Desk.{Outside, HasRisen, IsSteady, NothingWaits, Asks, opening}
 use Rattle.mps_report.specs.declared.stop.Stop.{Stop}
 use Rattle.mps_report.specs.declared.stop.Stop.TheVariants as stop
 use Rattle.mps_report.specs.Causes.{CauseOf}
@@ -31,11 +31,16 @@ abbrev pub IsCausedFrom : {T E : Type 0} → (old new : Outside) → Buffered �
 IsCausedFrom old new before (Ok value) = Unit {0}
 IsCausedFrom old new before (Err why) = CauseFrom old new before why
 
--- no write of what is printed failed, unless the ending says so, or a read had failed before
+-- no write of what is printed failed, and where nothing waited to be written, nothing does now
+pub record PrintsSafely (old new : Outside) : Type 0 where
+  pub steady : new.out_faults ≡ old.out_faults
+  pub written : NothingWaits old → NothingWaits new
+
+-- that holds, unless the ending says that a write failed, or a read had failed before
 abbrev pub KeepsPrinting : {T E : Type 0} → (old new : Outside) → Result T (Stop E) → Type 0
 KeepsPrinting old new (Err stop.WriteFailed) = Unit {0}
 KeepsPrinting old new (Err stop.ReadFailed) = Unit {0}
-KeepsPrinting old new ending = new.out_faults ≡ old.out_faults
+KeepsPrinting old new ending = PrintsSafely old new
 
 -- some work on an input: what it did to the outside, and why it stopped, if it did
 pub record WorksOnInput {T E : Type 0} (old new : Outside) (before after : Buffered) (result : Result T (Stop E)) : Type 0 where
@@ -79,3 +84,5 @@ pub record StatusIsJustified (old new : Outside) (status : ℕ) : Type 0 where
   pub steady : status ≡ 0 → IsSteady old new
   -- with 6 and 7 too no write failed; but a read may have, of what comes after the bad place
   pub printing : is_input_verdict status ≡ true → new.out_faults ≡ old.out_faults
+  -- and all that was printed is written, where nothing waited before
+  pub written : is_input_verdict status ≡ true → NothingWaits old → NothingWaits new

@@ -1,7 +1,7 @@
 // The header, the room for what is printed, and the end: what the readers of a log and of its text share.
 
 ghost use Rattle.std.specs.Prelude.{◌≡◌, ◌≢◌, ◌≤◌, ◌+◌, ◌++◌, ◌⊎◌, ℕ, List, [], ◌∷◌, Some, true, false, length, IfErr, OnOk, OnErr};
-ghost use Rattle.mps_desk.specs.Desk.{HasRisen, Asks, OnlyOpens, OnlyPrints, opening};
+ghost use Rattle.mps_desk.specs.Desk.{HasRisen, Asks, NothingWaits, OnlyOpens, OnlyPrints, opening};
 ghost use Rattle.mps_log_reader.specs.Causes.{IsCaused, KeepsPrinting, StopIsJustified, WorksOnInput};
 ghost use Rattle.mps_report.specs.Streams.{LeavesLogAlone, FlushedPrefix, PrintsPart};
 ghost use Rattle.mps_log_reader.specs.Input.{IsAtEnd, IsComplete};
@@ -95,6 +95,7 @@ pub fn make_room<E: Copy, D: Desk>(output: &mut Output, desk: &mut D) -> Result<
     ensures runs { LeavesLogAlone (D.outside desk.old) (D.outside desk.new) }
     ensures steady { OnOk result ((D.outside desk.new).out_faults ≡ (D.outside desk.old).out_faults) }
     ensures others { OnlyPrints (D.outside desk.old) (D.outside desk.new) }
+    ensures written { OnOk result (NothingWaits (D.outside desk.old) → NothingWaits (D.outside desk.new)) }
 {
     match output.make_room(desk) {
         Ok(()) => Ok(()),

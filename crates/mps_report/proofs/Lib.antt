@@ -2,3 +2,4 @@ pub mod Appended
 pub mod Outside
 pub mod Gathering
 pub mod Logging
+pub mod Waiting

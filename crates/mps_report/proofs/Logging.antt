@@ -29,12 +29,12 @@ with_logged-twice fs None first second = refl
 with_logged-twice fs (Some name) first second = with_more-twice fs name first second
 
 -- nothing after what the log's file holds
-filed_nothing : (known : Option Files) → known ≡ option_map (after_log []) known
+pub filed_nothing : (known : Option Files) → known ≡ option_map (after_log []) known
 filed_nothing None = refl
 filed_nothing (Some files) = ap (λ (all : List File). Some (record files { all = all })) (sym (with_logged-nothing files.all files.log))
 
 -- a piece after another
-filed_twice : (known : Option Files) (first second : List ℕ)
+pub filed_twice : (known : Option Files) (first second : List ℕ)
     → option_map (after_log second) (option_map (after_log first) known) ≡ option_map (after_log (first ++ second)) known
 filed_twice None first second = refl
 filed_twice (Some files) first second =
@@ -83,9 +83,10 @@ only_logs_self a = record {
   out_faults = refl;
   reported = refl;
   err_faults = refl;
+  out_waits = refl;
 }
 
-only_logs_then : (a b c : Outside) → OnlyLogs a b → OnlyLogs b c → OnlyLogs a c
+pub only_logs_then : (a b c : Outside) → OnlyLogs a b → OnlyLogs b c → OnlyLogs a c
 only_logs_then a b c f g = record {
   asked = g.asked ∙ f.asked;
   input = g.input ∙ f.input;
@@ -94,6 +95,7 @@ only_logs_then a b c f g = record {
   out_faults = g.out_faults ∙ f.out_faults;
   reported = g.reported ∙ f.reported;
   err_faults = g.err_faults ∙ f.err_faults;
+  out_waits = g.out_waits ∙ f.out_waits;
 }
 
 pub logs_none : (o : Outside) → Logs o o []

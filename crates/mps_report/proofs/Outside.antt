@@ -30,6 +30,7 @@ prints_only-same o = record {
   log_faults = refl;
   reported = refl;
   err_faults = refl;
+  log_waits = λ e. e;
 }
 
 pub prints_only-then : (a b c : Outside) → OnlyPrints a b → OnlyPrints b c → OnlyPrints a c
@@ -43,6 +44,7 @@ prints_only-then a b c e f = record {
   log_faults = f.log_faults ∙ e.log_faults;
   reported = f.reported ∙ e.reported;
   err_faults = f.err_faults ∙ e.err_faults;
+  log_waits = λ w. e.log_waits (f.log_waits w);
 }
 
 pub prints-none : (o : Outside) → Prints o o []
@@ -125,6 +127,8 @@ reports_only-same o = record {
   log_faults = refl;
   printed = refl;
   out_faults = refl;
+  log_waits = refl;
+  out_waits = refl;
 }
 
 pub reports_only-then : (a b c : Outside) → OnlyReports a b → OnlyReports b c → OnlyReports a c
@@ -138,6 +142,8 @@ reports_only-then a b c e f = record {
   log_faults = f.log_faults ∙ e.log_faults;
   printed = f.printed ∙ e.printed;
   out_faults = f.out_faults ∙ e.out_faults;
+  log_waits = f.log_waits ∙ e.log_waits;
+  out_waits = f.out_waits ∙ e.out_waits;
 }
 
 -- so far no fault came

@@ -10,4 +10,4 @@ mod write;
 pub use notice::Notice;
 pub use output::Output;
 pub use stop::{BadPlace, NoBadPlace, Stop, notice_of_stop, report_ending, status_of_stop};
-pub use write::{log_all, print_all, report_all};
+pub use write::{log_all, print_all, print_settled, report_all};

@@ -2,6 +2,7 @@
 
 ghost use Rattle.std.specs.Prelude.{◌≡◌, ◌≤◌, ◌<◌, ◌+◌, ◌++◌, ◌⊎◌, ℕ, [], length, take, decimal, OnOk, OnErr, IfOk};
 ghost use Rattle.mps_numerals.specs.Hexadecimal.{hexadecimal};
+ghost use Rattle.mps_desk.specs.Desk.{NothingWaits};
 ghost use Rattle.mps_report.specs.Streams.{Prints, PrintsPart, FlushedPrefix};
 
 use crate::write::print_settled;
@@ -49,6 +50,7 @@ impl Output {
         ensures flushed { OnOk result (FlushedPrefix (D.outside desk.old) (D.outside desk.new) self.old self.new) }
         ensures failed { OnErr result (PrintsPart (D.outside desk.old) (D.outside desk.new) self.old) }
         ensures unchanged { OnErr result (self.new ≡ self.old) }
+        ensures written { OnOk result (NothingWaits (D.outside desk.old) → NothingWaits (D.outside desk.new)) }
     {
         if BUFFER_BYTES - self.used < MAX_LINE_BYTES {
             self.flush(desk)
@@ -62,6 +64,7 @@ impl Output {
     pub fn flush<D: Desk>(&mut self, desk: &mut D) -> Result<(), Failed>
         ensures empty { OnOk result (self.new ≡ []) }
         ensures printed { OnOk result (Prints (D.outside desk.old) (D.outside desk.new) self.old) }
+        ensures written { OnOk result (NothingWaits (D.outside desk.new)) }
         ensures failed { OnErr result (PrintsPart (D.outside desk.old) (D.outside desk.new) self.old) }
         ensures unchanged { OnErr result (self.new ≡ self.old) }
     {

@@ -1,6 +1,7 @@
 // Writing whole pieces to a desk, whose calls may take a part of a piece.
 
 ghost use Rattle.std.specs.Prelude.{OnOk, OnErr};
+ghost use Rattle.mps_desk.specs.Desk.{NothingWaits};
 ghost use Rattle.mps_report.specs.Streams.{Prints, PrintsPart, Logs, LogsPart, Reports};
 
 use mps_desk::{Desk, Failed};
@@ -22,6 +23,7 @@ pub fn print_all<D: Desk>(bytes: &[u8], desk: &mut D) -> Result<(), Failed>
 #[tactic(auto, using(crate::proofs::Outside::settled_all))]
 pub fn print_settled<D: Desk>(bytes: &[u8], desk: &mut D) -> Result<(), Failed>
     ensures printed { OnOk result (Prints (D.outside desk.old) (D.outside desk.new) bytes.now) }
+    ensures written { OnOk result (NothingWaits (D.outside desk.new)) }
     ensures failed { OnErr result (PrintsPart (D.outside desk.old) (D.outside desk.new) bytes.now) }
 {
     print_all(bytes, desk)?;

@@ -1,9 +1,9 @@
 -- What follows from what a run leaves.
-use Rattle.std.proofs.Common.{◌≡◌, ◌≢◌, ℕ, Some, Ok, Err, List, [], ◌∷◌, ◌++◌, refl, sym, ◌∙◌, ap, arith, append-nil, subst, true, inl, inr}
+use Rattle.std.proofs.Common.{◌≡◌, ◌≢◌, ℕ, Some, Ok, Err, List, [], ◌∷◌, ◌++◌, refl, sym, ◌∙◌, ap, arith, append-nil, subst, true, inl, inr, ◌⊎◌}
 use Rattle.std.specs.Option.{option_map}
 use Rattle.std.proofs.lemmas.List.{append_cancel_left}
 use Rattle.std.proofs.lemmas.Slice.Eq.{bytes_eq-Decides}
-use Rattle.mps_desk.specs.Desk.{Outside, File, Files, file_named, with_file}
+use Rattle.mps_desk.specs.Desk.{Outside, File, Files, HasRisen, file_named, with_file}
 use Rattle.mps_desk.proofs.Files.{file_named-with_file_other}
 use Rattle.mps_base.specs.Record.{records_bytes}
 use Rattle.mps_model.specs.Log.{log_of, log_bytes, pools_made}
@@ -23,13 +23,23 @@ use Rattle.mps_run.specs.Script.{answers_of}
 
 -- ---- what was printed
 
--- of the next command nothing was printed, unless printing failed
-printed_none : (ends : Ending) (part : Part) → IsPartAt ends part → ends ≢ Err stop.WriteFailed → printed_of part ≡ []
-printed_none ends Nothing is other = refl
-printed_none ends (SomeRecords step count) is other = refl
-printed_none ends (SomeAnswer step count) is other = absurd (other is)
+-- no call that was to print failed
+pub record PrintsAll (ends : Ending) (old new : Outside) : Type 0 where
+  pub write : ends ≢ Err stop.WriteFailed
+  pub log : ends ≡ Err stop.LogFailed → ¬ HasRisen old.out_faults new.out_faults
 
-answered_of : (built : Built) (ends : Ending) (script : List ℕ) (old new : Outside) → ends ≢ Err stop.WriteFailed
+-- then of the next command nothing was printed
+printed_none : (ends : Ending) (part : Part) (old new : Outside) → IsPartAt ends part old new → PrintsAll ends old new
+    → printed_of part ≡ []
+printed_none ends Nothing old new is other = refl
+printed_none ends (SomeRecords step count) old new is other = refl
+printed_none ends (SomeAnswer step count) old new is other = absurd (none is.blames)
+  where
+    none : (ends ≡ Err stop.WriteFailed) ⊎ (ends ≡ Err stop.LogFailed) → ⊥
+    none (inl write) = other.write write
+    none (inr log) = other.log log is.fault
+
+answered_of : (built : Built) (ends : Ending) (script : List ℕ) (old new : Outside) → PrintsAll ends old new
     → Leaves built ends log_header script old new → Answered built script old new
 answered_of built ends script old new other l = record {
   ran = l.ran;
@@ -38,7 +48,7 @@ answered_of built ends script old new other l = record {
   history = l.history;
   run = l.run;
   printed = l.printed ∙ ap (appended old.printed)
-      (ap (λ (p : List ℕ). answers_of l.history ++ p) (printed_none ends l.part l.is_part other) ∙ append-nil (answers_of l.history));
+      (ap (λ (p : List ℕ). answers_of l.history ++ p) (printed_none ends l.part old new l.is_part other) ∙ append-nil (answers_of l.history));
 }
 
 answered_nothing : (built : Built) (script : List ℕ) (old new : Outside) → new.printed ≡ old.printed → Answered built script old new
@@ -60,40 +70,49 @@ before_header (Err stop.WriteFailed) old new u = absurd u
 before_header (Err stop.TooLong) old new u = absurd u
 before_header (Err (stop.Bad bad)) old new u = absurd u
 
-answered_run : (built : Built) (ends : Ending) (script : List ℕ) (old new : Outside) → ends ≢ Err stop.WriteFailed
+answered_run : (built : Built) (ends : Ending) (script : List ℕ) (old new : Outside) → PrintsAll ends old new
     → LeavesRun built ends script old new → Answered built script old new
 answered_run built ends script old new other (inl u) = answered_nothing built script old new (before_header ends old new u)
 answered_run built ends script old new other (inr l) = answered_of built ends script old new other l
 
 pub answers_whole : (built : Built) (log script : List ℕ) (status : ℕ) (old new : Outside) → RunsScript built log script status old new
-    → status ≢ 4 → (bytes : List ℕ) → old.text script ≡ Some bytes → Answered built bytes old new
-answers_whole built log script status old new r other bytes e =
-    answered_run built r.ends bytes old new (λ is. other (r.status_is ∙ ap status_of_ending is)) (r.leaves bytes e)
+    → status ≢ 4 → (status ≡ 5 → ¬ HasRisen old.out_faults new.out_faults)
+    → (bytes : List ℕ) → old.text script ≡ Some bytes → Answered built bytes old new
+answers_whole built log script status old new r write fault bytes e =
+    answered_run built r.ends bytes old new (record {
+      write = λ is. write (r.status_is ∙ ap status_of_ending is);
+      log = λ is. fault (r.status_is ∙ ap status_of_ending is);
+    }) (r.leaves bytes e)
 
 -- ---- a whole run
 
-logged_none : (ends : Ending) (part : Part) (pools : ℕ) → IsPartAt ends part → is_input_verdict (status_of_ending ends) ≡ true
-    → logged_of pools part ≡ []
-logged_none ends Nothing pools is whole = refl
-logged_none ends (SomeRecords step count) pools is whole =
-    absurd (let wrong : is_input_verdict (status_of_ending ends) ≡ is_input_verdict 5
-    = ap (λ e. is_input_verdict (status_of_ending e)) is in cc)
-logged_none ends (SomeAnswer step count) pools is whole =
-    absurd (let wrong : is_input_verdict (status_of_ending ends) ≡ is_input_verdict 4
-    = ap (λ e. is_input_verdict (status_of_ending e)) is in cc)
+not_log_failed : (ends : Ending) → is_input_verdict (status_of_ending ends) ≡ true → ends ≢ Err stop.LogFailed
+not_log_failed ends whole is =
+    let wrong : is_input_verdict (status_of_ending ends) ≡ is_input_verdict 5 = ap (λ e. is_input_verdict (status_of_ending e)) is in cc
 
 not_write_failed : (ends : Ending) → is_input_verdict (status_of_ending ends) ≡ true → ends ≢ Err stop.WriteFailed
 not_write_failed ends whole is =
     let wrong : is_input_verdict (status_of_ending ends) ≡ is_input_verdict 4 = ap (λ e. is_input_verdict (status_of_ending e)) is in cc
 
+logged_none : (ends : Ending) (part : Part) (pools : ℕ) (old new : Outside) → IsPartAt ends part old new
+    → is_input_verdict (status_of_ending ends) ≡ true → logged_of pools part ≡ []
+logged_none ends Nothing pools old new is whole = refl
+logged_none ends (SomeRecords step count) pools old new is whole = absurd (not_log_failed ends whole is)
+logged_none ends (SomeAnswer step count) pools old new is whole = absurd (none is.blames)
+  where
+    none : (ends ≡ Err stop.WriteFailed) ⊎ (ends ≡ Err stop.LogFailed) → ⊥
+    none (inl write) = not_write_failed ends whole write
+    none (inr log) = not_log_failed ends whole log
+
 whole_of : (built : Built) (ends : Ending) (script : List ℕ) (old new : Outside) → is_input_verdict (status_of_ending ends) ≡ true
     → Leaves built ends log_header script old new → RanWhole built ends script old new
 unfolding answered_of
 whole_of built ends script old new whole l = record {
-  answered = answered_of built ends script old new (not_write_failed ends whole) l;
+  answered = answered_of built ends script old new
+      (record { write = not_write_failed ends whole; log = λ is. absurd (not_log_failed ends whole is) }) l;
   ends_at = l.ends_at;
   logged = l.logged ∙ ap (λ (p : List ℕ). appended old.logged (log_header ++ p))
-      (ap (λ (p : List ℕ). records_bytes (log_of l.history) ++ p) (logged_none ends l.part (pools_made l.history) l.is_part whole)
+      (ap (λ (p : List ℕ). records_bytes (log_of l.history) ++ p) (logged_none ends l.part (pools_made l.history) old new l.is_part whole)
       ∙ append-nil (records_bytes (log_of l.history)));
 }
 

@@ -26,11 +26,30 @@ use Rattle.mps_lines.proofs.NextLine.{line_bound}
 use Rattle.mps_run.specs.declared.bad_script_line.BadScriptLine.{BadScriptLine}
 use Rattle.mps_run.specs.declared.progress.Progress.{Progress}
 use Rattle.mps_run.specs.Ending.{Ending, IsFault, IsUnbegun, is_fault, is_verdict}
-use Rattle.mps_run.specs.Leaving.{Part, Nothing, SomeRecords, SomeAnswer, IsPartAt, IsOfNext, Begins, NeedsMemory, StopsReading, RunEndsAt, Leaves, LeavesRun, log_header, logged_of, printed_of}
+use Rattle.mps_report.proofs.Outside.{risen_earlier, risen_later}
+use Rattle.mps_run.specs.Leaving.{StopsPrinting, Part, Nothing, SomeRecords, SomeAnswer, IsPartAt, IsOfNext, Begins, NeedsMemory, StopsReading, RunEndsAt, Leaves, LeavesRun, log_header, logged_of, printed_of}
 use Rattle.mps_run.specs.Running.{IsBegun, IsPartOf, IsReason, LineStops}
 use Rattle.mps_run.specs.Script.{Line, answers_of, commands_of_call, commands_from, max_lines}
 use Rattle.mps_run.proofs.LineByLine.{first_line, commands_more, grammar_more}
 use Rattle.mps_run.proofs.SoFar.{SoFar, ReadUpTo, ReadSoFar, IsKnown, few_flips, known_rest, unsupported-append}
+
+-- ---- the part of a longer time
+
+-- it began earlier
+part_earlier : (ends : Ending) (part : Part) (a b c : Outside) → a.out_faults ≤ b.out_faults → IsPartAt ends part b c
+    → IsPartAt ends part a c
+part_earlier ends Nothing a b c grew is = tt
+part_earlier ends (SomeRecords step count) a b c grew is = is
+part_earlier ends (SomeAnswer step count) a b c grew is =
+    record { blames = is.blames; fault = risen_earlier a.out_faults b.out_faults c.out_faults grew is.fault }
+
+-- it ended later
+part_later : (ends : Ending) (part : Part) (a b c : Outside) → b.out_faults ≤ c.out_faults → IsPartAt ends part a b
+    → IsPartAt ends part a c
+part_later ends Nothing a b c grew is = tt
+part_later ends (SomeRecords step count) a b c grew is = is
+part_later ends (SomeAnswer step count) a b c grew is =
+    record { blames = is.blames; fault = risen_later a.out_faults b.out_faults c.out_faults is.fault grew }
 
 -- ---- between two lines, where nothing more was printed or logged
 
@@ -141,7 +160,7 @@ module _ (built : Built) (stands : World → Type 0) (p : Progress) (old now new
 
 module _ (built : Built) (stands : World → Type 0) (p : Progress) (old now mid new : Outside) (f : SoFar built stands p old now)
     (printed : mid.printed ≡ now.printed) (logged : mid.logged ≡ now.logged) (script : List ℕ) (line : Line)
-    (bounded : p.lines + 1 ≤ max_lines) where
+    (bounded : p.lines + 1 ≤ max_lines) (grew : old.out_faults ≤ mid.out_faults) where
   -- a step of its command is one of the next command
   begins : (later : List Line) (step : Step) → take 1 later ≡ line ∷ []
       → IsBegun built stands (commands_of_call (p.lines + 1) (call_of_line line)) step → Begins built f.ran later f.history step
@@ -190,7 +209,7 @@ module _ (built : Built) (stands : World → Type 0) (p : Progress) (old now mid
     history = f.history;
     run = f.come.run;
     part = s.within.part;
-    is_part = s.within.is_part;
+    is_part = part_earlier (Err why) s.within.part old mid new grew s.within.is_part;
     begun = of_next (lines_of rest) s.within.part first s.within.begun;
     ends_at = ends_here why (lines_of rest) first s.reason;
     printed = s.within.printed
@@ -214,7 +233,7 @@ module _ (built : Built) (stands : World → Type 0) (p : Progress) (old now mid
 -- ---- the same lines, their history and the part of the next command
 
 leaves_as : {built : Built} {ends : Ending} {header script : List ℕ} {old mid : Outside} (l : Leaves built ends header script old mid)
-    (ends_now : Ending) (header_now : List ℕ) (first new : Outside) → IsPartAt ends_now l.part
+    (ends_now : Ending) (header_now : List ℕ) (first new : Outside) → IsPartAt ends_now l.part first new
     → RunEndsAt built ends_now l.ran l.later script new.input
     → new.printed ≡ appended first.printed (answers_of l.history ++ printed_of l.part)
     → new.logged
@@ -238,16 +257,21 @@ leaves_as l ends_now header_now first new is_part ends_at printed logged = recor
 
 module _ (built : Built) (header script : List ℕ) (old mid new : Outside) (printed : new.printed ≡ mid.printed)
     (logged : new.logged ≡ mid.logged) (input : new.input ≡ mid.input) where
-  pub leaves_kept : (ends : Ending) → Leaves built ends header script old mid → Leaves built ends header script old new
-  leaves_kept ends l =
-      leaves_as l ends header old new l.is_part
+  pub leaves_kept : (ends : Ending) → mid.out_faults ≤ new.out_faults → Leaves built ends header script old mid
+      → Leaves built ends header script old new
+  leaves_kept ends grew l =
+      leaves_as l ends header old new (part_later ends l.part old mid new grew l.is_part)
       (subst (λ (i : Option (List ℕ)). RunEndsAt built ends l.ran l.later script i) (sym input) l.ends_at)
       (printed ∙ l.printed) (logged ∙ l.logged)
 
-  fault_or_none : (ends : Ending) (part : Part) → is_fault ends ≡ false → IsPartAt ends part → part ≡ Nothing
+  no_fault_blamed : (ends : Ending) → is_fault ends ≡ false → (ends ≡ Err stop.WriteFailed) ⊎ (ends ≡ Err stop.LogFailed) → ⊥
+  no_fault_blamed ends none (inl is) = let wrong : true ≡ false = sym (ap is_fault is) ∙ none in cc
+  no_fault_blamed ends none (inr is) = let wrong : true ≡ false = sym (ap is_fault is) ∙ none in cc
+
+  fault_or_none : (ends : Ending) (part : Part) → is_fault ends ≡ false → IsPartAt ends part old mid → part ≡ Nothing
   fault_or_none ends Nothing none is = refl
-  fault_or_none ends (SomeRecords step count) none is = absurd (let wrong : true ≡ false = sym (ap is_fault is) ∙ none in cc)
-  fault_or_none ends (SomeAnswer step count) none is = absurd (let wrong : true ≡ false = sym (ap is_fault is) ∙ none in cc)
+  fault_or_none ends (SomeRecords step count) none is = absurd (no_fault_blamed ends none (inr is))
+  fault_or_none ends (SomeAnswer step count) none is = absurd (no_fault_blamed ends none is.blames)
 
   -- what waited could not be written after another ending
   pub leaves_unsettled : (ends : Ending) (why : Stop BadScriptLine) → is_fault ends ≡ false
@@ -255,7 +279,7 @@ module _ (built : Built) (header script : List ℕ) (old mid new : Outside) (pri
       → Leaves built (Err why) header script old new
   leaves_unsettled ends why none is l =
       let nothing : Nothing ≡ l.part = sym (fault_or_none ends l.part none l.is_part) in
-      leaves_as l (Err why) header old new (subst (IsPartAt (Err why)) nothing tt) (of_fault why is) (printed ∙ l.printed)
+      leaves_as l (Err why) header old new (subst (λ (p : Part). IsPartAt (Err why) p old new) nothing tt) (of_fault why is) (printed ∙ l.printed)
       (logged ∙ l.logged)
     where
       of_fault : (why : Stop BadScriptLine) → (why ≡ stop.LogFailed) ⊎ (why ≡ stop.WriteFailed)
@@ -274,11 +298,12 @@ module _ (built : Built) (header script : List ℕ) (old mid new : Outside) (pri
 -- ---- the whole run
 
 -- the same after the header of the log
-pub leaves_after_header : (built : Built) (ends : Ending) (script : List ℕ) (old start new : Outside) → start.printed ≡ old.printed
+pub leaves_after_header : (built : Built) (ends : Ending) (script : List ℕ) (old start new : Outside) → old.out_faults ≤ start.out_faults
+    → start.printed ≡ old.printed
     → start.logged ≡ appended old.logged log_header → Leaves built ends [] script start new → LeavesRun built ends script old new
-leaves_after_header built ends script old start new printed logged l =
+leaves_after_header built ends script old start new grew printed logged l =
     let later = records_bytes (log_of l.history) ++ logged_of (pools_made l.history) l.part in
-    inr (leaves_as l ends log_header old new l.is_part l.ends_at
+    inr (leaves_as l ends log_header old new (part_earlier ends l.part old start new grew l.is_part) l.ends_at
     (l.printed ∙ ap (λ known. appended known (answers_of l.history ++ printed_of l.part)) printed)
     (l.logged ∙ (ap (λ known. appended known later) logged ∙ appended_twice old.logged log_header later)))
 
@@ -300,7 +325,7 @@ no_verdict_of_fault why (inr (inr is)) = rw is refl
 pub leaves_then_reported : (built : Built) (script : List ℕ) (old mid new : Outside) → OnlyReports mid new → (ends : Ending)
     → LeavesRun built ends script old mid → LeavesRun built ends script old new
 leaves_then_reported built script old mid new o ends (inr l) =
-    inr (leaves_kept built log_header script old mid new o.printed o.logged o.input ends l)
+    inr (leaves_kept built log_header script old mid new o.printed o.logged o.input ends (omega (arith, o.out_faults)) l)
 leaves_then_reported built script old mid new o (Err stop.ReadFailed) (inl u) =
     inl (record { printed = o.printed ∙ u.printed; logged = o.logged ∙ u.logged })
 leaves_then_reported built script old mid new o (Err stop.OutOfMemory) (inl u) = inl (reports_only-then old mid new u o)

@@ -1,5 +1,5 @@
 -- The report at the end of a run, and the status.
-use Rattle.std.proofs.Common.{◌≡◌, ℕ, ◌≤◌, List, [], ◌∷◌, ◌++◌, Option, Some, None, append_assoc, true, Ok, Err, OnOk, IfErr, refl, sym, ◌∙◌, ap, arith, subst, inl, inr}
+use Rattle.std.proofs.Common.{◌≡◌, ℕ, ◌≤◌, List, [], ◌∷◌, ◌++◌, Option, Some, None, append_assoc, true, false, Ok, Err, OnOk, IfErr, refl, sym, ◌∙◌, ap, arith, subst, inl, inr}
 use Rattle.mps_desk.specs.Desk.{Outside, OnlyReports, HasRisen, IsSteady}
 use Rattle.mps_log_reader.proofs.Steady.{asks_then_nothing}
 use Rattle.mps_log_reader.specs.Ending.{is_input_verdict}
@@ -87,6 +87,16 @@ two_asked (Some known) (Some some) (Some all) first second f g =
 pub asks_two : (old mid new : Outside) (first second : Request) → Asks old mid (first ∷ []) → Asks mid new (second ∷ [])
     → Asks old new (first ∷ second ∷ [])
 asks_two old mid new first second f g = two_asked old.asked mid.asked new.asked first second f g
+
+-- with status 4 printing failed
+write_failed : (ends : Ending) → status_of_ending ends ≡ 4 → ends ≡ Err stop.WriteFailed
+write_failed (Ok done) e = absurd (omega (arith, e))
+write_failed (Err stop.WriteFailed) e = refl
+write_failed (Err why) e = absurd (omega (arith, e))
+
+pub log_written_then_reported : (ends : Ending) (status : ℕ) (mid new : Outside) → OnlyReports mid new → status ≡ status_of_ending ends
+    → (ends ≡ Err stop.WriteFailed → mid.log_waits ≡ false) → status ≡ 4 → new.log_waits ≡ false
+log_written_then_reported ends status mid new o is written four = o.log_waits ∙ written (write_failed ends (sym is ∙ four))
 
 -- nothing, and then the report of an ending
 pub reported_after : (ends : Ending) (old mid new : Outside) → RunsOn old mid → HasReportedEnding text_of_bad_line ends mid new

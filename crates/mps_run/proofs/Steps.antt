@@ -1,5 +1,5 @@
 -- The step of a command that was answered, from what was logged and printed of it, and of the line in which it stands.
-use Rattle.std.proofs.Common.{◌≡◌, ℕ, ◌+◌, ◌≤◌, Bool, true, None, Some, Ok, Err, OnOk, IfErr, [], ◌∷◌, ◌++◌, List, take, refl, sym, ◌∙◌, ap, subst, arith, append-nil}
+use Rattle.std.proofs.Common.{◌≡◌, ℕ, ◌+◌, ◌≤◌, Bool, true, None, Some, Ok, Err, OnOk, IfErr, [], ◌∷◌, ◌++◌, List, take, refl, sym, ◌∙◌, ap, subst, arith, append-nil, inl, inr, ◌⊎◌}
 use Rattle.std.specs.Prelude.{◌↔◌, IsTrue, if◌then◌else◌, is_ok}
 use Rattle.mps_desk.specs.Desk.{Outside}
 use Rattle.mps_base.specs.declared.moves.Move.{Move}
@@ -25,7 +25,7 @@ use Rattle.mps_run.specs.declared.bad_script_line.BadScriptLine.{BadScriptLine}
 use Rattle.mps_run.specs.declared.progress.Progress.{Progress}
 use Rattle.mps_run.specs.Ending.{Ending}
 use Rattle.mps_run.specs.Leaving.{SomeRecords, SomeAnswer}
-use Rattle.mps_run.specs.Running.{StepsRan, LineRan, IsBegun, StopsWithin, IsReason, LineStops, LogsThenPrints, IsReasonOfCall, CommandStops}
+use Rattle.mps_run.specs.Running.{LogsSomeRecords, PrintsSomeAnswer, StepsRan, LineRan, IsBegun, StopsWithin, IsReason, LineStops, LogsThenPrints, IsReasonOfCall, CommandStops}
 use Rattle.mps_run.specs.Script.{Line, commands_of_call}
 
 -- a reply and its answer are accepted alike
@@ -94,31 +94,37 @@ module _ (built : Built) (stood stands_now : World → Type 0) (line : ℕ) (cal
     }
     steps_of (Err why) made at_most l = tt
 
+    some_records : LogsSomeRecords (records_bytes (the_records pools)) old new
+        → StopsWithin built stop.LogFailed stood (record { line = line; call = call } ∷ []) pools old new
+    unfolding begun
+    some_records l = record {
+      part = SomeRecords the_step l.count;
+      is_part = refl;
+      begun = begun;
+      printed = l.printed ∙ appended_empty old.printed;
+      logged = l.logged ∙ ap (λ rs. appended old.logged (take l.count (records_bytes rs))) (same_records pools);
+    }
+
+    some_answer : (why : Stop BadScriptLine)
+        → (let ends : Ending = Err why in (ends ≡ Err stop.WriteFailed) ⊎ (ends ≡ Err stop.LogFailed))
+        → PrintsSomeAnswer (records_bytes (the_records pools)) (line_of_answer (answer_of words given)) old new
+        → StopsWithin built why stood (record { line = line; call = call } ∷ []) pools old new
+    unfolding begun
+    some_answer why blames l = record {
+      part = SomeAnswer the_step l.count;
+      is_part = record { blames = blames; fault = l.fault };
+      begun = begun;
+      printed = l.printed;
+      logged = l.logged ∙ ap (λ rs. appended old.logged (records_bytes rs)) (same_records pools);
+    }
+
     pub stops_of : (ends : Ending)
         → LogsThenPrints (records_bytes (the_records pools)) (line_of_answer (answer_of words given)) ends old new
         → IfErr ends (λ why. CommandStops built why stood line call pools old new)
-    unfolding begun
     stops_of (Ok value) l = tt
-    stops_of (Err stop.LogFailed) l = record {
-      reason = tt;
-      within = record {
-        part = SomeRecords the_step l.0;
-        is_part = refl;
-        begun = begun;
-        printed = l.2 ∙ appended_empty old.printed;
-        logged = l.1 ∙ ap (λ rs. appended old.logged (take l.0 (records_bytes rs))) (same_records pools);
-      };
-    }
-    stops_of (Err stop.WriteFailed) l = record {
-      reason = tt;
-      within = record {
-        part = SomeAnswer the_step l.0;
-        is_part = refl;
-        begun = begun;
-        printed = l.2;
-        logged = l.1 ∙ ap (λ rs. appended old.logged (records_bytes rs)) (same_records pools);
-      };
-    }
+    stops_of (Err stop.LogFailed) (inl l) = record { reason = tt; within = some_records l }
+    stops_of (Err stop.LogFailed) (inr l) = record { reason = tt; within = some_answer stop.LogFailed (inr refl) l }
+    stops_of (Err stop.WriteFailed) l = record { reason = tt; within = some_answer stop.WriteFailed (inl refl) l }
     stops_of (Err stop.ReadFailed) l = absurd l
     stops_of (Err stop.TooLong) l = absurd l
     stops_of (Err stop.OutOfMemory) l = absurd l

@@ -1,6 +1,6 @@
 -- What a run leaves printed and logged, however it ends.
 use Rattle.std.specs.Prelude.{ℕ, ◌≡◌, ◌+◌, ◌<◌, ◌≤◌, ◌⊎◌, false, IsTrue, Option, Some, Ok, Err, List, [], ◌∷◌, ◌++◌, length, take, codes, refl}
-use Rattle.mps_desk.specs.Desk.{Outside, OnlyReports}
+use Rattle.mps_desk.specs.Desk.{Outside, HasRisen, OnlyReports}
 use Rattle.mps_base.specs.Record.{record_bytes, records_bytes, header_bytes, limit_set_code}
 use Rattle.mps_model.specs.declared.call.Call.TheVariants as call
 use Rattle.mps_model.specs.declared.reply.Reply.TheVariants as reply
@@ -45,11 +45,16 @@ printed_of Nothing = []
 printed_of (SomeRecords step count) = []
 printed_of (SomeAnswer step count) = take count (line_of_answer step.answer)
 
--- there is a part of the records only where the log failed, and of the answer only where printing failed
-abbrev pub IsPartAt : Ending → Part → Type 0
-IsPartAt ends Nothing = Unit {0}
-IsPartAt ends (SomeRecords step count) = ends ≡ Err stop.LogFailed
-IsPartAt ends (SomeAnswer step count) = ends ≡ Err stop.WriteFailed
+-- a call that was to print failed: printing did, or the log did, whose bytes are written before
+pub record StopsPrinting (ends : Ending) (old new : Outside) : Type 0 where
+  pub blames : (ends ≡ Err stop.WriteFailed) ⊎ (ends ≡ Err stop.LogFailed)
+  pub fault : HasRisen old.out_faults new.out_faults
+
+-- there is a part of the records only where the log failed, and of the answer only where a call that was to print failed
+abbrev pub IsPartAt : Ending → Part → (old new : Outside) → Type 0
+IsPartAt ends Nothing old new = Unit {0}
+IsPartAt ends (SomeRecords step count) old new = ends ≡ Err stop.LogFailed
+IsPartAt ends (SomeAnswer step count) old new = StopsPrinting ends old new
 
 -- The command of the next line was begun: this is a step of it that is legal after the history, and `unsupported` exactly where
 -- that is due.
@@ -104,7 +109,7 @@ pub record Leaves (built : Built) (ends : Ending) (header script : List ℕ) (ol
   pub history : History
   pub run : HasRun built ran history
   pub part : Part
-  pub is_part : IsPartAt ends part
+  pub is_part : IsPartAt ends part old new
   pub begun : IsOfNext built ran later history part
   pub ends_at : RunEndsAt built ends ran later script new.input
   pub printed : new.printed ≡ appended old.printed (answers_of history ++ printed_of part)

@@ -1,6 +1,6 @@
 -- What `run` does.
-use Rattle.std.specs.Prelude.{ℕ, ◌≡◌, true, Some, List}
-use Rattle.mps_desk.specs.Desk.{Outside, IsSteady}
+use Rattle.std.specs.Prelude.{ℕ, ◌≡◌, true, false, Some, List}
+use Rattle.mps_desk.specs.Desk.{Outside, IsSteady, NothingWaits}
 use Rattle.mps_report.specs.Reports.{HasReportedEnding, status_of_ending}
 use Rattle.mps_log_reader.specs.Ending.{IsUnopened, is_input_verdict}
 use Rattle.mps_log_reader.specs.Opening.{OpensNothing}
@@ -25,6 +25,10 @@ pub record RunsScript (built : Built) (log script : List ℕ) (status : ℕ) (ol
   -- Where the desk knows the script, what was printed and logged is that of one history, which answers the commands of the lines
   -- that were run, and a part of the next command where the log or printing failed.
   pub leaves : (bytes : List ℕ) → old.text script ≡ Some bytes → LeavesRun built ends bytes old new
+  -- and all that was logged and printed is written
+  pub written : is_input_verdict status ≡ true → NothingWaits new
+  -- where printing failed, all that was logged is
+  pub log_written : status ≡ 4 → new.log_waits ≡ false
   -- what was logged is exactly what the log's file holds, and no other file has changed
   pub in_file : is_input_verdict status ≡ true → IsInFile log old new
   -- that holds with any status, unless nothing was logged and no file has changed

@@ -1,6 +1,6 @@
 -- One line of a run: what a machine does of it, and what stops the run there.
-use Rattle.std.specs.Prelude.{ℕ, ◌≡◌, ◌+◌, ◌≤◌, IsTrue, true, false, Ok, Err, List, [], ◌∷◌, take}
-use Rattle.mps_desk.specs.Desk.{Outside}
+use Rattle.std.specs.Prelude.{ℕ, ◌≡◌, ◌+◌, ◌≤◌, ◌⊎◌, IsTrue, true, false, Ok, Err, List, [], ◌∷◌, take}
+use Rattle.mps_desk.specs.Desk.{Outside, HasRisen}
 use Rattle.mps_base.specs.Record.{records_bytes}
 use Rattle.mps_model.specs.declared.call.Call.{Call}
 use Rattle.mps_model.specs.Step.{Step, History}
@@ -69,7 +69,7 @@ IsPartOf built stood commands (SomeAnswer step count) = IsBegun built stood comm
 pub record StopsWithin (built : Built) (why : Stop BadScriptLine) (stood : World → Type 0) (commands : List ScriptCommand) (pools : ℕ)
     (old new : Outside) : Type 0 where
   pub part : Part
-  pub is_part : IsPartAt (Err why) part
+  pub is_part : IsPartAt (Err why) part old new
   pub begun : IsPartOf built stood commands part
   pub printed : new.printed ≡ appended old.printed (printed_of part)
   pub logged : new.logged ≡ appended old.logged (logged_of pools part)
@@ -90,15 +90,27 @@ pub record LineStops (built : Built) (why : Stop BadScriptLine) (stood : World �
 
 -- ---- one command
 
--- records are logged, and then an answer is printed: all of both; a prefix of the records and nothing of the answer, where the log
--- failed; all records and a prefix of the answer, where printing failed
+-- a prefix of the records was logged, and nothing of the answer printed
+pub record LogsSomeRecords (records : List ℕ) (old new : Outside) : Type 0 where
+  pub count : ℕ
+  pub logged : new.logged ≡ appended old.logged (take count records)
+  pub printed : new.printed ≡ old.printed
+
+-- all records were logged, and then a prefix of the answer was printed, and a call that was to print failed
+pub record PrintsSomeAnswer (records answer : List ℕ) (old new : Outside) : Type 0 where
+  pub count : ℕ
+  pub logged : new.logged ≡ appended old.logged records
+  pub printed : new.printed ≡ appended old.printed (take count answer)
+  pub fault : HasRisen old.out_faults new.out_faults
+
+-- records are logged, and then an answer is printed: all of both, or a part of the records or of the answer. It is a part of the
+-- answer too where the log fails as its bytes are written before the answer.
 abbrev pub LogsThenPrints : (records answer : List ℕ) → Ending → (old new : Outside) → Type 0
 LogsThenPrints records answer (Ok done) old new =
     (new.logged ≡ appended old.logged records) × (new.printed ≡ appended old.printed answer)
 LogsThenPrints records answer (Err stop.LogFailed) old new =
-    (count : ℕ) × (new.logged ≡ appended old.logged (take count records)) × (new.printed ≡ old.printed)
-LogsThenPrints records answer (Err stop.WriteFailed) old new =
-    (count : ℕ) × (new.logged ≡ appended old.logged records) × (new.printed ≡ appended old.printed (take count answer))
+    LogsSomeRecords records old new ⊎ PrintsSomeAnswer records answer old new
+LogsThenPrints records answer (Err stop.WriteFailed) old new = PrintsSomeAnswer records answer old new
 LogsThenPrints records answer ends old new = ⊥
 
 -- the reason is one that a command may have

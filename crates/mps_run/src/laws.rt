@@ -1,16 +1,18 @@
 // Laws of a run, which follow from what it leaves.
 ghost use Rattle.std.specs.Prelude.{◌≡◌, ◌≢◌, ℕ, List, Some, true};
-ghost use Rattle.mps_desk.specs.Desk.{Outside, Files};
+ghost use Rattle.mps_desk.specs.Desk.{Outside, Files, HasRisen};
 ghost use Rattle.mps_commands.specs.Built.{Built};
 ghost use Rattle.mps_log_reader.specs.Ending.{is_input_verdict};
 ghost use Rattle.mps_run.specs.Following.{Answered, RanWhole, HoldsLog};
 ghost use Rattle.mps_run.specs.Run.{RunsScript};
 
-/// With every status but that of a failed write, what was printed is the answer line of each step of a legal history of the first
-/// lines, and nothing else: no answer was cut short.
+/// Unless a call that was to print failed, what was printed is the answer line of each step of a legal history of the first lines,
+/// and nothing else: no answer was cut short. Such a call fails with status 4, and with 5 where the log fails as its bytes are
+/// written before the answers.
 pub fn answers_are_whole()
     ensures { (built : Built) (log script : List ℕ) (status : ℕ) (old new : Outside) → RunsScript built log script status old new
-        → status ≢ 4 → (bytes : List ℕ) → old.text script ≡ Some bytes → Answered built bytes old new }
+        → status ≢ 4 → (status ≡ 5 → ¬ HasRisen old.out_faults new.out_faults)
+        → (bytes : List ℕ) → old.text script ≡ Some bytes → Answered built bytes old new }
 {}
 
 /// Where the end of the script or one of its lines ends the run, what was printed and logged is that of a legal history of the

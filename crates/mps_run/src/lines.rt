@@ -1,6 +1,6 @@
 // The lines of a script, run one after another.
-ghost use Rattle.std.specs.Prelude.{◌≡◌, ◌≤◌, ◌⊎◌, [], List, ℕ, true, Some, Err, IfOk, IfErr, OnOk};
-ghost use Rattle.mps_desk.specs.Desk.{IsSteady, OnlyReads};
+ghost use Rattle.std.specs.Prelude.{◌≡◌, ◌≤◌, ◌⊎◌, [], List, ℕ, true, false, Some, Err, IfOk, IfErr, OnOk, OnErr};
+ghost use Rattle.mps_desk.specs.Desk.{HasRisen, IsSteady, NothingWaits, OnlyReads};
 ghost use Rattle.mps_model.specs.World.{empty_world};
 ghost use Rattle.mps_lines.specs.Buffer.{ComesNextOf, KeepsUnread, rest_of_script};
 ghost use Rattle.mps_report.specs.Causes.{CauseOf};
@@ -27,8 +27,10 @@ pub fn run_all_lines<D: Desk, C: Commands>(
     requires { C.stands_for commands.old empty_world }
     ensures cause { HasCause result (D.outside desk.old) (D.outside desk.new) }
     ensures steady { is_verdict result ≡ true → IsSteady (D.outside desk.old) (D.outside desk.new) }
+    ensures written { is_verdict result ≡ true → NothingWaits (D.outside desk.new) }
     ensures takes { LogTakes (D.outside desk.old) (D.outside desk.new) }
     ensures runs { RunsOn (D.outside desk.old) (D.outside desk.new) }
+    ensures log_written { result ≡ Err stop.WriteFailed → (D.outside desk.new).log_waits ≡ false }
     ensures leaves { (script : List ℕ) → rest_of_script lines.old (D.outside desk.old).input ≡ Some script
         → Leaves C.built result [] script (D.outside desk.old) (D.outside desk.new) }
 {
@@ -63,8 +65,10 @@ fn settle<D: Desk>(desk: &mut D) -> Result<(), Stop<BadScriptLine>>
     ensures asked { (D.outside desk.new).asked ≡ (D.outside desk.old).asked }
     ensures steady { OnOk result (IsSteady (D.outside desk.old) (D.outside desk.new)) }
     ensures failed { IfErr result (λ why. (why ≡ stop.LogFailed) ⊎ (why ≡ stop.WriteFailed)) }
+    ensures written { OnOk result (NothingWaits (D.outside desk.new)) }
     ensures cause { HasCause result (D.outside desk.old) (D.outside desk.new) }
     ensures runs { RunsOn (D.outside desk.old) (D.outside desk.new) }
+    ensures log_written { result ≡ Err stop.WriteFailed → (D.outside desk.new).log_waits ≡ false }
 {
     let Ok(()) = desk.settle_log() else {
         return Err(Stop::LogFailed);
@@ -91,6 +95,7 @@ fn next_line<D: Desk>(desk: &mut D, lines: &mut Lines) -> Result<Next, Stop<BadS
     ensures failed { IfErr result (λ why. IsFault why) }
     ensures cause { IfErr result (λ why. CauseOf (D.outside desk.old) (D.outside desk.new) why) }
     ensures runs { RunsOn (D.outside desk.old) (D.outside desk.new) }
+    ensures log_written { result ≡ Err stop.WriteFailed → (D.outside desk.new).log_waits ≡ false }
 {
     if let Some(next) = lines.next_held() {
         return Ok(next);
@@ -99,6 +104,22 @@ fn next_line<D: Desk>(desk: &mut D, lines: &mut Lines) -> Result<Next, Stop<BadS
         Ok(()) => {}
         Err(stop) => return Err(stop),
     }
+    read_line(desk, lines)
+}
+
+/// Reads on to the next line. It is asked for only where nothing waits: the answers so far appear before the program waits
+/// for input.
+fn read_line<D: Desk>(desk: &mut D, lines: &mut Lines) -> Result<Next, Stop<BadScriptLine>>
+    requires { NothingWaits (D.outside desk.old) }
+    ensures next { IfOk result (λ next. ComesNextOf next (rest_of_script lines.old (D.outside desk.old).input) lines.new.line
+        (rest_of_script lines.new (D.outside desk.new).input)) }
+    ensures counted { (D.outside desk.old).in_faults ≤ (D.outside desk.new).in_faults }
+    ensures others { OnlyReads (D.outside desk.old) (D.outside desk.new) }
+    ensures steady { OnOk result (IsSteady (D.outside desk.old) (D.outside desk.new)) }
+    ensures unread { OnErr result (KeepsUnread lines.old lines.new (D.outside desk.old).input (D.outside desk.new).input) }
+    ensures failed { IfErr result (λ why. why ≡ stop.ReadFailed) }
+    ensures cause { OnErr result (HasRisen (D.outside desk.old).in_faults (D.outside desk.new).in_faults) }
+{
     let Ok(next) = lines.next(desk) else {
         return Err(Stop::ReadFailed);
     };
@@ -116,6 +137,7 @@ fn run_lines<D: Desk, C: Commands>(
     ensures steady { is_verdict result ≡ true → IsSteady (D.outside desk.old) (D.outside desk.new) }
     ensures takes { LogTakes (D.outside desk.old) (D.outside desk.new) }
     ensures runs { RunsOn (D.outside desk.old) (D.outside desk.new) }
+    ensures log_written { result ≡ Err stop.WriteFailed → (D.outside desk.new).log_waits ≡ false }
     ensures leaves { (script : List ℕ) → rest_of_script lines.old (D.outside desk.old).input ≡ Some script
         → Leaves C.built result [] script (D.outside desk.old) (D.outside desk.new) }
 {

@@ -1,7 +1,7 @@
 // The run of a script.
-ghost use Rattle.std.specs.Prelude.{◌≡◌, ◌≢◌, ◌∷◌, ◌⊎◌, [], List, ℕ, true, Some, Err, IfErr, OnOk, OnErr};
+ghost use Rattle.std.specs.Prelude.{◌≡◌, ◌≢◌, ◌∷◌, ◌⊎◌, [], List, ℕ, true, false, Some, Err, IfErr, OnOk, OnErr};
 ghost use Rattle.std.specs.Option.{option_map};
-ghost use Rattle.mps_desk.specs.Desk.{HasRisen, IsSteady, made_for_log};
+ghost use Rattle.mps_desk.specs.Desk.{HasRisen, IsSteady, NothingWaits, made_for_log};
 ghost use Rattle.mps_model.specs.World.{empty_world};
 ghost use Rattle.mps_log_reader.specs.Ending.{is_input_verdict};
 ghost use Rattle.mps_log_reader.specs.Opening.{OpensNothing};
@@ -35,6 +35,7 @@ pub fn run_script<D: Desk, C: Commands>(
     ensures read_failed { result ≡ 3 → HasRisen (D.outside desk.old).in_faults (D.outside desk.new).in_faults }
     ensures write_failed { result ≡ 4 → HasRisen (D.outside desk.old).out_faults (D.outside desk.new).out_faults }
     ensures log_failed { result ≡ 5 → HasRisen (D.outside desk.old).log_faults (D.outside desk.new).log_faults }
+    ensures log_written { result ≡ 4 → (D.outside desk.new).log_waits ≡ false }
     ensures counts { CountsGrow (D.outside desk.old) (D.outside desk.new) }
     ensures complete { NoFaultRose (D.outside desk.old) (D.outside desk.new) → result ≢ 8 → is_input_verdict result ≡ true }
 {
@@ -61,7 +62,9 @@ fn run<D: Desk, C: Commands>(
         → ((result ≡ Err stop.ReadFailed) ⊎ (result ≡ Err stop.OutOfMemory)) × IsUnbegun (D.outside desk.old) (D.outside desk.new)
         × ((D.outside desk.new).files ≡ (D.outside desk.old).files) }
     ensures whole_log { is_verdict result ≡ true → IsInFile log.now (D.outside desk.old) (D.outside desk.new) }
+    ensures written { is_verdict result ≡ true → NothingWaits (D.outside desk.new) }
     ensures runs { RunsOn (D.outside desk.old) (D.outside desk.new) }
+    ensures log_written { result ≡ Err stop.WriteFailed → (D.outside desk.new).log_waits ≡ false }
     ensures leaves { (bytes : List ℕ) → (D.outside desk.old).text script.now ≡ Some bytes
         → LeavesRun C.built result bytes (D.outside desk.old) (D.outside desk.new) }
 {

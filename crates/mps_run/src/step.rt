@@ -1,12 +1,13 @@
 // One line of a script, and its command.
-ghost use Rattle.std.specs.Prelude.{◌≡◌, ◌≢◌, ◌+◌, ◌<◌, ◌≤◌, ◌∷◌, ◌++◌, [], true, false, Err, IfErr, OnOk, OnErr};
-ghost use Rattle.mps_desk.specs.Desk.{IsSteady};
+ghost use Rattle.std.specs.Prelude.{◌≡◌, ◌≢◌, ◌⊎◌, ◌+◌, ◌<◌, ◌≤◌, ◌∷◌, ◌++◌, [], true, false, Err, IfErr, OnOk, OnErr};
+ghost use Rattle.mps_desk.specs.Desk.{HasRisen, IsSteady, OnlyLogs};
 ghost use Rattle.mps_base.specs.Record.{records_bytes};
 ghost use Rattle.mps_model.specs.Answer.{Replied, answer_of};
 ghost use Rattle.mps_model.specs.Log.{pools_made_by, pools_of_accepted as pools_if_accepted, records_of, records_of_command};
 ghost use Rattle.mps_model.specs.Text.{line_of_answer};
 ghost use Rattle.mps_commands.specs.Range.{IsInRange};
 ghost use Rattle.mps_report.specs.Streams.{LogTakes};
+ghost use Rattle.mps_report.specs.declared.stop.Stop.TheVariants as stop;
 ghost use Rattle.mps_run.specs.Ending.{HasCause, RunsOn, is_verdict};
 ghost use Rattle.mps_run.specs.Running.{LineRan, LineStops, StepsRan, LogsThenPrints, CommandStops};
 
@@ -42,6 +43,7 @@ pub fn run_line<D: Desk, C: Commands>(
     ensures input { (D.outside desk.new).input ≡ (D.outside desk.old).input }
     ensures takes { LogTakes (D.outside desk.old) (D.outside desk.new) }
     ensures runs { RunsOn (D.outside desk.old) (D.outside desk.new) }
+    ensures log_written { result ≡ Err stop.WriteFailed → (D.outside desk.new).log_waits ≡ false }
 {
     let line = progress.lines + 1;
     match next_call(progress.has_arena, bytes, call) {
@@ -81,6 +83,7 @@ fn run_call<D: Desk, C: Commands>(
     ensures input { (D.outside desk.new).input ≡ (D.outside desk.old).input }
     ensures takes { LogTakes (D.outside desk.old) (D.outside desk.new) }
     ensures runs { RunsOn (D.outside desk.old) (D.outside desk.new) }
+    ensures log_written { result ≡ Err stop.WriteFailed → (D.outside desk.new).log_waits ≡ false }
 {
     let Ok(()) = commands.answer(call, reply) else {
         return Err(Stop::OutOfMemory);
@@ -135,12 +138,31 @@ fn log_then_print<D: Desk, C: Commands>(
     ensures input { (D.outside desk.new).input ≡ (D.outside desk.old).input }
     ensures takes { LogTakes (D.outside desk.old) (D.outside desk.new) }
     ensures runs { RunsOn (D.outside desk.old) (D.outside desk.new) }
+    ensures log_written { result ≡ Err stop.WriteFailed → (D.outside desk.new).log_waits ≡ false }
 {
     let Ok(()) = log_records(desk, line, pools, call, reply, commands.moves()) else {
         return Err(Stop::LogFailed);
     };
     let Ok(()) = print(desk, reply, commands) else {
-        return Err(Stop::WriteFailed);
+        return Err(after_no_print(desk));
     };
     Ok(())
+}
+
+/// Why a call that was to print failed: the log failed, whose bytes are written before, or else printing did.
+#[cold]
+#[inline(never)]
+fn after_no_print<D: Desk>(desk: &mut D) -> Stop<BadScriptLine>
+    ensures blames { (result ≡ stop.WriteFailed) ⊎ (result ≡ stop.LogFailed) }
+    ensures log_written { result ≡ stop.WriteFailed → (D.outside desk.new).log_waits ≡ false }
+    ensures cause { result ≡ stop.LogFailed → HasRisen (D.outside desk.old).log_faults (D.outside desk.new).log_faults }
+    ensures counted { (D.outside desk.old).log_faults ≤ (D.outside desk.new).log_faults }
+    ensures logged { (D.outside desk.new).logged ≡ (D.outside desk.old).logged }
+    ensures files { (D.outside desk.new).files ≡ (D.outside desk.old).files }
+    ensures others { OnlyLogs (D.outside desk.old) (D.outside desk.new) }
+{
+    match desk.settle_log() {
+        Ok(()) => Stop::WriteFailed,
+        Err(_) => Stop::LogFailed,
+    }
 }

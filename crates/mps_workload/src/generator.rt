@@ -2,6 +2,7 @@
 
 ghost use Rattle.std.specs.Prelude.{◌≡◌, ◌≤◌, ◌⊎◌, ◌++◌, [], codes, length, OnOk, OnErr};
 ghost use Rattle.std.specs.List.{flat_map};
+ghost use Rattle.mps_desk.specs.Desk.{NothingWaits};
 ghost use Rattle.mps_workload.specs.Ending.{IsGenerated, FailsWithin};
 ghost use Rattle.mps_workload.specs.Script.{script};
 ghost use Rattle.mps_report.specs.Streams.{Prints, PrintsPart, Gathers, Reports};
@@ -19,6 +20,7 @@ pub fn generate<D: Desk>(alloc: Global, seed: u64, count: u64, desk: &mut D) -> 
     ensures statuses { (result ≡ 0) ⊎ (result ≡ 4) ⊎ (result ≡ 8) }
     ensures cut { result ≡ 4 → FailsWithin (D.outside desk.old) (D.outside desk.new) (script seed count) }
     ensures no_memory { result ≡ 8 → Reports (D.outside desk.old) (D.outside desk.new) (codes "mps: out of memory\n") }
+    ensures written { result ≡ 0 → NothingWaits (D.outside desk.new) }
 {
     let ending = print_script(alloc, seed, count, desk);
     report_ending(ending, desk)
@@ -31,7 +33,8 @@ fn print_script<D: Desk>(
     desk: &mut D,
 ) -> Result<(), Stop<NoBadPlace>>
     requires { count ≤ 1000000 }
-    ensures { IsGenerated (D.outside desk.old) (D.outside desk.new) (script seed count) result }
+    ensures generated { IsGenerated (D.outside desk.old) (D.outside desk.new) (script seed count) result }
+    ensures written { OnOk result (NothingWaits (D.outside desk.new)) }
 {
     let mut output = match Output::new(alloc) {
         Ok(output) => output,
@@ -52,6 +55,7 @@ fn print_all_lines<D: Desk>(
     requires { output.old ≡ [] }
     ensures printed { OnOk result (Prints (D.outside desk.old) (D.outside desk.new) (flat_map (λ line. line) lines.old)) }
     ensures part { OnErr result (PrintsPart (D.outside desk.old) (D.outside desk.new) (flat_map (λ line. line) lines.old)) }
+    ensures written { OnOk result (NothingWaits (D.outside desk.new)) }
 {
     gather_lines(lines, output, desk)?;
     output.flush(desk)

@@ -1,6 +1,7 @@
 // What no clause of `mps_desk` says: that calls succeed with ample memory, and what becomes of real files.
 use mps_base::{Addr, Move, Trail};
 use mps_desk::{Desk, DeskCall, Failed, HostDesk, MemDesk};
+use mps_gathering::Gathering;
 use std::fs::{remove_file, write};
 use std::process::Abort;
 use std::test::Fail;
@@ -27,13 +28,13 @@ fn prints_in_pieces(rt: &impl Abort, desk: &mut MemDesk) -> Result<(), Fail> {
 /// What is logged and settled is in the file.
 #[test]
 fn a_real_file(rt: HostRuntime) -> Result<(), Fail> {
-    let mut desk = HostDesk::new(&rt, rt.alloc());
+    let mut desk = HostDesk::new(&rt);
     logs_and_reads(&rt, &mut desk)?;
     remove_file(&rt, LOG_FILE)?;
     Ok(())
 }
 
-fn logs_and_reads(rt: &impl Abort, desk: &mut HostDesk) -> Result<(), Fail> {
+fn logs_and_reads(rt: &impl Abort, desk: &mut impl Desk) -> Result<(), Fail> {
     desk.create(LOG_FILE)?;
     desk.log(b"record")?;
     desk.settle_log()?;
@@ -44,7 +45,7 @@ fn logs_and_reads(rt: &impl Abort, desk: &mut HostDesk) -> Result<(), Fail> {
 }
 
 /// The next read gives these bytes.
-fn reads(rt: &impl Abort, desk: &mut HostDesk, expected: &[u8]) {
+fn reads(rt: &impl Abort, desk: &mut impl Desk, expected: &[u8]) {
     let mut buf = [0u8; 16];
     let count = desk.read(&mut buf);
     assert_eq!(rt; count, Ok(expected.len()));
@@ -55,13 +56,13 @@ fn reads(rt: &impl Abort, desk: &mut HostDesk, expected: &[u8]) {
 #[test]
 fn the_input_stays(rt: HostRuntime) -> Result<(), Fail> {
     write(&rt, INPUT_FILE, b"script")?;
-    let mut desk = HostDesk::new(&rt, rt.alloc());
+    let mut desk = HostDesk::new(&rt);
     refuses_the_input(&rt, &mut desk)?;
     remove_file(&rt, INPUT_FILE)?;
     Ok(())
 }
 
-fn refuses_the_input(rt: &impl Abort, desk: &mut HostDesk) -> Result<(), Fail> {
+fn refuses_the_input(rt: &impl Abort, desk: &mut impl Desk) -> Result<(), Fail> {
     desk.open(INPUT_FILE)?;
     assert_eq!(rt; desk.create(INPUT_FILE), Err(Failed));
     assert_eq!(rt; desk.create("./mps_desk_test.input"), Err(Failed));
@@ -72,7 +73,7 @@ fn refuses_the_input(rt: &impl Abort, desk: &mut HostDesk) -> Result<(), Fail> {
 /// A directory is neither read nor made a log.
 #[test]
 fn a_directory_is_no_file(rt: HostRuntime) {
-    let mut desk = HostDesk::new(&rt, rt.alloc());
+    let mut desk = HostDesk::new(&rt);
     assert_eq!(rt; desk.open("."), Err(Failed));
     assert_eq!(rt; desk.create("."), Err(Failed));
 }
@@ -80,11 +81,11 @@ fn a_directory_is_no_file(rt: HostRuntime) {
 /// A fault of the log is known where it is settled, and at each call from then on.
 #[test]
 fn a_log_that_takes_nothing(rt: HostRuntime) -> Result<(), Fail> {
-    let mut desk = HostDesk::new(&rt, rt.alloc());
+    let mut desk = Gathering::new(HostDesk::new(&rt), rt.alloc());
     logs_to_a_full_device(&rt, &mut desk)
 }
 
-fn logs_to_a_full_device(rt: &impl Abort, desk: &mut HostDesk) -> Result<(), Fail> {
+fn logs_to_a_full_device(rt: &impl Abort, desk: &mut impl Desk) -> Result<(), Fail> {
     desk.create("/dev/full")?;
     desk.log(b"record")?;
     assert_eq!(rt; desk.settle_log(), Err(Failed));

@@ -1,4 +1,4 @@
-use Rattle.mps_cli.proofs.Generated.{generated_asks_nothing}
+use Rattle.mps_cli.proofs.Generated.{generated_asks_nothing, generated_written}
 use Rattle.mps_cli.proofs.mps.run_command.Goals as goal
 
 pub returns-in-Convert-clause-asked : goal.returns-in-Convert-clause-asked
@@ -20,6 +20,7 @@ returns-in-Generate-clause-asked g c = rw c.in-Generate.is (record {
   asked = generated_asks_nothing c.generate.result (g.D.Desk.outside c.args.desk.now) (g.D.Desk.outside c.generate.new.desk) _
       c.generate.ensures.statuses c.generate.ensures.whole c.generate.ensures.cut c.generate.ensures.no_memory;
   whole = c.generate.ensures.whole;
+  written = c.generate.ensures.written;
   cut = c.generate.ensures.cut;
   no_memory = c.generate.ensures.no_memory;
 })
@@ -46,3 +47,7 @@ returns-in-Blocks-clause-asked g c = rw c.in-Blocks.is (record {
   missing = c.blocks-in-Blocks.ensures.missing;
   reported = c.blocks-in-Blocks.ensures.reported;
 })
+
+pub returns-in-Generate-clause-written : goal.returns-in-Generate-clause-written
+returns-in-Generate-clause-written g c verdict none =
+    generated_written c.generate.result (g.D.Desk.outside c.generate.new.desk) c.generate.ensures.statuses c.generate.ensures.written verdict

@@ -6,7 +6,7 @@ pub returns-in-Ok-clause-leaves : goal.returns-in-Ok-clause-leaves
 returns-in-Ok-clause-leaves g c script e =
     leaves_kept g.C.Commands.built [] script (g.D.Desk.outside c.args.desk.now) (g.D.Desk.outside c.run_lines-ending.new.desk)
     (g.D.Desk.outside c.settle.new.desk) c.settle.ensures.printed c.settle.ensures.logged c.settle.ensures.input
-    c.run_lines-ending.result (c.run_lines-ending.ensures.leaves script e)
+    c.run_lines-ending.result c.settle.ensures.runs.counts.out_faults (c.run_lines-ending.ensures.leaves script e)
 
 pub returns-in-Err-clause-leaves : goal.returns-in-Err-clause-leaves
 returns-in-Err-clause-leaves g c script e =

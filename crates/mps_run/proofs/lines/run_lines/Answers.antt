@@ -110,7 +110,8 @@ returns-in-Err-run_line-clause-leaves g c script e =
     let ensured = c.in-Ok.ensures in
     leaves_line g.C.Commands.built (g.C.Commands.stands_for c.loop-next.commands) c.loop-next.progress (g.D.Desk.outside c.args.desk.now)
     (g.D.Desk.outside c.loop-next.desk) (g.D.Desk.outside c.next_line.new.desk) (g.D.Desk.outside c.run_line.new.desk) i.so_far
-    ensured.others.printed ensured.others.logged script c.next_line.new.lines.line (omega arith) c.in-Err-run_line.stop
+    ensured.others.printed ensured.others.logged script c.next_line.new.lines.line (omega arith)
+    (omega (arith, i.runs.counts.out_faults, ensured.others.out_faults)) c.in-Err-run_line.stop
     (rest_of_script c.args.lines.now (g.D.Desk.outside c.args.desk.now).input)
     (rest_of_script c.loop-next.lines (g.D.Desk.outside c.loop-next.desk).input)
     (rest_of_script c.next_line.new.lines (g.D.Desk.outside c.next_line.new.desk).input) e i.read

@@ -1,4 +1,4 @@
-use Rattle.std.proofs.Common.{◌≡◌, Some, ◌∙◌, ap, refl, inl, inr}
+use Rattle.std.proofs.Common.{◌≡◌, Some, ◌∙◌, ap, refl, inl, inr, arith}
 use Rattle.mps_lines.specs.Buffer.{LineBuffer, rest_of_script}
 use Rattle.mps_run.specs.Leaving.{log_header}
 use Rattle.mps_report.specs.Streams.{appended}
@@ -46,6 +46,7 @@ returns-clause-leaves g c bytes e =
     leaves_after_header g.C.Commands.built c.run_all_lines.result bytes (g.D.Desk.outside c.args.desk.now)
     (g.D.Desk.outside c.log_header.new.desk)
     (g.D.Desk.outside c.run_all_lines.new.desk)
+    (omega (arith, c.open_files.ensures.runs.counts.out_faults, c.in-Ok-log_header.ensures.logged.others.out_faults))
     (c.in-Ok-log_header.ensures.logged.others.printed ∙ c.open_files.ensures.unbegun.printed)
     (c.in-Ok-log_header.ensures.logged.logged ∙ ap (λ known. appended known log_header) c.open_files.ensures.unbegun.logged)
     (c.run_all_lines.ensures.leaves bytes left)

@@ -1,8 +1,9 @@
 use Rattle.std.proofs.Common.{◌≡◌, subst, true}
 use Rattle.mps_log_reader.specs.Ending.{is_input_verdict}
+use Rattle.mps_report.proofs.Waiting.{reports_written}
 use Rattle.mps_run.proofs.Leaving.{leaves_then_reported}
 use Rattle.mps_run.proofs.LogFile.{in_file_then_reported, logs_into_then_reported, missing_then_reported}
-use Rattle.mps_run.proofs.Reported.{asks_then_reported, cause_then_reported, steady_then_reported, IsReported, is_reported, reported_after}
+use Rattle.mps_run.proofs.Reported.{asks_then_reported, cause_then_reported, steady_then_reported, log_written_then_reported, IsReported, is_reported, reported_after}
 use Rattle.mps_run.proofs.run.run_script.Goals as goal
 
 pub returns-clause-runs : goal.returns-clause-runs
@@ -24,6 +25,9 @@ returns-clause-runs g c =
       steady = λ whole.
           steady_then_reported old mid new (run.steady (subst (λ n. is_input_verdict n ≡ true) report.status_is whole)) report.others;
       leaves = λ bytes e. leaves_then_reported g.C.Commands.built bytes old mid new report.others ending (run.leaves bytes e);
+      written = λ whole.
+          reports_written mid new report.others (run.written (subst (λ n. is_input_verdict n ≡ true) report.status_is whole));
+      log_written = log_written_then_reported ending c.report_ending.result mid new report.others report.status_is run.log_written;
       in_file = λ whole.
           in_file_then_reported c.args.log.now old mid new
           (run.whole_log (subst (λ n. is_input_verdict n ≡ true) report.status_is whole)) report.others;

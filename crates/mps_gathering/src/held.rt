@@ -1,10 +1,8 @@
-// Bytes that wait to be written.
-ghost use Rattle.std.specs.Prelude.{◌≡◌, ◌+◌, ◌<◌, ◌≤◌, [], ◌++◌, true, false, length, take, IsTrue, IfNone, IfSome, OnSome, vec_capacity};
-ghost use Rattle.std.specs.Io.KnownBytes.{Appends};
-ghost use Rattle.mps_desk.specs.Held.{IsCarriedOn, HasRoom, max_held_bytes};
+// Bytes that wait to be handed on.
+ghost use Rattle.std.specs.Prelude.{◌≡◌, ◌≢◌, ◌+◌, ◌-◌, ◌<◌, ◌≤◌, [], ◌++◌, true, false, length, take, drop, IsTrue, vec_capacity, vec_len};
+ghost use Rattle.mps_gathering.specs.Held.{HasRoom, max_held_bytes};
 
 use std::alloc::Global;
-use std::io::Write;
 use std::marker::Model;
 
 /// The most bytes that wait.
@@ -13,7 +11,7 @@ const MAX_HELD_BYTES: usize = 65_536;
 /// The most bytes of a piece that are held one by one, which costs less than a call.
 const SHORT_BYTES: usize = 3;
 
-/// Bytes that were taken and aren't written yet. Once a write failed they are let go, and no more are taken.
+/// Bytes that were taken and aren't handed on yet. Once that failed, what is left of them stays, and no more are taken.
 #[derive(Drop)]
 pub struct Held {
     bytes: Vec<u8>,
@@ -22,7 +20,7 @@ pub struct Held {
 
 impl Model for Held {
     ghost use Rattle.std.specs.Prelude.{◌≤◌, vec_len, vec_capacity};
-    ghost use Rattle.mps_desk.specs.Held.{Waiting};
+    ghost use Rattle.mps_gathering.specs.Held.{Waiting};
 
     ghost Value = { Waiting };
 
@@ -42,11 +40,25 @@ impl Held {
         }
     }
 
-    /// A write of held bytes failed.
+    /// Handing on held bytes failed.
     pub fn has_failed(&self) -> bool
         ensures { result ≡ self.now.failed }
     {
         self.failed
+    }
+
+    /// No bytes wait.
+    pub fn is_empty(&self) -> bool
+        ensures empty { IsTrue result → self.now.bytes ≡ [] }
+        ensures some { result ≡ false → self.now.bytes ≢ [] }
+    {
+        self.bytes.is_empty()
+    }
+
+    pub fn bytes(&self) -> &[u8]
+        ensures { result.now ≡ self.now.bytes }
+    {
+        &self.bytes
     }
 
     /// Takes the piece, where there is room for it beside the bytes that wait: in memory that is there already it always
@@ -71,50 +83,30 @@ impl Held {
         self.bytes.extend_from_slice(piece).is_ok()
     }
 
-    /// Takes some of the piece, and writes the bytes that wait where that needs room. None where a write failed.
-    pub fn take<W: Write>(&mut self, piece: &[u8], to: &mut W) -> Option<usize>
-        ensures at_most { IfSome result (λ n. n ≤ length piece.now) }
-        ensures nonzero { IfSome result (λ n. 0 < length piece.now → 0 < n) }
-        ensures failed { IfNone result (self.new.failed ≡ true) }
-        ensures going { OnSome result (self.new.failed ≡ false) }
-        ensures in_order { IfSome result (λ n. IsCarriedOn (W.contents to.old) self.old.bytes (take n piece.now)
-            (W.contents to.new) self.new.bytes) }
+    /// Lets go the first bytes, which were handed on. Where some are left, handing them on failed.
+    pub fn hand_on(&mut self, count: usize)
+        requires { count ≤ length self.old.bytes }
+        ensures left { self.new.bytes ≡ drop count self.old.bytes }
+        ensures going { self.new.failed ≡ false → self.new.bytes ≡ [] }
+        ensures fault { self.new.failed ≡ true → count < length self.old.bytes }
     {
-        if self.hold(piece) {
-            return Some(piece.len());
+        if count == self.bytes.len() {
+            self.bytes.clear();
+            self.failed = false;
+            return;
         }
-        self.write_to(to);
-        if self.hold(piece) {
-            return Some(piece.len());
-        }
-        if self.failed {
-            return None;
-        }
-        if to.write_all(piece).is_err() {
-            self.failed = true;
-            return None;
-        }
-        Some(piece.len())
+        let left = self.bytes.len() - count;
+        self.bytes.as_mut_slice().copy_within(count.., 0);
+        self.bytes.truncate(left);
+        self.failed = true;
     }
 
-    /// Writes the bytes that wait.
-    pub fn write_to<W: Write>(&mut self, to: &mut W)
-        ensures nothing_waits { self.new.bytes ≡ [] }
-        ensures stays { self.old.failed ≡ true → self.new.failed ≡ true }
-        ensures written { self.new.failed ≡ false → Appends (W.contents to.old) (W.contents to.new) self.old.bytes }
+    /// Handing on failed: no more bytes are taken.
+    pub fn fail(&mut self)
+        ensures failed { self.new.failed ≡ true }
+        ensures left { self.new.bytes ≡ self.old.bytes }
     {
-        if !self.failed && !self.bytes.is_empty() {
-            self.failed = to.write_all(&self.bytes).is_err();
-        }
-        self.bytes.clear();
-    }
-
-    /// Lets go the bytes that wait.
-    pub fn let_go(&mut self)
-        ensures nothing_waits { self.new.bytes ≡ [] }
-        ensures failed { self.new.failed ≡ self.old.failed }
-    {
-        self.bytes.clear();
+        self.failed = true;
     }
 }
 
