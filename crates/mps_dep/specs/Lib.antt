@@ -1,3 +1,4 @@
+pub mod Following
 pub mod Inside
 pub mod Marks
 pub mod State

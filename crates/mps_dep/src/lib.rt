@@ -2,9 +2,12 @@
 #![tactic(auto)]
 
 mod dependents;
+mod follow;
 mod marks;
 
 pub use dependents::{Dependents, MAX_PAIRS, Pair};
 
+#[cfg(test)]
+mod follow_tests;
 #[cfg(test)]
 mod tests;

@@ -2,7 +2,7 @@
 use Rattle.std.specs.Prelude.{ℕ, ◌≡◌, ◌≤◌, Bool, true, List, length, slice_index_or, false}
 use Rattle.std.specs.List.{All}
 use Rattle.mps_xform.specs.declared.transforms.Pair.{Pair}
-use Rattle.mps_xform.specs.State.{max_transforms, max_pairs}
+use Rattle.mps_xform.specs.State.{max_pairs}
 
 -- there is room for all pairs that there may be, and each is of a transform that there is
 pub record AreSoundTransforms (live : List Bool) (pairs : List Pair) (capacity : ℕ) : Type 0 where

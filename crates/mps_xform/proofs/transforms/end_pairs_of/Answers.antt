@@ -1,4 +1,4 @@
-use Rattle.std.proofs.Common.{Bool, not, rules}
+use Rattle.std.proofs.Common.{not, rules}
 use Rattle.std.proofs.lemmas.Fn.{filter_same}
 use Rattle.mps_xform.specs.State.{is_of}
 use Rattle.mps_xform.proofs.transforms.end_pairs_of.Goals as goal

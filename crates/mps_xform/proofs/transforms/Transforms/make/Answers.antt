@@ -1,4 +1,4 @@
-use Rattle.std.proofs.Common.{◌≡◌, ◌∙◌, false, not, sym, ap}
+use Rattle.std.proofs.Common.{◌≡◌, ◌∙◌, not, sym, ap}
 use Rattle.std.specs.Prelude.{Some}
 use Rattle.std.specs.List.{position}
 use Rattle.mps_xform.specs.State.{TransformsState, is_live}
