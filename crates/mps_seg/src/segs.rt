@@ -9,7 +9,7 @@ ghost use Rattle.mps_base.specs.Trail.{with_move};
 ghost use Rattle.mps_arena.specs.Arena.{answer_of_placement};
 ghost use Rattle.mps_extents.specs.Extents.{run_over, first_run};
 ghost use Rattle.mps_marks.specs.Marks.{without_marks};
-ghost use Rattle.mps_seg.specs.Segs.{new_segments, placement_for, segments_after, noted_for, moves_after, held_runs, at_word, base_address, IsEmptyAt, IsUsed, CanCover};
+ghost use Rattle.mps_seg.specs.Segs.{new_segments, placement_for, segments_after, noted_for, moves_after, held_runs, at_word, base_address, IsEmptyAt, IsUsed, CanCover, LiesIn};
 ghost use Rattle.mps_seg.specs.Table.{IsMarked};
 
 mod collecting;
@@ -297,6 +297,14 @@ impl Segs {
     /// The tables of marks have a bit for each word, and the others an entry for each grain.
     pub fn tables_are_whole(&self)
         ensures { IsMarked self.now.grains self.now.marks self.now.condemned self.now.summaries }
+    {
+        let _ = &self.arena;
+    }
+
+    /// Does nothing: a caller knows that each segment lies in grains that are held.
+    pub fn segments_are_held(&self)
+        ensures { (t : Segment) → Contains self.now.segments t
+            → LiesIn (held_runs self.now) (record { from = word_of t.base; count = words_of_grain * t.grains }) }
     {
         let _ = &self.arena;
     }
