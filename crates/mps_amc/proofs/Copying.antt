@@ -1,16 +1,16 @@
 -- Words that are copied, and a block that is forwarded then.
-use Rattle.std.proofs.Common.{ℕ, ◌+◌, ◌-◌, ◌<◌, ◌≤◌, ◌≡◌, ◌≢◌, ◌⊎◌, List, length, take, drop, ◌++◌, get_or, sym, ap, ◌∙◌, inl, inr, arith}
+use Rattle.std.proofs.Common.{ℕ, ◌+◌, ◌-◌, ◌<◌, ◌≤◌, ◌≡◌, ◌≢◌, ◌⊎◌, List, length, take, drop, ◌++◌, get_or, sym, ap, ◌∙◌, subst, inl, inr, arith}
 use Rattle.std.proofs.Math.ListN.{length-take, length-drop}
 use Rattle.std.proofs.Math.Seq.{length_paste_head}
 use Rattle.std.proofs.lemmas.List.{get_or-take, get_or-drop, get_or_append_left, get_or-append_right}
 use Rattle.std.proofs.lemmas.List.Edits.{length-paste}
 use Rattle.std.proofs.lemmas.Bool.{cases_lt}
-use Rattle.std.specs.Prelude.{slice_index, slice_range}
+use Rattle.std.specs.Prelude.{IsTrue, slice_index, slice_range}
 use Rattle.mps_base.specs.Address.{Address, word_of}
 use Rattle.mps_arena.specs.Arena.{copied_words}
 use Rattle.mps_format.specs.Layout.{Layout}
-use Rattle.mps_format.specs.Blocks.{BeginsForwarded}
-use Rattle.mps_amc.specs.Moving.{AreCopied}
+use Rattle.mps_format.specs.Blocks.{IsBlock, BeginsForwarded}
+use Rattle.mps_amc.specs.Moving.{AreCopied, BlockStands}
 
 module _ (words : List ℕ) (from to n : ℕ) (from_in : from + n ≤ length words) (to_in : to + n ≤ length words) where
   source_long : n ≤ length (drop from words)
@@ -88,4 +88,31 @@ module _ (f : Layout) (words words' : List ℕ) (from to : Address) (n : ℕ)
       leads = sym (get_or-drop (word_of from) words' 1 0) ∙ sym (in_block 1 (omega (arith, at_least_two))) ∙ leads;
       others = λ i not_from not_to. others i (apart_from i (word_of from) n not_from)
           ∙ copied_outside words (word_of from) (word_of to) n from_in to_in i (apart_from i (word_of to) n not_to);
+    }
+
+-- a block whose words are copied elsewhere stays where it is
+pub block_stays : (f : Layout) (words : List ℕ) (from to : Address) (n : ℕ) → BlockStands f words from n
+    → word_of to + n ≤ length words → (word_of from + n ≤ word_of to) ⊎ (word_of to + n ≤ word_of from) → 0 < n
+    → IsBlock f (slice_range (copied_words words (word_of from) (word_of to) n) (word_of from) (word_of from + n))
+block_stays f words from to n stands to_in apart some =
+    let words' : List ℕ = copied_words words (word_of from) (word_of to) n in
+    let long = copied_long words (word_of from) (word_of to) n stands.within to_in in
+    let part : List ℕ = slice_range words' (word_of from) (word_of from + n) in
+    let away : (word_of from < word_of to) ⊎ (word_of to + n ≤ word_of from) =
+    elim apart [ inl after ↦ inl (omega (arith, after, some)) | inr before ↦ inr before ] in
+    let head : slice_index part 0 ≡ slice_index words (word_of from) =
+    get_or-take (word_of from + n - word_of from) (drop (word_of from) words') 0 0 (omega (arith, some))
+    ∙ get_or-drop (word_of from) words' 0 0
+    ∙ ap (λ (i : ℕ). get_or words' i 0) (omega arith)
+    ∙ copied_outside words (word_of from) (word_of to) n stands.within to_in (word_of from) away
+    in
+    record {
+      valid = let P : ℕ → Type 0 = λ h. IsTrue (f.is_valid h) in subst P (sym head) stands.valid;
+      whole = omega (
+        arith,
+        length-take (word_of from + n - word_of from) (drop (word_of from) words'),
+        length-drop (word_of from) words',
+        long,
+        stands.within,
+      ) ∙ stands.whole ∙ ap (λ (h : ℕ). f.size h) (sym head);
     }

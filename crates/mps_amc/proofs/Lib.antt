@@ -1,3 +1,4 @@
+pub mod Borrowed
 pub mod Copying
 pub mod Found
 pub mod Lost

@@ -1,10 +1,10 @@
 // A block moves.
 #![tactic(auto)]
 
-ghost use Rattle.std.specs.Prelude.{◌≡◌, ℕ, ◌+◌, ◌*◌, ◌%◌, ◌<◌, ◌≤◌, ◌⊎◌, length, slice_index, slice_range};
+ghost use Rattle.std.specs.Prelude.{◌≡◌, ℕ, ◌+◌, ◌*◌, ◌%◌, ◌<◌, ◌≤◌, ◌⊎◌, length, take, slice_index, slice_range};
 ghost use Rattle.mps_base.specs.Address.{word_of, bytes_of_word, words_of_grain};
 ghost use Rattle.mps_format.specs.Blocks.{IsBlock, BeginsForwarded};
-ghost use Rattle.mps_seg.specs.Segs.{CanCover};
+ghost use Rattle.mps_seg.specs.Segs.{CanCover, LiesIn, held_runs};
 ghost use Rattle.mps_amc.specs.Moving.{AreCopied, BlockStands, IsBlockOf, run_at, moved_to, kept_in_place};
 
 use mps_base::Addr;
@@ -42,6 +42,7 @@ pub(crate) fn keep_in_place(segs: &mut Segs, at: Addr)
 /// Copies the block of `words` words at `at` to words apart from it, and leaves a forwarded block.
 fn copy_block<F: Format>(segs: &mut Segs, format: &F, at: Addr, to: Addr, words: u32)
     requires aligned { at.0 % bytes_of_word ≡ 0 }
+    requires held { LiesIn (held_runs segs.old) (run_at at.0 1) }
     requires stands { BlockStands (F.layout format.now) segs.old.words at.0 words }
     requires in_arena { word_of to.0 + words ≤ length segs.old.words }
     requires apart { (word_of at.0 + words ≤ word_of to.0) ⊎ (word_of to.0 + words ≤ word_of at.0) }
@@ -55,6 +56,7 @@ fn copy_block<F: Format>(segs: &mut Segs, format: &F, at: Addr, to: Addr, words:
 /// Leaves a forwarded block in place of the block of `words` words at `at`.
 fn forward_block<F: Format>(segs: &mut Segs, format: &F, at: Addr, words: u32, to: Addr)
     requires aligned { at.0 % bytes_of_word ≡ 0 }
+    requires held { LiesIn (held_runs segs.old) (run_at at.0 1) }
     requires inside { word_of at.0 + words ≤ length segs.old.words }
     requires block { IsBlock (F.layout format.now) (slice_range segs.old.words (word_of at.0) (word_of at.0 + words)) }
     ensures state { segs.new ≡ record segs.old { words = segs.new.words } }
@@ -64,6 +66,17 @@ fn forward_block<F: Format>(segs: &mut Segs, format: &F, at: Addr, words: u32, t
     ensures others { (i : ℕ) → (i < word_of at.0) ⊎ (word_of at.0 + words ≤ i)
         → slice_index segs.new.words i ≡ slice_index segs.old.words i }
 {
-    let block = segs.lend_mut(at, words);
-    format.forward(block, to);
+    let memory = segs.words_from_mut(at);
+    forward_first(format, memory, words, to);
+}
+
+/// Leaves a forwarded block in place of the block that the first `words` words are.
+fn forward_first<F: Format>(format: &F, memory: &mut [u64], words: u32, to: Addr)
+    requires whole { words ≤ length memory.old }
+    requires block { IsBlock (F.layout format.now) (take words memory.old) }
+    ensures forwarded { BeginsForwarded (F.layout format.now) (take words memory.new) words }
+    ensures leads { slice_index (take words memory.new) 1 ≡ to.0 }
+    ensures rest { (i : ℕ) → words ≤ i → slice_index memory.new i ≡ slice_index memory.old i }
+{
+    format.forward(&mut memory[..words as usize], to);
 }

@@ -1,10 +1,11 @@
 // A segment is reclaimed at the end of a collection.
 #![tactic(auto)]
 
-ghost use Rattle.std.specs.Prelude.{◌≡◌, ℕ, ◌+◌, ◌%◌, ◌<◌, ◌≤◌, ◌⊎◌, [], ◌∷◌, length, slice_index, IfSome, IfNone, Contains};
+ghost use Rattle.std.specs.Prelude.{◌≡◌, ℕ, ◌+◌, ◌-◌, ◌%◌, ◌<◌, ◌≤◌, ◌⊎◌, [], ◌∷◌, length, slice_index, IfSome, IfNone, Contains};
 ghost use Rattle.mps_base.specs.Address.{word_of, bytes_of_word};
 ghost use Rattle.mps_base.specs.Run.{runs_within};
 ghost use Rattle.mps_extents.specs.Extents.{is_covered};
+ghost use Rattle.mps_seg.specs.Segs.{LiesIn, held_runs};
 ghost use Rattle.mps_amc.specs.Moving.{run_at};
 ghost use Rattle.mps_amc.specs.Reclaiming.{IsSpan, CanReclaim, lost_between, without_blocks, moves_freed, LiesInPad, ArePadded, IsReclaimed};
 
@@ -38,6 +39,7 @@ impl Amc {
         if segs.is_empty(base) {
             segs.give(trail, base);
         } else {
+            segs.segments_are_held();
             pad_around(segs, format, base, end);
         }
     }
@@ -83,6 +85,7 @@ fn free_lost(segs: &mut Segs, trail: &mut Trail, base: Addr, end: Addr)
 fn pad_around<F: Format>(segs: &mut Segs, format: &F, base: Addr, end: Addr)
     requires aligned { base.0 % bytes_of_word ≡ 0 }
     requires span { IsSpan segs.old base.0 end.0 }
+    requires held { LiesIn (held_runs segs.old) (record { from = word_of base.0; count = word_of end.0 - word_of base.0 }) }
     ensures state { segs.new ≡ record segs.old { words = segs.new.words } }
     ensures words { ArePadded (F.layout format.now) (word_of base.0) (word_of end.0)
         (runs_within (word_of base.0) (word_of end.0) segs.old.blocks) segs.old.words segs.new.words }
@@ -99,6 +102,8 @@ fn pad_around<F: Format>(segs: &mut Segs, format: &F, base: Addr, end: Addr)
 /// Turns the words from `from` on up to `to` into pads.
 fn pad_words<F: Format>(segs: &mut Segs, format: &F, from: Addr, to: Addr)
     requires aligned { from.0 % bytes_of_word ≡ 0 }
+    requires held { word_of from.0 < word_of to.0
+        → LiesIn (held_runs segs.old) (record { from = word_of from.0; count = word_of to.0 - word_of from.0 }) }
     requires in_arena { word_of to.0 ≤ length segs.old.words }
     ensures state { segs.new ≡ record segs.old { words = segs.new.words } }
     ensures size { length segs.new.words ≡ length segs.old.words }
@@ -117,6 +122,7 @@ fn pad_words<F: Format>(segs: &mut Segs, format: &F, from: Addr, to: Addr)
 /// Turns `words` words into one pad.
 fn pad_piece<F: Format>(segs: &mut Segs, format: &F, at: Addr, words: u32)
     requires aligned { at.0 % bytes_of_word ≡ 0 }
+    requires held { LiesIn (held_runs segs.old) (run_at at.0 1) }
     requires in_arena { word_of at.0 + words ≤ length segs.old.words }
     requires nonzero { 0 < words }
     requires at_most { words ≤ 65536 }
@@ -126,6 +132,17 @@ fn pad_piece<F: Format>(segs: &mut Segs, format: &F, at: Addr, words: u32)
     ensures others { (i : ℕ) → (i < word_of at.0) ⊎ (word_of at.0 + words ≤ i)
         → slice_index segs.new.words i ≡ slice_index segs.old.words i }
 {
-    let piece = segs.lend_mut(at, words);
-    format.pad(piece);
+    let memory = segs.words_from_mut(at);
+    pad_first(format, memory, words);
+}
+
+/// Turns the first `words` words into one pad.
+fn pad_first<F: Format>(format: &F, memory: &mut [u64], words: u32)
+    requires whole { words ≤ length memory.old }
+    requires nonzero { 0 < words }
+    requires at_most { words ≤ 65536 }
+    ensures head { slice_index memory.new 0 ≡ (F.layout format.now).pad_head words }
+    ensures rest { (i : ℕ) → words ≤ i → slice_index memory.new i ≡ slice_index memory.old i }
+{
+    format.pad(&mut memory[..words as usize]);
 }

@@ -7,6 +7,7 @@ use Rattle.std.proofs.Math.Seq.{length_paste_head}
 use Rattle.std.proofs.lemmas.Option.{slice_get-get_or, slice_get_past}
 use Rattle.std.specs.Prelude.{Some, None, slice_get, Vec, vec_len}
 use Rattle.mps_arena.specs.Arena.{cleared_words, copied_words, with_words}
+use Rattle.mps_arena.proofs.Loans.{with_words_long, written_before, written_inside, written_after}
 use Rattle.mps_arena.specs.Memory.{StoredWords, memory_with, padded_words, with_copy, with_stored_word}
 
 -- a word of zeros is 0, and so is one after them
@@ -351,18 +352,6 @@ all_grown size before stored old first grown fits =
 
 -- ---- after all words were stored and some of them were lent
 
-with_words_long : (words new : List ℕ) (at : ℕ) → length (with_words words at new) ≡ length words
-with_words_long words new at =
-    let rest : List ℕ = drop (at + length new) words in
-    omega (
-      arith,
-      length-take (length words) (take at words ++ (new ++ rest)),
-      length-append (take at words) (new ++ rest),
-      length-append new rest,
-      length-take at words,
-      length-drop (at + length new) words,
-    )
-
 pub state_lent : (size : ℕ) (stored words new : List ℕ) (from : ℕ) → length stored ≡ size → padded_words size stored ≡ words
     → memory_with size (with_words stored from new) ≡ record { words = with_words words from new; stored = length words }
 state_lent size stored words new from all is =
@@ -371,3 +360,56 @@ state_lent size stored words new from all is =
     ap (λ (n : ℕ). seen (padded_words size (with_words stored from new)) n) (long ∙ ap (λ (ws : List ℕ). length ws) same)
     ∙ ap (λ (ws : List ℕ). seen ws (length words)) (padded_all size (with_words stored from new) (long ∙ all))
     ∙ ap (λ (ws : List ℕ). seen (with_words ws from new) (length words)) same
+
+-- ---- after the stored words from one on were lent
+
+module _ (size : ℕ) (stored : List ℕ) (from m : ℕ) (fits : length stored ≤ size) (all : from + m ≡ length stored) (new : List ℕ) where
+  abbrev pub whole : List ℕ
+  whole = padded_words size stored
+
+  whole_long : length whole ≡ size
+  whole_long = padded_words-length size stored fits
+
+  part_long : length (take m new) ≡ min m (length new)
+  part_long = length-take m new
+
+  after_long : length (with_words stored from new) ≡ length stored
+  after_long = with_words_long stored new from
+
+  at_place : (i : ℕ) → i < size
+      → get_or (padded_words size (with_words stored from new)) i 0 ≡ get_or (with_words whole from (take m new)) i 0
+  at_place i lt =
+      elim (cases_lt i (length stored)) [
+        | inl within ↦ padded_within size (with_words stored from new) i (omega (arith, within, after_long)) ∙ elim (cases_lt i from) [
+          | inl before ↦
+              written_before stored new from (omega (arith, all)) i before
+              ∙ sym (written_before whole (take m new) from (omega (arith, all, fits, whole_long)) i before ∙ padded_within size stored i within)
+          | inr after ↦ elim (cases_lt i (from + length new)) [
+            | inl there ↦
+                written_inside stored new from (omega (arith, all)) i after there within
+                ∙ sym (written_inside whole (take m new) from (omega (arith, all, fits, whole_long)) i after
+                (omega (arith, part_long, there, within, all, after)) (omega (arith, lt, whole_long))
+                ∙ get_or-take m new (i - from) 0 (omega (arith, within, all, after)))
+            | inr past ↦
+                written_after stored new from (omega (arith, all)) i past within
+                ∙ sym (written_after whole (take m new) from (omega (arith, all, fits, whole_long)) i
+                (omega (arith, part_long, past)) (omega (arith, lt, whole_long)) ∙ padded_within size stored i within)
+          ]
+        ]
+        | inr past ↦
+            padded_past size (with_words stored from new) i (omega (arith, past, after_long))
+            ∙ sym (written_after whole (take m new) from (omega (arith, all, fits, whole_long)) i
+            (omega (arith, part_long, past, all)) (omega (arith, lt, whole_long)) ∙ padded_past size stored i past)
+      ]
+
+  pub state_lent_rest : memory_with size (with_words stored from new)
+      ≡ record (memory_with size stored) { words = with_words whole from (take m new) }
+  state_lent_rest =
+      ap (λ (n : ℕ). seen (padded_words size (with_words stored from new)) n) after_long
+      ∙ ap (λ (ws : List ℕ). seen ws (length stored))
+      (ext_get_or 0 (padded_words size (with_words stored from new)) (with_words whole from (take m new))
+      (long ∙ sym (with_words_long whole (take m new) from ∙ whole_long))
+      (λ i lt. at_place i (omega (arith, lt, long))))
+    where
+      long : length (padded_words size (with_words stored from new)) ≡ size
+      long = padded_words-length size (with_words stored from new) (omega (arith, after_long, fits))

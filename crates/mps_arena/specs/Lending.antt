@@ -1,5 +1,5 @@
 -- A loan of words: what the borrower leaves in them is what the arena has there when the loan ends.
-use Rattle.std.specs.Prelude.{ℕ, List}
+use Rattle.std.specs.Prelude.{ℕ, List, length, take}
 use Rattle.std.specs.Borrow.{Lends, MutBor, Fml, Array, u64}
 use Rattle.mps_arena.specs.Arena.{ArenaMemory, with_words}
 use Rattle.mps_base.specs.Address.{word_of}
@@ -9,3 +9,9 @@ use Rattle.mps_arena.specs.contracts.arena.Arena.{the_row}
 abbrev pub LendsArenaWords : MutBor ArenaMemory → ℕ → MutBor (List ℕ) → Fml
 LendsArenaWords arena at loan =
     Lends the_row (Array u64 0) arena loan (λ ws. record arena.now { words = with_words arena.now.words (word_of at) ws })
+
+-- the same of a loan of all words that are stored from an address on: it has as many words as it began with
+abbrev pub LendsHeldWords : MutBor ArenaMemory → ℕ → MutBor (List ℕ) → Fml
+LendsHeldWords arena at loan =
+    Lends the_row (Array u64 0) arena loan
+    (λ ws. record arena.now { words = with_words arena.now.words (word_of at) (take (length loan.now) ws) })

@@ -6,7 +6,7 @@ ghost use Rattle.mps_base.specs.Run.{total, with_run, without_run};
 ghost use Rattle.mps_base.specs.Address.{bytes_of_word, bytes_of_grain, grain_of, word_of, words_of_grain, max_grains, max_block_words};
 ghost use Rattle.mps_arena.specs.Arena.{ArenaMemory, AreHeldWords, new_arena, placement_in, answer_of_placement, held_after, cleared_words, copied_words};
 ghost use Rattle.std.specs.Borrow.{sem};
-ghost use Rattle.mps_arena.specs.Lending.{LendsArenaWords};
+ghost use Rattle.mps_arena.specs.Lending.{LendsArenaWords, LendsHeldWords};
 
 use crate::grains::lowest_free;
 use crate::memory::Memory;
@@ -137,6 +137,16 @@ impl Arena {
         ensures complete { (n : ℕ) → n ≤ max_block_words → word_of at.0 + n ≤ length self.now.words → n ≤ length result.now }
     {
         self.memory.words_from(at.word())
+    }
+
+    /// As `words_from`, to be written. It touches no memory but what the borrower writes.
+    pub fn words_from_mut(&mut self, at: Addr) -> &mut [u64]
+        requires held { AreHeldWords self.old.held (word_of at.0) 1 }
+        ensures* writes_back { sem 𝓛 (LendsHeldWords self.entry at.0 result) }
+        ensures value { result.now ≡ take (length result.now) (drop (word_of at.0) self.old.words) }
+        ensures complete { (n : ℕ) → n ≤ max_block_words → word_of at.0 + n ≤ length self.old.words → n ≤ length result.now }
+    {
+        self.memory.words_from_mut(at.word())
     }
 
     /// The `words` words from `at` on, which are held.

@@ -6,7 +6,7 @@ ghost use Rattle.std.specs.Borrow.{sem};
 ghost use Rattle.mps_base.specs.Address.{max_block_words};
 ghost use Rattle.mps_arena.specs.Arena.{cleared_words};
 ghost use Rattle.mps_arena.specs.Memory.{with_stored_word, with_copy};
-ghost use Rattle.mps_arena.specs.MemoryLending.{LendsMemoryWords};
+ghost use Rattle.mps_arena.specs.MemoryLending.{LendsMemoryWords, LendsStoredWords};
 
 use std::alloc::{AllocError, Global};
 use std::marker::Model;
@@ -165,6 +165,16 @@ impl Memory {
         ensures len { from + length result.now ≡ self.now.stored }
     {
         &self.stored[from..]
+    }
+
+    /// The stored words from a word on, to be written. No more words are stored.
+    pub(crate) fn words_from_mut(&mut self, from: usize) -> &mut [u64]
+        requires { from ≤ self.old.stored }
+        ensures* writes_back { sem 𝓛 (LendsStoredWords self.entry from result) }
+        ensures value { result.now ≡ take (length result.now) (drop from self.old.words) }
+        ensures len { from + length result.now ≡ self.old.stored }
+    {
+        self.stored.slice_mut(from..)
     }
 }
 

@@ -1,12 +1,12 @@
 -- The words of a block and those of a segment lie in runs of grains that the arena holds.
-use Rattle.std.proofs.Common.{ℕ, ◌≡◌, ◌≤◌, ◌<◌, Bool, Contains, List, [], ◌∷◌, Option, Some, None, leb, ltb, refl, sym, ◌∙◌, subst, inl, inr, arith, option_map}
+use Rattle.std.proofs.Common.{ℕ, ◌*◌, ◌≡◌, ◌≤◌, ◌<◌, Bool, Contains, List, [], ◌∷◌, Option, Some, None, leb, ltb, refl, sym, ◌∙◌, subst, inl, inr, arith, option_map}
 use Rattle.std.proofs.lemmas.Bool.{cases_Bool, cond-true, cond-false, and_parts, leb-true, ltb-true}
-use Rattle.mps_base.specs.Address.{word_of, grain_of}
+use Rattle.mps_base.specs.Address.{word_of, grain_of, words_of_grain}
 use Rattle.mps_base.specs.Run.{Run}
 use Rattle.mps_base.specs.Segment.{Segment, segment_over, is_in_segment, end_of_segment}
 use Rattle.mps_base.specs.declared.address.Addr.{Addr}
 use Rattle.mps_arena.specs.Arena.{AreHeldWords}
-use Rattle.mps_seg.specs.Segs.{SegsState, base_address}
+use Rattle.mps_seg.specs.Segs.{SegsState, LiesIn, base_address, held_runs}
 use Rattle.mps_seg.specs.declared.segs.Segs.TheInside.{Inside}
 use Rattle.mps_seg.proofs.Entries.{entry_at_seen_base, entry_is_held}
 use Rattle.mps_seg.proofs.FirstGrain.{over_contains}
@@ -54,3 +54,12 @@ module _ (s : Inside) (seen : SegsState) (sound : IsSoundInside s) (is : seen_by
         after = omega (arith, inside.0);
         before = omega (arith, inside.1, entry.aligned);
       }
+
+  pub segment_is_held : (t : Segment) → Contains seen.segments t
+      → LiesIn (held_runs seen) (record { from = word_of t.base; count = words_of_grain * t.grains })
+  segment_is_held t there =
+      let entry = entry_at_seen_base s seen t.base t is there refl in
+      let listed = entry_is_held s.table.items (grain_of t.base) t.grains t.pool t.generation t.rank entry.is in
+      let r : Run = record { from = grain_of t.base; count = t.grains } in
+      let P : SegsState → Type 0 = λ st. Contains (held_runs st) r in
+      record { grains = r; there = subst P is listed; after = omega (arith, entry.aligned); before = omega (arith, entry.aligned) }

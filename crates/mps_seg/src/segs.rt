@@ -9,7 +9,7 @@ ghost use Rattle.mps_base.specs.Trail.{with_move};
 ghost use Rattle.mps_arena.specs.Arena.{answer_of_placement};
 ghost use Rattle.mps_extents.specs.Extents.{run_over, first_run};
 ghost use Rattle.mps_marks.specs.Marks.{without_marks};
-ghost use Rattle.mps_seg.specs.Segs.{new_segments, placement_for, segments_after, noted_for, moves_after, held_runs, at_word, base_address, IsEmptyAt, IsUsed, CanCover};
+ghost use Rattle.mps_seg.specs.Segs.{new_segments, placement_for, segments_after, noted_for, moves_after, held_runs, at_word, base_address, IsEmptyAt, IsUsed, CanCover, LiesIn};
 ghost use Rattle.mps_seg.specs.Table.{IsMarked};
 
 mod collecting;
@@ -301,7 +301,15 @@ impl Segs {
         let _ = &self.arena;
     }
 
-    /// Sets the commit limit, in grains. Refuses `BelowCommitted` if more grains than that are held.
+    /// Does nothing: a caller knows that each segment lies in grains that are held.
+    pub fn segments_are_held(&self)
+        ensures { (t : Segment) → Contains self.now.segments t
+            → LiesIn (held_runs self.now) (record { from = word_of t.base; count = words_of_grain * t.grains }) }
+    {
+        let _ = &self.arena;
+    }
+
+    /// Sets the commit limit, in grains. Refuses `BelowCommitted` where more grains than that are held.
     pub fn set_limit(&mut self, limit: u32) -> Result<(), Refusal>
         ensures state { MatchResult result (λ _. self.new ≡ record self.old { limit = limit }) (λ _. self.new ≡ self.old) }
         ensures sound { OnOk result (total (held_runs self.old) ≤ limit) }

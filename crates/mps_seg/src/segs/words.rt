@@ -6,7 +6,8 @@ ghost use Rattle.mps_base.specs.Address.{bytes_of_word, word_of, max_block_words
 ghost use Rattle.mps_base.specs.Segment.{Segment, segment_over};
 ghost use Rattle.mps_arena.specs.Arena.{cleared_words, copied_words};
 ghost use Rattle.std.specs.Borrow.{sem};
-ghost use Rattle.mps_seg.specs.Lending.{LendsSegmentWords};
+ghost use Rattle.mps_seg.specs.Lending.{LendsSegmentWords, LendsHeldWords};
+ghost use Rattle.mps_seg.specs.Segs.{LiesIn, held_runs};
 
 use super::Segs;
 use mps_base::Addr;
@@ -27,6 +28,16 @@ impl Segs {
         ensures complete { (n : ℕ) → n ≤ max_block_words → word_of at.0 + n ≤ length self.now.words → n ≤ length result.now }
     {
         self.arena.words_from(at)
+    }
+
+    /// As `words_from`, to be written. It touches no memory but what the borrower writes.
+    pub fn words_from_mut(&mut self, at: Addr) -> &mut [u64]
+        requires held { LiesIn (held_runs self.old) (record { from = word_of at.0; count = 1 }) }
+        ensures* writes_back { sem 𝓛 (LendsHeldWords self.entry at.0 result) }
+        ensures value { result.now ≡ take (length result.now) (drop (word_of at.0) self.old.words) }
+        ensures complete { (n : ℕ) → n ≤ max_block_words → word_of at.0 + n ≤ length self.old.words → n ≤ length result.now }
+    {
+        self.arena.words_from_mut(at)
     }
 
     /// The word at an address.

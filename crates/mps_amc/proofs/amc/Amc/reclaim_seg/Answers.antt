@@ -57,6 +57,23 @@ pad_around-requires-clause-span g c =
     still_span c.args.segs.now c.args.base c.args.trail.now c.requires.segment c.segment.result c.from-bytes.result c.segment.ensures
     c.from-bytes.ensures c.free_lost.new.segs c.free_lost.ensures.state
 
+pub pad_around-requires-clause-held : goal.pad_around-requires-clause-held
+pad_around-requires-clause-held g c =
+    let s = c.args.segs.now in
+    let t = c.requires.segment in
+    let there =
+    still_listed s c.args.base c.args.trail.now t c.segment.result c.from-bytes.result c.segment.ensures c.from-bytes.ensures
+    c.free_lost.new.segs c.free_lost.ensures.state
+    in
+    let fits = end_fits s c.args.base c.args.trail.now t c.segment.result c.from-bytes.result c.segment.ensures c.from-bytes.ensures in
+    let lies = c.segments_are_held.ensures t.segment there in
+    record {
+      grains = lies.grains;
+      there = lies.there;
+      after = omega (arith, lies.after, t.begins);
+      before = omega (arith, lies.before, t.begins, fits);
+    }
+
 pub returns-then-is_empty : goal.returns-then-is_empty
 returns-then-is_empty g c =
     let s = c.args.segs.now in
