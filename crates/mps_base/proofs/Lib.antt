@@ -1,2 +1,3 @@
+pub mod PoolKinds
 pub mod Positions
 pub mod Runs

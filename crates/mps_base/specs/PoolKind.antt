@@ -1,7 +1,18 @@
--- The kinds of pools, by their numbers in a log.
-use Rattle.std.specs.Prelude.{ℕ}
+-- The kinds of pools: what their blocks are to a collection, and their numbers in a log.
+use Rattle.std.specs.Prelude.{ℕ, true, false}
 use Rattle.mps_base.specs.declared.names.Kind.{Kind}
 use Rattle.mps_base.specs.declared.names.Kind.TheVariants.{Amc, Amcz, Ams, Awl, Lo}
+use Rattle.mps_base.specs.declared.names.KindTraits.{KindTraits}
+
+-- what the blocks of an automatic pool are to a collection: whether it moves them, they have no references, some may be weak
+abbrev pub traits_of : Kind → KindTraits
+traits_of Amc = record { moves = true; leaf = false; weak = false }
+traits_of Amcz = record { moves = true; leaf = true; weak = false }
+traits_of Ams = record { moves = false; leaf = false; weak = false }
+traits_of Awl = record { moves = false; leaf = false; weak = true }
+traits_of Lo = record { moves = false; leaf = true; weak = false }
+
+-- ---- numbers
 
 -- the automatic pools
 abbrev pub amc_number : ℕ

@@ -6,7 +6,7 @@ use Rattle.std.specs.List.{list_all}
 use Rattle.std.specs.Option.{option_map_or}
 use Rattle.mps_base.specs.Address.{address_of_grain, grain_of}
 use Rattle.mps_base.specs.Segment.{Segment, grains_of_segment}
-use Rattle.mps_base.specs.declared.names.Kind.TheVariants as kind
+use Rattle.mps_base.proofs.PoolKinds.{moving_is_not_weak}
 use Rattle.mps_base.specs.declared.names.Rank.{Rank}
 use Rattle.mps_base.specs.declared.names.Rank.TheVariants.{Exact, Weak}
 use Rattle.mps_bits.specs.Table.{bit}
@@ -54,11 +54,7 @@ passes_there test (x ∷ xs) t all (suc k, within, is) =
 
 -- no pool that moves blocks has weak references
 copying_not_weak : (k : PoolKind) → is_copying_kind k ≡ true → is_weak_kind k ≡ false
-copying_not_weak (Collected kind.Amc) copies = refl
-copying_not_weak (Collected kind.Amcz) copies = refl
-copying_not_weak (Collected kind.Ams) copies = absurd (false≢true copies)
-copying_not_weak (Collected kind.Awl) copies = absurd (false≢true copies)
-copying_not_weak (Collected kind.Lo) copies = absurd (false≢true copies)
+copying_not_weak (Collected kind) copies = moving_is_not_weak kind copies
 copying_not_weak (OneSize words) copies = absurd (false≢true copies)
 copying_not_weak AnySize copies = absurd (false≢true copies)
 

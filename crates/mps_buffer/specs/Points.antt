@@ -1,13 +1,13 @@
 -- Points, their reservations, and where a reservation is placed.
 use Rattle.std.specs.Prelude.{ℕ, ◌+◌, ◌<◌, ◌≤◌, ◌≡◌, ◌⊎◌, ◌==◌, Bool, true, false, option_map, map, length, if◌then◌else◌, Option, Some, None, is_some, List, [], ◌∷◌, replicate, get_or, slice_set, Contains, refl}
 use Rattle.std.proofs.Common.{arith}
-use Rattle.mps_base.specs.Address.{words_of_grain, word_of}
+use Rattle.mps_base.specs.Address.{word_of}
 use Rattle.mps_base.specs.Run.{Run, end_of, with_run, without_run}
 use Rattle.mps_base.specs.Placement.{Placement, Place, NewSegment, OverLimit, NoFreeRun}
 use Rattle.mps_arena.specs.Arena.{cleared_words}
 use Rattle.mps_base.specs.declared.names.Rank.{Rank}
 use Rattle.mps_base.specs.declared.names.Rank.TheVariants.{Exact, Weak}
-use Rattle.mps_seg.specs.Segs.{SegsState, new_segments, placement_for, segments_after, noted_for, held_runs, IsOpenRun, CanCover}
+use Rattle.mps_seg.specs.Segs.{SegsState, new_segments, held_runs, IsOpenRun}
 use Rattle.mps_seg.specs.Placing.{placement_in_gaps}
 use Rattle.mps_seg.specs.declared.buffer.Buffer.{Buffer}
 use Rattle.mps_seg.specs.Buffer.{empty_buffer, placement_at_front, rest_at_hand}

@@ -2,7 +2,7 @@
 use Rattle.std.proofs.Common.{◌≡◌, true, false, refl, List, [], ◌∷◌}
 use Rattle.std.proofs.lemmas.Bool.{false≢true}
 use Rattle.std.specs.List.{list_all}
-use Rattle.mps_base.specs.declared.names.Kind.TheVariants as kind
+use Rattle.mps_base.proofs.PoolKinds.{moving_is_not_weak}
 use Rattle.mps_format.specs.Layout.{Layout}
 use Rattle.mps_model.specs.World.{World}
 use Rattle.mps_image.proofs.Laws.{well_formed_is_shaped}
@@ -25,8 +25,7 @@ empty_is (x ∷ xs) e = absurd (false≢true e)
 
 -- a pool whose blocks move, or that isn't collected, has no weak references
 moved_is_strong : {F : Type 0} (p : Pool F) → is_moved_or_manual p ≡ true → is_weak_pool p ≡ false
-moved_is_strong (pool.Automatic kind.Awl format) moved = absurd (false≢true moved)
-moved_is_strong (pool.Automatic _ format) moved = refl
+moved_is_strong (pool.Automatic kind format) moved = moving_is_not_weak kind moved
 moved_is_strong (pool.OneSize words) moved = refl
 moved_is_strong pool.AnySize moved = refl
 

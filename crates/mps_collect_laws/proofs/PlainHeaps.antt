@@ -5,7 +5,6 @@ use Rattle.std.proofs.lemmas.Option.{same_Some, slice_get_within}
 use Rattle.std.specs.Prelude.{◌&&◌, ◌||◌, not, slice_get}
 use Rattle.std.specs.Option.{option_map_or}
 use Rattle.mps_base.specs.Address.{Id}
-use Rattle.mps_base.specs.declared.names.Kind.TheVariants as kind
 use Rattle.mps_format.specs.Layout.{Layout}
 use Rattle.mps_model.specs.Graph.{Body, Automatic, Manual, Object, is_weak_body, is_weak_object, object_at}
 use Rattle.mps_model.specs.World as world
@@ -27,8 +26,7 @@ none_mapped f (x ∷ xs) e = absurd (let n = ap length e in omega (arith, n))
 
 module _ {F : Type 0} (layout : F → Layout) where
   weak_alike : (p : Pool F) → is_weak_pool p ≡ is_weak_kind (kind_of p)
-  weak_alike (pool.Automatic kind.Awl format) = refl
-  weak_alike (pool.Automatic _ format) = refl
+  weak_alike (pool.Automatic kind format) = refl
   weak_alike (pool.OneSize words) = refl
   weak_alike pool.AnySize = refl
 

@@ -1,5 +1,6 @@
 -- What a heap's pools are, and what a collection knows of them.
 use Rattle.std.specs.Prelude.{ℕ, ◌≡◌, Bool, true, false, not, ◌||◌, Option, Some, None, option_map, refl}
+use Rattle.mps_base.specs.PoolKind.{traits_of}
 use Rattle.mps_base.specs.declared.names.Kind.TheVariants as kind
 use Rattle.mps_format.specs.declared.pool.Policy.{Policy}
 use Rattle.mps_format.specs.declared.pool.Pool.{Pool}
@@ -19,9 +20,9 @@ module _ {F : Type 0} where
 
   -- whether a collection moves the blocks of a pool
   abbrev pub is_copying_pool : Pool F → Bool
-  is_copying_pool (pool.Automatic kind.Amc format) = true
-  is_copying_pool (pool.Automatic kind.Amcz format) = true
-  is_copying_pool _ = false
+  is_copying_pool (pool.Automatic kind format) = (traits_of kind).moves
+  is_copying_pool (pool.OneSize words) = false
+  is_copying_pool pool.AnySize = false
 
   -- what a collection knows of a pool, where it is automatic: the format of its objects, and whether it moves them
   abbrev pub policy_of_pool : Pool F → Option (Policy F)
@@ -29,14 +30,15 @@ module _ {F : Type 0} where
 
   -- whether the objects of a pool have no references
   abbrev pub is_leaf_pool : Pool F → Bool
-  is_leaf_pool (pool.Automatic kind.Amcz format) = true
-  is_leaf_pool (pool.Automatic kind.Lo format) = true
-  is_leaf_pool _ = false
+  is_leaf_pool (pool.Automatic kind format) = (traits_of kind).leaf
+  is_leaf_pool (pool.OneSize words) = false
+  is_leaf_pool pool.AnySize = false
 
   -- whether the objects of a pool may be weak
   abbrev pub is_weak_pool : Pool F → Bool
-  is_weak_pool (pool.Automatic kind.Awl format) = true
-  is_weak_pool _ = false
+  is_weak_pool (pool.Automatic kind format) = (traits_of kind).weak
+  is_weak_pool (pool.OneSize words) = false
+  is_weak_pool pool.AnySize = false
 
   -- the size of a pool's blocks, 0 where that is open
   abbrev pub size_of_pool : Pool F → ℕ

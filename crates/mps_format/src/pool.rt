@@ -53,10 +53,7 @@ pub fn is_copying<F: Format>(pool: Pool<F>) -> bool
     ensures { result ≡ is_copying_pool pool }
 {
     match pool {
-        Pool::Automatic { kind, .. } => match kind {
-            Kind::Amc | Kind::Amcz => true,
-            Kind::Ams | Kind::Awl | Kind::Lo => false,
-        },
+        Pool::Automatic { kind, .. } => kind.traits().moves,
         Pool::OneSize { .. } => false,
         Pool::AnySize => false,
     }
@@ -80,10 +77,7 @@ pub fn is_leaf<F: Format>(pool: Pool<F>) -> bool
     ensures { result ≡ is_leaf_pool pool }
 {
     match pool {
-        Pool::Automatic { kind, .. } => match kind {
-            Kind::Amcz | Kind::Lo => true,
-            Kind::Amc | Kind::Ams | Kind::Awl => false,
-        },
+        Pool::Automatic { kind, .. } => kind.traits().leaf,
         Pool::OneSize { .. } => false,
         Pool::AnySize => false,
     }
@@ -94,10 +88,7 @@ pub fn is_weak<F: Format>(pool: Pool<F>) -> bool
     ensures { result ≡ is_weak_pool pool }
 {
     match pool {
-        Pool::Automatic { kind, .. } => match kind {
-            Kind::Awl => true,
-            Kind::Amc | Kind::Amcz | Kind::Ams | Kind::Lo => false,
-        },
+        Pool::Automatic { kind, .. } => kind.traits().weak,
         Pool::OneSize { .. } => false,
         Pool::AnySize => false,
     }

@@ -5,7 +5,6 @@ use Rattle.std.proofs.lemmas.List.{length-set}
 use Rattle.std.specs.Option.{option_map_or}
 use Rattle.std.specs.Prelude.{MatchResult, nat_le, not, slice_range, slice_set}
 use Rattle.mps_base.specs.Address.{Address, word_of, bytes_of_word, max_block_words}
-use Rattle.mps_base.specs.declared.names.Kind.TheVariants as kind
 use Rattle.mps_base.specs.declared.names.Slot.{Slot}
 use Rattle.mps_base.specs.declared.refusal.Refusal.{Refusal}
 use Rattle.mps_base.specs.declared.refusal.Refusal.TheVariants as refusal
@@ -184,11 +183,7 @@ module _ {F : Type 0} (layout : F → Layout) (h : HeapState F) (place : Slot) (
 
 -- a leaf pool in a heap and in the model
 leaf_of_kind : {F : Type 0} (p : Pool F) → is_leaf_pool p ≡ is_leaf_kind (kind_of p)
-leaf_of_kind (pool.Automatic kind.Amc format) = refl
-leaf_of_kind (pool.Automatic kind.Amcz format) = refl
-leaf_of_kind (pool.Automatic kind.Ams format) = refl
-leaf_of_kind (pool.Automatic kind.Awl format) = refl
-leaf_of_kind (pool.Automatic kind.Lo format) = refl
+leaf_of_kind (pool.Automatic kind format) = refl
 leaf_of_kind (pool.OneSize words) = refl
 leaf_of_kind pool.AnySize = refl
 

@@ -3,18 +3,14 @@ use Rattle.std.proofs.Common.{◌≡◌, ◌∙◌, ℕ, Bool, true, false, refl
 use Rattle.std.proofs.lemmas.Bool.{false≢true}
 use Rattle.std.specs.Prelude.{slice_get}
 use Rattle.std.specs.Option.{option_map_or}
-use Rattle.mps_base.specs.declared.names.Kind.TheVariants as kind
+use Rattle.mps_base.proofs.PoolKinds.{moving_is_not_weak}
 use Rattle.mps_model.specs.Graph.{with_last}
 use Rattle.mps_model.specs.World.{Pool, PoolKind, Collected, OneSize, AnySize, is_copying_kind, is_weak_kind, is_any_size_kind, is_automatic_kind}
 use Rattle.mps_laws.proofs.LaidOut.{kind_in}
 use Rattle.mps_laws.proofs.Lookups.{slice_get-kept}
 
 pub copying_not_weak : (k : PoolKind) → is_copying_kind k ≡ true → is_weak_kind k ≡ true → ⊥
-copying_not_weak (Collected kind.Amc) c w = false≢true w
-copying_not_weak (Collected kind.Amcz) c w = false≢true w
-copying_not_weak (Collected kind.Ams) c w = false≢true c
-copying_not_weak (Collected kind.Awl) c w = false≢true c
-copying_not_weak (Collected kind.Lo) c w = false≢true c
+copying_not_weak (Collected kind) c w = false≢true (sym (moving_is_not_weak kind c) ∙ w)
 copying_not_weak (OneSize words) c w = false≢true c
 copying_not_weak AnySize c w = false≢true c
 

@@ -8,7 +8,7 @@ use Rattle.mps_base.specs.Run.{Run, in_order}
 use Rattle.mps_base.specs.Segment.{Segment, is_in_segment, segment_over, grains_of_segment}
 use Rattle.mps_base.specs.Generation.{target_generation}
 use Rattle.mps_base.specs.declared.names.Kind.{Kind}
-use Rattle.mps_base.specs.declared.names.Kind.TheVariants as kind
+use Rattle.mps_base.specs.PoolKind.{traits_of}
 use Rattle.mps_format.specs.Layout.{Layout}
 use Rattle.mps_format.specs.Any.{numbered_layout}
 use Rattle.mps_model.specs.Graph.{Graph, Object, Point, Reservation, AreaWord, PlainWord, Hold, entry_at, for_object, size_of, is_automatic, is_live_reservation, empty_graph}
@@ -129,20 +129,21 @@ is_automatic_kind AnySize = false
 
 -- whether a collection moves blocks of this kind of pool
 abbrev pub is_copying_kind : PoolKind → Bool
-is_copying_kind (Collected kind.Amc) = true
-is_copying_kind (Collected kind.Amcz) = true
-is_copying_kind _ = false
+is_copying_kind (Collected kind) = (traits_of kind).moves
+is_copying_kind (OneSize words) = false
+is_copying_kind AnySize = false
 
 -- whether blocks of this kind of pool have no references
 abbrev pub is_leaf_kind : PoolKind → Bool
-is_leaf_kind (Collected kind.Amcz) = true
-is_leaf_kind (Collected kind.Lo) = true
-is_leaf_kind _ = false
+is_leaf_kind (Collected kind) = (traits_of kind).leaf
+is_leaf_kind (OneSize words) = false
+is_leaf_kind AnySize = false
 
 -- whether this kind of pool may hold weak references
 abbrev pub is_weak_kind : PoolKind → Bool
-is_weak_kind (Collected kind.Awl) = true
-is_weak_kind _ = false
+is_weak_kind (Collected kind) = (traits_of kind).weak
+is_weak_kind (OneSize words) = false
+is_weak_kind AnySize = false
 
 -- whether an empty segment of this kind of pool is given back at once
 abbrev pub is_any_size_kind : PoolKind → Bool

@@ -7,13 +7,11 @@ use Rattle.std.proofs.lemmas.Option.{none-some, same_Some}
 use Rattle.std.specs.Prelude.{◌==◌, ◌&&◌, ◌||◌, nat_le, nat_lt, not, find, if◌then◌else◌}
 use Rattle.std.specs.Option.{option_map_or}
 use Rattle.mps_base.specs.Address.{Address, Id, word_of}
-use Rattle.mps_base.specs.declared.names.Kind.{Kind}
-use Rattle.mps_base.specs.declared.names.Kind.TheVariants as kind
 use Rattle.mps_format.specs.Layout.{Layout}
 use Rattle.mps_laws.proofs.Referred.{live_is_among}
 use Rattle.mps_model.specs.Graph.{Body, Automatic, Manual, Object, contains, entry_at, is_automatic, is_automatic_body, size_of}
 use Rattle.mps_model.specs.World as world
-use Rattle.mps_model.specs.World.{World, Collected, block_of_word, is_automatic_kind, is_copying_kind, is_copying_object, is_live, is_live_and, is_weak_kind, is_word_in, lies_in, live_ids, object_is, pool_at, words_of}
+use Rattle.mps_model.specs.World.{World, block_of_word, is_automatic_kind, is_copying_kind, is_copying_object, is_live, is_live_and, is_weak_kind, is_word_in, lies_in, live_ids, object_is, pool_at, words_of}
 use Rattle.mps_model.specs.Making.{is_block_size}
 use Rattle.mps_model.specs.WellFormed.{are_right_cells, is_right_body}
 use Rattle.mps_seg.specs.Collecting.{is_condemned_at, is_kept_at, is_white_at}
@@ -35,15 +33,9 @@ same_automatic layout formats (pool.Automatic kind format) q is = ap (λ (x : wo
 same_automatic layout formats (pool.OneSize words) q is = ap (λ (x : world.Pool). is_automatic_kind x.kind) is
 same_automatic layout formats pool.AnySize q is = ap (λ (x : world.Pool). is_automatic_kind x.kind) is
 
-kind_copying : {F : Type 0} (kind : Kind) (format : F) → is_copying_kind (Collected kind) ≡ is_copying_pool (pool.Automatic kind format)
-kind_copying kind.Amc format = refl
-kind_copying kind.Amcz format = refl
-kind_copying _ format = refl
-
 same_copying : {F : Type 0} (layout : F → Layout) (formats : ℕ → Layout) (p : Pool F) (q : world.Pool) → IsPool layout formats p q
     → is_copying_kind q.kind ≡ is_copying_pool p
-same_copying layout formats (pool.Automatic kind format) q is =
-    ap (λ (x : world.Pool). is_copying_kind x.kind) is.0 ∙ kind_copying kind format
+same_copying layout formats (pool.Automatic kind format) q is = ap (λ (x : world.Pool). is_copying_kind x.kind) is.0
 same_copying layout formats (pool.OneSize words) q is = ap (λ (x : world.Pool). is_copying_kind x.kind) is
 same_copying layout formats pool.AnySize q is = ap (λ (x : world.Pool). is_copying_kind x.kind) is
 

@@ -5,7 +5,6 @@ use Rattle.std.proofs.lemmas.Bool.{lt-ltb}
 use Rattle.std.proofs.lemmas.Option.{same_Some}
 use Rattle.std.specs.Prelude.{◌&&◌, ◌^◌, nat_lt, slice_get}
 use Rattle.std.specs.List.{list_all}
-use Rattle.mps_base.specs.declared.names.Kind.TheVariants as kind
 use Rattle.mps_commands.specs.RightAnswer.{HasFewFlips}
 use Rattle.mps_format.specs.Layout.{Layout}
 use Rattle.mps_model.specs.World as world
@@ -37,9 +36,7 @@ empty_alike f (x ∷ xs) = refl
 
 module _ {F : Type 0} where
   moved_alike : (p : Pool F) → is_moved_or_manual p ≡ is_moved_or_manual_kind (kind_of p)
-  moved_alike (pool.Automatic kind.Amc format) = refl
-  moved_alike (pool.Automatic kind.Amcz format) = refl
-  moved_alike (pool.Automatic _ format) = refl
+  moved_alike (pool.Automatic kind format) = refl
   moved_alike (pool.OneSize words) = refl
   moved_alike pool.AnySize = refl
 
