@@ -209,8 +209,8 @@ sleep 1
 kill -9 "$(pgrep -f "$work/home/bin/rt")"
 wait $!
 tell "proofs that are killed" "70 mps: not all crates were proved" "$? $(tail -n 1 lines)"
-SLOW=3 home/mps a >said 2>lines &
-sleep 1
+SLOW=6 home/mps a >said 2>lines &
+sleep 3
 kill -TERM $!
 wait $!
 tell "./mps is ended" "130 0" "$? $(sleep 1; pgrep -fc "$work/home/bin/rt")"
