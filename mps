@@ -57,6 +57,13 @@ follow() {
   return 1
 }
 
+end_proofs() {
+  local group
+  for group in $(jobs -p); do
+    kill -- "-$group" 2>/dev/null
+  done
+}
+
 build() {
   local output most proofs begun left
   command -v rt >/dev/null || give_up "the command rt, which proves and builds the program, was not found"
@@ -67,10 +74,13 @@ build() {
   echo "mps: proving $left crates, up to $most at a time" >&2
   # The proofs are a process group of their own, so that they can be ended.
   set -m
+  trap 'end_proofs; exit 130' INT TERM
   check_all "$most" | follow &
   proofs=$(jobs -p %%)
-  trap 'kill -- "-$proofs" 2>/dev/null; exit 130' INT TERM
-  wait %% || give_up "not all crates were proved"
+  if ! wait %%; then
+    kill -- "-$proofs" 2>/dev/null
+    give_up "not all crates were proved"
+  fi
   set +m
   trap - INT TERM
   # Without words the new program answers its usage, which tells that it was built.

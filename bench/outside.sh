@@ -61,6 +61,35 @@ tell "run < ." "3 mps: read failed same" "$? $(cat report) $(same mpsio.log whol
 tell "run absent" "3 mps: read failed same" "$? $(cat report) $(same mpsio.log whole)"
 rm mpsio.log
 
+# ---- a log that is the file of standard output or error
+
+echo kept >kept
+cp kept out
+"$program" run -o out s >>out 2>report
+tell "run -o OUT s >> OUT" "5 mps: log failed same" "$? $(cat report) $(same out kept)"
+"$program" run -o /dev/stdout s >>out 2>report
+tell "run -o /dev/stdout s >> OUT" "5 mps: log failed same" "$? $(cat report) $(same out kept)"
+ln out outlink
+"$program" run -o outlink s >>out 2>report
+tell "run -o LINK s >> OUT" "5 mps: log failed same" "$? $(cat report) $(same out kept)"
+"$program" run -o out s 2>>out >answered
+tell "run -o ERR s 2>> ERR" "5 kept mps: log failed 0" "$? $(echo $(cat out)) $(stat -c %s answered)"
+"$program" run -o /dev/stdout s 2>report | head -c 6 | od -An -c | tr -d ' \n' >first
+tell "run -o /dev/stdout s | .." "MPSLOG" "$(cat first)"
+rm out outlink
+
+# ---- a log that can't be made leaves nothing
+
+"$program" run -o absent/log s >out 2>report
+tell "run -o ABSENT/log s" "5 mps: log failed absent" "$? $(cat report) $([ -e absent ] && echo there || echo absent)"
+"$program" run -o new absent >out 2>report
+tell "run -o NEW absent" "3 mps: read failed no log" "$? $(cat report) $(log new)"
+
+# ---- a reader that is gone
+
+"$program" run -o log s 2>report | true
+tell "run s | true" "log of 136 bytes" "$(log log)"
+
 # ---- devices that take nothing
 
 yes live | timeout 20 "$program" run -o /dev/full >/dev/null 2>report
@@ -132,4 +161,62 @@ P
   )
   tell "a terminal" "ended" "$ended"
 fi
+
+# ---- the script that proves and builds the program, with a stand-in for rt
+
+mkdir -p home/bin home/crates/mps_cli home/crates/low/src
+cp "$(dirname "$example")/../mps" home/
+printf 'low:\nmps_cli: low\n' >home/crates.txt
+touch home/crates/low/src/lib.rt
+cat >home/bin/rt <<'R'
+#!/usr/bin/env bash
+# Says what rt says of two crates, as slowly as SLOW says; that BAD isn't proved.
+if [ "$1" = all ]; then
+  for crate in low mps_cli; do
+    sleep "${SLOW:-0}"
+    echo "crate $crate: modules loaded=0 checked=1"
+    if [ "${BAD:-}" = "$crate" ]; then
+      echo logic=not-proved
+      exit 1
+    fi
+    echo 'logic=proved functions=1'
+  done
+  exit
+fi
+mkdir -p out
+printf '#!/bin/sh\n[ $# = 0 ] && echo "mps: usage: run" && exit 2\necho "words: $*"\n' >out/mps_cli
+chmod +x out/mps_cli
+out/mps_cli
+R
+chmod +x home/bin/rt
+kept_path=$PATH
+PATH=$work/home/bin:$PATH
+edit() { touch home/crates/low/src/lib.rt; }
+tell "./mps, from nothing" "words: a b" "$(home/mps a b 2>lines)"
+tell "its lines" "3" "$(grep -c '^mps: prov' lines)"
+tell "./mps again" "words: a 0" "$(home/mps a 2>lines) $(stat -c %s lines)"
+tell "sh mps" "words: a" "$(cd home && sh mps a 2>&1)"
+edit
+tell "a crate that isn't proved" "70 mps: not all crates were proved" "$(BAD=low home/mps a 2>lines; echo "$? $(tail -n 1 lines)")"
+SLOW=2 home/mps a >said 2>lines &
+sleep 1
+edit
+wait $!
+tell "an edit while proofs run" "words: a 3" "$(cat said) $(home/mps b 2>&1 >/dev/null | grep -c '^mps: prov')"
+edit
+SLOW=3 home/mps a >said 2>lines &
+sleep 1
+kill -9 "$(pgrep -f "$work/home/bin/rt")"
+wait $!
+tell "proofs that are killed" "70 mps: not all crates were proved" "$? $(tail -n 1 lines)"
+SLOW=6 home/mps a >said 2>lines &
+sleep 3
+kill -TERM $!
+wait $!
+tell "./mps is ended" "130 0" "$? $(sleep 1; pgrep -fc "$work/home/bin/rt")"
+tell "no folder for temporary files" "words: a" "$(TMPDIR=/absent home/mps a 2>lines)"
+PATH=$kept_path
+mv home/bin/rt home/bin/other
+edit
+tell "no rt" "70" "$(PATH=/usr/bin:/bin home/mps a 2>lines; echo $?)"
 exit "$wrong"

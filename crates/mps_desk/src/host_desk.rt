@@ -3,7 +3,7 @@ ghost use Rattle.std.specs.Prelude.{◌≡◌, ◌<◌, ◌≤◌, None, false, 
 ghost use Rattle.mps_desk.specs.Desk.{Outside};
 
 use crate::host_file::{
-    FileIdentity, OpenInput, make_for_log, open_to_read, read_some, standard_input, write_some,
+    Identity, OpenInput, make_for_log, open_to_read, read_some, standard_input, write_some,
 };
 use crate::{Desk, Failed};
 use std::fs::File;
@@ -13,13 +13,14 @@ use std::marker::Model;
 /// A desk over real files and the standard streams. It knows no content: what a real file holds, no clause can say.
 /// Each call is one system call, or the few that an opening takes; nothing waits.
 ///
-/// No file gets the number of a standard stream. A directory isn't opened, and no log is made of the open input. A read
-/// or a write that a signal interrupted is tried again, and where the input came to its end it stays there.
+/// No file gets the number of a standard stream. A directory isn't opened, and no log is made of the open input, nor of
+/// the file that standard output or error goes to. A read or a write that a signal interrupted is tried again, and where
+/// the input came to its end it stays there.
 #[derive(Drop)]
 pub struct HostDesk {
     rt: HostRuntime,
     input: Input,
-    input_file: Option<FileIdentity>,
+    input_file: Identity,
     log_file: Option<File>,
     in_faults: u64,
     log_faults: u64,
@@ -58,7 +59,7 @@ impl HostDesk {
         HostDesk {
             rt: *rt,
             input: Input::Nothing,
-            input_file: None,
+            input_file: Identity::NoFile,
             log_file: None,
             in_faults: 0,
             log_faults: 0,

@@ -1,5 +1,6 @@
 mod InRange
 pub mod Following
+pub mod GoodScript
 pub mod Leaving
 pub mod LineByLine
 pub mod LogFile

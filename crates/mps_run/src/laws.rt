@@ -1,8 +1,12 @@
 // Laws of a run, which follow from what it leaves.
-ghost use Rattle.std.specs.Prelude.{◌≡◌, ◌≢◌, ℕ, List, Some, true};
+ghost use Rattle.std.specs.Prelude.{◌≡◌, ◌≢◌, ◌≤◌, ℕ, List, Some, true, length};
 ghost use Rattle.mps_desk.specs.Desk.{Outside, Files, HasRisen};
 ghost use Rattle.mps_commands.specs.Built.{Built};
 ghost use Rattle.mps_log_reader.specs.Ending.{is_input_verdict};
+ghost use Rattle.mps_run.specs.Ending.{NoFaultRose};
+ghost use Rattle.mps_run.specs.Script.{max_lines};
+ghost use Rattle.mps_script.specs.Line.{lines_of};
+ghost use Rattle.mps_script.specs.Script.{is_grammatical};
 ghost use Rattle.mps_run.specs.Following.{Answered, RanWhole, HoldsLog};
 ghost use Rattle.mps_run.specs.Run.{RunsScript};
 
@@ -28,4 +32,12 @@ pub fn the_file_of_the_log()
     ensures { (built : Built) (log script : List ℕ) (status : ℕ) (old new : Outside) → RunsScript built log script status old new
         → is_input_verdict status ≡ true → (files : Files) → old.files ≡ Some files → (before : List ℕ) → old.logged ≡ Some before
         → (bytes : List ℕ) → old.text script ≡ Some bytes → HoldsLog built log bytes files new }
+{}
+
+/// A script that is grammatical and has fewer than 2^32 lines, run without a fault and with memory for what it makes, ends with
+/// status 0.
+pub fn a_good_script_ends_well()
+    ensures { (built : Built) (log script : List ℕ) (status : ℕ) (old new : Outside) → RunsScript built log script status old new
+        → (bytes : List ℕ) → old.text script ≡ Some bytes → is_grammatical (lines_of bytes) ≡ true
+        → length (lines_of bytes) ≤ max_lines → NoFaultRose old new → status ≢ 8 → status ≡ 0 }
 {}

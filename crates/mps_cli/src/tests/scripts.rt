@@ -335,6 +335,14 @@ const BAD_LINES: [BadLineCase; 2] = [
             b"reserve x f:2:0\t",
             b"live\r",
             b"live\x00",
+            b"committed\t",
+            b"committed\r",
+            b"limit 08",
+            b"limit 2049",
+            b"limit 18446744073709551616",
+            b"pool P9 mvff",
+            b"table abcdefghijklmnopq 1",
+            b"\x00",
         ],
     },
 ];
@@ -344,13 +352,14 @@ fn check_bad_line(
     alloc: Global,
     case: &BadLineCase,
     line: &[u8],
+    most: usize,
 ) -> Result<(), Fail> {
     let mut script = Vec::from_slice(alloc, case.before)?;
     script.extend_from_slice(line)?;
     script.extend_from_slice(b"\narena 8 8\n")?;
     let expected = ScriptCase {
         script: b"",
-        most: 0,
+        most,
         failing: None,
         ends: Ends {
             status: 6,
@@ -367,29 +376,33 @@ fn check_bad_line(
 fn a_line_in_the_form_of_no_command_is_bad(rt: HostRuntime) -> Result<(), Fail> {
     for case in &BAD_LINES {
         for line in case.lines {
-            check_bad_line(&rt, rt.alloc(), case, line)?;
+            check_bad_line(&rt, rt.alloc(), case, line, 0)?;
+            check_bad_line(&rt, rt.alloc(), case, line, 1)?;
         }
     }
     Ok(())
 }
 
-/// A script whose second line has n bytes.
+/// A script whose second line is a byte, n times.
 #[derive(Clone, Copy)]
 struct LongLine {
+    byte: u8,
     length: usize,
     case: ScriptCase,
 }
 
 fn check_long_line(rt: &impl Abort, alloc: Global, long: &LongLine) -> Result<(), Fail> {
     let mut script = Vec::from_slice(alloc, b"arena 8 8\n")?;
-    script.resize(long.length.saturating_add(10), b'#')?;
+    script.resize(long.length.saturating_add(10), long.byte)?;
     script.extend_from_slice(b"\ntable t 1\n")?;
     check_script(rt, alloc, &script, &long.case)
 }
 
-/// A line of 4096 bytes is read, and one of 4097 is bad, also where that can't be reported.
-const LONG_LINES: [LongLine; 3] = [
+/// A line of 4096 bytes is read, and one of 4097 is bad, also where that can't be reported, and where a line of spaces comes byte
+/// by byte.
+const LONG_LINES: [LongLine; 5] = [
     LongLine {
+        byte: b'#',
         length: 4096,
         case: ScriptCase {
             script: b"",
@@ -405,6 +418,7 @@ const LONG_LINES: [LongLine; 3] = [
         },
     },
     LongLine {
+        byte: b'#',
         length: 4097,
         case: ScriptCase {
             script: b"",
@@ -420,6 +434,7 @@ const LONG_LINES: [LongLine; 3] = [
         },
     },
     LongLine {
+        byte: b'#',
         length: 4097,
         case: ScriptCase {
             script: b"",
@@ -429,6 +444,38 @@ const LONG_LINES: [LongLine; 3] = [
                 status: 6,
                 printed: b"ok\n",
                 reported: b"",
+            },
+            log: HEADER,
+            log_bytes: 32,
+        },
+    },
+    LongLine {
+        byte: b' ',
+        length: 4096,
+        case: ScriptCase {
+            script: b"",
+            most: 1,
+            failing: None,
+            ends: Ends {
+                status: 0,
+                printed: b"ok\nok\n",
+                reported: b"",
+            },
+            log: HEADER,
+            log_bytes: 32,
+        },
+    },
+    LongLine {
+        byte: b' ',
+        length: 4097,
+        case: ScriptCase {
+            script: b"",
+            most: 1,
+            failing: None,
+            ends: Ends {
+                status: 6,
+                printed: b"ok\n",
+                reported: b"mps: script line 2: bad line\n",
             },
             log: HEADER,
             log_bytes: 32,

@@ -1,0 +1,5 @@
+use Rattle.mps_run.proofs.GoodScript.{good_script}
+use Rattle.mps_run.proofs.laws.a_good_script_ends_well.Goals as goal
+
+pub returns : goal.returns
+returns c = λ built log script status old new r. good_script built log script status old new r
