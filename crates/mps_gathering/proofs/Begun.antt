@@ -23,7 +23,8 @@ nothing_waits_yet o log out no_log no_out law =
     ap (λ (p : List ℕ). option_map (after_log p) o.files) no_log ∙ sym (filed_nothing o.files) in
     let text : text_over (option_map (after_log log.bytes) o.files) o.text ≡ o.text = same_texts o log.bytes no_log law in
     let logged : appended o.logged log.bytes ≡ o.logged = ap (λ (p : List ℕ). appended o.logged p) no_log ∙ sym (appended_empty o.logged) in
-    let printed : appended o.printed out.bytes ≡ o.printed = ap (λ (p : List ℕ). appended o.printed p) no_out ∙ sym (appended_empty o.printed) in
+    let printed : appended o.printed out.bytes ≡ o.printed =
+    ap (λ (p : List ℕ). appended o.printed p) no_out ∙ sym (appended_empty o.printed) in
     let log_waits : some_wait log.bytes o.log_waits ≡ o.log_waits = ap (λ (p : List ℕ). some_wait p o.log_waits) no_log in
     let out_waits : some_wait out.bytes o.out_waits ≡ o.out_waits = ap (λ (p : List ℕ). some_wait p o.out_waits) no_out in
     cc (files, text, logged, printed, log_waits, out_waits)

@@ -24,7 +24,8 @@ fewer_wait [] [] old new same waits = sym (same refl) ∙ waits
 fewer_wait [] (b ∷ bs) old new same waits = refl
 fewer_wait (b ∷ bs) left old new same waits = refl
 
-pub waits_still : (waiting : List ℕ) (old new : Bool) → (new ≡ true → old ≡ true) → some_wait waiting new ≡ true → some_wait waiting old ≡ true
+pub waits_still : (waiting : List ℕ) (old new : Bool) → (new ≡ true → old ≡ true) → some_wait waiting new ≡ true
+    → some_wait waiting old ≡ true
 waits_still [] old new still waits = still waits
 waits_still (b ∷ bs) old new still waits = refl
 
@@ -52,7 +53,8 @@ log_handed_on i j g h prefix f idle bytes rest =
     ap (λ (known : Option Files). option_map (after_log h.log.bytes) known) f.filed
     ∙ filed_twice i.files prefix h.log.bytes
     ∙ ap (λ (piece : List ℕ). option_map (after_log piece) i.files) (sym bytes) in
-    let text : text_over (option_map (after_log h.log.bytes) j.files) j.text ≡ text_over (option_map (after_log g.log.bytes) i.files) i.text =
+    let text : text_over (option_map (after_log h.log.bytes) j.files) j.text
+    ≡ text_over (option_map (after_log g.log.bytes) i.files) i.text =
     ap (λ (known : Option Files). text_over known j.text) files
     ∙ text_stays (option_map (after_log g.log.bytes) i.files) i.text j.text
     (λ none. f.text (unknown_before i.files g.log.bytes none)) in
@@ -395,13 +397,16 @@ out_took_after a b i j g h piece first second t none same =
     out_after a (outside_with i g) (outside_with j h) piece (hands_on_twice a b (outside_with i g) first second)
     (out_passed_on i j g h piece t none same)
 
-pub out_held_after : (a b c d : Outside) (piece : List ℕ) → OnlyHandsOn a b → OnlyHandsOn b c → TakesToPrint c d piece → TakesToPrint a d piece
+pub out_held_after : (a b c d : Outside) (piece : List ℕ) → OnlyHandsOn a b → OnlyHandsOn b c → TakesToPrint c d piece
+    → TakesToPrint a d piece
 out_held_after a b c d piece first second t = out_after a c d piece (hands_on_twice a b c first second) t
 
-pub log_held_at : (i j : Outside) (g h : Gathered) (piece : List ℕ) → j ≡ i → h.log.bytes ≡ g.log.bytes ++ piece → h ≡ record g { log = h.log }
+pub log_held_at : (i j : Outside) (g h : Gathered) (piece : List ℕ) → j ≡ i → h.log.bytes ≡ g.log.bytes ++ piece
+    → h ≡ record g { log = h.log }
     → TakesForLog (outside_with i g) (outside_with j h) (take (length piece) piece)
 log_held_at i j g h piece same bytes rest =
-    subst (λ (o : Outside). TakesForLog (outside_with i g) (outside_with o h) (take (length piece) piece)) (sym same) (log_held i g h piece bytes rest)
+    subst (λ (o : Outside). TakesForLog (outside_with i g) (outside_with o h) (take (length piece) piece)) (sym same)
+    (log_held i g h piece bytes rest)
 
 pub log_took_then : (a b : Outside) (i j : Outside) (g h : Gathered) (piece : List ℕ) → OnlyHandsToLog a b → outside_with i g ≡ b
     → TakesForLog i j piece → g.log.bytes ≡ [] → h ≡ g → TakesForLog a (outside_with j h) piece

@@ -27,11 +27,13 @@ asked_next true old new requests next = tt
 asked_next false old new requests next = next
 
 -- a request that was handed on
-pub asks : (a : Outside) (i j : Outside) (g h : Gathered) (requests : List Request) → OnlyHandsToLog a (outside_with i g) → Asks i j requests
+pub asks : (a : Outside) (i j : Outside) (g h : Gathered) (requests : List Request) → OnlyHandsToLog a (outside_with i g)
+    → Asks i j requests
     → h ≡ g → Asks a (outside_with j h) requests
 asks a i j g h requests hands next same =
     subst (λ (old : Option (List Request)). AreNext old requests (outside_with j h).asked) hands.kept.asked
-    (subst (λ (b : Bool). AreNext (outside_with i g).asked requests (if b then None else j.asked)) (ap (λ (x : Gathered). x.requests_unknown) (sym same))
+    (subst (λ (b : Bool). AreNext (outside_with i g).asked requests (if b then None else j.asked))
+    (ap (λ (x : Gathered). x.requests_unknown) (sym same))
     (asked_next g.requests_unknown i.asked j.asked requests next))
 
 -- the input is the text of the name
@@ -43,13 +45,15 @@ opened a i j g h name hands none law input =
 pub made : (a : Outside) (i j : Outside) (g h : Gathered) (name : List ℕ) → OnlyHandsToLog a (outside_with i g) → g.log.bytes ≡ [] → h ≡ g
     → j.files ≡ option_map (made_for_log name) i.files → (outside_with j h).files ≡ option_map (made_for_log name) a.files
 made a i j g h name hands none same files =
-    let old : a.files ≡ i.files = sym hands.kept.files ∙ ap (λ (p : List ℕ). option_map (after_log p) i.files) none ∙ sym (filed_nothing i.files) in
+    let old : a.files ≡ i.files =
+    sym hands.kept.files ∙ ap (λ (p : List ℕ). option_map (after_log p) i.files) none ∙ sym (filed_nothing i.files) in
     let new : (outside_with j h).files ≡ j.files =
     ap (λ (x : Gathered). option_map (after_log x.log.bytes) j.files) same
     ∙ ap (λ (p : List ℕ). option_map (after_log p) j.files) none ∙ sym (filed_nothing j.files) in
     new ∙ files ∙ ap (λ (known : Option Files). option_map (made_for_log name) known) (sym old)
 
-pub elsewhere : (a : Outside) (i j : Outside) (g h : Gathered) (name : List ℕ) → OnlyHandsToLog a (outside_with i g) → g.log.bytes ≡ [] → h ≡ g
+pub elsewhere : (a : Outside) (i j : Outside) (g h : Gathered) (name : List ℕ) → OnlyHandsToLog a (outside_with i g) → g.log.bytes ≡ []
+    → h ≡ g
     → ((other : List ℕ) → IfSome i.files (λ files. i.text other ≡ text_in files.all other))
     → ((other : List ℕ) → IfSome j.files (λ files. j.text other ≡ text_in files.all other))
     → SameElsewhere name i j → SameElsewhere name a (outside_with j h)

@@ -20,7 +20,8 @@ pub record IsLogging (old new : Outside) (prefix : List ℕ) : Type 0 where
 pub logging_none : (o : Outside) → IsLogging o o []
 logging_none o = record { logs = logs_none o; text = λ none. refl }
 
-text_then : (a b c : Outside) (prefix : List ℕ) → IsLogging a b prefix → (IsNone b.files → c.text ≡ b.text) → IsNone a.files → c.text ≡ a.text
+text_then : (a b c : Outside) (prefix : List ℕ) → IsLogging a b prefix → (IsNone b.files → c.text ≡ b.text) → IsNone a.files
+    → c.text ≡ a.text
 text_then a b c prefix f next none =
     next (subst (λ (known : Option Files). IsNone known) (sym f.logs.filed) (stays_unknown a.files prefix none)) ∙ f.text none
 

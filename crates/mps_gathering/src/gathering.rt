@@ -2,7 +2,8 @@
 ghost use Rattle.std.specs.Prelude.{◌≡◌, ◌⊎◌, ◌<◌, ◌≤◌, [], ℕ, true, false, length, take, IsTrue, IsSome, ◌↔◌, ◌∷◌, IfOk, IfSome, IfNone, OnOk, OnErr};
 ghost use Rattle.std.specs.Option.{option_map};
 ghost use Rattle.mps_desk.specs.Desk.{HasRisen, Asks, OnlyOpens, OnlyCreates, SameFiles, SameElsewhere, opening, making, made_for_log};
-ghost use Rattle.mps_gathering.specs.Gathering.{outside_through, begun, TakesForLog, TakesToPrint, OnlyHandsOn, OnlyHandsToLog, RefusesForLog, RefusesToPrint, HasAll};
+ghost use Rattle.mps_gathering.specs.Gathering.{outside_through, begun, HasAll, OnlyHandsOn, OnlyHandsToLog};
+ghost use Rattle.mps_gathering.specs.Gathering.{TakesForLog, TakesToPrint, RefusesForLog, RefusesToPrint};
 
 use crate::held::Held;
 use crate::prefix::{log_prefix, print_prefix};
@@ -199,7 +200,8 @@ impl<D: Desk + Drop> Gathering<D> {
             ≡ record self.old.gathered { log = self.new.gathered.log; out = self.new.gathered.out } }
         ensures records_first { (D.outside self.new.inner).printed ≡ (D.outside self.old.inner).printed
             ⊎ self.new.gathered.log.bytes ≡ [] }
-        ensures fault { IfNone result (HasRisen 0 (D.outside self.new.inner).out_faults ⊎ HasRisen 0 (D.outside self.new.inner).log_faults) }
+        ensures fault { IfNone result
+            (HasRisen 0 (D.outside self.new.inner).out_faults ⊎ HasRisen 0 (D.outside self.new.inner).log_faults) }
     {
         if !self.write_log() {
             return None;
@@ -221,14 +223,16 @@ impl<D: Desk + Drop> Gathering<D> {
 
     /// Hands on what waits for the log, and then opens the name. False where one of the two failed.
     fn open_settled(&mut self, name: &str) -> bool
-        ensures input { IsTrue result → (outside_through D.outside self.new).input ≡ (outside_through D.outside self.old).text name.now }
+        ensures input { IsTrue result
+            → (outside_through D.outside self.new).input ≡ (outside_through D.outside self.old).text name.now }
         ensures known { IsSome (outside_through D.outside self.new).input ↔ IsSome (outside_through D.outside self.old).input }
         ensures unchanged { result ≡ false → (outside_through D.outside self.new).input ≡ (outside_through D.outside self.old).input }
         ensures asked { Asks (outside_through D.outside self.old) (outside_through D.outside self.new) (opening name.now ∷ []) }
         ensures others { OnlyOpens (outside_through D.outside self.old) (outside_through D.outside self.new) }
         ensures rest { self.new.gathered
             ≡ record self.old.gathered { log = self.new.gathered.log; requests_unknown = self.new.gathered.requests_unknown } }
-        ensures fault { result ≡ false → HasRisen 0 (D.outside self.new.inner).in_faults ⊎ HasRisen 0 (D.outside self.new.inner).log_faults }
+        ensures fault { result ≡ false
+            → HasRisen 0 (D.outside self.new.inner).in_faults ⊎ HasRisen 0 (D.outside self.new.inner).log_faults }
     {
         if !self.write_log() {
             self.requests_unknown = true;
@@ -239,7 +243,8 @@ impl<D: Desk + Drop> Gathering<D> {
 
     /// Hands on what waits for the log, and then makes the name the log's. False where one of the two failed.
     fn create_settled(&mut self, name: &str) -> bool
-        ensures made { IsTrue result → (outside_through D.outside self.new).files ≡ option_map (made_for_log name.now) (outside_through D.outside self.old).files }
+        ensures made { IsTrue result → (outside_through D.outside self.new).files
+            ≡ option_map (made_for_log name.now) (outside_through D.outside self.old).files }
         ensures elsewhere { SameElsewhere name.now (outside_through D.outside self.old) (outside_through D.outside self.new) }
         ensures logged { (outside_through D.outside self.new).logged ≡ (outside_through D.outside self.old).logged }
         ensures unchanged { result ≡ false → SameFiles (outside_through D.outside self.old) (outside_through D.outside self.new) }
@@ -307,11 +312,13 @@ impl<D: Desk + Drop> Desk for Gathering<D> {
     fn out(&mut self, bytes: &[u8]) -> Result<usize, Failed>
         ensures at_most { IfOk result (λ n. n ≤ length bytes.now) }
         ensures nonzero { IfOk result (λ n. 0 < length bytes.now → 0 < n) }
-        ensures printed { IfOk result (λ n. (outside_through D.outside self.new).printed ≡ added (outside_through D.outside self.old).printed bytes.now n) }
+        ensures printed { IfOk result (λ n. (outside_through D.outside self.new).printed
+            ≡ added (outside_through D.outside self.old).printed bytes.now n) }
         ensures unchanged { OnErr result ((outside_through D.outside self.new).printed ≡ (outside_through D.outside self.old).printed) }
         ensures steady { OnOk result ((outside_through D.outside self.new).out_faults ≡ (outside_through D.outside self.old).out_faults) }
         ensures counted { (outside_through D.outside self.old).out_faults ≤ (outside_through D.outside self.new).out_faults }
-        ensures cause { OnErr result (HasRisen (outside_through D.outside self.old).out_faults (outside_through D.outside self.new).out_faults) }
+        ensures cause { OnErr result
+            (HasRisen (outside_through D.outside self.old).out_faults (outside_through D.outside self.new).out_faults) }
         ensures others { OnlyPrints (outside_through D.outside self.old) (outside_through D.outside self.new) }
         ensures records_first { (D.outside self.new.inner).printed ≡ (D.outside self.old.inner).printed
             ⊎ self.new.gathered.log.bytes ≡ [] }
@@ -345,7 +352,8 @@ impl<D: Desk + Drop> Desk for Gathering<D> {
         ensures printed { (outside_through D.outside self.new).printed ≡ (outside_through D.outside self.old).printed }
         ensures steady { OnOk result ((outside_through D.outside self.new).out_faults ≡ (outside_through D.outside self.old).out_faults) }
         ensures counted { (outside_through D.outside self.old).out_faults ≤ (outside_through D.outside self.new).out_faults }
-        ensures cause { OnErr result (HasRisen (outside_through D.outside self.old).out_faults (outside_through D.outside self.new).out_faults) }
+        ensures cause { OnErr result
+            (HasRisen (outside_through D.outside self.old).out_faults (outside_through D.outside self.new).out_faults) }
         ensures others { OnlyPrints (outside_through D.outside self.old) (outside_through D.outside self.new) }
         ensures written { OnOk result (NothingWaits (outside_through D.outside self.new)) }
         ensures records_first { (D.outside self.new.inner).printed ≡ (D.outside self.old.inner).printed
@@ -361,5 +369,6 @@ impl<D: Desk + Drop> Desk for Gathering<D> {
         Err(Failed)
     }
 
-    ghost text_of_files = { λ d name. text_law (option_map (after_log d.gathered.log.bytes) (D.outside d.inner).files) (D.outside d.inner).text name };
+    ghost text_of_files = { λ d name.
+        text_law (option_map (after_log d.gathered.log.bytes) (D.outside d.inner).files) (D.outside d.inner).text name };
 }
