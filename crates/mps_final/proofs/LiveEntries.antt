@@ -16,6 +16,11 @@ count_is_length [] = refl
 count_is_length (zero ∷ xs) = omega (arith, count_is_length xs)
 count_is_length (suc n ∷ xs) = omega (arith, count_is_length xs, count_live n xs)
 
+pub live_are_few : (xs : List ℕ) → length (live xs) ≤ length xs
+live_are_few [] = omega arith
+live_are_few (zero ∷ xs) = omega (arith, live_are_few xs)
+live_are_few (suc n ∷ xs) = omega (arith, live_are_few xs)
+
 pub live_twice : (xs : List ℕ) → live (live xs) ≡ live xs
 live_twice [] = refl
 live_twice (zero ∷ xs) = live_twice xs

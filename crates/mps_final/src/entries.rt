@@ -1,12 +1,15 @@
 // Rows of entries, of which those that are 0 were removed.
 #![tactic(auto)]
 
-ghost use Rattle.std.specs.Prelude.{◌≡◌, ◌<◌, ◌≤◌, length, slice_index_or, vec_capacity, vec_len};
+ghost use Rattle.std.specs.Prelude.{◌≡◌, ◌+◌, ◌<◌, ◌≤◌, length, max, slice_index_or, vec_capacity, vec_len};
 ghost use Rattle.mps_final.specs.State.{position_of, max_finals};
 ghost use Rattle.mps_final.specs.Inside.{live, max_entries, IsEntry, StandBefore};
 
-/// As many entries again as there may be registrations: so removed ones are taken out at most once in 65,536 calls.
+/// As many entries again as there may be registrations.
 pub(crate) const MAX_ENTRIES: usize = 131_072;
+
+/// As many removed entries may stay, however few registrations there are.
+const MAX_REMOVED: usize = 64;
 
 /// Where the last search ended: n registrations stand before the entry at this index.
 #[derive(Clone, Copy)]
@@ -90,19 +93,22 @@ pub(crate) fn position_in(entries: &[u64], at: u64) -> Option<usize>
     None
 }
 
-/// Makes room for one more entry: if there is none, the entries that were removed are taken out.
-pub(crate) fn make_room(entries: &mut Vec<u64>, cursor: &mut Cursor)
-    requires short { vec_len entries.old ≤ max_entries }
+/// Makes room for one more entry beside those of `count` registrations. Where more entries were removed than there are registrations,
+/// and more than 64, they are taken out: so a search passes few of them, and each is taken out once.
+pub(crate) fn make_room(entries: &mut Vec<u64>, count: usize, cursor: &mut Cursor)
+    requires counted { count ≡ length (live entries.old.items) }
     requires few { length (live entries.old.items) < max_finals }
     requires before { StandBefore entries.old.items cursor.old.position cursor.old.index }
     requires within { cursor.old.index ≤ length entries.old.items }
     ensures unchanged { live entries.new.items ≡ live entries.old.items }
     ensures fits { vec_len entries.new < max_entries }
+    ensures short { vec_len entries.new ≤ count + max count 64 }
     ensures before { StandBefore entries.new.items cursor.new.position cursor.new.index }
     ensures within { cursor.new.index ≤ length entries.new.items }
     ensures capacity { vec_capacity entries.new ≡ vec_capacity entries.old }
 {
-    if entries.len() == MAX_ENTRIES {
+    let removed = entries.len() - count;
+    if removed > count.max(MAX_REMOVED) {
         entries.retain(|entry| *entry != 0);
         *cursor = Cursor::START;
     }

@@ -53,7 +53,7 @@ impl Row {
         requires fits { length self.old < max_finals }
         ensures { self.new ≡ self.old ++ at ∷ [] }
     {
-        make_room(&mut self.entries, &mut self.cursor);
+        make_room(&mut self.entries, self.count, &mut self.cursor);
         let Ok(()) = self.entries.push(at) else {
             unreachable!()
         };
