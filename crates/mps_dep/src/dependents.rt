@@ -24,7 +24,7 @@ pub struct Pair {
 }
 
 /// The pairs of an arena, at most one of each holder. `new` is the only call that allocates. Beside the pairs stands a mark for each
-/// address in them, so that most addresses that are in none are told by one bit.
+/// address in them, so that one bit says of most addresses that they are in none.
 #[derive(Drop)]
 pub struct Dependents {
     pairs: Vec<Pair>,

@@ -115,7 +115,8 @@ module _ (test : ClassState → Bool) where
       → the_cache pool (refill (length cs) cs (set ds i new))
       ≡ (if keeps_where test cs then the_cache pool (with_blocks_where test cs (blocks_where test cs ++ at ∷ [])) else the_cache pool cs)
   kept_last pool cs ds i at class new same there first is =
-      ap (λ (xs : List ClassState). the_cache pool xs) (items-with_items (record { items = cs }) (set ds i new) (length-set ds i new ∙ ap length same)
+      ap (λ (xs : List ClassState). the_cache pool xs)
+      (items-with_items (record { items = cs }) (set ds i new) (length-set ds i new ∙ ap length same)
       ∙ ap (λ (xs : List ClassState). set xs i new) same ∙ ap (λ (c : ClassState). set cs i c) is)
       ∙ by_room (class_keeps class)
       ∙ ap (λ (b : Bool).

@@ -12,7 +12,8 @@ use Rattle.mps_dep.proofs.dependents.Dependents.link.Goals.{else-is_none-via-the
 
 -- the holder had no dependent
 none : (c : goal.Then-len-eq-MAX_PAIRS) → dependent_of c.args.self.now c.args.holder.0 ≡ None
-none c = none_before c.unlink-before.result (dependent_of c.args.self.now c.args.holder.0) c.if-is_none.ensures c.unlink-before.ensures.value
+none c = none_before c.unlink-before.result (dependent_of c.args.self.now c.args.holder.0) c.if-is_none.ensures
+    c.unlink-before.ensures.value
 
 -- so nothing changed
 same : (c : goal.Then-len-eq-MAX_PAIRS) → c.unlink-before.new.self ≡ c.args.self.now
@@ -58,7 +59,8 @@ invariant_of-self c =
     ∙ ap (λ (n : ℕ). slice_set old.marks n true) c.mark_of.ensures.value)
     in
     let sound = added_stays_sound old.pairs.items old.marks (vec_capacity old.pairs) capacity p c.self.invariant (fits c)
-    (omega (arith, c.mark_of.ensures.within, c.mark_of.ensures.value)) (omega (arith, c.mark_of-2.ensures.within, c.mark_of-2.ensures.value))
+    (omega (arith, c.mark_of.ensures.within, c.mark_of.ensures.value))
+    (omega (arith, c.mark_of-2.ensures.within, c.mark_of-2.ensures.value))
     c.push.ensures.capacity
     in
     let P : List Pair → Type 0 = λ pairs. IsSoundDependents pairs c.set-2.new.self capacity in

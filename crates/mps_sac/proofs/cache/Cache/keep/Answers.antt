@@ -16,7 +16,9 @@ returns-in_default-clause-value c =
 
 pub returns-in_default-clause-state : goal.returns-in_default-clause-state
 returns-in_default-clause-state c =
-    let P : CacheState → Type 0 = λ s. s ≡ (if keeps_size s.classes c.args.words then record s { classes = with_last_of_size s.classes c.args.words c.args.at.0 } else s) in
+    let P : CacheState → Type 0 =
+    λ s. s ≡ (if keeps_size s.classes c.args.words
+    then record s { classes = with_last_of_size s.classes c.args.words c.args.at.0 } else s) in
     let s = the_cache c.self.inside.pool c.self.inside.classes.items in
     let kept : CacheState = record s { classes = with_last_of_size s.classes c.args.words c.args.at.0 } in
     subst P c.self.view_is (sym (left_out (keeps_size s.classes c.args.words) kept s (none c).keeps))
@@ -41,5 +43,6 @@ pub returns-clause-state : goal.returns-clause-state
 returns-clause-state c =
     kept_last (is_of_size c.args.words) c.self.inside.pool c.self.inside.classes.items c.deref_mut.result.now c.in-Some.index c.args.at.0
     (class c) c.keep.new.self c.deref_mut.ensures.value (there c) (first c) c.keep.ensures.state
-    ∙ ap (λ (s : CacheState). if keeps_size s.classes c.args.words then record s { classes = with_last_of_size s.classes c.args.words c.args.at.0 } else s)
+    ∙ ap (λ (s : CacheState). if keeps_size s.classes c.args.words
+    then record s { classes = with_last_of_size s.classes c.args.words c.args.at.0 } else s)
     c.self.view_is

@@ -10,7 +10,8 @@ pub returns-in_default-clause-value : goal.returns-in_default-clause-value
 returns-in_default-clause-value c =
     let found : position (is_of_size c.args.words) c.self.inside.classes.items ≡ None = cc in
     let P : CacheState → Type 0 = λ s. last_of (blocks_of_size s.classes c.args.words) ≡ None in
-    subst P c.self.view_is (nothing_taken (is_of_size c.args.words) c.self.inside.classes.items (are_none (is_of_size c.args.words) c.self.inside.classes.items found))
+    subst P c.self.view_is (nothing_taken (is_of_size c.args.words) c.self.inside.classes.items
+    (are_none (is_of_size c.args.words) c.self.inside.classes.items found))
 
 pub returns-in_default-clause-state : goal.returns-in_default-clause-state
 returns-in_default-clause-state c =
@@ -36,7 +37,8 @@ pub returns-clause-value : goal.returns-clause-value
 returns-clause-value c =
     let P : List ℕ → Type 0 = λ blocks. MatchOption c.take.result (last_of blocks ≡ None) (λ at. last_of blocks ≡ Some at.0) in
     let Q : CacheState → Type 0 =
-    λ s. MatchOption c.take.result (last_of (blocks_of_size s.classes c.args.words) ≡ None) (λ at. last_of (blocks_of_size s.classes c.args.words) ≡ Some at.0)
+    λ s. MatchOption c.take.result (last_of (blocks_of_size s.classes c.args.words) ≡ None)
+    (λ at. last_of (blocks_of_size s.classes c.args.words) ≡ Some at.0)
     in
     subst Q c.self.view_is (subst P (sym (first c).blocks) c.take.ensures.value)
 

@@ -10,5 +10,6 @@ invariant_of-self c =
     let old = c.self.inside in
     let capacity = vec_capacity c.end_pairs_of.new.pairs in
     let P : List Pair → Type 0 = λ pairs. AreSoundTransforms (set old.live c.args.transform false) pairs capacity in
-    subst P (sym c.end_pairs_of.ensures.items) (others_stay_sound old.live old.pairs.items (vec_capacity old.pairs) capacity c.args.transform
+    subst P (sym c.end_pairs_of.ensures.items) (others_stay_sound old.live old.pairs.items (vec_capacity old.pairs)
+    capacity c.args.transform
     c.self.invariant c.end_pairs_of.ensures.capacity)

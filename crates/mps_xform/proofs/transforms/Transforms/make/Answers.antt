@@ -8,7 +8,8 @@ use Rattle.mps_xform.proofs.transforms.Transforms.make.Goals as goal
 pub returns-clause-was_free : goal.returns-clause-was_free
 returns-clause-was_free c =
     let free : position not c.self.inside.live ≡ Some c.in-Some.number = cc in
-    ap (λ (t : TransformsState). is_live t c.in-Some.number) (sym c.self.view_is) ∙ free_is_not_live c.self.inside.live c.in-Some.number free
+    ap (λ (t : TransformsState). is_live t c.in-Some.number) (sym c.self.view_is)
+    ∙ free_is_not_live c.self.inside.live c.in-Some.number free
 
 pub returns-clause-empty : goal.returns-clause-empty
 returns-clause-empty c =
