@@ -292,10 +292,8 @@ def figures(texts):
     """Prints a count for each figure of the whole tree, and returns how many lemmas and imports nothing uses."""
     antt = {path: rows for path, rows in texts.items() if path.suffix == ".antt" and "must-fail" not in path.parts}
     words = {path: tokens(rows) for path, rows in antt.items()}
-    lines = [row.split("#")[0] for row in (HOME / "crates.txt").read_text().splitlines()]
-    names = {row.split(":")[0].split()[0]: row.split(":")[1].split() for row in lines if ":" in row}
-    print(f"crates: {len(names)}")
-    print(f"dependency names: {sum(name in names for lows in names.values() for name in lows)}")
+    names = listed()
+    print(f"dependency names: {sum(len(lows) for lows in names.values())}")
     for part in ("src", "specs", "proofs"):
         print(f"lines of {part}: {sum(len(rows) for path, rows in texts.items() if path.parts[2] == part)}")
     report("public law functions", list(laws(texts)))
@@ -317,6 +315,7 @@ def check(counts):
     for what, count, limit in zip(("lemmas", "imports"), counts, most):
         if count > limit:
             sys.exit(f"{count} {what} are used by nothing, and {limit} are allowed")
+
 
 def main():
     texts = {path: (HOME / path).read_text().splitlines() for path in sources()}
