@@ -87,8 +87,12 @@ tell "run -o NEW absent" "3 mps: read failed no log" "$? $(cat report) $(log new
 
 # ---- a reader that is gone
 
-"$program" run -o log s 2>report | true
-tell "run s | true" "log of 136 bytes" "$(log log)"
+{
+  sleep 1
+  "$program" run -o log s 2>report
+  echo $? >ended
+} | true
+tell "run s | true" "4 mps: write failed log of 136 bytes" "$(cat ended) $(cat report) $(log log)"
 
 # ---- devices that take nothing
 
