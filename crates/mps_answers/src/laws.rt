@@ -5,8 +5,8 @@ ghost use Rattle.mps_format.specs.HeadText.{head_of_word};
 ghost use Rattle.mps_model.specs.declared.reply.Reply.TheVariants as reply;
 ghost use Rattle.mps_model.specs.Text.{reply_text};
 ghost use Rattle.mps_numerals.specs.Decimal.{decimal_number};
-ghost use Rattle.mps_words.specs.Number.{prefixed_hexadecimal};
-ghost use Rattle.mps_words.specs.Head.{head_of};
+ghost use Rattle.mps_line_words.specs.Number.{prefixed_hexadecimal};
+ghost use Rattle.mps_line_words.specs.Head.{head_of};
 
 /// A number, a word and a head that are printed can be read by a script: each is read as the number, the word and the head
 /// that it was.

@@ -9,14 +9,14 @@ use Rattle.mps_format.specs.Layout.{Layout}
 use Rattle.mps_model.specs.World.{World}
 use Rattle.mps_seg.specs.Table.{IsMarked}
 use Rattle.mps_trace.specs.Collect.{most_moves}
-use Rattle.mps_outcome.specs.Collecting.{CanCollectAll, IsCollected, can_collect, is_empty, most_flips}
+use Rattle.mps_heap_spec.specs.Collecting.{CanCollectAll, IsCollected, can_collect, is_empty, most_flips}
 use Rattle.mps_format.specs.Pools.{is_moved_or_manual}
-use Rattle.mps_outcome.specs.State.{HeapState}
+use Rattle.mps_heap_spec.specs.State.{HeapState}
 use Rattle.mps_refinement.specs.StandsFor.{StandsFor}
 use Rattle.mps_refinement.specs.StandsForSome.{StandsForSome}
-use Rattle.mps_refinement.proofs.Staying.{one_world}
-use Rattle.mps_collect_laws.specs.Collecting.{IsRightCollect, MayCollect}
-use Rattle.mps_collect_laws.proofs.HeapCollects.{a_collect_is_right, a_heap_can_collect}
+use Rattle.mps_refinement.proofs.Worlds.Staying.{one_world}
+use Rattle.mps_refinement.specs.Collect.Collecting.{IsRightCollect, MayCollect}
+use Rattle.mps_refinement.proofs.Collect.HeapCollects.{a_collect_is_right, a_heap_can_collect}
 
 module _ {F : Type 0} (layout : F → Layout) (h : HeapState F) (some : StandsForSome layout h) (can : can_collect h ≡ true) where
   one : (w : World) × StandsFor layout h w

@@ -23,32 +23,32 @@ use Rattle.mps_model.specs.Graph.{Object}
 use Rattle.mps_model.specs.Image.{image_of, image_of_body}
 use Rattle.mps_model.specs.World as world
 use Rattle.mps_model.specs.World.{World, is_leaf_kind}
-use Rattle.mps_outcome.specs.Coming.{answered, done, state_from}
-use Rattle.mps_outcome.specs.Finding.{block_place_in, with_words}
-use Rattle.mps_outcome.specs.declared.found.Block.{Block}
-use Rattle.mps_outcome.specs.declared.found.Entry.{Entry}
+use Rattle.mps_heap_spec.specs.Coming.{answered, done, state_from}
+use Rattle.mps_heap_spec.specs.Finding.{block_place_in, with_words}
+use Rattle.mps_heap_spec.specs.declared.found.Block.{Block}
+use Rattle.mps_heap_spec.specs.declared.found.Entry.{Entry}
 use Rattle.mps_format.specs.declared.pool.Pool.{Pool}
 use Rattle.mps_format.specs.declared.pool.Pool.TheVariants as pool
-use Rattle.mps_outcome.specs.Manual.{block_in, is_block_over, word_in_block, word_stored}
-use Rattle.mps_outcome.specs.Objects.{with_word}
-use Rattle.mps_outcome.specs.State.{HeapState, pool_over}
+use Rattle.mps_heap_spec.specs.Manual.{block_in, is_block_over, word_in_block, word_stored}
+use Rattle.mps_heap_spec.specs.Objects.{with_word}
+use Rattle.mps_heap_spec.specs.State.{HeapState, pool_over}
 use Rattle.mps_format.specs.Pools.{is_leaf_pool}
 use Rattle.mps_refinement.specs.StandsFor.{StandsFor}
 use Rattle.mps_refinement.specs.RightStep.{step_of}
 use Rattle.mps_refinement.specs.StandsForSome.{StandsForSome, StandsWith}
-use Rattle.mps_refinement.proofs.BlockRuns.{run_is, words_are}
-use Rattle.mps_refinement.proofs.Blocks.{begins_at_object}
-use Rattle.mps_refinement.proofs.BlockWords.{store_is_right}
-use Rattle.mps_refinement.proofs.Known.{known}
-use Rattle.mps_refinement.proofs.LiveObjects.{IsObject, object_then}
-use Rattle.mps_refinement.proofs.Loans.{block_borrowed, fits_ours}
+use Rattle.mps_refinement.proofs.Lookups.BlockRuns.{run_is, words_are}
+use Rattle.mps_refinement.proofs.Lookups.Blocks.{begins_at_object}
+use Rattle.mps_refinement.proofs.Lookups.BlockWords.{store_is_right}
+use Rattle.mps_refinement.proofs.Worlds.Known.{known}
+use Rattle.mps_refinement.proofs.Lookups.LiveObjects.{IsObject, object_then}
+use Rattle.mps_refinement.proofs.Lookups.Loans.{block_borrowed, fits_ours}
 use Rattle.mps_refinement.specs.Storing.{AreRight, stores}
-use Rattle.mps_refinement.proofs.LoanSteps.{block_loan_is_right, stored_is, stored_words}
-use Rattle.mps_refinement.proofs.Lookups.{place_same}
-use Rattle.mps_refinement.proofs.ManualBlocks.{block_same, block_words, setting}
-use Rattle.mps_refinement.proofs.PoolKinds.{kind_of, kinds_alike}
-use Rattle.mps_refinement.proofs.Reached.{reached_sound}
-use Rattle.mps_state.specs.Lending.{AreBlockWords, IsBlockBorrowed, IsBlockWritten, IsLeafBorrowed, IsNoBlock, IsNoLeaf, leaf_named}
+use Rattle.mps_refinement.proofs.Calls.LoanSteps.{block_loan_is_right, stored_is, stored_words}
+use Rattle.mps_refinement.proofs.Lookups.Lookups.{place_same}
+use Rattle.mps_refinement.proofs.Lookups.ManualBlocks.{block_same, block_words, setting}
+use Rattle.mps_refinement.proofs.Lookups.PoolKinds.{kind_of, kinds_alike}
+use Rattle.mps_refinement.proofs.Worlds.Reached.{reached_sound}
+use Rattle.mps_heap_code.specs.Lending.{AreBlockWords, IsBlockBorrowed, IsBlockWritten, IsLeafBorrowed, IsNoBlock, IsNoLeaf, leaf_named}
 use Rattle.mps_heap.specs.Lending as spec
 use Rattle.mps_heap.specs.Lending.{ComesToWords, IsBorrowedAndWritten, IsNotBorrowed, words_of_block, words_of_leaf}
 

@@ -4,11 +4,11 @@ use Rattle.mps_base.specs.Address.{max_grains}
 use Rattle.mps_format.specs.Layout.{Layout}
 use Rattle.mps_model.specs.World.{empty_world_of}
 use Rattle.mps_names.specs.State.{thing_in}
-use Rattle.mps_outcome.specs.Arena.{new_heap}
-use Rattle.mps_outcome.specs.State.{HeapState}
+use Rattle.mps_heap_spec.specs.Arena.{new_heap}
+use Rattle.mps_heap_spec.specs.State.{HeapState}
 use Rattle.mps_refinement.specs.NewHeap.{arena_step}
 use Rattle.mps_refinement.specs.RightStep.{IsRightIn}
-use Rattle.mps_refinement.proofs.NewHeap.{new_heap_is_right}
+use Rattle.mps_refinement.proofs.Calls.NewHeap.{new_heap_is_right}
 use Rattle.mps_heap.specs.Right.{IsNewHeap}
 
 pub is_new_heap : {F : Type 0} (layout : F → Layout) (grains limit : ℕ) (h : HeapState F) → grains ≤ max_grains

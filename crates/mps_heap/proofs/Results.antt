@@ -7,13 +7,13 @@ use Rattle.mps_format.specs.Layout.{Layout}
 use Rattle.mps_model.specs.declared.call.Call.{Call}
 use Rattle.mps_model.specs.declared.call.Call.TheVariants as call
 use Rattle.mps_model.specs.World.{World}
-use Rattle.mps_outcome.specs.Arena.{BlockBegins}
-use Rattle.mps_outcome.specs.Manual.{is_block_over}
-use Rattle.mps_outcome.specs.State.{HeapState}
+use Rattle.mps_heap_spec.specs.Arena.{BlockBegins}
+use Rattle.mps_heap_spec.specs.Manual.{is_block_over}
+use Rattle.mps_heap_spec.specs.State.{HeapState}
 use Rattle.mps_refinement.specs.Answering.{answer_to}
 use Rattle.mps_refinement.specs.Making.{IsRightMaking, IsRightMakingIn}
 use Rattle.mps_refinement.specs.RightStep.{IsRight}
-use Rattle.mps_refinement.proofs.Dumps.{dump_answers, dump_is_refused}
+use Rattle.mps_refinement.proofs.Calls.Dumps.{dump_answers, dump_is_refused}
 use Rattle.mps_heap.specs.Answers.{says_words}
 use Rattle.mps_heap.specs.Results.{without_key}
 use Rattle.std.specs.Prelude.{MatchResult, false}

@@ -9,7 +9,7 @@ use Rattle.mps_model.specs.Allocating.{block_in, words_at}
 use Rattle.mps_model.specs.Checked.{Checked, ◌>>=◌, ◌>>◌, block_place_in, object_in, refuse_when, slot_in}
 use Rattle.mps_model.specs.Image.{image_of}
 use Rattle.mps_model.specs.World.{Pool, World, is_leaf_kind, pool_at}
-use Rattle.mps_outcome.specs.State.{HeapState}
+use Rattle.mps_heap_spec.specs.State.{HeapState}
 use Rattle.mps_refinement.specs.StandsFor.{StandsFor}
 use Rattle.mps_refinement.specs.Storing.{AreRight, stores}
 

@@ -2,7 +2,7 @@
 use Rattle.std.specs.Prelude.{ℕ}
 use Rattle.mps_format.specs.Layout.{Layout, IsLawful}
 use Rattle.mps_model.specs.World.{empty_world_of}
-use Rattle.mps_outcome.specs.State.{HeapState}
+use Rattle.mps_heap_spec.specs.State.{HeapState}
 use Rattle.mps_refinement.specs.NewHeap.{arena_step}
 use Rattle.mps_refinement.specs.RightStep.{IsRightIn}
 

@@ -18,7 +18,7 @@ ghost use Rattle.mps_base.specs.Address.{max_grains};
 ghost use Rattle.mps_heap.specs.Right.{IsNewHeap};
 
 use mps_format::Format;
-use mps_state::State;
+use mps_heap_code::State;
 use std::alloc::{AllocError, Global};
 use std::marker::Model;
 
@@ -29,7 +29,7 @@ pub struct Heap<F: Format> {
 }
 
 impl<F: Format> Model for Heap<F> {
-    ghost use Rattle.mps_outcome.specs.State.{HeapState};
+    ghost use Rattle.mps_heap_spec.specs.State.{HeapState};
     ghost use Rattle.mps_refinement.specs.StandsForSome.{StandsForSome};
 
     ghost Value = { HeapState F };

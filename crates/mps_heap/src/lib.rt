@@ -5,4 +5,4 @@
 mod heap;
 
 pub use heap::Heap;
-pub use mps_outcome::Committed;
+pub use mps_heap_spec::Committed;

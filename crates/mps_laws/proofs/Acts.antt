@@ -15,11 +15,11 @@ use Rattle.mps_model.specs.Making.{is_weak_rank, may_have_point}
 use Rattle.mps_model.specs.Allocating.{body_with_word, graph_with_word}
 use Rattle.mps_model.specs.Reply.{act}
 use Rattle.mps_laws.proofs.Lookups.{map-slice_set, map-with_last, slice_set-same, length-slice_set, entry_is_there}
-use Rattle.mps_laws.proofs.Occupancy.{Occupancy, PointShape, shape_of, shape_of_point, reserved_words, occupancy_of}
-use Rattle.mps_laws.proofs.LaidOut.{IsLaidOut, IsRightPointShape}
-use Rattle.mps_laws.proofs.LegalMoves.{condemned_kept, cells_kept, shapes_written, length-with_target_cell}
-use Rattle.mps_laws.proofs.Making.{pool_laid_out, point_laid_out, dropped_laid_out}
-use Rattle.mps_laws.proofs.PoolKinds.{kind_of_pool}
+use Rattle.mps_laws.proofs.Positions.Occupancy.{Occupancy, PointShape, shape_of, shape_of_point, reserved_words, occupancy_of}
+use Rattle.mps_laws.proofs.Positions.LaidOut.{IsLaidOut, IsRightPointShape}
+use Rattle.mps_laws.proofs.Positions.LegalMoves.{condemned_kept, cells_kept, shapes_written, length-with_target_cell}
+use Rattle.mps_laws.proofs.Positions.Making.{pool_laid_out, point_laid_out, dropped_laid_out}
+use Rattle.mps_laws.proofs.Sound.PoolKinds.{kind_of_pool}
 use Rattle.mps_changes.proofs.ActChanges.{of_changes, but}
 pub use Rattle.mps_changes.specs.Change.{ForAct, accepted, refused, is_placing}
 pub use Rattle.mps_changes.proofs.Checks.{without_root, with_value, after_check, unless, for_world, required-is, named_by, point_named-is, pool_named-is}
@@ -44,11 +44,11 @@ change_laid_out limit g g' (a_point p m shut empty right e) laid =
 change_laid_out limit g g' (no_point n m empty e) laid = subst (IsLaidOut limit) (sym e) (dropped_laid_out limit g laid n m empty)
 
 pub change_blocks : (limit : ℕ) (g g' : Occupancy) → IsChange limit g g'
-    → Rattle.mps_laws.proofs.LegalMoves.blocks_of g' ≡ Rattle.mps_laws.proofs.LegalMoves.blocks_of g
-change_blocks limit g g' (nothing e) = ap Rattle.mps_laws.proofs.LegalMoves.blocks_of e
-change_blocks limit g g' (a_pool p e) = ap Rattle.mps_laws.proofs.LegalMoves.blocks_of e
-change_blocks limit g g' (a_point p m shut empty right e) = ap Rattle.mps_laws.proofs.LegalMoves.blocks_of e
-change_blocks limit g g' (no_point n m empty e) = ap Rattle.mps_laws.proofs.LegalMoves.blocks_of e
+    → Rattle.mps_laws.proofs.Positions.LegalMoves.blocks_of g' ≡ Rattle.mps_laws.proofs.Positions.LegalMoves.blocks_of g
+change_blocks limit g g' (nothing e) = ap Rattle.mps_laws.proofs.Positions.LegalMoves.blocks_of e
+change_blocks limit g g' (a_pool p e) = ap Rattle.mps_laws.proofs.Positions.LegalMoves.blocks_of e
+change_blocks limit g g' (a_point p m shut empty right e) = ap Rattle.mps_laws.proofs.Positions.LegalMoves.blocks_of e
+change_blocks limit g g' (no_point n m empty e) = ap Rattle.mps_laws.proofs.Positions.LegalMoves.blocks_of e
 
 module _ (limit : ℕ) (v : World) where
   abbrev pub Changes : World → Type 0
@@ -71,7 +71,7 @@ module _ (limit : ℕ) (v : World) where
   weak_kept (Automatic head cells is_weak) k value = refl
   weak_kept (Manual words) k value = refl
 
-  abbrev shape_with : (pool words : ℕ) → Bool → Rattle.mps_laws.proofs.Occupancy.Shape
+  abbrev shape_with : (pool words : ℕ) → Bool → Rattle.mps_laws.proofs.Positions.Occupancy.Shape
   shape_with pool words is_weak = record { pool = pool; words = words; is_weak = is_weak }
 
   pub word_kept : (id k value : ℕ) → map shape_of (graph_with_word v.graph id k value).objects ≡ map shape_of v.graph.objects

@@ -11,8 +11,8 @@ use Rattle.mps_model.specs.Graph.{with_last}
 use Rattle.mps_model.specs.World.{World, Dependency}
 use Rattle.mps_model.specs.Dependency.{with_added, merged}
 use Rattle.mps_laws.proofs.Entries.{slice_get-there}
-use Rattle.mps_laws.proofs.Zones.{union_meets}
-use Rattle.mps_laws.proofs.Places.{IsPutIn}
+use Rattle.mps_laws.proofs.Positions.Zones.{union_meets}
+use Rattle.mps_laws.proofs.Positions.Places.{IsPutIn}
 
 -- ---- flips since an epoch
 

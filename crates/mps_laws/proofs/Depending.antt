@@ -22,7 +22,7 @@ use Rattle.mps_laws.specs.Depending.{AddedBlocks, blocks_named, with_blocks, blo
 use Rattle.mps_laws.proofs.Lookups.{entry_within}
 use Rattle.mps_laws.proofs.LeftByActs.{owners}
 use Rattle.mps_laws.proofs.Reading.{held_is_live, slot_is_held, object_found}
-use Rattle.mps_laws.proofs.Places.{IsPutIn, settled_is_unmovable}
+use Rattle.mps_laws.proofs.Positions.Places.{IsPutIn, settled_is_unmovable}
 use Rattle.mps_laws.proofs.Staying.{IsClientSettled}
 use Rattle.mps_laws.proofs.AddedBlocks.{AreAccounts, IsAccountOf, accounts-last, accounts-set, accounts_carried, account_at, fresh_account, added_account, merged_account}
 use Rattle.mps_laws.proofs.Accounting.{AreAccounted}

@@ -12,8 +12,8 @@ use Rattle.mps_model.specs.World.{World, Pool, address_of, is_live_and, is_copyi
 use Rattle.mps_model.specs.Effect.{Condemnation, Everything, Generations, after_flip, collection_at_flip, condemnation_of, condemned_by, condemned_ids, is_condemned_by, lies_in_one, world_flipped}
 use Rattle.mps_model.specs.LegalMove.{IsLegalFlip}
 use Rattle.mps_laws.proofs.LeftByActs.{owners}
-use Rattle.mps_laws.proofs.Zones.{grain_meets, meets_first, meets_second}
-use Rattle.mps_laws.proofs.Places.{IsUnmovable, not_condemned, still}
+use Rattle.mps_laws.proofs.Positions.Zones.{grain_meets, meets_first, meets_second}
+use Rattle.mps_laws.proofs.Positions.Places.{IsUnmovable, not_condemned, still}
 use Rattle.mps_laws.proofs.AddedBlocks.{IsAccounted, Accounts, flipped_before, flipped_now}
 
 -- a segment of a pool that begins at a grain

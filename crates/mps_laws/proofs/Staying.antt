@@ -27,7 +27,7 @@ use Rattle.mps_laws.proofs.Lookups.{entry_within}
 use Rattle.mps_laws.proofs.LegalHistories.{IsAnswered, kept_by_steps, IsLegalFrom-first, supported_step}
 use Rattle.mps_laws.proofs.Held.{held_after, any_kind}
 use Rattle.mps_laws.proofs.Reading.{contains-append_left, held_is_live, slot_is_held, object_found}
-use Rattle.mps_laws.proofs.Places.{IsSettledIn, IsPutIn, settled_is_unmovable, step_put}
+use Rattle.mps_laws.proofs.Positions.Places.{IsSettledIn, IsPutIn, settled_is_unmovable, step_put}
 use Rattle.mps_laws.proofs.LeftByActs.{owners}
 
 -- ---- what the client holds is settled

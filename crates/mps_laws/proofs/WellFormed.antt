@@ -13,12 +13,12 @@ use Rattle.mps_model.specs.World.{World, PointMemory, extent, is_live, is_live_a
 use Rattle.mps_model.specs.Making.{is_weak_rank}
 use Rattle.mps_model.specs.WellFormed.{IsWellFormed, are_right_cells, is_home, is_right_at_hand, is_right_object, is_right_point, is_right_reservation, are_right_points, is_right_word, are_right_words, is_live_automatic}
 use Rattle.mps_laws.proofs.Lookups.{entry_is_there}
-use Rattle.mps_laws.proofs.Occupancy.{Occupancy, OfBlock, OfReservation, OfBuffer, PointShape, shape_of_point, reserved_words, occupancy_of, run_of, run_of_reservation, run_of_reserved, run_of_buffer, pool_of_occupant, rank_of_occupant}
-use Rattle.mps_laws.proofs.LaidOut.{Home}
-use Rattle.mps_laws.proofs.LegalMoves.{HasLayout}
-use Rattle.mps_laws.proofs.Reserving.{rank_where-weak}
-use Rattle.mps_laws.proofs.SoundGraph.{All, PassesOrNull, IsSoundGraph, auto, is_sound_word, is_sound_reservation, all-parts, all-at, entry-passes, each-all, all-both}
-use Rattle.mps_laws.proofs.WellPlaced.{segments_right, ascending_apart, apart_right, places_right, tails_right, home_is, at_hand_is}
+use Rattle.mps_laws.proofs.Positions.Occupancy.{Occupancy, OfBlock, OfReservation, OfBuffer, PointShape, shape_of_point, reserved_words, occupancy_of, run_of, run_of_reservation, run_of_reserved, run_of_buffer, pool_of_occupant, rank_of_occupant}
+use Rattle.mps_laws.proofs.Positions.LaidOut.{Home}
+use Rattle.mps_laws.proofs.Positions.LegalMoves.{HasLayout}
+use Rattle.mps_laws.proofs.Positions.Reserving.{rank_where-weak}
+use Rattle.mps_laws.proofs.Sound.SoundGraph.{All, PassesOrNull, IsSoundGraph, auto, is_sound_word, is_sound_reservation, all-parts, all-at, entry-passes, each-all, all-both}
+use Rattle.mps_laws.proofs.Positions.WellPlaced.{segments_right, ascending_apart, apart_right, places_right, tails_right, home_is, at_hand_is}
 
 -- what the client holds is live
 abbrev pub ClientIsLive : World → Type 0
@@ -149,7 +149,7 @@ module _ (w : World) (s : IsSoundGraph w) (live : ClientIsLive w) where
       let sound = s.words n words (ap (λ o. option_and_then (λ entry. entry) o) e) in
       let held = all-at (is_live w) holds_of w.graph.areas n (Some words) holds_live e in
       each-all (is_right_word w) words (λ k word f.
-      word_right word (Rattle.mps_laws.proofs.SoundGraph.each-at (is_sound_word w) words k word sound f)
+      word_right word (Rattle.mps_laws.proofs.Sound.SoundGraph.each-at (is_sound_word w) words k word sound f)
       (entry-passes (is_live w) (map held_by_word words) k (held_by_word word) held
       (slice_get-map held_by_word words k ∙ ap (option_map held_by_word) f)))
 
@@ -162,7 +162,7 @@ well_formed w laid s live = record {
       (Rattle.mps_model.specs.WellFormed.are_apart (map Rattle.mps_base.specs.Segment.grains_of_segment w.segments))
       (segments_right w w.segments 1 (omega arith) laid.ascending laid.aligned laid.ranked)
       (ascending_apart 1 (w.grains + 1) (map Rattle.mps_base.specs.Segment.grains_of_segment w.segments) laid.ascending);
-  addresses = laid.lengths ∙ length-map w.graph.objects Rattle.mps_laws.proofs.Occupancy.shape_of;
+  addresses = laid.lengths ∙ length-map w.graph.objects Rattle.mps_laws.proofs.Positions.Occupancy.shape_of;
   apart = apart_right (w.grains + 1) w laid;
   objects = each-all (is_right_object w) w.graph.objects (λ id o e. s.objects id o e);
   places = places_right (w.grains + 1) w laid;

@@ -14,13 +14,13 @@ use Rattle.mps_model.specs.Step.{Step, History}
 use Rattle.mps_model.specs.History.{IsLegalStep, IsLegalFrom, judged_world, moved_world, world_after, world_after_call, world_after_steps}
 use Rattle.mps_changes.specs.Change.{makes_arena}
 use Rattle.mps_laws.specs.WellFormed.{ReachedWorldsAreWellFormed}
-use Rattle.mps_laws.proofs.LegalMoves.{HasLayout}
+use Rattle.mps_laws.proofs.Positions.LegalMoves.{HasLayout}
 use Rattle.mps_laws.proofs.Acts.{for_world}
-use Rattle.mps_laws.proofs.FreeSteps.{BlocksAreLive}
-use Rattle.mps_laws.proofs.Replay.{limit_after, legal_step_replayed, live_after, empty_layout}
+use Rattle.mps_laws.proofs.Replays.FreeSteps.{BlocksAreLive}
+use Rattle.mps_laws.proofs.Replays.Replay.{limit_after, legal_step_replayed, live_after, empty_layout}
 use Rattle.mps_laws.proofs.SameArena.{IsSameArena, act_same, itself, moved_same}
-use Rattle.mps_laws.proofs.SoundGraph.{IsSoundGraph}
-use Rattle.mps_laws.proofs.SoundHistories.{SlotsAreLive, step_sound}
+use Rattle.mps_laws.proofs.Sound.SoundGraph.{IsSoundGraph}
+use Rattle.mps_laws.proofs.Sound.SoundHistories.{SlotsAreLive, step_sound}
 use Rattle.mps_laws.proofs.WellFormed.{ClientIsLive, well_formed}
 
 -- ---- grains after acts
@@ -85,7 +85,7 @@ steps_kept : (w : World) (h : History) → list_any (λ (later : Step). makes_ar
     → IsKeptWell (world_after_steps w h)
 steps_kept w [] none k legal = k
 steps_kept w (s ∷ ss) none k legal =
-    let parts = Rattle.mps_laws.proofs.Covered.or_false (makes_arena s.call)
+    let parts = Rattle.mps_laws.proofs.Positions.Covered.or_false (makes_arena s.call)
     (list_any (λ (later : Step). makes_arena later.call) ss) none in
     steps_kept (world_after w s) ss parts.1 (step_kept w s parts.0 k legal.0) legal.1
 

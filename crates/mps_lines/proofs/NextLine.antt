@@ -5,7 +5,7 @@ use Rattle.std.proofs.lemmas.List.Folds.{prefix_len-append}
 use Rattle.std.proofs.lemmas.List.Sums.{prefix_len-le-length}
 use Rattle.std.proofs.lemmas.Grind.{common_steps}
 use Rattle.std.specs.Option.{option_map}
-use Rattle.mps_words.specs.Lines.{is_line_feed}
+use Rattle.mps_line_words.specs.Lines.{is_line_feed}
 use Rattle.mps_lines.specs.Buffer.{LineBuffer, TakesIn, HeldGives, IsLast, KeepsUnread, ComesNextOf, rest_of_script, length_of_line}
 use Rattle.mps_lines.specs.declared.next.Next.{Next}
 use Rattle.mps_lines.specs.declared.next.Next.TheVariants.{Line, TooLong, End}

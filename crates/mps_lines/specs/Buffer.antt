@@ -2,7 +2,7 @@
 use Rattle.std.specs.Prelude.{ℕ, ◌≡◌, ◌+◌, ◌-◌, ◌<◌, ◌≤◌, zero, suc, Option, Some, None, List, [], ◌∷◌, ◌++◌, length, take, drop, refl}
 use Rattle.std.specs.List.{position_or_len}
 use Rattle.std.specs.Option.{option_map}
-use Rattle.mps_words.specs.Lines.{is_line_feed, max_line_bytes}
+use Rattle.mps_line_words.specs.Lines.{is_line_feed, max_line_bytes}
 use Rattle.mps_lines.specs.declared.next.Next.{Next}
 use Rattle.mps_lines.specs.declared.next.Next.TheVariants.{Line, TooLong, End}
 

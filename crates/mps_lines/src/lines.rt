@@ -6,7 +6,7 @@ ghost use Rattle.mps_lines.specs.Buffer.{nothing_read, length_of_line, rest_of_s
 use crate::next::Next;
 use memchr::memchr;
 use mps_desk::{Desk, Failed};
-use mps_words::MAX_LINE_BYTES;
+use mps_line_words::MAX_LINE_BYTES;
 use std::alloc::{AllocError, Global};
 use std::marker::Model;
 

@@ -10,8 +10,8 @@ use Rattle.mps_buffer.specs.declared.point.Point.{Point}
 use Rattle.mps_buffer.specs.Points.{PointsState, point_at}
 use Rattle.mps_seg.specs.Buffer.{run_of}
 use Rattle.mps_format.specs.Layout.{Layout, IsLawful}
-use Rattle.mps_image.specs.AtRest.{StandsAtRest}
-use Rattle.mps_image.specs.Memory.{words_of_arena}
+use Rattle.mps_trace_laws.specs.Image.AtRest.{StandsAtRest}
+use Rattle.mps_trace_laws.specs.Image.Memory.{words_of_arena}
 use Rattle.mps_laws.specs.Replay.{reached}
 use Rattle.mps_laws.specs.WellFormed.{is_arena_made_once}
 use Rattle.mps_laws.proofs.Naming.{AreTakenOnce}
@@ -29,10 +29,10 @@ use Rattle.mps_names.specs.declared.names.Thing.{Thing}
 use Rattle.mps_names.specs.declared.names.Thing.TheVariants as thing
 use Rattle.mps_root.specs.State.{kept}
 use Rattle.mps_root.specs.declared.roots.Stored.{Stored}
-use Rattle.mps_outcome.specs.State.{HeapState}
+use Rattle.mps_heap_spec.specs.State.{HeapState}
 use Rattle.mps_format.specs.Pools.{size_of_pool}
-use Rattle.mps_outcome.specs.declared.arena.ArenaState.{ArenaState}
-use Rattle.mps_outcome.specs.declared.arena.ArenaState.TheVariants as arena
+use Rattle.mps_heap_spec.specs.declared.arena.ArenaState.{ArenaState}
+use Rattle.mps_heap_spec.specs.declared.arena.ArenaState.TheVariants as arena
 use Rattle.mps_format.specs.declared.pool.Pool.{Pool}
 use Rattle.mps_format.specs.declared.pool.Pool.TheVariants as pool
 use Rattle.mps_refinement.specs.Numbering.{AreNumbered, AreOrdered}

@@ -4,7 +4,7 @@ use Rattle.std.specs.Prelude.{option_map}
 use Rattle.std.proofs.lemmas.Grind.{common_steps}
 use Rattle.std.proofs.lemmas.Bool.Decides.{nat_tests}
 use Rattle.std.proofs.lemmas.List.{take_more_set, drop-set-lt, drop-drop, drop-replicate, append-nil, append_assoc, take-append-drop}
-use Rattle.mps_words.specs.Reading.{both, each}
+use Rattle.mps_line_words.specs.Reading.{both, each}
 use Rattle.mps_script.specs.Form.{grains_from, capacities, padded}
 
 -- what the readings of a word and of the words after it give

@@ -2,9 +2,9 @@
 use Rattle.std.proofs.Common.{◌≡◌, ℕ, ◌==◌, nat_lt, Bool, true, false, Option, None, Ok, List, [], ◌∷◌, length, refl, sym, ap, ◌∙◌, arith}
 use Rattle.std.proofs.lemmas.Bool.Decides.{nat_tests}
 use Rattle.mps_model.specs.declared.call.Call.{Call}
-use Rattle.mps_words.specs.Lines.{max_line_bytes}
-use Rattle.mps_words.specs.Word.{words, is_space, word_at, after_spaces, after_word}
-use Rattle.mps_words.proofs.FirstWord.{first_word, no_words_from, some_words_from, no_word, word_more}
+use Rattle.mps_line_words.specs.Lines.{max_line_bytes}
+use Rattle.mps_line_words.specs.Word.{words, is_space, word_at, after_spaces, after_word}
+use Rattle.mps_line_words.proofs.FirstWord.{first_word, no_words_from, some_words_from, no_word, word_more}
 use Rattle.mps_script.specs.Form.{command_call}
 use Rattle.mps_script.specs.Line.{begins_comment, call_of_line, call_of_words, or_bad}
 

@@ -2,7 +2,7 @@
 -- form, and make a call of them.
 use Rattle.std.specs.Prelude.{ℕ, Option, Some, None, option_map, List, [], ◌∷◌}
 use Rattle.mps_model.specs.declared.call.Call.{Call}
-use Rattle.mps_words.specs.Reading.{first_of_two, single, pair, onto}
+use Rattle.mps_line_words.specs.Reading.{first_of_two, single, pair, onto}
 
 abbrev pub none : Call → List (List ℕ) → Option Call
 none call [] = Some call

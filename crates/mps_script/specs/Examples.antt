@@ -8,7 +8,7 @@ use Rattle.mps_base.specs.declared.names.Slot.{Slot}
 use Rattle.mps_base.specs.declared.names.Rank.TheVariants.{Exact, Weak}
 use Rattle.mps_model.specs.declared.call.Call.{Call}
 use Rattle.mps_model.specs.declared.call.Call.TheVariants as call
-use Rattle.mps_words.specs.Word.{words}
+use Rattle.mps_line_words.specs.Word.{words}
 use Rattle.mps_script.specs.Form.{command_call}
 
 -- the call of a line's words, if they are in the form of a command

@@ -11,10 +11,10 @@ use Rattle.mps_base.specs.declared.names.Rank.TheVariants as rank
 use Rattle.mps_model.specs.declared.call.Call.{Call}
 use Rattle.mps_model.specs.declared.call.Call.TheVariants as call
 use Rattle.mps_numerals.specs.Decimal.{decimal_number}
-use Rattle.mps_words.specs.Reading.{named_in, onto, each}
-use Rattle.mps_words.specs.Number.{number_of, number_within, prefixed_hexadecimal}
-use Rattle.mps_words.specs.Name.{name_of, slot_of}
-use Rattle.mps_words.specs.Head.{head_of}
+use Rattle.mps_line_words.specs.Reading.{named_in, onto, each}
+use Rattle.mps_line_words.specs.Number.{number_of, number_within, prefixed_hexadecimal}
+use Rattle.mps_line_words.specs.Name.{name_of, slot_of}
+use Rattle.mps_line_words.specs.Head.{head_of}
 use Rattle.mps_script.specs.Calls.{none, one, two, three, four, or}
 
 -- ---- words of few values

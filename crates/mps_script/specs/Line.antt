@@ -3,8 +3,8 @@ use Rattle.std.specs.Prelude.{ℕ, ◌≡◌, ◌==◌, nat_lt, Bool, false, if�
 use Rattle.std.specs.List.{slice_split}
 use Rattle.mps_model.specs.declared.call.Call.{Call}
 use Rattle.mps_script.specs.declared.line.BadLine.{BadLine}
-use Rattle.mps_words.specs.Lines.{is_line_feed, max_line_bytes}
-use Rattle.mps_words.specs.Word.{words}
+use Rattle.mps_line_words.specs.Lines.{is_line_feed, max_line_bytes}
+use Rattle.mps_line_words.specs.Word.{words}
 use Rattle.mps_script.specs.Form.{command_call}
 
 -- without the last part if that is empty

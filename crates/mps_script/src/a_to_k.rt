@@ -2,10 +2,10 @@
 ghost use Rattle.std.specs.Prelude.{◌≡◌};
 ghost use Rattle.mps_model.specs.declared.call.Call.TheVariants as call;
 ghost use Rattle.mps_numerals.specs.Decimal.{decimal_number};
-ghost use Rattle.mps_words.specs.Word.{words, word_at, after_word};
-ghost use Rattle.mps_words.specs.Number.{prefixed_hexadecimal};
-ghost use Rattle.mps_words.specs.Name.{name_of, slot_of};
-ghost use Rattle.mps_words.specs.Reading.{named_in};
+ghost use Rattle.mps_line_words.specs.Word.{words, word_at, after_word};
+ghost use Rattle.mps_line_words.specs.Number.{prefixed_hexadecimal};
+ghost use Rattle.mps_line_words.specs.Name.{name_of, slot_of};
+ghost use Rattle.mps_line_words.specs.Reading.{named_in};
 ghost use Rattle.mps_script.specs.Calls.{none, one, two, three};
 ghost use Rattle.mps_script.specs.Filled.{filled};
 ghost use Rattle.mps_script.specs.Form.{call_in, grains_from, length_of_root, ranks, a_to_b_forms, c_forms, d_to_f_forms, g_to_k_forms};
@@ -15,7 +15,7 @@ use crate::grains::grains_limit;
 use crate::roots::{name_length, name_name_rank};
 use crate::several::{alone, hexadecimal, init};
 use mps_model::Call;
-use mps_words::{
+use mps_line_words::{
     name, name_decimal_slot, name_slot, slot, slot_slot, slot_slot_decimal, strip_word,
 };
 

@@ -1,12 +1,12 @@
 // The form of the command that makes a chain.
 ghost use Rattle.std.specs.Prelude.{◌≡◌, length, option_map};
 ghost use Rattle.mps_script.specs.Filled.{filled};
-ghost use Rattle.mps_words.specs.Word.{words};
+ghost use Rattle.mps_line_words.specs.Word.{words};
 ghost use Rattle.mps_script.specs.Form.{chain, capacities, padded};
 
 use crate::grains::MAX_GRAINS;
 use mps_model::Call;
-use mps_words::{name_of, next_word, number_within};
+use mps_line_words::{name_of, next_word, number_within};
 
 /// The most generations of a chain.
 const MAX_GENERATIONS: usize = 8;

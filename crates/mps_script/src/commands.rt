@@ -1,7 +1,7 @@
 // The call of a command.
 ghost use Rattle.std.specs.Prelude.{◌≡◌};
 ghost use Rattle.mps_script.specs.Filled.{filled};
-ghost use Rattle.mps_words.specs.Word.{words, word_at, after_word};
+ghost use Rattle.mps_line_words.specs.Word.{words, word_at, after_word};
 ghost use Rattle.mps_script.specs.Form.{command_call};
 
 use crate::a_to_k::{call_of_a_to_b, call_of_c, call_of_d_to_f, call_of_g_to_k};

@@ -1,10 +1,10 @@
 // What follows the command words that have a number of grains.
 ghost use Rattle.std.specs.Prelude.{◌≡◌};
-ghost use Rattle.mps_words.specs.Word.{words};
-ghost use Rattle.mps_words.specs.Reading.{single, pair};
+ghost use Rattle.mps_line_words.specs.Word.{words};
+ghost use Rattle.mps_line_words.specs.Reading.{single, pair};
 ghost use Rattle.mps_script.specs.Form.{grains_from};
 
-use mps_words::{next_word, number_within, only_word};
+use mps_line_words::{next_word, number_within, only_word};
 
 /// The most grains of an arena.
 pub const MAX_GRAINS: u64 = 2_048;

@@ -2,10 +2,10 @@
 ghost use Rattle.std.specs.Prelude.{◌≡◌};
 ghost use Rattle.mps_model.specs.declared.call.Call.TheVariants as call;
 ghost use Rattle.mps_numerals.specs.Decimal.{decimal_number};
-ghost use Rattle.mps_words.specs.Word.{words, word_at, after_word};
-ghost use Rattle.mps_words.specs.Number.{number_of};
-ghost use Rattle.mps_words.specs.Name.{name_of, slot_of};
-ghost use Rattle.mps_words.specs.Head.{head_of};
+ghost use Rattle.mps_line_words.specs.Word.{words, word_at, after_word};
+ghost use Rattle.mps_line_words.specs.Number.{number_of};
+ghost use Rattle.mps_line_words.specs.Name.{name_of, slot_of};
+ghost use Rattle.mps_line_words.specs.Head.{head_of};
 ghost use Rattle.mps_script.specs.Calls.{none, one, two, three};
 ghost use Rattle.mps_script.specs.Filled.{filled};
 ghost use Rattle.mps_script.specs.Form.{call_in, grains_from, length_of_root, l_forms, m_to_o_forms, p_to_r_forms, s_to_z_forms};
@@ -15,7 +15,7 @@ use crate::pools::pool;
 use crate::roots::name_length;
 use crate::several::{alone, name_head, start};
 use mps_model::Call;
-use mps_words::{
+use mps_line_words::{
     decimal, name, name_name, name_slot, slot, slot_decimal, slot_decimal_slot, slot_decimal_value,
     slot_slot, slot_value, strip_word,
 };

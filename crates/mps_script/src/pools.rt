@@ -1,15 +1,15 @@
 // The forms of the command that makes a pool.
 ghost use Rattle.std.specs.Prelude.{◌≡◌};
 ghost use Rattle.mps_script.specs.Filled.{filled};
-ghost use Rattle.mps_words.specs.Word.{words};
-ghost use Rattle.mps_words.specs.Name.{name_of as name_in};
-ghost use Rattle.mps_words.specs.Reading.{named_in, pair};
+ghost use Rattle.mps_line_words.specs.Word.{words};
+ghost use Rattle.mps_line_words.specs.Name.{name_of as name_in};
+ghost use Rattle.mps_line_words.specs.Reading.{named_in, pair};
 ghost use Rattle.mps_script.specs.Form.{kinds, kinds_on_chains, formats, automatic_pool, pool_on_chain, pool_mfs, pool_mvff, pool};
 
 use mps_base::{Kind, Name};
 use mps_model::Call;
 use mps_numerals::decimal_number;
-use mps_words::{is_word, name, name_of, next_word, only_word};
+use mps_line_words::{is_word, name, name_of, next_word, only_word};
 
 /// A kind of automatic pool.
 fn kind_of(word: &[u8]) -> Option<Kind>

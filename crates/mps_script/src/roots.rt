@@ -1,12 +1,12 @@
 // What follows the command words of roots and allocation points.
 ghost use Rattle.std.specs.Prelude.{◌≡◌};
-ghost use Rattle.mps_words.specs.Word.{words};
-ghost use Rattle.mps_words.specs.Name.{name_of as name_in};
-ghost use Rattle.mps_words.specs.Reading.{named_in, pair, onto};
+ghost use Rattle.mps_line_words.specs.Word.{words};
+ghost use Rattle.mps_line_words.specs.Name.{name_of as name_in};
+ghost use Rattle.mps_line_words.specs.Reading.{named_in, pair, onto};
 ghost use Rattle.mps_script.specs.Form.{ranks, length_of_root};
 
 use mps_base::{Name, Rank};
-use mps_words::{is_word, name_of, next_word, number_within, only_word};
+use mps_line_words::{is_word, name_of, next_word, number_within, only_word};
 
 /// The most slots of a table, words of an area and places of a table of blocks.
 const MAX_SLOTS: u64 = 65_536;

@@ -1,18 +1,18 @@
 // Words of one command alone, and the commands that have several forms.
 ghost use Rattle.std.specs.Prelude.{◌≡◌};
 ghost use Rattle.mps_script.specs.Filled.{filled};
-ghost use Rattle.mps_words.specs.Word.{words};
-ghost use Rattle.mps_words.specs.Name.{name_of as name_in};
-ghost use Rattle.mps_words.specs.Number.{prefixed_hexadecimal as hexadecimal_of};
-ghost use Rattle.mps_words.specs.Head.{head_of as head_in};
-ghost use Rattle.mps_words.specs.Reading.{single, pair};
+ghost use Rattle.mps_line_words.specs.Word.{words};
+ghost use Rattle.mps_line_words.specs.Name.{name_of as name_in};
+ghost use Rattle.mps_line_words.specs.Number.{prefixed_hexadecimal as hexadecimal_of};
+ghost use Rattle.mps_line_words.specs.Head.{head_of as head_in};
+ghost use Rattle.mps_line_words.specs.Reading.{single, pair};
 ghost use Rattle.mps_model.specs.declared.call.Call.{Call};
 ghost use Rattle.mps_script.specs.Calls.{none};
 ghost use Rattle.mps_script.specs.Form.{init, start};
 
 use mps_model::Call;
 use mps_numerals::decimal_number;
-use mps_words::{
+use mps_line_words::{
     WrittenName, is_blank, name_decimal, name_of, next_name, next_word, only_head, only_word,
     prefixed_hexadecimal, slot, value,
 };

@@ -9,13 +9,13 @@ use Rattle.mps_commands.specs.RightAnswer.{HasFewFlips}
 use Rattle.mps_format.specs.Layout.{Layout}
 use Rattle.mps_model.specs.World as world
 use Rattle.mps_model.specs.World.{World}
-use Rattle.mps_outcome.specs.Collecting.{can_collect, is_empty, most_flips}
+use Rattle.mps_heap_spec.specs.Collecting.{can_collect, is_empty, most_flips}
 use Rattle.mps_format.specs.Pools.{is_moved_or_manual}
-use Rattle.mps_outcome.specs.State.{HeapState}
+use Rattle.mps_heap_spec.specs.State.{HeapState}
 use Rattle.mps_format.specs.declared.pool.Pool.{Pool}
 use Rattle.mps_format.specs.declared.pool.Pool.TheVariants as pool
 use Rattle.mps_refinement.specs.StandsFor.{StandsFor, address_of_id}
-use Rattle.mps_refinement.proofs.PoolKinds.{kind_of, kinds_alike}
+use Rattle.mps_refinement.proofs.Lookups.PoolKinds.{kind_of, kinds_alike}
 use Rattle.mps_session.specs.Built.{can_collect_world, is_moved_or_manual_kind}
 
 -- two lists of one length, each entry of which passes its test where the other does

@@ -13,7 +13,7 @@ use Rattle.mps_model.specs.History.{world_after}
 use Rattle.mps_model.specs.World.{empty_world}
 use Rattle.mps_model.specs.declared.call.Call.{Call}
 use Rattle.mps_model.specs.declared.reply.Reply.{Reply}
-use Rattle.mps_outcome.specs.State.{HeapState}
+use Rattle.mps_heap_spec.specs.State.{HeapState}
 use Rattle.mps_refinement.specs.NewHeap.{arena_step}
 use Rattle.mps_refinement.specs.RightMoving.{KeepsRoom}
 use Rattle.mps_trace.specs.Collect.{most_moves}

@@ -23,8 +23,8 @@ use Rattle.mps_model.specs.declared.call.Call.{Call}
 use Rattle.mps_model.specs.declared.call.Call.TheVariants as call
 use Rattle.mps_model.specs.declared.reply.Reply.{Reply}
 use Rattle.mps_model.specs.declared.reply.Reply.TheVariants as reply
-use Rattle.mps_outcome.specs.Collecting.{can_collect}
-use Rattle.mps_outcome.specs.State.{HeapState}
+use Rattle.mps_heap_spec.specs.Collecting.{can_collect}
+use Rattle.mps_heap_spec.specs.State.{HeapState}
 use Rattle.mps_session.specs.Built.{can_collect_world, is_answered, is_built, is_unsupported_call}
 use Rattle.mps_session.specs.Session.{MadeState, last_moves, arena_words}
 use Rattle.mps_session.specs.Standing.{AnswersRightly, Answered, BeginsRightly, Begun, HeapStands, NotBegun, NotSupported, SessionStands}

@@ -1,7 +1,7 @@
 // Answers the calls on the heap of an arena.
 ghost use Rattle.std.specs.Prelude.{◌≡◌, ◌≤◌, OnErr, OnOk, IsTrue, false, []};
 ghost use Rattle.mps_commands.specs.Range.{IsInRange};
-ghost use Rattle.mps_outcome.specs.Collecting.{can_collect};
+ghost use Rattle.mps_heap_spec.specs.Collecting.{can_collect};
 ghost use Rattle.mps_refinement.specs.RightMoving.{KeepsRoom};
 ghost use Rattle.mps_session.specs.Built.{is_answered, call_takes_memory};
 ghost use Rattle.mps_session.specs.Groups.{is_frequent};

@@ -1,6 +1,8 @@
-pub mod Tracing
-pub mod Fixing
-pub mod Steps
-pub mod Cells
-pub mod Scanning
-pub mod Housed
+pub mod Begin
+pub mod Flip
+pub mod Image
+pub mod Nails
+pub mod Reclaim
+pub mod Roots
+pub mod Fix
+pub mod Units

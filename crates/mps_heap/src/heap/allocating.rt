@@ -10,7 +10,7 @@ ghost use Rattle.mps_refinement.specs.RightMoving.{IsRightMoving, KeepsRoom};
 use super::Heap;
 use mps_base::{Name, Refusal, Slot, Trail};
 use mps_format::Format;
-use mps_outcome::Committed;
+use mps_heap_spec::Committed;
 
 impl<F: Format> Heap<F> {
     /// Reserves a block with this head at a point. Its numbers are 0 and its references null. Refuses `BadHead` if the pool takes no

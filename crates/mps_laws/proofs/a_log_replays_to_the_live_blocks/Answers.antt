@@ -1,4 +1,4 @@
-use Rattle.mps_laws.proofs.Replay.{log_replays, step_replays}
+use Rattle.mps_laws.proofs.Replays.Replay.{log_replays, step_replays}
 use Rattle.mps_laws.proofs.a_log_replays_to_the_live_blocks.Goals as goal
 
 pub returns : goal.returns

@@ -1,4 +1,4 @@
-use Rattle.mps_laws.proofs.OneHistory.{told_from}
+use Rattle.mps_laws.proofs.Replays.OneHistory.{told_from}
 use Rattle.mps_laws.proofs.a_log_tells_one_history.Goals as goal
 
 pub returns : goal.returns

@@ -1,4 +1,4 @@
-use Rattle.mps_trace_laws.proofs.Scanned.{scan_is_a_scan}
+use Rattle.mps_trace_laws.proofs.Fix.Scanned.{scan_is_a_scan}
 use Rattle.mps_trace_laws.proofs.a_scan_is_a_scan.Goals as goal
 
 pub returns : goal.returns

@@ -3,7 +3,7 @@ use Rattle.mps_numerals.specs.Hexadecimal.{hexadecimal}
 use Rattle.mps_numerals.specs.Reading.{number_in}
 use Rattle.mps_numerals.proofs.Decimals.{written_is_read}
 use Rattle.mps_numerals.proofs.Hexadecimals.{complete_reading}
-use Rattle.mps_words.proofs.Heads.{head_text_read}
+use Rattle.mps_line_words.proofs.Heads.{head_text_read}
 use Rattle.mps_answers.proofs.laws.answers_are_read_back.Goals as goal
 
 pub returns-clause-number : goal.returns-clause-number

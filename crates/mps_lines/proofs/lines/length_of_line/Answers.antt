@@ -1,5 +1,5 @@
 use Rattle.std.proofs.Common.{◌∙◌}
-use Rattle.mps_words.specs.Lines.{is_line_feed}
+use Rattle.mps_line_words.specs.Lines.{is_line_feed}
 use Rattle.mps_lines.proofs.Searches.{before_first}
 use Rattle.mps_lines.proofs.lines.length_of_line.Goals as goal
 

@@ -1,5 +1,5 @@
 use Rattle.std.proofs.Common.{◌≡◌, ℕ, List, [], ◌∷◌, subst, sym, ◌∙◌, arith}
-use Rattle.mps_words.specs.Word.{words}
+use Rattle.mps_line_words.specs.Word.{words}
 use Rattle.mps_script.proofs.Capacities.{AreRead, one_more_read, too_many, no_capacity, no_words_read, all_read}
 use Rattle.mps_script.proofs.chain.capacities.Goals as goal
 

@@ -1,4 +1,4 @@
-use Rattle.mps_words.specs.Word.{words}
+use Rattle.mps_line_words.specs.Word.{words}
 use Rattle.mps_script.proofs.Capacities.{AreRead}
 use Rattle.mps_script.proofs.chain.capacities.Given as goal
 

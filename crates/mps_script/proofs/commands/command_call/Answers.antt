@@ -1,5 +1,5 @@
 use Rattle.std.proofs.Common.{inl, inr, arith}
-use Rattle.mps_words.specs.Word.{words, after_word}
+use Rattle.mps_line_words.specs.Word.{words, after_word}
 use Rattle.mps_script.proofs.FirstLetters.{call_by_letter, no_command}
 use Rattle.mps_script.proofs.commands.command_call.Goals as goal
 

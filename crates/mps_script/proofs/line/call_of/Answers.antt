@@ -1,7 +1,7 @@
 use Rattle.std.proofs.Common.{◌≡◌, ◌==◌, ◌∙◌, nat_lt, List, ℕ, false, length, ap, sym, arith}
 use Rattle.std.proofs.lemmas.Bool.Decides.{nat_tests}
-use Rattle.mps_words.specs.Lines.{max_line_bytes}
-use Rattle.mps_words.specs.Word.{words, word_at, after_word}
+use Rattle.mps_line_words.specs.Lines.{max_line_bytes}
+use Rattle.mps_line_words.specs.Word.{words, word_at, after_word}
 use Rattle.mps_script.specs.Form.{command_call}
 use Rattle.mps_script.specs.Filled.{filled}
 use Rattle.mps_script.specs.Line.{begins_comment, or_bad}

@@ -3,7 +3,7 @@ use Rattle.mps_model.specs.declared.call.Call.TheVariants as call
 use Rattle.mps_refinement.specs.Answering.{answer_to}
 use Rattle.mps_heap.specs.Answers.{says_address}
 use Rattle.mps_refinement.specs.RightStep.{IsRight}
-use Rattle.mps_refinement.proofs.Objects.{address_right}
+use Rattle.mps_refinement.proofs.Calls.Objects.{address_right}
 use Rattle.mps_heap.proofs.heap.Heap.addr.Goals as goal
 
 pub returns : goal.returns

@@ -1,11 +1,11 @@
 use Rattle.std.proofs.Common.{subst}
 use Rattle.mps_model.specs.declared.call.Call.TheVariants as call
-use Rattle.mps_outcome.specs.Manual.{block_allocated}
+use Rattle.mps_heap_spec.specs.Manual.{block_allocated}
 use Rattle.mps_refinement.specs.Answering.{answer_to, says_ok}
 use Rattle.mps_refinement.specs.RightMoving.{IsRightMoving}
-use Rattle.mps_refinement.proofs.Appending.{alloc_is_right_after}
-use Rattle.mps_refinement.proofs.Room.{keeps_room, alloc_keeps_room}
-use Rattle.mps_refinement.proofs.Staying.{stays}
+use Rattle.mps_refinement.proofs.Worlds.Appending.{alloc_is_right_after}
+use Rattle.mps_refinement.proofs.Worlds.Room.{keeps_room, alloc_keeps_room}
+use Rattle.mps_refinement.proofs.Worlds.Staying.{stays}
 use Rattle.mps_heap.proofs.heap.Heap.alloc.Goals as goal
 
 pub invariant_of-self : goal.invariant_of-self

@@ -1,11 +1,11 @@
 use Rattle.std.proofs.Common.{subst}
 use Rattle.mps_model.specs.declared.call.Call.TheVariants as call
-use Rattle.mps_outcome.specs.Allocating.{committed}
+use Rattle.mps_heap_spec.specs.Allocating.{committed}
 use Rattle.mps_refinement.specs.Answering.{answer_to, says_committed}
 use Rattle.mps_refinement.specs.RightMoving.{IsRightMoving}
-use Rattle.mps_refinement.proofs.Appending.{commit_is_right_after}
-use Rattle.mps_refinement.proofs.Room.{keeps_room, commit_keeps_room}
-use Rattle.mps_refinement.proofs.Staying.{is_ready, stays}
+use Rattle.mps_refinement.proofs.Worlds.Appending.{commit_is_right_after}
+use Rattle.mps_refinement.proofs.Worlds.Room.{keeps_room, commit_keeps_room}
+use Rattle.mps_refinement.proofs.Worlds.Staying.{is_ready, stays}
 use Rattle.mps_heap.proofs.heap.Heap.commit.Goals as goal
 
 pub commit-requires : goal.commit-requires

@@ -2,7 +2,7 @@ use Rattle.std.proofs.Common.{subst, []}
 use Rattle.mps_model.specs.declared.call.Call.TheVariants as call
 use Rattle.mps_refinement.specs.Answering.{says_number}
 use Rattle.mps_refinement.specs.RightStep.{IsRight}
-use Rattle.mps_refinement.proofs.ArenaCalls.{committed_is_right}
+use Rattle.mps_refinement.proofs.Calls.ArenaCalls.{committed_is_right}
 use Rattle.mps_heap.proofs.heap.Heap.committed.Goals as goal
 
 pub returns : goal.returns

@@ -1,4 +1,4 @@
-use Rattle.mps_refinement.proofs.Staying.{are_reserved}
+use Rattle.mps_refinement.proofs.Worlds.Staying.{are_reserved}
 use Rattle.mps_heap.proofs.heap.Heap.finish.Goals as goal
 
 pub finish-requires : goal.finish-requires

@@ -2,8 +2,8 @@ use Rattle.std.proofs.Common.{subst, []}
 use Rattle.mps_model.specs.declared.call.Call.TheVariants as call
 use Rattle.mps_refinement.specs.Answering.{answer_to, says_ok}
 use Rattle.mps_refinement.specs.RightStep.{IsRight}
-use Rattle.mps_refinement.proofs.Dependencies.{dependency_merge_is_right}
-use Rattle.mps_refinement.proofs.Staying.{stays}
+use Rattle.mps_refinement.proofs.Calls.Dependencies.{dependency_merge_is_right}
+use Rattle.mps_refinement.proofs.Worlds.Staying.{stays}
 use Rattle.mps_heap.proofs.heap.Heap.ld_merge.Goals as goal
 
 pub invariant_of-self : goal.invariant_of-self

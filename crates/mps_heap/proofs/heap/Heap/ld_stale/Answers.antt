@@ -2,7 +2,7 @@ use Rattle.std.proofs.Common.{subst, []}
 use Rattle.mps_model.specs.declared.call.Call.TheVariants as call
 use Rattle.mps_refinement.specs.Answering.{answer_to, says_bool}
 use Rattle.mps_refinement.specs.RightStep.{IsRight}
-use Rattle.mps_refinement.proofs.Dependencies.{dependency_stale_is_right}
+use Rattle.mps_refinement.proofs.Calls.Dependencies.{dependency_stale_is_right}
 use Rattle.mps_heap.proofs.heap.Heap.ld_stale.Goals as goal
 
 pub returns : goal.returns

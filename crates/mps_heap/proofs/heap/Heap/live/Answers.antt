@@ -2,7 +2,7 @@ use Rattle.std.proofs.Common.{subst, []}
 use Rattle.mps_model.specs.declared.call.Call.TheVariants as call
 use Rattle.mps_refinement.specs.Answering.{says_pair}
 use Rattle.mps_refinement.specs.RightStep.{IsRight}
-use Rattle.mps_refinement.proofs.LiveBlocks.{live_is_right}
+use Rattle.mps_refinement.proofs.Calls.LiveBlocks.{live_is_right}
 use Rattle.mps_heap.proofs.heap.Heap.live.Goals as goal
 
 pub returns : goal.returns

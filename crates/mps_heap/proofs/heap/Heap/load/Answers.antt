@@ -2,7 +2,7 @@ use Rattle.std.proofs.Common.{subst, []}
 use Rattle.mps_model.specs.declared.call.Call.TheVariants as call
 use Rattle.mps_refinement.specs.Answering.{answer_to, says_number}
 use Rattle.mps_refinement.specs.RightStep.{IsRight}
-use Rattle.mps_refinement.proofs.BlockWords.{load_is_right}
+use Rattle.mps_refinement.proofs.Lookups.BlockWords.{load_is_right}
 use Rattle.mps_heap.proofs.heap.Heap.load.Goals as goal
 
 pub returns : goal.returns

@@ -1,4 +1,4 @@
-use Rattle.mps_refinement.proofs.Staying.{new_stays}
+use Rattle.mps_refinement.proofs.Worlds.Staying.{new_stays}
 use Rattle.mps_heap.proofs.NewHeaps.{is_new_heap}
 use Rattle.mps_heap.proofs.heap.Heap.new.Goals as goal
 

@@ -2,7 +2,7 @@ use Rattle.std.proofs.Common.{subst, []}
 use Rattle.mps_model.specs.declared.call.Call.TheVariants as call
 use Rattle.mps_refinement.specs.Answering.{answer_to, says_word}
 use Rattle.mps_refinement.specs.RightStep.{IsRight}
-use Rattle.mps_refinement.proofs.Areas.{peeked_right}
+use Rattle.mps_refinement.proofs.Calls.Areas.{peeked_right}
 use Rattle.mps_heap.proofs.heap.Heap.peek.Goals as goal
 
 pub returns : goal.returns

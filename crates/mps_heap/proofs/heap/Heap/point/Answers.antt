@@ -1,8 +1,8 @@
 use Rattle.std.proofs.Common.{subst}
 use Rattle.mps_model.specs.declared.call.Call.TheVariants as call
 use Rattle.mps_refinement.specs.Making.{IsRightMaking}
-use Rattle.mps_refinement.proofs.MakingPoints.{point_is_right}
-use Rattle.mps_refinement.proofs.Staying.{making_stays}
+use Rattle.mps_refinement.proofs.Calls.MakingPoints.{point_is_right}
+use Rattle.mps_refinement.proofs.Worlds.Staying.{making_stays}
 use Rattle.mps_heap.proofs.Results.{making_without_key}
 use Rattle.mps_heap.proofs.heap.Heap.point.Goals as goal
 

@@ -2,8 +2,8 @@ use Rattle.std.proofs.Common.{subst, []}
 use Rattle.mps_model.specs.declared.call.Call.TheVariants as call
 use Rattle.mps_refinement.specs.Answering.{answer_to, says_block}
 use Rattle.mps_refinement.specs.RightStep.{IsRight}
-use Rattle.mps_refinement.proofs.Areas.{poked_right}
-use Rattle.mps_refinement.proofs.Staying.{stays}
+use Rattle.mps_refinement.proofs.Calls.Areas.{poked_right}
+use Rattle.mps_refinement.proofs.Worlds.Staying.{stays}
 use Rattle.mps_heap.proofs.heap.Heap.poke.Goals as goal
 
 pub invariant_of-self : goal.invariant_of-self

@@ -1,8 +1,8 @@
 use Rattle.std.proofs.Common.{subst}
 use Rattle.mps_model.specs.declared.call.Call.TheVariants as call
 use Rattle.mps_refinement.specs.Making.{IsRightMakingIn, MeansLayout}
-use Rattle.mps_refinement.proofs.MakingPools.{pool_is_right}
-use Rattle.mps_refinement.proofs.Staying.{pool_stays}
+use Rattle.mps_refinement.proofs.Calls.MakingPools.{pool_is_right}
+use Rattle.mps_refinement.proofs.Worlds.Staying.{pool_stays}
 use Rattle.mps_heap.proofs.Results.{making_in_without_key}
 use Rattle.mps_heap.proofs.heap.Heap.pool.Goals as goal
 

@@ -3,8 +3,8 @@ use Rattle.mps_model.specs.declared.call.Call.TheVariants as call
 use Rattle.mps_model.specs.declared.reply.Reply.TheVariants as reply
 use Rattle.mps_model.specs.Answer.{Replied}
 use Rattle.mps_refinement.specs.RightStep.{IsRight}
-use Rattle.mps_refinement.proofs.ArenaCalls.{release_is_right}
-use Rattle.mps_refinement.proofs.Staying.{stays}
+use Rattle.mps_refinement.proofs.Calls.ArenaCalls.{release_is_right}
+use Rattle.mps_refinement.proofs.Worlds.Staying.{stays}
 use Rattle.mps_heap.proofs.heap.Heap.release.Goals as goal
 
 pub invariant_of-self : goal.invariant_of-self

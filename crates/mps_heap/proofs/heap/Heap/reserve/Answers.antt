@@ -1,11 +1,11 @@
 use Rattle.std.proofs.Common.{subst}
 use Rattle.mps_model.specs.declared.call.Call.TheVariants as call
-use Rattle.mps_outcome.specs.Allocating.{reserved}
+use Rattle.mps_heap_spec.specs.Allocating.{reserved}
 use Rattle.mps_refinement.specs.Answering.{answer_to, says_ok}
 use Rattle.mps_refinement.specs.RightMoving.{IsRightMoving}
-use Rattle.mps_refinement.proofs.Appending.{reserve_is_right_after}
-use Rattle.mps_refinement.proofs.Room.{keeps_room, reserve_keeps_room}
-use Rattle.mps_refinement.proofs.Staying.{is_ready, stays}
+use Rattle.mps_refinement.proofs.Worlds.Appending.{reserve_is_right_after}
+use Rattle.mps_refinement.proofs.Worlds.Room.{keeps_room, reserve_keeps_room}
+use Rattle.mps_refinement.proofs.Worlds.Staying.{is_ready, stays}
 use Rattle.mps_heap.proofs.heap.Heap.reserve.Goals as goal
 
 pub reserve-requires : goal.reserve-requires

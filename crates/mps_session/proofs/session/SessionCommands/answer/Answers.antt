@@ -1,5 +1,5 @@
 use Rattle.std.proofs.Common.{subst}
-use Rattle.mps_outcome.specs.Collecting.{can_collect}
+use Rattle.mps_heap_spec.specs.Collecting.{can_collect}
 use Rattle.mps_session.specs.Standing.{SessionStands}
 use Rattle.mps_session.proofs.Standing.{answers_exactly, answers_in, begins_exactly, begins_in, ok_then}
 use Rattle.mps_session.proofs.session.SessionCommands.answer.Goals as goal

@@ -1,0 +1,5 @@
+-- The flip that begins a collection.
+pub mod FlipLists
+pub mod Flipped
+pub mod Flipping
+pub mod FlipBegins

@@ -1,0 +1,10 @@
+// How a collection begins.
+
+ghost use Rattle.mps_abstract.specs.FlipLaws.{AFlipBeginsRunning};
+
+/// The act of a flip: it fixes what slots and messages hold by the moves of the model, which are legal, and the invariant
+/// holds after it, for a full flip and for one of the younger generations of a chain. A flip that condemns nothing ends
+/// at once, in a world at rest.
+pub fn a_flip_begins_running()
+    ensures { AFlipBeginsRunning }
+{}

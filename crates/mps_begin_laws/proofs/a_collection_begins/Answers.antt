@@ -1,6 +1,0 @@
-use Rattle.mps_begin_laws.proofs.FlipStands.{flip_stands}
-use Rattle.mps_begin_laws.proofs.Acted.{a_collection_begins}
-use Rattle.mps_begin_laws.proofs.a_collection_begins.Goals as goal
-
-pub returns : goal.returns
-returns g c = a_collection_begins flip_stands

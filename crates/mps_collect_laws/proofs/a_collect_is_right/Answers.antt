@@ -1,5 +1,0 @@
-use Rattle.mps_collect_laws.proofs.HeapCollects.{a_collect_is_right}
-use Rattle.mps_collect_laws.proofs.a_collect_is_right.Goals as goal
-
-pub returns : goal.returns
-returns g c = a_collect_is_right

@@ -1,5 +1,0 @@
-use Rattle.mps_colours.proofs.Barrier.{barrier_is_done}
-use Rattle.mps_colours.proofs.a_barrier_keeps_running.Goals as goal
-
-pub returns : goal.returns
-returns c = barrier_is_done

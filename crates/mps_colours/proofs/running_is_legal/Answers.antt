@@ -1,5 +1,0 @@
-use Rattle.mps_colours.proofs.LeftRightly.{left_rightly}
-use Rattle.mps_colours.proofs.running_is_legal.Goals as goal
-
-pub returns : goal.returns
-returns c = left_rightly

@@ -1,5 +1,0 @@
-use Rattle.mps_colours.proofs.Due as due
-use Rattle.mps_colours.proofs.work_is_due.Goals as goal
-
-pub returns : goal.returns
-returns c = due.work_is_due

@@ -1,7 +1,0 @@
-pub mod Filtered
-pub mod Condemned
-pub mod Reservations
-pub mod CondemnedWords
-pub mod Ended
-pub mod Apart
-pub mod OpenEnded

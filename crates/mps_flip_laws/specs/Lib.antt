@@ -1,4 +1,0 @@
-pub mod Condemned
-pub mod Reservations
-pub mod CondemnedWords
-pub mod Ended

@@ -1,0 +1,86 @@
+// The words of manual blocks and of leaf objects are borrowed.
+ghost use Rattle.std.specs.Prelude.{◌≡◌, ◌%◌, ℕ, IfOk, MatchResult, Contains};
+ghost use Rattle.std.specs.Fn.{FnOnceReturnsAtMut};
+ghost use Rattle.mps_base.specs.Address.{word_of, bytes_of_word};
+ghost use Rattle.mps_heap_code.specs.Lending.{block_named, leaf_named, IsBlockBorrowed, IsBlockWritten, IsLeafBorrowed, IsNoBlock, IsNoLeaf};
+
+use super::State;
+use mps_base::{Addr, Refusal, Slot};
+use mps_format::{Format, is_leaf};
+use mps_manual::Manual;
+use mps_heap_spec::begins_block;
+
+impl<F: Format> State<F> {
+    /// The address of the manual block in a place.
+    #[tactic(auto, using(crate::proofs::Lending::begins_at_word))]
+    fn block_named(&self, place: Slot) -> Result<Addr, Refusal>
+        ensures value { MatchResult result (λ at. block_named self.now place ≡ Ok at.0) (λ why. IsNoBlock self.now place why) }
+        ensures block { IfOk result (λ at. (words : ℕ) × Contains self.now.segs.blocks (record { from = word_of at.0; count = words })) }
+        ensures aligned { IfOk result (λ at. at.0 % bytes_of_word ≡ 0) }
+    {
+        let from = self.block_place_in(place)?;
+        if from.value == 0 {
+            return Err(Refusal::NotABlock);
+        }
+        if !begins_block(&self.segs, from.value) {
+            return Err(Refusal::NotABlock);
+        }
+        Ok(Addr(from.value))
+    }
+
+    /// Lends the words of the block in a place, and no others. Refuses `NotABlock` if the place is empty.
+    pub fn lend(&self, place: Slot) -> Result<&[u64], Refusal>
+        ensures { MatchResult result (λ words. IsBlockBorrowed self.now place words.now) (λ why. IsNoBlock self.now place why) }
+    {
+        let at = self.block_named(place)?;
+        Ok(Manual::lend(&self.segs, at))
+    }
+
+    /// Lends the words of the block in a place, and no others, to be written by a closure. Refuses as `lend` does.
+    pub fn lend_mut<R, W: FnOnce(&mut [u64]) -> R>(
+        &mut self,
+        place: Slot,
+        write: W,
+    ) -> Result<R, Refusal>
+        requires callable { W.IsAlwaysCallable write }
+        ensures { MatchResult result
+            (λ r. IsBlockWritten self.old place (λ words left. FnOnceReturnsAtMut W.FnOnce write words r left) self.new)
+            (λ why. IsNoBlock self.old place why × (self.new ≡ self.old)) }
+    {
+        let at = self.block_named(place)?;
+        Ok(write(Manual::lend_mut(&mut self.segs, at)))
+    }
+
+    /// The address of the object in a slot, if it is of a leaf pool.
+    #[tactic(auto, using(crate::proofs::Lending::begins_at_word))]
+    fn leaf_named(&self, slot: Slot) -> Result<Addr, Refusal>
+        ensures value { MatchResult result (λ at. leaf_named F.layout self.now slot ≡ Ok at.0)
+            (λ why. IsNoLeaf F.layout self.now slot why) }
+        ensures block { IfOk result (λ at. (words : ℕ) × Contains self.now.segs.blocks (record { from = word_of at.0; count = words })) }
+        ensures aligned { IfOk result (λ at. at.0 % bytes_of_word ≡ 0) }
+    {
+        let object = self.object_in(slot)?;
+        let pool = self.pool_over(object.at).ok_or(Refusal::WrongPool)?;
+        if !is_leaf(pool) {
+            return Err(Refusal::WrongPool);
+        }
+        if !begins_block(&self.segs, object.at) {
+            return Err(Refusal::NullRef);
+        }
+        Ok(Addr(object.at))
+    }
+
+    /// Lends the words after the head of the object in a slot. Refuses `NullRef` if the slot is null, and `WrongPool` if the
+    /// object's pool isn't a leaf pool.
+    pub fn lend_leaf(&self, slot: Slot) -> Result<&[u64], Refusal>
+        ensures { MatchResult result (λ words. IsLeafBorrowed F.layout self.now slot words.now)
+            (λ why. IsNoLeaf F.layout self.now slot why) }
+    {
+        let at = self.leaf_named(slot)?;
+        let whole = Manual::lend(&self.segs, at);
+        match whole.split_first() {
+            Some((_, cells)) => Ok(cells),
+            None => Ok(whole),
+        }
+    }
+}

@@ -1,0 +1,49 @@
+-- What a collection of everything comes to, and when a heap can do one.
+use Rattle.std.specs.Prelude.{ℕ, ◌≡◌, ◌^◌, Bool, true, false, ◌&&◌, nat_lt, List, [], ◌∷◌}
+use Rattle.std.specs.List.{list_all}
+use Rattle.mps_base.specs.Trail.{Moves}
+use Rattle.mps_buffer.specs.Points.{flipped}
+use Rattle.mps_format.specs.Layout.{Layout}
+use Rattle.mps_ld.specs.State as ld
+use Rattle.mps_trace.specs.Trace.{TraceState, traced}
+use Rattle.mps_trace.specs.Collect.{CanCollect, Collects, most_moves}
+use Rattle.mps_trace.specs.Flip.{automatic_of, zones_of}
+use Rattle.mps_trace.specs.PoolsCollecting.{IsTraceOf}
+use Rattle.mps_heap_spec.specs.State.{HeapState}
+use Rattle.mps_format.specs.Pools.{is_moved_or_manual}
+use Rattle.mps_heap_spec.specs.declared.arena.ArenaState.TheVariants as arena
+
+-- the most flips that a heap counts
+abbrev pub most_flips : ℕ
+most_flips = 2 ^ 63
+
+abbrev pub is_empty : {A : Type 0} → List A → Bool
+is_empty [] = true
+is_empty (x ∷ xs) = false
+
+module _ {F : Type 0} where
+  -- whether a heap can collect everything: each automatic pool moves its blocks, nothing is registered, and one flip more can be counted
+  abbrev pub can_collect : HeapState F → Bool
+  can_collect h = list_all is_moved_or_manual h.pools && is_empty h.finals.registered && nat_lt h.points.flips most_flips
+
+  -- whatever words are at hand for its pools, a heap can do a collection of everything within this trail
+  abbrev pub CanCollectAll : (F → Layout) → HeapState F → Moves → Type 0
+  CanCollectAll layout h m =
+      (t : TraceState F) → IsTraceOf h.pools t
+      → CanCollect layout t h.points h.roots h.finals h.segs m (most_moves h.segs.grains)
+
+  -- a full collection was done, from its flip to its end, and the arena is parked
+  pub record IsCollected (layout : F → Layout) (h : HeapState F) (m : Moves) (h' : HeapState F) (m' : Moves) : Type 0 where
+    pub before : TraceState F
+    pub after : TraceState F
+    pub of_pools : IsTraceOf h.pools before
+    pub collects : Collects layout before.formats before.chains h.points h.roots h.finals (traced before h.segs m)
+        (most_moves h.segs.grains) h'.roots h'.finals (traced after h'.segs m')
+    pub state : h' ≡ record h {
+      segs = h'.segs;
+      roots = h'.roots;
+      finals = h'.finals;
+      points = flipped h.points;
+      epochs = ld.flipped h.epochs (zones_of (automatic_of before.formats h.segs.segments));
+      arena = arena.Parked;
+    }

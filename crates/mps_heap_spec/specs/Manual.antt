@@ -1,0 +1,85 @@
+-- The outcomes of the calls on manual blocks.
+use Rattle.std.specs.Prelude.{ℕ, ◌+◌, ◌*◌, ◌==◌, nat_le, Bool, false, not, Ok, length, slice_get}
+use Rattle.std.specs.Option.{option_map_or}
+use Rattle.mps_base.specs.Address.{Address, Word, word_of, bytes_of_word, max_block_words}
+use Rattle.mps_base.specs.Segment.{segment_over}
+use Rattle.mps_base.specs.Trail.{Moves}
+use Rattle.mps_base.specs.declared.names.Name.{Name}
+use Rattle.mps_base.specs.declared.names.Slot.{Slot}
+use Rattle.mps_base.specs.declared.refusal.Refusal.TheVariants as refusal
+use Rattle.mps_manual.specs.Manual.{has_blocks_of, answer_of_alloc, allocated, moves_allocated, freed, moves_freed}
+use Rattle.mps_model.specs.Checked.{Checked, ◌>>=◌, ◌>>◌, required, refuse_when}
+use Rattle.mps_root.specs.State.{with_place}
+use Rattle.mps_seg.specs.Segs.{SegsState}
+use Rattle.mps_heap_spec.specs.State.{HeapState}
+use Rattle.mps_format.specs.Pools.{is_automatic_pool}
+use Rattle.mps_heap_spec.specs.Coming.{Outcome, Moved, done}
+use Rattle.mps_heap_spec.specs.Areas.{block_over}
+use Rattle.mps_heap_spec.specs.Finding.{pool_named, block_place_in}
+use Rattle.mps_heap_spec.specs.declared.found.Entry.{Entry}
+use Rattle.mps_heap_spec.specs.Objects.{with_word}
+
+-- whether the block over a byte begins at an address
+abbrev pub is_block_over : SegsState → (byte : ℕ) → Address → Bool
+is_block_over s byte at = option_map_or (λ from. from == at) (block_over s byte) false
+
+module _ {F : Type 0} where
+  -- a place of a table of blocks has this address
+  abbrev pub with_block_place : HeapState F → Entry Address → (at : Address) → HeapState F
+  with_block_place h place at = record h { roots = record h.roots { blocks = with_place h.roots.blocks place.key place.index at } }
+
+  abbrev pub block_allocated : HeapState F → Moves → (pool : Name) → (words : ℕ) → (place : Slot) → Checked (Moved F (Unit {0}))
+  block_allocated h trail pool words place = do
+    from ← pool_named h pool
+    refuse_when (is_automatic_pool from.value) refusal.WrongPool
+    into ← block_place_in h place
+    size ← required (slice_get h.sizes from.key) refusal.BadName
+    refuse_when (not (has_blocks_of size words)) refusal.BadSize
+    refuse_when (not (into.value == 0)) refusal.NameTaken
+    at ← answer_of_alloc size h.segs from.key words
+    Ok (record {
+      answer = tt;
+      state = with_block_place (record h { segs = allocated h.segs from.key words at }) into at.0;
+      trail = moves_allocated h.segs trail from.key words at;
+    })
+
+  -- the manual block in a place
+  abbrev pub block_in : HeapState F → Entry Address → Checked Address
+  block_in h place = do
+    refuse_when (place.value == 0) refusal.NotABlock
+    refuse_when (not (is_block_over h.segs place.value place.value)) refusal.NotABlock
+    Ok place.value
+
+  abbrev pub block_freed : HeapState F → Moves → (place : Slot) → Checked (Moved F (Unit {0}))
+  block_freed h trail place = do
+    from ← block_place_in h place
+    at ← block_in h from
+    s ← required (segment_over h.segs.segments at) refusal.NotABlock
+    size ← required (slice_get h.sizes s.pool) refusal.NotABlock
+    Ok (record {
+      answer = tt;
+      state = with_block_place (record h { segs = freed size h.segs at }) from 0;
+      trail = moves_freed size h.segs trail (record { 0 = at });
+    })
+
+  -- the number of word k of a block, if it has that
+  abbrev pub word_in_block : HeapState F → Address → (k : ℕ) → Checked Word
+  word_in_block h at k = do
+    refuse_when (nat_le max_block_words k) refusal.BadIndex
+    refuse_when (nat_le (length h.segs.words) (word_of at + k)) refusal.BadIndex
+    refuse_when (not (is_block_over h.segs (at + bytes_of_word * k) at)) refusal.BadIndex
+    Ok (word_of at + k)
+
+  abbrev pub word_loaded : HeapState F → (place : Slot) → (k : ℕ) → Checked ℕ
+  word_loaded h place k = do
+    from ← block_place_in h place
+    at ← block_in h from
+    word ← word_in_block h at k
+    required (slice_get h.segs.words word) refusal.BadIndex
+
+  abbrev pub word_stored : HeapState F → (place : Slot) → (k value : ℕ) → Checked (Outcome F (Unit {0}))
+  word_stored h place k value = do
+    into ← block_place_in h place
+    at ← block_in h into
+    word ← word_in_block h at k
+    done (with_word h word value)

@@ -1,0 +1,108 @@
+// The cells of a block, as its format reads them.
+#![tactic(auto)]
+
+ghost use Rattle.std.specs.Prelude.{◌≡◌, ◌+◌, ◌<◌, ◌^◌, slice_set, IsTrue, IfOk};
+ghost use Rattle.mps_base.specs.Address.{word_of};
+ghost use Rattle.mps_model.specs.Graph.{has_references};
+ghost use Rattle.mps_heap_spec.specs.Finding.{cell_at, number_cell_at, reference_cell_at, retargeted};
+
+use crate::{Block, CellFound};
+use mps_base::{Addr, BYTES_OF_WORD, Refusal};
+use mps_format::Format;
+use mps_seg::Segs;
+
+/// Whether cell `k` of a block with this head is a reference.
+#[inline(always)]
+fn is_reference<F: Format>(format: &F, head: u64, k: u32) -> bool
+    requires { IsTrue ((F.layout format.now).is_valid head) }
+    ensures { result ≡ (F.layout format.now).is_reference head k }
+{
+    match format.ref_from(head, k) {
+        Some(first) => first == k,
+        None => false,
+    }
+}
+
+/// Whether a block with this head has a reference.
+#[inline(always)]
+pub fn any_references<F: Format>(format: &F, head: u64) -> bool
+    requires { IsTrue ((F.layout format.now).is_valid head) }
+    ensures { result ≡ has_references (F.layout format.now) head }
+{
+    match format.ref_from(head, 0) {
+        Some(_) => true,
+        None => false,
+    }
+}
+
+/// The reference word that leads to an address, a multiple of 8, and has the tag of another.
+pub fn with_target<F: Format>(format: &F, word: u64, to: u64) -> u64
+    ensures { result ≡ retargeted (F.layout format.now) word to }
+{
+    if to % 8 == 0 {
+        format.retarget(word, Addr(to))
+    } else {
+        word
+    }
+}
+
+/// The number of the word of cell `k` of a block at an address.
+#[inline(always)]
+fn word_of_cell(at: u64, k: u64) -> usize
+    requires { k < 2 ^ 32 }
+    ensures { result ≡ word_of at + k }
+{
+    Addr(at).word() + k as usize
+}
+
+/// Cell `k` of a block.
+#[inline(always)]
+fn cell_at<F: Format>(segs: &Segs, b: &Block<F>, k: u64) -> Result<CellFound, Refusal>
+    requires { IsTrue ((F.layout b.now.format).is_valid b.now.head) }
+    ensures value { result ≡ cell_at F.layout segs.now.words b.now k }
+    ensures at_most { IfOk result (λ _. k < 2 ^ 32) }
+{
+    if u64::from(b.format.words(b.head)) <= k {
+        return Err(Refusal::BadIndex);
+    }
+    let word = word_of_cell(b.at, k);
+    let Some(value) = segs.item(word) else {
+        return Err(Refusal::BadIndex);
+    };
+    Ok(CellFound { word, value })
+}
+
+/// Cell `k` of a block, if it is a number.
+#[inline(always)]
+pub fn number_cell_at<F: Format>(segs: &Segs, b: &Block<F>, k: u64) -> Result<CellFound, Refusal>
+    requires { IsTrue ((F.layout b.now.format).is_valid b.now.head) }
+    ensures { result ≡ number_cell_at F.layout segs.now.words b.now k }
+{
+    let cell = cell_at(segs, b, k)?;
+    if k == 0 || is_reference(&b.format, b.head, k as u32) {
+        return Err(Refusal::NotANumber);
+    }
+    Ok(cell)
+}
+
+/// Cell `k` of a block, if it is a reference.
+pub fn reference_cell_at<F: Format>(segs: &Segs, b: &Block<F>, k: u64) -> Result<CellFound, Refusal>
+    requires { IsTrue ((F.layout b.now.format).is_valid b.now.head) }
+    ensures { result ≡ reference_cell_at F.layout segs.now.words b.now k }
+{
+    let cell = cell_at(segs, b, k)?;
+    if !is_reference(&b.format, b.head, k as u32) {
+        return Err(Refusal::NotARef);
+    }
+    Ok(cell)
+}
+
+/// Writes a word, by its number; nothing if the arena has no such word.
+pub fn write_word(segs: &mut Segs, word: usize, value: u64)
+    ensures { segs.new ≡ record segs.old { words = slice_set segs.old.words word value } }
+{
+    let _ = segs.grains(); // the address of a word fits
+    if segs.item(word).is_some() {
+        segs.set_word(Addr(BYTES_OF_WORD * word as u64), value);
+    }
+}

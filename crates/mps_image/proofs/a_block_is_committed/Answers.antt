@@ -1,5 +1,0 @@
-use Rattle.mps_image.proofs.ClientLaws.{block_is_committed}
-use Rattle.mps_image.proofs.a_block_is_committed.Goals as goal
-
-pub returns : goal.returns
-returns c = block_is_committed

@@ -1,0 +1,180 @@
+-- The law of replay: whole steps, and histories.
+use Rattle.std.proofs.Common.{◌≡◌, ◌∙◌, ◌⊎◌, ℕ, ◌+◌, ◌≤◌, Bool, true, false, refl, sym, ap, List, [], ◌∷◌, Some, None, subst, inl, inr, arith, max}
+use Rattle.std.proofs.lemmas.Bool.{false≢true}
+use Rattle.std.proofs.lemmas.Option.{none-some}
+use Rattle.std.proofs.lemmas.List.{length-map}
+use Rattle.std.specs.Prelude.{MatchBool, option_and_then}
+use Rattle.std.specs.List.{list_all}
+use Rattle.mps_format.specs.Layout.{Layout}
+use Rattle.mps_base.specs.declared.moves.Move.{Move}
+use Rattle.mps_model.specs.declared.call.Call.{Call}
+use Rattle.mps_model.specs.declared.call.Call.TheVariants as call
+use Rattle.mps_model.specs.Answer.{Answer, is_unsupported}
+use Rattle.mps_model.specs.World.{World, empty_world_of}
+use Rattle.mps_model.specs.Effect.{world_after_moves}
+use Rattle.mps_model.specs.LegalMove.{AreLegalMoves}
+use Rattle.mps_model.specs.Log.{records_of, records_of_step, log_from, pools_made_by}
+use Rattle.mps_model.specs.Replay.{replay_from}
+use Rattle.mps_model.specs.Step.{Step, History}
+use Rattle.mps_model.specs.History.{IsLegalStep, IsAnsweredStep, IsLegalFrom, moves_of_collector, world_after, world_after_steps, live_blocks}
+use Rattle.mps_model.proofs.Appending.{replay_from-append}
+use Rattle.mps_laws.specs.Replay.{StepReplaysToLiveBlocks, LogReplaysToLiveBlocks}
+use Rattle.mps_laws.proofs.Positions.Occupancy.{Occupant, OfBlock, OfReservation, OfBuffer, OfTail, occupancy_of, shape_of, run_of}
+use Rattle.mps_laws.proofs.Replays.Blocks.{live_blocks-stored}
+use Rattle.mps_laws.proofs.Positions.LegalMoves.{HasLayout, IsReplayed, blocks_of}
+use Rattle.mps_laws.proofs.Replays.ReplayOfMoves.{moves_replayed}
+use Rattle.mps_laws.proofs.Positions.Making.{arena_laid_out}
+use Rattle.mps_laws.proofs.Replays.Steps.{with_command, answered_step, plain_step, commit_step}
+use Rattle.mps_laws.proofs.Replays.ManualSteps.{alloc_step}
+use Rattle.mps_laws.proofs.Replays.FreeSteps.{BlocksAreLive, free_step}
+use Rattle.mps_laws.proofs.Replays.ReserveReplayed.{reserve_step}
+
+-- segments lie below a limit; an arena that is made may raise it
+abbrev pub limit_after : ℕ → Call → ℕ
+limit_after limit (call.Arena grains most) = max limit (grains + 1)
+limit_after limit _ = limit
+
+limit_rises : (limit : ℕ) (c : Call) → limit ≤ limit_after limit c
+limit_rises limit (call.Arena grains most) = omega arith
+limit_rises limit _ = omega arith
+
+which : {A B : Type 0} (b : Bool) → MatchBool b A B → ((b ≡ true) × A) ⊎ ((b ≡ false) × B)
+which true a = inl (refl, a)
+which false b = inr (refl, b)
+
+module _ (limit pools line : ℕ) (w : World) (laid : HasLayout limit w) (live : BlocksAreLive w) where
+  abbrev the_step : Call → List Move → Answer → Step
+  the_step c ms answer = record { line = line; call = c; moves = ms; answer = answer }
+
+  abbrev StepIsReplayed : Call → List Move → Answer → Type 0
+  StepIsReplayed c ms answer =
+      IsReplayed (limit_after limit c) w (world_after w (the_step c ms answer))
+      (replay_from (blocks_of (occupancy_of w)) (records_of_step pools (the_step c ms answer)))
+
+  arena_step : (grains most : ℕ) (ms : List Move) (answer : Answer) → is_unsupported answer ≡ false → AreLegalMoves w None ms
+      → StepIsReplayed (call.Arena grains most) ms answer
+  arena_step grains most ms answer supported legal =
+      let r = moves_replayed limit w None ms line laid legal in
+      answered_step (max limit (grains + 1)) pools line w (call.Arena grains most) ms answer supported
+      (record {
+        layout = arena_laid_out limit (max limit (grains + 1)) grains (occupancy_of (world_after_moves w ms)) (omega arith)
+            (omega arith) r.layout;
+        blocks = r.blocks;
+      })
+
+  of_call : (c : Call) (ms : List Move) (answer : Answer) → is_unsupported answer ≡ false → IsAnsweredStep w (the_step c ms answer)
+      → StepIsReplayed c ms answer
+  of_call (call.Arena grains most) ms answer supported legal = arena_step grains most ms answer supported legal.moves_are_legal
+  of_call (call.Reserve point head) ms answer supported legal =
+      reserve_step limit pools line w laid point head ms answer supported legal.moves_are_legal legal.moves_are_due.segment
+  of_call (call.Commit point target) ms answer supported legal =
+      commit_step limit pools line w point laid target ms answer supported legal.moves_are_due legal.answer_is_due
+  of_call (call.Alloc pool words place) ms answer supported legal =
+      alloc_step limit pools line w laid pool words place ms answer supported legal.moves_are_due legal.answer_is_due
+  of_call (call.Free place) ms answer supported legal =
+      free_step limit pools line w laid place ms answer live supported legal.moves_are_due
+  of_call c ms answer supported legal =
+      plain_step limit pools line w c ms answer supported refl (moves_replayed limit w None ms line laid legal.moves_are_legal)
+
+  of_unsupported : (c : Call) (ms : List Move) (answer : Answer) → is_unsupported answer ≡ true → ms ≡ [] → StepIsReplayed c ms answer
+  of_unsupported c ms answer is none =
+      with_command (limit_after limit c) pools (the_step c ms answer) w (world_after w (the_step c ms answer))
+      (subst (λ b. IsReplayed (limit_after limit c) w (Rattle.std.specs.Prelude.if◌then◌else◌ b w
+      (Rattle.mps_model.specs.History.world_after_call w c ms answer))
+      (replay_from (blocks_of (occupancy_of w)) (records_of ms line))) (sym is)
+      (subst (λ (ns : List Move). IsReplayed (limit_after limit c) w w (replay_from (blocks_of (occupancy_of w)) (records_of ns line)))
+      (sym none)
+      (record {
+        layout = arena_laid_out limit (limit_after limit c) w.grains (occupancy_of w) (limit_rises limit c)
+            (let r = limit_rises limit c in omega (arith, r, laid.in_range)) laid;
+        blocks = refl;
+      })))
+
+  pub legal_step_replayed : (c : Call) (ms : List Move) (answer : Answer) → IsLegalStep w (the_step c ms answer)
+      → StepIsReplayed c ms answer
+  legal_step_replayed c ms answer legal =
+      elim (which (is_unsupported answer) legal) [
+        | inl h ↦ of_unsupported c ms answer h.0 h.1
+        | inr h ↦ of_call c ms answer h.0 h.1
+      ]
+
+-- the blocks of tables of blocks are live after each step
+pub live_after : (w : World) (s : Step) → BlocksAreLive w → IsLegalStep w s → BlocksAreLive (world_after w s)
+live_after w s live legal =
+    elim (which (is_unsupported s.answer) legal) [
+      | inl h ↦ subst (λ b. BlocksAreLive (Rattle.std.specs.Prelude.if◌then◌else◌ b w
+          (Rattle.mps_model.specs.History.world_after_call w s.call s.moves s.answer))) (sym h.0) live
+      | inr h ↦ h.1.held_are_live.blocks
+    ]
+
+-- ---- histories
+
+pub limit_after_steps : ℕ → History → ℕ
+limit_after_steps limit [] = limit
+limit_after_steps limit (s ∷ ss) = limit_after_steps (limit_after limit s.call) ss
+
+pub record IsReached (w w' : World) : Type 0 where
+  pub limit : ℕ
+  pub layout : HasLayout limit w'
+  pub live : BlocksAreLive w'
+
+pub steps_replayed : (limit pools : ℕ) (w : World) (h : History) → HasLayout limit w → BlocksAreLive w → IsLegalFrom w h
+    → IsReached w (world_after_steps w h)
+    × (replay_from (blocks_of (occupancy_of w)) (log_from pools h) ≡ Some (blocks_of (occupancy_of (world_after_steps w h))))
+steps_replayed limit pools w [] laid live legal = (record { limit = limit; layout = laid; live = live }, refl)
+steps_replayed limit pools w (s ∷ ss) laid live legal =
+    let one = legal_step_replayed limit pools s.line w laid live s.call s.moves s.answer legal.0 in
+    let rest = steps_replayed (limit_after limit s.call) (pools + pools_made_by s.call s.answer) (world_after w s) ss one.layout
+    (live_after w s live legal.0) legal.1 in (
+      record { limit = rest.0.limit; layout = rest.0.layout; live = rest.0.live },
+      replay_from-append (blocks_of (occupancy_of w)) (records_of_step pools s) (log_from (pools + pools_made_by s.call s.answer) ss)
+          ∙ ap (λ o. option_and_then (λ after. replay_from after (log_from (pools + pools_made_by s.call s.answer) ss)) o) one.blocks
+          ∙ rest.1,
+    )
+
+-- before the arena is made
+none_has_words : (formats : ℕ → Layout) (o : Occupant) → (run_of (occupancy_of (empty_world_of formats)) o).count ≡ 0
+none_has_words formats (OfBlock id) = refl
+none_has_words formats (OfReservation point) = refl
+none_has_words formats (OfBuffer point) = refl
+none_has_words formats (OfTail pool generation) = refl
+
+pub empty_layout : (formats : ℕ → Layout) → HasLayout 1 (empty_world_of formats)
+empty_layout formats = record {
+  in_range = omega arith;
+  lengths = refl;
+  memories = refl;
+  shapes = λ id s e. absurd (none-some s e);
+  points = λ n p e. absurd (none-some p e);
+  ascending = omega arith;
+  aligned = tt;
+  ranked = tt;
+  condemned = λ base h. absurd (false≢true h);
+  distinct = tt;
+  keyed = tt;
+  placed = record {
+    apart = λ a b n c d. absurd (omega (arith, none_has_words formats a, c.0, c.1));
+    homes = λ o some. absurd (omega (arith, none_has_words formats o, some));
+  };
+}
+
+pub reached_from_empty : (formats : ℕ → Layout) (h : History) → IsLegalFrom (empty_world_of formats) h
+    → IsReached (empty_world_of formats) (world_after_steps (empty_world_of formats) h)
+reached_from_empty formats h legal = (steps_replayed 1 0 (empty_world_of formats) h (empty_layout formats) refl legal).0
+
+-- the live blocks are those of what lies where
+blocks_live : (limit : ℕ) (w : World) → HasLayout limit w → live_blocks w ≡ blocks_of (occupancy_of w)
+blocks_live limit w laid = live_blocks-stored w (omega (arith, laid.lengths, length-map w.graph.objects shape_of))
+
+pub log_replays : LogReplaysToLiveBlocks
+log_replays formats h legal =
+    let r = steps_replayed 1 0 (empty_world_of formats) h (empty_layout formats) refl legal in
+    r.1 ∙ ap Some (sym (blocks_live r.0.limit (world_after_steps (empty_world_of formats) h) r.0.layout))
+
+pub step_replays : StepReplaysToLiveBlocks
+step_replays formats h pools s legal step =
+    let w = world_after_steps (empty_world_of formats) h in
+    let r = reached_from_empty formats h legal in
+    let one = legal_step_replayed r.limit pools s.line w r.layout r.live s.call s.moves s.answer step in
+    ap (λ blocks. replay_from blocks (records_of_step pools s)) (blocks_live r.limit w r.layout) ∙ one.blocks
+    ∙ ap Some (sym (blocks_live (limit_after r.limit s.call) (world_after w s) one.layout))

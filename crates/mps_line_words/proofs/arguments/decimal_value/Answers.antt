@@ -1,0 +1,12 @@
+use Rattle.std.proofs.Common.{◌∙◌, None}
+use Rattle.mps_numerals.specs.Decimal.{decimal_number}
+use Rattle.mps_line_words.specs.Number.{number_of}
+use Rattle.mps_line_words.specs.Reading.{single}
+use Rattle.mps_line_words.specs.Word.{words}
+use Rattle.mps_line_words.proofs.Headed.{onto_some}
+use Rattle.mps_line_words.proofs.arguments.decimal_value.Goals as goal
+
+pub returns-in_err-others : goal.returns-in_err-others
+returns-in_err-others c =
+    c.from_residual-in_err-others.ensures
+    ∙ onto_some decimal_number (single number_of) (words c.args.arguments.now) _ _ c.in_ok-number.ensures None c.in_err-others.ensures

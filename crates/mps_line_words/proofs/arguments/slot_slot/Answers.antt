@@ -1,0 +1,11 @@
+use Rattle.std.proofs.Common.{◌∙◌, None}
+use Rattle.mps_line_words.specs.Name.{slot_of}
+use Rattle.mps_line_words.specs.Reading.{single}
+use Rattle.mps_line_words.specs.Word.{words}
+use Rattle.mps_line_words.proofs.Headed.{onto_some}
+use Rattle.mps_line_words.proofs.arguments.slot_slot.Goals as goal
+
+pub returns-in_err-others : goal.returns-in_err-others
+returns-in_err-others c =
+    c.from_residual-in_err-others.ensures
+    ∙ onto_some slot_of (single slot_of) (words c.args.arguments.now) _ _ c.in_ok-name.ensures.found None c.in_err-others.ensures

@@ -1,0 +1,12 @@
+use Rattle.std.specs.Prelude.{◌≡◌, ◌≤◌, length}
+use Rattle.mps_line_words.specs.Word.{after_word}
+use Rattle.mps_line_words.proofs.words.after_word.Given as goal
+
+abbrev pub invariant-loop-rest : goal.invariant-loop-rest
+invariant-loop-rest l = record {
+  same_rest : after_word l.rest ≡ after_word l.fn.bytes;
+  at_most : length l.rest ≤ length l.fn.bytes;
+}
+
+abbrev pub decreases-loop-rest : goal.decreases-loop-rest
+decreases-loop-rest l = length l.rest

@@ -1,3 +1,0 @@
-pub mod Nailed
-pub mod Flipped
-pub mod Laws

@@ -1,6 +1,0 @@
-pub mod Freed
-pub mod Left
-pub mod Moves
-pub mod Room
-pub mod Units
-pub mod Laws

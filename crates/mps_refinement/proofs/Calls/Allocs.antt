@@ -1,0 +1,323 @@
+-- `alloc`: from its outcome to a right step.
+use Rattle.std.proofs.Common.{◌≡◌, ◌∙◌, ℕ, ◌<◌, Bool, true, false, refl, sym, ap, subst, [], ◌∷◌, ◌++◌, Option, Some, None, Ok, Err, is_some, arith}
+use Rattle.std.proofs.lemmas.Bool.{and_parts, false≢true, leb-true, ltb-true, ne_eqb}
+use Rattle.std.proofs.lemmas.Option.{slice_get-map}
+use Rattle.std.specs.Prelude.{◌==◌, ◌&&◌, ◌||◌, nat_le, not, slice_get, option_map, if◌then◌else◌}
+use Rattle.std.specs.Option.{option_map_or}
+use Rattle.mps_arena.specs.Arena.{answer_of_placement}
+use Rattle.mps_base.specs.Address.{Address}
+use Rattle.mps_base.specs.Placement.{Placement, Place, NewSegment, OverLimit, NoFreeRun}
+use Rattle.mps_base.specs.Trail.{Moves, with_move}
+use Rattle.mps_base.specs.declared.address.Addr.{Addr}
+use Rattle.mps_base.specs.declared.moves.Move.TheVariants as moves
+use Rattle.mps_base.specs.declared.names.Name.{Name}
+use Rattle.mps_base.specs.declared.names.Rank.TheVariants as rank
+use Rattle.mps_base.specs.declared.names.Slot.{Slot}
+use Rattle.mps_base.specs.declared.refusal.Refusal.{Refusal}
+use Rattle.mps_base.specs.declared.refusal.Refusal.TheVariants as refusal
+use Rattle.mps_format.specs.Layout.{Layout}
+use Rattle.mps_laws.proofs.Sound.PoolsThere.{all-at}
+use Rattle.mps_laws.proofs.Same as same
+use Rattle.mps_laws.proofs.Same.{Same, fits}
+use Rattle.mps_laws.proofs.Sound.SoundGraph.{PassesOrNull, all-at as all-in, entry-passes}
+use Rattle.mps_manual.specs.Manual.{has_blocks_of}
+use Rattle.mps_model.specs.declared.call.Call.TheVariants as call
+use Rattle.mps_model.specs.declared.reply.Reply.TheVariants as reply
+use Rattle.mps_model.specs.Allocating.{act_alloc, address_of_placement, allows_size, refuse_without_place}
+use Rattle.mps_model.specs.Answer.{Answer, Replied}
+use Rattle.mps_model.specs.Checked as checked
+use Rattle.mps_model.specs.Checked.{Checked, Found, Numbered, ◌>>=◌, ◌>>◌, refuse_when, required}
+use Rattle.mps_model.specs.Graph.{entries, entry_at}
+use Rattle.mps_model.specs.History.{alloc_at}
+use Rattle.mps_model.specs.Making.{is_block_size}
+use Rattle.mps_model.specs.Placement.{ForAlloc, placement_of}
+use Rattle.mps_model.specs.World as world
+use Rattle.mps_model.specs.World.{World, Collected, OneSize, AnySize, PoolKind, is_automatic_kind, is_live}
+use Rattle.mps_heap_spec.specs.Coming.{ComesMoving, Moved}
+use Rattle.mps_heap_spec.specs.Finding.{block_place_in, pool_named}
+use Rattle.mps_heap_spec.specs.declared.found.Entry.{Entry}
+use Rattle.mps_heap_spec.specs.declared.found.Kept.{Kept}
+use Rattle.mps_heap_spec.specs.Manual.{block_allocated, with_block_place}
+use Rattle.mps_heap_spec.specs.State.{HeapState}
+use Rattle.mps_format.specs.Pools.{is_automatic_pool, size_of_pool}
+use Rattle.mps_format.specs.declared.pool.Pool.{Pool}
+use Rattle.mps_format.specs.declared.pool.Pool.TheVariants as pool
+use Rattle.mps_seg.specs.Placing.{placement_in_gaps}
+use Rattle.mps_seg.specs.Segs.{moves_after}
+use Rattle.mps_refinement.specs.Answering.{answer_to, says_ok}
+use Rattle.mps_refinement.specs.RightStep.{IsRight, IsRightIn, step_of}
+use Rattle.mps_refinement.specs.StandsFor.{AreParts, IsPool, IsReached, Past, address_of_target}
+use Rattle.mps_refinement.proofs.Parts.AllocatedParts.{parts_made, segments_made}
+use Rattle.mps_refinement.proofs.Calls.AllocatingStep as allocating
+use Rattle.mps_refinement.proofs.Calls.AllocatingStep.{alloc_empty, alloc_from, alloc_in, alloc_is, alloc_manual, alloc_placed, alloc_sized, made_rightly}
+use Rattle.mps_refinement.proofs.Lookups.Found.{some_there}
+use Rattle.mps_refinement.proofs.Worlds.Known.{IsKnown, known}
+use Rattle.mps_refinement.proofs.Lookups.Lookups.{IsPlaceEntry, IsPlaceFound, IsPoolFound, place_same, pool_same}
+use Rattle.mps_refinement.proofs.Worlds.PlacedOnce.{is_sized, placed_once}
+use Rattle.mps_refinement.proofs.Worlds.Placing.{IsSameArena, gaps_agree}
+use Rattle.mps_refinement.proofs.Worlds.Reached.{reached_sound}
+use Rattle.mps_refinement.proofs.Worlds.ReachedGraph.{reached_graph}
+use Rattle.mps_refinement.proofs.Worlds.Ready.{laid_out}
+use Rattle.mps_refinement.proofs.Calls.RightFrom.{right_from}
+use Rattle.mps_refinement.proofs.Calls.RightRefusals.{IsRightOutcome, outcome_is_right, refusal_is_right}
+
+-- ---- each check, against the model's
+
+automatic_alike : {F : Type 0} (layout : F → Layout) (formats : ℕ → Layout) (p : Pool F) (q : world.Pool) → IsPool layout formats p q
+    → is_automatic_pool p ≡ is_automatic_kind q.kind
+automatic_alike layout formats (pool.Automatic kind format) q is = sym (ap (λ (x : world.Pool). is_automatic_kind x.kind) is.0)
+automatic_alike layout formats (pool.OneSize words) q is = sym (ap (λ (x : world.Pool). is_automatic_kind x.kind) is)
+automatic_alike layout formats pool.AnySize q is = sym (ap (λ (x : world.Pool). is_automatic_kind x.kind) is)
+
+-- a pool has blocks of a size exactly where the model's has
+size_alike : {F : Type 0} (layout : F → Layout) (formats : ℕ → Layout) (p : Pool F) (q : world.Pool) (words : ℕ) → IsPool layout formats p q
+    → is_automatic_kind q.kind ≡ false → is_sized q.kind ≡ true → has_blocks_of (size_of_pool p) words ≡ allows_size q.kind words
+size_alike layout formats (pool.Automatic kind format) q words is manual sized =
+    absurd (false≢true (sym manual ∙ ap (λ (x : world.Pool). is_automatic_kind x.kind) is.0))
+size_alike layout formats (pool.OneSize size) q words is manual sized =
+    let kind : q.kind ≡ OneSize size = ap (λ (x : world.Pool). x.kind) is in
+    let low = ltb-true 0 size (sym (ap is_sized kind) ∙ sized) in
+    ap (λ c. is_block_size words && (c || words == size)) (ne_eqb size 0 (λ e. omega (arith, e, low)))
+    ∙ sym (ap (λ k. allows_size k words) kind)
+size_alike layout formats pool.AnySize q words is manual sized =
+    let kind : q.kind ≡ AnySize = ap (λ (x : world.Pool). x.kind) is in with_true (is_block_size words) ∙ sym (ap
+    (λ k. allows_size k words) kind)
+  where
+    with_true : (b : Bool) → (b && true) ≡ b
+    with_true true = refl
+    with_true false = refl
+
+some_words : (k : PoolKind) (words : ℕ) → allows_size k words ≡ true → 0 < words
+some_words (Collected kind) words h = absurd (false≢true h)
+some_words (OneSize size) words h =
+    let parts = and_parts (is_block_size words) (words == size) h in
+    let sized = and_parts (nat_le 1 words) (nat_le words 65536) parts.0 in
+    let some = leb-true 1 words sized.0 in
+    omega (arith, some)
+some_words AnySize words h =
+    let sized = and_parts (nat_le 1 words) (nat_le words 65536) h in let some = leb-true 1 words sized.0 in omega (arith, some)
+
+-- ---- the moves, where the trail had none
+
+moves_are : (trail : Moves) (q : Placement) (number words : ℕ) → trail.moves ≡ [] → refuse_without_place q ≡ Ok tt
+    → (with_move (moves_after q number 0 trail) (moves.Alloc (record { 0 = address_of_placement q }) words number)).moves
+    ≡ alloc_at number words q
+moves_are trail (Place word) number words none room =
+    ap (λ ms. ms ++ moves.Alloc (record { 0 = address_of_placement (Place word) }) words number ∷ []) none
+moves_are trail (NewSegment grain grains) number words none room =
+    ap (λ ms. (ms ++ moves.Seg (record { 0 = address_of_placement (NewSegment grain grains) }) grains number 0 ∷ [])
+    ++ moves.Alloc (record { 0 = address_of_placement (NewSegment grain grains) }) words number ∷ []) none
+moves_are trail (OverLimit committed need limit) number words none room = absurd cc
+moves_are trail (NoFreeRun need longest) number words none room = absurd cc
+
+module _ {F : Type 0} (layout : F → Layout) (h : HeapState F) (trail : Moves) (none : trail.moves ≡ []) (name : Name) (words : ℕ)
+    (place : Slot) where
+  abbrev IsRightAlloc : World → ℕ → Checked (Moved F (Unit {0})) → Type 0
+  IsRightAlloc w line o = IsRightOutcome layout h trail none (call.Alloc name words place) w line o
+
+  -- ---- the outcome, from each check on
+
+  -- where the placement is this
+  abbrev made_at : (number : ℕ) → Entry Address → Placement → Addr → Moved F (Unit {0})
+  made_at number into q at = record {
+    answer = tt;
+    state = with_block_place (record h { segs = segments_made h.segs q number words at.0 }) into at.0;
+    trail = with_move (moves_after q number 0 trail) (moves.Alloc at words number);
+  }
+
+  abbrev placed_at : (number : ℕ) → Entry Address → Placement → Checked (Moved F (Unit {0}))
+  placed_at number into q = answer_of_placement q >>= (λ at. Ok (made_at number into q at))
+
+  abbrev sized_as : (number : ℕ) → Entry Address → (has : Bool) → Checked Addr
+  sized_as number into has =
+      if has then answer_of_placement (placement_in_gaps h.segs number rank.Exact words) else Err refusal.BadSize
+
+  abbrev from_size : (number : ℕ) → Entry Address → (has empty : Bool) → Checked (Moved F (Unit {0}))
+  from_size number into has empty =
+      refuse_when (not has) refusal.BadSize >> (refuse_when (not empty) refusal.NameTaken >> (sized_as number into has
+      >>= (λ at. Ok (made_at number into (placement_in_gaps h.segs number rank.Exact words) at))))
+
+  abbrev from_place : Kept (Pool F) → Entry Address → Checked (Moved F (Unit {0}))
+  from_place from into =
+      required (slice_get h.sizes from.key) refusal.BadName >>= (λ size.
+      from_size from.key into (has_blocks_of size words) (into.value == 0))
+
+  abbrev from_pool : Kept (Pool F) → (automatic : Bool) → Checked (Moved F (Unit {0}))
+  from_pool from automatic = refuse_when automatic refusal.WrongPool >> (block_place_in h place >>= from_place from)
+
+  outcome_is : block_allocated h trail name words place
+      ≡ (pool_named h name >>= (λ (from : Kept (Pool F)). from_pool from (is_automatic_pool from.value)))
+  outcome_is = refl
+
+  module _ (w : World) (line : ℕ) (past : Past) (parts : AreParts layout past h w) (reached : IsReached w) where
+    own : IsKnown w
+    own = known w reached
+
+    refused_outcome : (why : Refusal) → act_alloc w w name words place ≡ Err why → IsRightAlloc w line (Err why)
+    refused_outcome why e =
+        refusal_is_right layout h trail none (call.Alloc name words place) w line past parts reached refl
+        (λ why. record { judged = refl; moved = refl; due = refl; marked = tt; supported = refl }) why e
+
+    arena_is : IsSameArena h.segs w
+    arena_is = record {
+      grains = parts.grains;
+      limit = parts.limit;
+      segments = parts.segments;
+      covered = parts.image.runs.covered;
+    }
+
+    -- ---- where the pool is manual
+
+    module _ (from : Kept (Pool F)) (p : Numbered world.Pool) (pool_found : IsPoolFound layout h w from p)
+        (pool_is : checked.pool_named w name ≡ Ok p) (manual : is_automatic_kind p.value.kind ≡ false) where
+      to_manual : act_alloc w w name words place ≡ alloc_in w w words place p (checked.block_place_in w place)
+      to_manual = ap (alloc_from w w words place) pool_is ∙ ap (alloc_manual w w words place p) manual
+
+      same_number : from.key ≡ p.number
+      same_number = sym pool_found.number
+
+      size : ℕ
+      size = size_of_pool from.value
+
+      size_is : slice_get h.sizes from.key ≡ Some size
+      unfolding size
+      size_is =
+          ap (λ xs. slice_get xs from.key) parts.sizes ∙ slice_get-map size_of_pool h.pools from.key
+          ∙ ap (option_map size_of_pool) pool_found.kept
+
+      has_same : has_blocks_of size words ≡ allows_size p.value.kind words
+      unfolding size
+      has_same =
+          size_alike layout w.formats from.value p.value words pool_found.fit manual
+          (all-at (λ (x : world.Pool). is_sized x.kind ≡ true) w.pools p.number p.value (placed_once w reached).sized pool_found.has)
+
+      -- ---- where the place is found
+
+      module _ (into : Entry Address) (found : Found (Option ℕ)) (is : IsPlaceEntry past h w place.index into found)
+          (place_is : checked.block_place_in w place ≡ Ok found) where
+        to_place : act_alloc w w name words place ≡ alloc_sized w w words place p found (allows_size p.value.kind words)
+        to_place = to_manual ∙ ap (alloc_in w w words place p) place_is
+
+        -- the place is empty in both, or in neither
+        empty_same : (into.value == 0) ≡ not (is_some found.value)
+        empty_same = of_value found.value refl is.value
+          where
+            of_value : (o : Option ℕ) → found.value ≡ o → into.value ≡ address_of_target w.addresses o → (into.value == 0) ≡ not (is_some o)
+            of_value None e value = ap (λ a. a == 0) value
+            of_value (Some id) e value =
+                let live = subst (PassesOrNull (is_live w)) e (entry-passes (is_live w) found.list place.index found.value
+                (all-in (is_live w) entries w.graph.blocks found.number found.list own.live.blocks is.has) is.there) in
+                let at = some_there (entry_at w.addresses id) live in
+                let address : into.value ≡ at.0 = value ∙ ap (λ o. option_map_or (λ x. x) o 0) at.1 in
+                ne_eqb into.value 0 (λ z. let low = (parts.image.placed.address id at.0 at.1).not_null in omega (arith, z, address, low))
+
+        -- ---- where the size is allowed and the place empty
+
+        module _ (allowed : allows_size p.value.kind words ≡ true) (empty : is_some found.value ≡ false) where
+          to_empty : act_alloc w w name words place ≡ alloc_placed w w words place p found (placement_of w (ForAlloc p.number words))
+          to_empty = to_place ∙ ap (alloc_sized w w words place p found) allowed ∙ ap (alloc_empty w w words place p found) empty
+
+          entry_there : slice_get found.list found.index ≡ Some found.value
+          entry_there = ap (slice_get found.list) is.found_index ∙ is.there
+
+          ok : Answer
+          ok = Replied reply.Ok
+
+          accepted : (q : Placement) → placement_of w (ForAlloc p.number words) ≡ q → refuse_without_place q ≡ Ok tt
+              → IsRightAlloc w line (Ok (made_at p.number into q (record { 0 = address_of_placement q })))
+          accepted q q_is room =
+              let sound = reached_sound w reached parts.at_rest in
+              let v = allocating.world_made w parts.at_rest sound own.formed.addresses name words place p pool_is manual found place_is
+              is.has
+              allowed empty q q_is room in
+              let ms = alloc_at p.number words q in
+              subst (λ ns. IsRightIn layout w (step_of line (call.Alloc name words place) ns (Replied reply.Ok))
+              (made_at p.number into q (record { 0 = address_of_placement q })).state) (sym (moves_are trail q p.number words none room))
+              (right_from layout w v (step_of line (call.Alloc name words place) ms (Replied reply.Ok))
+              (made_at p.number into q (record { 0 = address_of_placement q })).state reached
+              (made_rightly w parts.at_rest sound own.formed.addresses name words place p pool_is manual found place_is is.has allowed
+              empty q
+              q_is room line) parts.at_rest refl refl
+              (λ r. record {
+                past = past;
+                parts = parts_made layout past h w parts own (reached_graph w reached) (placed_once w reached) p.number words
+                    (some_words p.value.kind words allowed) q place.index into found is (laid_out w reached) (laid_out v r);
+              }))
+
+          of_placement : (q : Placement) → placement_of w (ForAlloc p.number words) ≡ q → IsRightAlloc w line (placed_at p.number into q)
+          of_placement (Place word) e = accepted (Place word) e refl
+          of_placement (NewSegment grain grains) e = accepted (NewSegment grain grains) e refl
+          of_placement (OverLimit committed need limit) e =
+              refused_outcome (refusal.CommitLimit committed need limit) (to_empty ∙ ap (alloc_placed w w words place p found) e)
+          of_placement (NoFreeRun need longest) e =
+              refused_outcome (refusal.NoRun need longest) (to_empty ∙ ap (alloc_placed w w words place p found) e)
+
+          placed_outcome : IsRightAlloc w line (placed_at p.number into (placement_in_gaps h.segs p.number rank.Exact words))
+          placed_outcome =
+              subst (λ q. IsRightAlloc w line (placed_at p.number into q)) (sym (gaps_agree h.segs w arena_is p.number rank.Exact words))
+              (of_placement (placement_of w (ForAlloc p.number words)) refl)
+
+        of_size : (allowed empty : Bool) → allows_size p.value.kind words ≡ allowed → not (is_some found.value) ≡ empty
+            → IsRightAlloc w line (from_size p.number into allowed empty)
+        of_size false empty e f = refused_outcome refusal.BadSize (to_place ∙ ap (alloc_sized w w words place p found) e)
+        of_size true false e f =
+            refused_outcome refusal.NameTaken
+            (to_place ∙ ap (alloc_sized w w words place p found) e ∙ ap (alloc_empty w w words place p found) (taken
+            (is_some found.value) f))
+          where
+            taken : (b : Bool) → not b ≡ false → b ≡ true
+            taken true g = refl
+            taken false g = absurd (false≢true (sym g))
+        of_size true true e f = placed_outcome e (untaken (is_some found.value) f)
+          where
+            untaken : (b : Bool) → not b ≡ true → b ≡ false
+            untaken true g = absurd (false≢true g)
+            untaken false g = refl
+
+        sized_outcome : IsRightAlloc w line (from_place from into)
+        sized_outcome =
+            subst (IsRightAlloc w line) (sym (ap (λ o. required o refusal.BadName >>= (λ n.
+            from_size from.key into (has_blocks_of n words) (into.value == 0))) size_is))
+            (subst (λ b. IsRightAlloc w line (from_size from.key into b (into.value == 0))) (sym has_same)
+            (subst (λ b. IsRightAlloc w line (from_size from.key into (allows_size p.value.kind words) b)) (sym empty_same)
+            (subst (λ n. IsRightAlloc w line (from_size n into (allows_size p.value.kind words) (not (is_some found.value))))
+            (sym same_number)
+            (of_size (allows_size p.value.kind words) (not (is_some found.value)) refl refl))))
+
+      of_place : (x : Checked (Entry Address)) (y : Checked (Found (Option ℕ))) → checked.block_place_in w place ≡ y
+          → Same (IsPlaceFound past h w place) x y → IsRightAlloc w line (x >>= from_place from)
+      of_place x y theirs (fits {a = into} {b = found} is) = sized_outcome into found is.fit theirs
+      of_place x y theirs (same.refused {why = why}) =
+          refused_outcome why (to_manual ∙ ap (alloc_in w w words place p) theirs)
+
+    -- ---- the checks
+
+    of_kind : (from : Kept (Pool F)) (p : Numbered world.Pool) → IsPoolFound layout h w from p → checked.pool_named w name ≡ Ok p
+        → (automatic : Bool) → is_automatic_kind p.value.kind ≡ automatic → IsRightAlloc w line (from_pool from automatic)
+    of_kind from p pool_found pool_is true e =
+        refused_outcome refusal.WrongPool
+        (ap (alloc_from w w words place) pool_is ∙ ap (alloc_manual w w words place p) e)
+    of_kind from p pool_found pool_is false e =
+        of_place from p pool_found pool_is e (block_place_in h place) (checked.block_place_in w place) refl
+        (place_same layout past h w parts place)
+
+    of_pool : (x : Checked (Kept (Pool F))) (y : Checked (Numbered world.Pool)) → checked.pool_named w name ≡ y
+        → Same (IsPoolFound layout h w) x y
+        → IsRightAlloc w line (x >>= (λ (from : Kept (Pool F)). from_pool from (is_automatic_pool from.value)))
+    of_pool x y theirs (fits {a = from} {b = p} pool_found) =
+        subst (λ b. IsRightAlloc w line (from_pool from b)) (sym (automatic_alike layout w.formats from.value p.value pool_found.fit))
+        (of_kind from p pool_found theirs (is_automatic_kind p.value.kind) refl)
+    of_pool x y theirs (same.refused {why = why}) = refused_outcome why (ap (alloc_from w w words place) theirs)
+
+    allocated_outcome : IsRightAlloc w line (block_allocated h trail name words place)
+    allocated_outcome =
+        subst (IsRightAlloc w line) (sym outcome_is)
+        (of_pool (pool_named h name) (checked.pool_named w name) refl (pool_same layout past h w parts name))
+
+  -- `alloc` is right, where the trail has no moves before it
+  pub alloc_is_right : (result : Checked (Unit {0})) (after : HeapState F) (trail_after : Moves)
+      → ComesMoving h trail (block_allocated h trail name words place) result after trail_after
+      → IsRight layout h (call.Alloc name words place) trail_after.moves (answer_to says_ok result) after
+  alloc_is_right result after trail_after comes =
+      outcome_is_right layout h trail none (call.Alloc name words place) (block_allocated h trail name words place) result after trail_after
+      comes allocated_outcome

@@ -1,0 +1,134 @@
+-- A `free` where no collection runs: a legal step, whose moves free the block, and give its segment back where nothing is left in it.
+use Rattle.std.proofs.Common.{◌≡◌, ◌∙◌, ℕ, zero, suc, Bool, true, false, refl, sym, ap, List, [], ◌∷◌, Option, Some, None, Ok, inl, inr}
+use Rattle.std.proofs.lemmas.Bool.{ne_eqb, and_from}
+use Rattle.std.proofs.lemmas.Option.{none-some}
+use Rattle.std.specs.Prelude.{◌==◌, ◌&&◌, not, slice_get, slice_set, if◌then◌else◌}
+use Rattle.std.specs.List.{flat_map, list_all}
+use Rattle.std.specs.Option.{option_map_or}
+use Rattle.mps_base.specs.Address.{Address, Id}
+use Rattle.mps_base.specs.Segment.{Segment, segment_over, without_segment}
+use Rattle.mps_base.specs.declared.moves.Move.{Move}
+use Rattle.mps_base.specs.declared.moves.Move.TheVariants as moves
+use Rattle.mps_base.specs.declared.names.Slot.{Slot}
+use Rattle.mps_laws.proofs.Finding.{id_at-there}
+use Rattle.mps_laws.proofs.Sound.HeldIds.{All, all-append, held_again}
+use Rattle.mps_laws.proofs.QuietSteps as quiet
+use Rattle.mps_laws.proofs.QuietSteps.{IsSound}
+use Rattle.mps_laws.proofs.Sound.SoundChanges.{gone_sound, sound_again}
+use Rattle.mps_laws.proofs.Sound.SoundEffects.{place_sound}
+use Rattle.mps_laws.proofs.Sound.SoundGraph.{IsSoundGraph, auto}
+use Rattle.mps_model.proofs.AtRest.{with_collection-none}
+use Rattle.mps_model.specs.declared.call.Call.TheVariants as call
+use Rattle.mps_model.specs.declared.reply.Reply.TheVariants as reply
+use Rattle.mps_model.specs.Answer.{Answer, Replied}
+use Rattle.mps_model.specs.Graph.{Slots, entries, entry_at, ids_in_blocks}
+use Rattle.mps_model.specs.World.{World, is_any_size_kind, is_empty_segment, pool_is, segment_of}
+use Rattle.mps_model.specs.Checked.{Found, ◌>>=◌, ◌>>◌, block_place_in, done, with_graph, required}
+use Rattle.mps_model.specs.Allocating.{act_free, block_in, with_block_place}
+use Rattle.mps_model.specs.Accessing.{address_or_null}
+use Rattle.mps_model.specs.Effect.{after_free, after_unseg, giving_back, reclaiming, segment_base_of, where_one, with_address, with_collection, world_after_move, world_after_moves}
+use Rattle.mps_model.specs.Flip.{at_address}
+use Rattle.mps_model.specs.History.{free_of, give_back_empty, moves_of_free, unless_refused, with_client_remembered}
+use Rattle.mps_refinement.specs.RightStep.{step_of}
+use Rattle.mps_refinement.proofs.Worlds.PlacedOnce.{ArePlacedOnce, IsIn, written_cases}
+use Rattle.mps_refinement.proofs.Worlds.PlacesByMoves.{places_of}
+use Rattle.mps_refinement.proofs.Worlds.RestingSteps.{done_step}
+use Rattle.mps_refinement.proofs.Parts.StillHeld.{held_others, target_others}
+use Rattle.mps_base.specs.declared.refusal.Refusal.TheVariants as refusal
+
+abbrev ok : Answer
+ok = Replied reply.Ok
+
+-- a fact of each block in a place is one of all
+pub all_in_places : (test : ℕ → Bool) (blocks : List Slots) → ((n i id : ℕ) → IsIn blocks n i id → test id ≡ true)
+    → All test (flat_map entries blocks)
+all_in_places test [] each = refl
+all_in_places test (row ∷ rows) each =
+    all-append test (entries row) (flat_map entries rows)
+    (in_row row (λ i id e. each zero i id (record { row = row; table = refl; entry = e })))
+    (all_in_places test rows (λ n i id is. each (suc n) i id (record { row = is.row; table = is.table; entry = is.entry })))
+  where
+    in_row : (xs : Slots) → ((i id : ℕ) → slice_get xs i ≡ Some (Some id) → test id ≡ true) → All test (entries xs)
+    in_row [] f = refl
+    in_row (None ∷ xs) f = in_row xs (λ i id e. f (suc i) id e)
+    in_row (Some id ∷ xs) f =
+        and_from (test id) (list_all test (entries xs)) (f zero id refl)
+        (in_row xs (λ i j e. f (suc i) j e))
+
+module _ (w : World) (rest : w.collection ≡ None) (graph : IsSoundGraph w) (sound : IsSound w) (once : ArePlacedOnce (places_of w))
+    (place : Slot) (found : Found (Option ℕ)) (place_is : block_place_in w place ≡ Ok found)
+    (has : slice_get w.graph.blocks found.number ≡ Some found.list) (entry : slice_get found.list found.index ≡ Some found.value) (id : Id)
+    (at : Address) (value : found.value ≡ Some id) (there : entry_at w.addresses id ≡ Some at) (manual : auto w id ≡ false)
+    (different : (i j : ℕ) (a : Address) → entry_at w.addresses i ≡ Some a → entry_at w.addresses j ≡ Some a → i ≡ j) (t : Segment)
+    (over : segment_over w.segments at ≡ Some t) (given : Bool)
+    (is_given : (pool_is is_any_size_kind w t.pool && is_empty_segment (with_address w id None) t) ≡ given) where
+  -- the moves
+  abbrev pub moves_freed : List Move
+  moves_freed = moves.Free (at_address at) ∷ (if given then moves.Unseg (at_address t.base) ∷ [] else [])
+
+  abbrev pub segments_after : List Segment
+  segments_after = if given then without_segment w.segments t.base else w.segments
+
+  -- the world after them
+  abbrev pub world_moved : World
+  world_moved = record w { addresses = slice_set w.addresses id None; segments = segments_after }
+
+  -- and after the call
+  abbrev pub world_freed : World
+  world_freed = with_graph world_moved (with_block_place w.graph found None)
+
+  block_freed : world_after_move w (moves.Free (at_address at)) ≡ with_address w id None
+  block_freed =
+      ap (λ o. where_one w o (λ n. after_free w n at)) (id_at-there w at id different there)
+      ∙ ap (λ b. if b then with_collection (with_address w id None) (reclaiming (segment_base_of w at)) else with_address w id None) manual
+
+  moved_is : world_after_moves w moves_freed ≡ world_moved
+  moved_is =
+      elim given as (λ b. world_after_moves w (moves.Free (at_address at) ∷ (if b then moves.Unseg (at_address t.base) ∷ [] else []))
+      ≡ record w { addresses = slice_set w.addresses id None; segments = if b then without_segment w.segments t.base else w.segments }) [
+        | true ↦
+            ap (λ v. after_unseg v t.base) block_freed
+            ∙ with_collection-none
+            (record (with_address w id None) { segments = without_segment w.segments t.base }) (giving_back t.base) rest
+        | false ↦ block_freed
+      ]
+
+  due : moves_freed ≡ unless_refused ok (moves_of_free w (block_place_in w place))
+  due = sym (ap (moves_of_free w) place_is ∙ ap (λ o. option_map_or (λ n. free_of w (address_or_null w n)) o []) value
+      ∙ ap (λ o. free_of w (option_map_or (λ a. a) o 0)) there
+      ∙ ap (λ v. moves.Free (at_address at) ∷ give_back_empty v (segment_of w at)) block_freed
+      ∙ ap (λ o. moves.Free (at_address at) ∷ give_back_empty (with_address w id None) o) over
+      ∙ ap (λ b. moves.Free (at_address at) ∷ (if b then moves.Unseg (at_address t.base) ∷ [] else [])) is_given)
+
+  comes : act_free (world_after_moves w moves_freed) place ≡ done world_freed
+  comes =
+      ap (λ v. act_free v place) moved_is
+      ∙ ap (λ x. x >>= (λ (p : Found (Option ℕ)). block_in p >> done (with_graph world_moved (with_block_place w.graph p None)))) place_is
+      ∙ ap (λ o. required o refusal.NotABlock >> done world_freed) value
+
+  -- no other place has the block
+  place_others : All (λ j. not (id == j)) (ids_in_blocks (with_block_place w.graph found None))
+  place_others = all_in_places (λ j. not (id == j)) (with_block_place w.graph found None).blocks (λ n i j is.
+      elim (written_cases w.graph.blocks found.number found.index found.list None n i j has is) [
+        | inl here ↦ absurd (none-some j here.2)
+        | inr other ↦
+            ap not (ne_eqb id j (λ same. other.1 (once.once n i found.number found.index j other.0 (record {
+              row = found.list;
+              table = has;
+              entry = entry ∙ ap Some (value ∙ ap Some same);
+            }))))
+      ])
+
+  sound_freed : IsSound world_freed
+  sound_freed =
+      let placed = with_graph w (with_block_place w.graph found None) in
+      let emptied = place_sound w sound found None has tt in
+      let gone = gone_sound placed id emptied
+      (held_again (λ j. not (id == j)) w.graph placed.graph refl refl refl refl (held_others w graph id manual)) place_others
+      (λ r j live. target_others w graph id manual j) in
+      sound_again (with_address placed id None) world_freed refl refl refl refl gone
+
+  pub freed_rightly : (line : ℕ)
+      → quiet.IsRight w (step_of line (call.Free place) moves_freed ok) (with_client_remembered world_freed)
+  freed_rightly line =
+      done_step w world_freed line (call.Free place) moves_freed tt due comes tt sound_freed

@@ -1,0 +1,210 @@
+-- `pool`: a pool that is made stands for that of the model.
+use Rattle.std.proofs.Common.{◌≡◌, ◌∙◌, ℕ, ◌+◌, false, refl, sym, ap, subst, List, [], ◌∷◌, ◌++◌, length, Some, None, inl, inr, arith}
+use Rattle.std.proofs.lemmas.Bool.{cases_order}
+use Rattle.std.proofs.lemmas.List.{length-append, map-append}
+use Rattle.std.proofs.lemmas.Option.{none-some, same_Some}
+use Rattle.std.specs.Prelude.{Result, nat_le, not, slice_get}
+use Rattle.std.specs.Option.{option_map_or}
+use Rattle.mps_base.specs.declared.names.Kind.{Kind}
+use Rattle.mps_base.specs.declared.names.Name.{Name}
+use Rattle.mps_base.specs.declared.refusal.Refusal.{Refusal}
+use Rattle.mps_base.specs.declared.refusal.Refusal.TheVariants as refusal
+use Rattle.mps_format.specs.Layout.{Layout}
+use Rattle.mps_trace_laws.specs.Image.Memory.{memory_in, pool_layout}
+use Rattle.mps_laws.proofs.Held.{any_kind}
+use Rattle.mps_laws.proofs.LegalHistories.{kept_by_steps}
+use Rattle.mps_laws.proofs.Lookups.{entry_is_there, length-with_last, slice_get-after_last, slice_get-at_last, slice_get-kept, slice_get-last, there_is}
+use Rattle.mps_laws.proofs.Sound.PoolsThere.{HasPools, IsPointPoolThere, all-at, step_has_pools}
+use Rattle.mps_laws.proofs.Same.{Alike, same_next, same_refuse_when}
+use Rattle.mps_model.specs.declared.call.Call.{Call}
+use Rattle.mps_model.specs.declared.call.Call.TheVariants as call
+use Rattle.mps_model.specs.Checked.{Checked, ◌>>◌, done, refuse_when}
+use Rattle.mps_model.specs.Graph as graph
+use Rattle.mps_model.specs.Graph.{entry_at, with_last}
+use Rattle.mps_model.specs.Making as model
+use Rattle.mps_model.specs.Making.{is_block_size, most_pools, refuse_at_limit}
+use Rattle.mps_model.specs.Reply.{act}
+use Rattle.mps_model.specs.World as world
+use Rattle.mps_model.specs.World.{World, Collected, OneSize, AnySize, empty_world_of, is_copying_kind}
+use Rattle.mps_names.specs.State.{thing_named}
+use Rattle.mps_names.specs.declared.names.Thing.TheVariants as thing
+use Rattle.mps_heap_spec.specs.Making.{IsMaking, MakesPool, check_pool, check_pool_of_size, refuse_taken}
+use Rattle.mps_heap_spec.specs.State.{HeapState}
+use Rattle.mps_format.specs.Pools.{size_of_pool}
+use Rattle.mps_format.specs.declared.pool.Pool.{Pool}
+use Rattle.mps_format.specs.declared.pool.Pool.TheVariants as pool
+use Rattle.mps_refinement.specs.Making.{IsRightMaking, IsRightMakingIn, MeansLayout}
+use Rattle.mps_refinement.specs.StandsFor.{AreParts, ArePools, IsPool, IsReached, Past}
+use Rattle.mps_refinement.proofs.Calls.MakingSteps.{MakesAlike, checks_then, first_passed, free_name, making_is_right, making_is_right_in, taken_same}
+use Rattle.mps_refinement.proofs.Parts.Named.{ThingsStay, named_made}
+use Rattle.mps_refinement.proofs.Parts.Numbering.{fitting_there}
+use Rattle.mps_refinement.proofs.Parts.PartsMade.{pools_changed, state_of_pools}
+use Rattle.mps_refinement.proofs.Parts.PoolImage.{other_formats_stand}
+use Rattle.mps_refinement.proofs.Worlds.Steps.{HasParts}
+
+-- in a world that is reached each point is of a pool that there is
+pub reached_has_pools : (w : World) → IsReached w → HasPools w
+reached_has_pools w r =
+    subst HasPools (sym r.is)
+    (kept_by_steps HasPools (λ s. Unit {0}) (λ v s has any answered. step_has_pools v s has answered) (empty_world_of w.formats) r.history
+    (record { of_objects = tt; of_points = tt }) (any_kind r.history) r.legal)
+
+module _ {F : Type 0} (layout : F → Layout) (h : HeapState F) (name : Name) (p : Pool F) where
+  module _ (w : World) (past : Past) (parts : AreParts layout past h w) (reached : IsReached w) (q : world.Pool)
+      (fit : IsPool layout w.formats p q) where
+    abbrev pools : List world.Pool
+    pools = with_last w.pools q
+
+    pools_fit : ArePools layout w.formats (h.pools ++ p ∷ []) pools
+    pools_fit = record {
+      count = length-with_last w.pools q ∙ ap (λ n. n + 1) parts.pools.count ∙ sym (length-with_last h.pools p);
+      each = each;
+    }
+      where
+        each : (number : ℕ) (x : Pool F) → slice_get (h.pools ++ p ∷ []) number ≡ Some x
+            → (y : world.Pool) × (slice_get pools number ≡ Some y) × IsPool layout w.formats x y
+        each number x is =
+            elim (cases_order number (length h.pools)) [
+              | inl at_last ↦ (
+                q,
+                ap (slice_get pools) (at_last ∙ sym parts.pools.count) ∙ slice_get-at_last w.pools q,
+                subst (λ z. IsPool layout w.formats z q)
+                    (same_Some p x (sym (ap (slice_get (h.pools ++ p ∷ [])) at_last ∙ slice_get-at_last h.pools p) ∙ is)) fit,
+              )
+              | inr (inl low) ↦
+                  let old = parts.pools.each number x (sym (slice_get-last h.pools p number low) ∙ is) in
+                  (old.0, slice_get-kept w.pools q old.0 number old.1, old.2)
+              | inr (inr high) ↦ absurd (none-some x (sym (slice_get-after_last h.pools p number high) ∙ is))
+            ]
+
+    -- whether a collection moves the blocks of a point's pool is as it was
+    copying_as_before : (n : ℕ) (x : graph.Point) → entry_at w.graph.points n ≡ Some x
+        → world.is_copying_pool (record w { pools = pools }) x.pool ≡ world.is_copying_pool w x.pool
+    copying_as_before n x there =
+        let low = all-at (IsPointPoolThere w.pools) w.graph.points n (Some x) (reached_has_pools w reached).of_points
+        (entry_is_there w.graph.points n x there) in
+        let of = there_is w.pools x.pool low in
+        ap (λ o. option_map_or (λ (y : world.Pool). is_copying_kind y.kind) o false)
+        (slice_get-kept w.pools q of.0 x.pool of.1 ∙ sym of.1)
+
+    pool_parts : (number : ℕ) (after : HeapState F) → thing_named h.names name ≡ None → MakesPool h name p number after
+        → HasParts layout after (model.with_pool w name q)
+    pool_parts number after free makes = record {
+      past = past;
+      parts = subst (λ s. AreParts layout past s (model.with_pool w name q)) (sym makes.state)
+          (pools_changed layout past h w parts (h.pools ++ p ∷ []) (h.sizes ++ size_of_pool p ∷ []) after.names pools
+          (with_last w.graph.names (record { name = name; thing = graph.PoolThing (length w.pools) })) (record {
+            pools_are = pools_fit;
+            sizes_are = ap (λ sizes. sizes ++ size_of_pool p ∷ []) parts.sizes ∙ sym (map-append size_of_pool h.pools (p ∷ []));
+            points_are = fitting_there parts.points (λ n x y there is. record {
+              pool = is.pool;
+              rank = is.rank;
+              copying = is.copying ∙ sym (copying_as_before n y there);
+              memory = is.memory;
+              has = is.has;
+              buffer = is.buffer;
+              reservation = is.reservation;
+            });
+            image_stands = other_formats_stand h.segs w.graph.objects w.graph.points w.point_memories (pool_layout w)
+                (pool_layout (record w { pools = pools })) (memory_in h.segs) w.addresses parts.image;
+            names_are = named_made past past h made w.graph.names parts.names name (thing.Pool number) (graph.PoolThing (length w.pools))
+                makes.names free (ap graph.PoolThing (makes.number_is ∙ sym parts.pools.count)) (λ other there. refl) stay
+                (let e = makes.number_is in omega (arith, e, longer))
+                (λ there. let e = makes.number_is in omega (arith, e, there));
+          }));
+    }
+      where
+        made : HeapState F
+        made = state_of_pools layout past h w parts (h.pools ++ p ∷ []) (h.sizes ++ size_of_pool p ∷ []) after.names
+
+        longer : length (h.pools ++ p ∷ []) ≡ length h.pools + 1
+        longer = length-append h.pools (p ∷ [])
+
+        stay : ThingsStay h made
+        stay = record {
+          pools = λ n low. omega (arith, low, longer);
+          tables = λ k some. some;
+          areas = λ k some. some;
+          blocks = λ n low. low;
+          points = λ k some. some;
+          dependencies = λ n low. low;
+        }
+
+    limit_same : Alike (refuse_at_limit (length h.pools) most_pools) (refuse_at_limit (length w.pools) most_pools)
+    limit_same =
+        same_refuse_when (nat_le most_pools (length h.pools)) (nat_le most_pools (length w.pools)) (refusal.TooMany most_pools)
+        (ap (nat_le most_pools) (sym parts.pools.count))
+
+    pool_alike : (c : Call)
+        → act false w w c
+        ≡ (model.refuse_taken w name >> (refuse_at_limit (length w.pools) most_pools >> done (model.with_pool w name q)))
+        → MakesAlike layout h w c (check_pool h name) (MakesPool h name p)
+    pool_alike c is = record {
+      models = model.refuse_taken w name >> refuse_at_limit (length w.pools) most_pools;
+      made = model.with_pool w name q;
+      comes = is ∙ checks_then (model.refuse_taken w name) (refuse_at_limit (length w.pools) most_pools)
+          (done (model.with_pool w name q));
+      alike = same_next (taken_same layout past h w parts name) limit_same;
+      has = λ number after ok makes.
+          pool_parts number after
+          (free_name h name (first_passed (refuse_taken h name) (refuse_at_limit (length h.pools) most_pools) tt ok).1) makes;
+    }
+
+    abbrev refuse_size : (words : ℕ) → Checked (Unit {0})
+    refuse_size words = refuse_when (not (is_block_size words)) refusal.BadSize
+
+    pool_of_size_alike : (words : ℕ)
+        → act false w w (call.PoolMfs name words)
+        ≡ (model.refuse_taken w name >> (refuse_size words
+        >> (refuse_at_limit (length w.pools) most_pools >> done (model.with_pool w name q))))
+        → MakesAlike layout h w (call.PoolMfs name words) (check_pool_of_size h name words) (MakesPool h name p)
+    pool_of_size_alike words is = record {
+      models = model.refuse_taken w name >> (refuse_size words >> refuse_at_limit (length w.pools) most_pools);
+      made = model.with_pool w name q;
+      comes = is
+          ∙ ap (λ x. model.refuse_taken w name >> x)
+          (checks_then (refuse_size words) (refuse_at_limit (length w.pools) most_pools) (done (model.with_pool w name q)))
+          ∙ checks_then (model.refuse_taken w name) (refuse_size words >> refuse_at_limit (length w.pools) most_pools)
+          (done (model.with_pool w name q));
+      alike = same_next (taken_same layout past h w parts name)
+          (same_next (same_refuse_when (not (is_block_size words)) (not (is_block_size words)) refusal.BadSize refl) limit_same);
+      has = λ number after ok makes.
+          pool_parts number after
+          (free_name h name (first_passed (refuse_taken h name) (refuse_size words >> refuse_at_limit (length h.pools) most_pools) tt ok).1)
+          makes;
+    }
+
+-- ---- the calls
+
+-- in each world where this number means the format
+pub pool_is_right : {F : Type 0} (layout : F → Layout) (h : HeapState F) (name : Name) (kind : Kind) (format : F) (number : ℕ)
+    (result : Result ℕ Refusal) (after : HeapState F)
+    → IsMaking h (check_pool h name) (MakesPool h name (pool.Automatic kind format)) result after
+    → IsRightMakingIn layout (MeansLayout number (layout format)) h (call.Pool name kind number) result after
+pool_is_right layout h name kind format number result after making =
+    making_is_right_in layout h (call.Pool name kind number) (check_pool h name) (MakesPool h name (pool.Automatic kind format))
+    (MeansLayout number (layout format)) refl refl
+    (λ w past means parts reached.
+    pool_alike layout h name (pool.Automatic kind format) w past parts reached
+    (record { kind = Collected kind; format = number; chain = None }) (refl, means) (call.Pool name kind number) refl)
+    result after making
+
+pub pool_mfs_is_right : {F : Type 0} (layout : F → Layout) (h : HeapState F) (name : Name) (words : ℕ) (result : Result ℕ Refusal)
+    (after : HeapState F) → IsMaking h (check_pool_of_size h name words) (MakesPool h name (pool.OneSize words)) result after
+    → IsRightMaking layout h (call.PoolMfs name words) result after
+pool_mfs_is_right layout h name words result after making =
+    making_is_right layout h (call.PoolMfs name words) (check_pool_of_size h name words) (MakesPool h name (pool.OneSize words)) refl refl
+    (λ w past parts reached.
+    pool_of_size_alike layout h name (pool.OneSize words) w past parts reached
+    (record { kind = OneSize words; format = 0; chain = None }) refl words refl)
+    result after making
+
+pub pool_mvff_is_right : {F : Type 0} (layout : F → Layout) (h : HeapState F) (name : Name) (result : Result ℕ Refusal)
+    (after : HeapState F) → IsMaking h (check_pool h name) (MakesPool h name pool.AnySize) result after
+    → IsRightMaking layout h (call.PoolMvff name) result after
+pool_mvff_is_right layout h name result after making =
+    making_is_right layout h (call.PoolMvff name) (check_pool h name) (MakesPool h name pool.AnySize) refl refl
+    (λ w past parts reached.
+    pool_alike layout h name pool.AnySize w past parts reached (record { kind = AnySize; format = 0; chain = None }) refl
+    (call.PoolMvff name) refl)
+    result after making

@@ -1,0 +1,218 @@
+-- The calls on objects are right: `head`, `addr`, `num`, `setnum`, `get`, `put`.
+use Rattle.std.proofs.Common.{◌≡◌, ◌∙◌, ℕ, ◌+◌, refl, sym, ap, subst, List, [], Option, Some, None, inl, arith}
+use Rattle.std.proofs.lemmas.Option.{none-some}
+use Rattle.std.specs.Prelude.{slice_get, slice_set}
+use Rattle.std.specs.Option.{option_map_or}
+use Rattle.mps_base.specs.Address.{Address, Id}
+use Rattle.mps_base.specs.declared.names.Slot.{Slot}
+use Rattle.mps_format.specs.Layout.{Layout, IsLawful}
+use Rattle.mps_trace_laws.proofs.Image.CellChanged.{target_changed}
+use Rattle.mps_trace_laws.proofs.Image.ClientLaws.{cell_of_an_object_is_written}
+use Rattle.mps_trace_laws.specs.Image.Image.{IsCellWord, IsFixedWord, no_colours}
+use Rattle.mps_trace_laws.specs.Image.Memory.{Lies, memory_in, setting_at_rest, pool_layout}
+use Rattle.mps_laws.proofs.Same.{Same, fits, same_then}
+use Rattle.mps_laws.proofs.Sound.SoundGraph.{PassesOrNull}
+use Rattle.mps_model.specs.declared.call.Call.TheVariants as call
+use Rattle.mps_model.specs.Allocating.{with_slot}
+use Rattle.mps_model.specs.Checked as model
+use Rattle.mps_model.specs.Checked.{Act, Checked, Found, Numbered, ◌>>=◌, ◌>>◌, cells_of_body, reference_at, with_graph}
+use Rattle.mps_model.specs.Graph.{Cell, NumberCell, ReferenceCell, Object, entry_at, graph_with_cells, with_target_cell}
+use Rattle.mps_model.specs.World.{World, is_live}
+use Rattle.mps_heap_spec.specs.Coming.{Comes}
+use Rattle.mps_heap_spec.specs.Finding.{object_at, object_in, retargeted, slot_in}
+use Rattle.mps_heap_spec.specs.declared.found.Block.{Block}
+use Rattle.mps_heap_spec.specs.declared.found.CellFound.{CellFound}
+use Rattle.mps_heap_spec.specs.declared.found.Entry.{Entry}
+use Rattle.mps_heap_spec.specs.Objects.{head_in, address_in, number_in, number_set, reference_got, reference_put, with_word}
+use Rattle.mps_heap_spec.specs.State.{HeapState}
+use Rattle.mps_refinement.specs.RightStep.{IsRight}
+use Rattle.mps_refinement.specs.StandsFor.{AreParts, Past, address_of_target}
+use Rattle.mps_refinement.proofs.Lookups.Cells.{retargeted_is, target_is}
+use Rattle.mps_refinement.proofs.Lookups.Found.{again, in_a_row, same_drop, some_there}
+use Rattle.mps_refinement.proofs.Worlds.Known.{IsKnown, known}
+use Rattle.mps_refinement.proofs.Lookups.LiveObjects.{IsNumberOf, IsObject, IsReferenceOf, number_same, object_at_same, object_lawful, object_then, reference_same, slot_may_read, target_address}
+use Rattle.mps_refinement.proofs.Lookups.Lookups.{slot_same}
+use Rattle.mps_refinement.proofs.Parts.PartsWritten.{slot_written, words_written}
+use Rattle.mps_refinement.proofs.Calls.Readings.{act_reading, reading_is_right, says_ok}
+pub use Rattle.mps_refinement.specs.Answering.{says_head, says_number, says_word}
+use Rattle.mps_refinement.proofs.Worlds.Steps.{ComesToTheSame, answer_to, quiet_is_right}
+
+-- ---- a cell is written
+
+-- a word is that of a reference, where its target is null or live
+reference_is_word : (addresses : List (Option Address)) (head word tag : ℕ) (target : Option Id)
+    → ((id : Id) → target ≡ Some id → (at : Address) × (entry_at addresses id ≡ Some at))
+    → word ≡ address_of_target addresses target + tag → IsCellWord addresses [] head (ReferenceCell target tag) word
+reference_is_word addresses head word tag None live e = omega (arith, e)
+reference_is_word addresses head word tag (Some id) live e =
+    let at = live id refl in
+    record { address = at.0; is = e ∙ ap (λ o. option_map_or (λ a. a) o 0 + tag) at.1; means = inl at.1 }
+
+target_live : (w : World) (target : Option Id) → PassesOrNull (is_live w) target → (id : Id) → target ≡ Some id
+    → (at : Address) × (entry_at w.addresses id ≡ Some at)
+target_live w None live id e = absurd (none-some id e)
+target_live w (Some other) live id e =
+    some_there (entry_at w.addresses id) (subst (PassesOrNull (is_live w)) e live)
+
+module _ {F : Type 0} (layout : F → Layout) (past : Past) (h : HeapState F) (w : World) (parts : AreParts layout past h w)
+    (b : Block F) (n : Numbered Object) (is : IsObject layout h w b n) where
+  -- the words stand for the objects, where a cell and its word are written
+  pub cell_written : (k word value : ℕ) (new : Cell) (change : List Cell → List Cell)
+      → Lies w.graph.objects w.addresses n.number k n.value word → change is.cells ≡ slice_set is.cells k new
+      → IsFixedWord [] w.addresses no_colours b.head new value
+      → AreParts layout past (with_word h word value) (with_graph w (graph_with_cells w.graph n.number change))
+  cell_written k word value new change lies changes fixed =
+      words_written layout past h w parts (slice_set h.segs.words word value) (graph_with_cells w.graph n.number change).objects
+      (cell_of_an_object_is_written
+      (setting_at_rest h.segs w.graph.objects w.graph.points w.point_memories (pool_layout w)) w.graph (memory_in h.segs) w.addresses
+      no_colours n.number k n.value b.head is.cells is.is_weak word new value change refl is.body changes parts.image lies fixed)
+
+  pub number_written : (k value : ℕ) (cell : CellFound) (number : ℕ) → IsNumberOf w n k cell number
+      → AreParts layout past (with_word h cell.word value)
+      (with_graph w (graph_with_cells w.graph n.number (λ cells. slice_set cells k (NumberCell value))))
+  number_written k value cell number found =
+      cell_written k cell.word value (NumberCell value) (λ cells. slice_set cells k (NumberCell value)) found.lies refl
+      (record { holds = refl; not_white = λ t e. absurd (none-some t e) })
+
+  pub reference_written : (k : ℕ) (target : Option ℕ) (cell : CellFound) (old : Option ℕ) → PassesOrNull (is_live w) target
+      → IsReferenceOf w n k cell old
+      → AreParts layout past (with_word h cell.word (retargeted (layout b.format) cell.value (address_of_target w.addresses target)))
+      (with_graph w (graph_with_cells w.graph n.number (λ cells. with_target_cell cells k target)))
+  reference_written k target cell old live found =
+      let value = retargeted (layout b.format) cell.value (address_of_target w.addresses target) in
+      cell_written k cell.word value (ReferenceCell target found.tag) (λ cells. with_target_cell cells k target) found.lies
+      (target_changed is.cells k found.tag old target (ap (λ body. slice_get (cells_of_body body) k) (sym is.body) ∙ found.cell))
+      (record {
+        holds = reference_is_word w.addresses b.head value found.tag target (target_live w target live)
+            (retargeted_is (layout b.format) lawful cell.value (address_of_target w.addresses old) found.tag found.low
+            (target_address layout past h w parts old) found.value (address_of_target w.addresses target)
+            (target_address layout past h w parts target));
+        not_white = λ t e. refl;
+      })
+    where
+      lawful : IsLawful (layout b.format)
+      lawful = object_lawful layout past h w parts b n is
+
+-- ---- an object that is looked up again
+
+-- the target of cell k of an object, where the object and its cell are looked up twice, as before and after moves
+abbrev read_twice : World → (k : ℕ) → (after : Option ℕ → World) → Option ℕ → Checked Act
+read_twice w k after target =
+    model.object_in w target >>= (λ (object : Numbered Object).
+    reference_at (cells_of_body object.value.body) k >> (model.object_in w target >>= (λ (now : Numbered Object).
+    reference_at (cells_of_body now.value.body) k >>= (λ (target : Option ℕ). model.done (after target)))))
+
+module _ {F : Type 0} (layout : F → Layout) (past : Past) (h : HeapState F) (w : World) (parts : AreParts layout past h w)
+    (of : IsKnown w) where
+  -- the heap does so once
+  object_again : {C : Type 0} {FitNext : C → Act → Type 0} {f : Block F → Checked C} (source : Slot) (k : ℕ)
+      (after : Option ℕ → World)
+      → ((b : Block F) (n : Numbered Object) → IsObject layout h w b n
+      → Same FitNext (f b) (reference_at (cells_of_body n.value.body) k >>= (λ (target : Option ℕ). model.done (after target))))
+      → Same FitNext (object_in layout h source >>= f)
+      (model.slot_in w source >>= (λ (from : Found (Option ℕ)). read_twice w k after from.value))
+  object_again {C} {FitNext} {f} source k after next =
+      subst (λ x. Same FitNext x (model.slot_in w source >>= (λ (from : Found (Option ℕ)). read_twice w k after from.value)))
+      (sym (in_a_row (slot_in h source) (λ (from : Entry Address). object_at layout h from.value) f))
+      (same_then (slot_same layout past h w parts source) (λ from given has.
+      subst (λ y. Same FitNext (object_at layout h from.value >>= f) y)
+      (sym (again (model.object_in w given.value) (λ (object : Numbered Object). reference_at (cells_of_body object.value.body) k)
+      (λ (target : Option ℕ). model.done (after target))))
+      (same_then (object_at_same layout past h w parts of from.value given.value has.fit.value
+      (slot_may_read layout past h w parts of source.index from given has.fit)) next)))
+
+-- ---- the calls
+
+module _ {F : Type 0} (layout : F → Layout) (h : HeapState F) where
+  pub head_right : (slot : Slot) (result : Checked ℕ) → result ≡ head_in layout h slot
+      → IsRight layout h (call.Head slot) [] (answer_to says_head result) h
+  head_right slot result =
+      reading_is_right layout says_head h (call.Head slot) refl refl (λ a. refl) (head_in layout h slot) result
+      (λ w past parts reached.
+      object_then layout past h w parts (known w reached) slot (λ b n is.
+      fits (ap (λ body. act_reading w (says_head (model.head_of_body body))) is.body)))
+
+  pub address_right : (slot : Slot) (result : Checked Address) → result ≡ address_in layout h slot
+      → IsRight layout h (call.Address slot) [] (answer_to says_word result) h
+  address_right slot result =
+      reading_is_right layout says_word h (call.Address slot) refl refl (λ a. refl) (address_in layout h slot) result
+      (λ w past parts reached.
+      object_then layout past h w parts (known w reached) slot (λ b n is.
+      fits (ap (λ o. act_reading w (says_word (option_map_or (λ at. at) o 0))) is.address)))
+
+  pub number_right : (slot : Slot) (k : ℕ) (result : Checked ℕ) → result ≡ number_in layout h slot k
+      → IsRight layout h (call.Number slot k) [] (answer_to says_number result) h
+  number_right slot k result =
+      reading_is_right layout says_number h (call.Number slot k) refl refl (λ a. refl) (number_in layout h slot k) result
+      (λ w past parts reached.
+      object_then layout past h w parts (known w reached) slot (λ b n is.
+      same_then (number_same layout past h w parts b n is k) (λ cell number found.
+      fits (ap (λ m. act_reading w (says_number m)) (sym found.value)))))
+
+  number_set_same : (slot : Slot) (k value : ℕ)
+      → ComesToTheSame layout says_ok h (call.SetNumber slot k value) (number_set layout h slot k value)
+  number_set_same slot k value w past parts reached =
+      object_then layout past h w parts (known w reached) slot (λ b n is.
+      same_drop (number_same layout past h w parts b n is k) (λ cell number found.
+      fits (record {
+        answer = refl;
+        has = record { past = past; parts = number_written layout past h w parts b n is k value cell number found };
+      })))
+
+  pub number_set_right : (slot : Slot) (k value : ℕ) (result : Checked (Unit {0})) (after : HeapState F)
+      → Comes h (number_set layout h slot k value) result after
+      → IsRight layout h (call.SetNumber slot k value) [] (answer_to says_ok result) after
+  number_set_right slot k value result after =
+      quiet_is_right layout says_ok h (call.SetNumber slot k value) refl refl (λ a. refl) (number_set layout h slot k value) result after
+      (number_set_same slot k value)
+
+  reference_put_same : (target : Slot) (k : ℕ) (source : Slot)
+      → ComesToTheSame layout says_ok h (call.Put target k source) (reference_put layout h target k source)
+  reference_put_same target k source w past parts reached =
+      let of = known w reached in
+      same_then (slot_same layout past h w parts target) (λ into found is.
+      same_then (slot_same layout past h w parts source) (λ from given has.
+      same_then (object_at_same layout past h w parts of into.value found.value is.fit.value
+      (slot_may_read layout past h w parts of target.index into found is.fit)) (λ b n object.
+      same_drop (reference_same layout past h w parts b n object k) (λ cell old reference.
+      fits (record {
+        answer = refl;
+        has = record {
+          past = past;
+          parts = subst (λ at. AreParts layout past (with_word h cell.word (retargeted (layout b.format) cell.value at))
+              (with_graph w (graph_with_cells w.graph n.number (λ cells. with_target_cell cells k given.value)))) (sym has.fit.value)
+              (reference_written layout past h w parts b n object k given.value cell old
+              (slot_may_read layout past h w parts of source.index from given has.fit).live reference);
+        };
+      })))))
+
+  pub reference_put_right : (target : Slot) (k : ℕ) (source : Slot) (result : Checked (Unit {0})) (after : HeapState F)
+      → Comes h (reference_put layout h target k source) result after
+      → IsRight layout h (call.Put target k source) [] (answer_to says_ok result) after
+  reference_put_right target k source result after =
+      quiet_is_right layout says_ok h (call.Put target k source) refl refl (λ a. refl) (reference_put layout h target k source) result after
+      (reference_put_same target k source)
+
+  reference_got_same : (target source : Slot) (k : ℕ)
+      → ComesToTheSame layout says_ok h (call.Get target source k) (reference_got layout h target source k)
+  reference_got_same target source k w past parts reached =
+      let of = known w reached in
+      same_then (slot_same layout past h w parts target) (λ into found is.
+      object_again layout past h w parts of source k (λ target. with_graph w (with_slot w.graph found target)) (λ b n object.
+      same_then (reference_same layout past h w parts b n object k) (λ cell old reference.
+      fits (record {
+        answer = refl;
+        has = record {
+          past = past;
+          parts = slot_written layout past h w parts target.index into found ((layout b.format).target cell.value) old is.fit
+              (target_is (layout b.format) (object_lawful layout past h w parts b n object) cell.value (address_of_target w.addresses old)
+              reference.tag reference.low (target_address layout past h w parts old) reference.value);
+        };
+      }))))
+
+  pub reference_got_right : (target source : Slot) (k : ℕ) (result : Checked (Unit {0})) (after : HeapState F)
+      → Comes h (reference_got layout h target source k) result after
+      → IsRight layout h (call.Get target source k) [] (answer_to says_ok result) after
+  reference_got_right target source k result after =
+      quiet_is_right layout says_ok h (call.Get target source k) refl refl (λ a. refl) (reference_got layout h target source k) result after
+      (reference_got_same target source k)

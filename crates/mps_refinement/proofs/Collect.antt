@@ -1,0 +1,27 @@
+-- A full collection of a heap: a legal step of its world.
+pub mod KeptPlaces
+pub mod Leavings
+pub mod SameAddresses
+pub mod FlippedPoints
+pub mod CollectedParts
+pub mod CollectIsRight
+pub mod PlainHeaps
+pub mod RootsAfter
+pub mod PushedMoves
+pub mod ActedRoots
+pub mod RoomKept
+pub mod CollectedSegments
+pub mod CollectedHeaps
+pub mod CollectRight
+pub mod NullRoots
+pub mod CanCollect
+pub mod LiveIsFew
+pub mod SegmentsAtRest
+pub mod PoolsKnown
+pub mod PlainAtRest
+pub mod BeforeAFlip
+pub mod RootsHeld
+pub mod SameRuns
+pub mod OpenReservations
+pub mod KeysInOrder
+pub mod HeapCollects

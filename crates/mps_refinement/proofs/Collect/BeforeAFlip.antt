@@ -1,0 +1,56 @@
+-- A heap that can be collected stands, with what its owner knows of its pools, as a flip of everything needs it.
+use Rattle.std.proofs.Common.{◌≡◌, ◌≤◌, true, arith}
+use Rattle.std.proofs.lemmas.Bool.{and_parts}
+use Rattle.std.specs.Prelude.{◌&&◌, nat_lt}
+use Rattle.std.specs.List.{list_all}
+use Rattle.mps_base.specs.Trail.{Moves}
+use Rattle.mps_format.specs.Layout.{Layout}
+use Rattle.mps_model.specs.World.{World}
+use Rattle.mps_root.specs.State.{kept}
+use Rattle.mps_seg.specs.Table.{IsMarked}
+use Rattle.mps_trace.specs.Collect.{most_moves}
+use Rattle.mps_trace.specs.Trace.{TraceState}
+use Rattle.mps_trace_laws.specs.Begin.Before.{StandsBefore}
+use Rattle.mps_heap_spec.specs.Collecting.{can_collect, is_empty, most_flips}
+use Rattle.mps_trace.specs.PoolsCollecting.{IsTraceOf}
+use Rattle.mps_format.specs.Pools.{is_moved_or_manual}
+use Rattle.mps_heap_spec.specs.State.{HeapState}
+use Rattle.mps_refinement.specs.StandsFor.{AreParts, AreSlots, IsReached, Past}
+use Rattle.mps_refinement.proofs.Collect.CollectRight.{IsBefore}
+use Rattle.mps_refinement.proofs.Collect.KeysInOrder.{keys_in_order}
+use Rattle.mps_refinement.proofs.Collect.LiveIsFew.{moves_are_few}
+use Rattle.mps_refinement.proofs.Collect.OpenReservations.{reservations_are_open}
+use Rattle.mps_refinement.proofs.Collect.PlainAtRest.{plain_at_rest}
+use Rattle.mps_refinement.proofs.Collect.PoolsKnown.{pools_known}
+use Rattle.mps_refinement.proofs.Collect.RootsHeld.{roots_held, rows, words_shown}
+use Rattle.mps_refinement.proofs.Collect.SegmentsAtRest.{blocks_in_order, segments_at_rest}
+
+module _ {F : Type 0} (layout : F → Layout) (past : Past) (h : HeapState F) (w : World) (parts : AreParts layout past h w)
+    (reached : IsReached w) (marked : IsMarked h.segs.grains h.segs.marks h.segs.condemned h.segs.summaries)
+    (can : can_collect h ≡ true) (m : Moves) (room : most_moves h.segs.grains ≤ m.spare) where
+  -- whatever words are at hand for its pools
+  pub stands_before : (t : TraceState F) → IsTraceOf h.pools t → StandsBefore layout t h.segs m h.points w
+  stands_before t of =
+      let moved = list_all is_moved_or_manual h.pools in
+      let none = is_empty h.finals.registered in
+      let first = and_parts (moved && none) (nat_lt h.points.flips most_flips) can in
+      let can_move = and_parts moved none first.0 in
+      let few = moves_are_few layout past h w parts reached (blocks_in_order layout past h w parts reached) in
+      record {
+        plain = plain_at_rest layout past h w parts reached can_move.0 can_move.1;
+        segments = segments_at_rest layout past h w parts reached marked;
+        pools = pools_known layout h.pools t w parts.pools parts.chains of can_move.0;
+        reservations = reservations_are_open layout past h w parts;
+        room = omega (arith, few, room);
+      }
+
+  -- and all that is asked for of a heap that collects
+  pub is_before : IsBefore layout h m w
+  is_before = record {
+    stands = stands_before;
+    rows = rows layout past h w parts reached;
+    roots = roots_held layout past h w parts reached;
+    areas = words_shown layout past h w parts reached;
+    ordered =
+        keys_in_order (AreSlots w.addresses) past.table_number h.roots (kept h.roots.tables) w.graph.tables parts.tables parts.ordered;
+  }

@@ -1,0 +1,94 @@
+-- A heap that stands for a world, and can collect everything, does so in the room that is asked for.
+use Rattle.std.proofs.Common.{ℕ, ◌≤◌, List, [], Option, inl, inr, arith}
+use Rattle.std.proofs.lemmas.Bool.{cases_Bool}
+use Rattle.mps_base.specs.Address.{Address}
+use Rattle.mps_base.specs.Trail.{Moves}
+use Rattle.mps_format.specs.Layout.{Layout}
+use Rattle.mps_gen.specs.State.{ChainsState}
+use Rattle.mps_final.specs.State.{FinalsState}
+use Rattle.mps_root.specs.State.{RootsState}
+use Rattle.mps_model.specs.Effect.{Everything, condemned_by}
+use Rattle.mps_model.specs.Flip.{is_nothing}
+use Rattle.mps_model.specs.World.{World}
+use Rattle.mps_heap_spec.specs.Collecting.{CanCollectAll}
+use Rattle.mps_trace.specs.PoolsCollecting.{IsTraceOf}
+use Rattle.mps_heap_spec.specs.State.{HeapState}
+use Rattle.mps_trace.specs.Begin.{nailed_at_flip, Begins, CanFixRoots}
+use Rattle.mps_trace.specs.Collect.{CanCollect, CanEnd, most_moves}
+use Rattle.mps_trace.specs.Trace.{TraceState, Traced, traced}
+use Rattle.mps_trace.specs.declared.running.Running.{Running}
+use Rattle.mps_trace_laws.proofs.Reclaim.Room.{segments_are_in_order}
+use Rattle.mps_trace_laws.specs.Units.Laws.{AreScansDone}
+use Rattle.mps_trace_laws.proofs.Units.Entering.{held_in_order}
+use Rattle.mps_trace_laws.proofs.Units.Ready.{units_are_ready}
+use Rattle.mps_trace_laws.proofs.Units.Rows.{units_run_out}
+use Rattle.mps_trace_laws.specs.Begin.Before.{StandsBefore}
+use Rattle.mps_trace_laws.specs.Begin.Begun.{IsActDone, ACollectionBegins, RootsCanBeFixed, UnitsAreFew}
+use Rattle.mps_refinement.specs.StandsFor.{StandsFor}
+use Rattle.mps_refinement.proofs.Worlds.Ready.{all_are_reserved}
+use Rattle.mps_refinement.proofs.Collect.CollectRight.{IsBefore}
+use Rattle.mps_refinement.proofs.Collect.NullRoots.{null_roots_can_be_fixed}
+use Rattle.mps_format.specs.declared.pool.Policy.{Policy}
+
+-- a trail with just the room that a collection asks for
+abbrev enough : (grains : ℕ) → Moves
+enough grains = record { moves = []; spare = most_moves grains }
+
+module _ {F : Type 0} (layout : F → Layout) (begins : ACollectionBegins F) (can_fix : RootsCanBeFixed F) (few : UnitsAreFew)
+    (scans : (formats : List (Option (Policy F))) (of : ChainsState) (at_flip : List (Option Address)) → AreScansDone layout formats of at_flip)
+    (h : HeapState F) (m : Moves) (w : World) (st : StandsFor layout h w)
+    (known : (n : Moves) → most_moves h.segs.grains ≤ n.spare → IsBefore layout h n w) (room : most_moves h.segs.grains ≤ m.spare) where
+  k : IsBefore layout h m w
+  k = known m room
+
+  -- as many units as there is room for are more than a collection has
+  bounded : (t : TraceState F) → IsTraceOf h.pools t
+      → StandsBefore layout t h.segs (enough h.segs.grains) h.points w
+  bounded t of = (known (enough h.segs.grains) (omega arith)).stands t of
+
+  module _ (t : TraceState F) (of : IsTraceOf h.pools t) where
+    before : StandsBefore layout t h.segs m h.points w
+    before = k.stands t of
+
+    roots_ready : CanFixRoots layout t h.roots h.finals (nailed_at_flip t.formats h.points h.roots (traced t h.segs m))
+    roots_ready = elim (cases_Bool (is_nothing (condemned_by w Everything))) [
+      | inl nothing ↦
+          null_roots_can_be_fixed layout t h.roots h.finals (nailed_at_flip t.formats h.points h.roots (traced t h.segs m)) w k.rows
+          before.plain.rest nothing k.roots
+      | inr some ↦ can_fix layout t h.segs m h.points h.roots h.finals w k.rows before k.areas k.roots some
+    ]
+
+    can_end : (roots' : RootsState) (finals' : FinalsState) (z : Traced) (run : Running)
+        → Begins layout t.formats t.chains h.points h.roots h.finals (traced t h.segs m) roots' finals' z run
+        → CanEnd layout t.formats t.chains z run (most_moves h.segs.grains)
+    can_end roots' finals' z run begun =
+        let act : IsActDone layout t m w k.rows h.roots roots' finals' z run =
+        begins layout t h.segs m h.points h.roots roots' h.finals finals' w k.rows z run before k.areas k.roots begun
+        in
+        let those = scans t.formats t.chains w.addresses in
+        record {
+          ready =
+              units_are_ready layout (record { formats = t.formats; amc = z.amc; chains = t.chains }) z.segs z.moves w.addresses run
+              act.after (most_moves h.segs.grains) those act.stands;
+          ends = λ last run' units.
+              let less =
+              units_run_out layout t.formats t.chains w.addresses z last run run' act.after (most_moves h.segs.grains) those act.stands
+              units
+              in
+              let most = few w act.first act.after act.fixes before.plain.none_registered in
+              let enough_for = (bounded t of).room in
+              omega (arith, less, most, enough_for);
+        }
+
+    can_collect_one : CanCollect layout t h.points h.roots h.finals h.segs m (most_moves h.segs.grains)
+    can_collect_one = record {
+      ordered = segments_are_in_order h.segs (held_in_order h.segs before.segments.held);
+      blocks = before.segments.whole.order;
+      reserved = all_are_reserved layout h w st;
+      fits = let there = before.room in omega (arith, there);
+      roots_ready = roots_ready;
+      units_ready = can_end;
+    }
+
+  pub can_collect_all : CanCollectAll layout h m
+  can_collect_all = λ t of. can_collect_one t of

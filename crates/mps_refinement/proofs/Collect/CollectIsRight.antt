@@ -1,0 +1,249 @@
+-- A `collect` of a heap at rest is right: its step is legal, and the heap stands for the world after it.
+use Rattle.std.proofs.Common.{◌≡◌, ◌∙◌, ℕ, zero, suc, ◌<◌, Bool, true, false, refl, sym, ap, subst, List, [], ◌∷◌, ◌++◌, length, Option, Some, None, is_some, inl, inr, arith}
+use Rattle.std.proofs.lemmas.Bool.{false≢true, true≢false}
+use Rattle.std.proofs.lemmas.Option.{same_Some, slice_get_within}
+use Rattle.std.specs.Prelude.{◌==◌, ◌||◌, slice_get, option_and_then}
+use Rattle.std.specs.List.{flat_map, list_all}
+use Rattle.std.specs.Option.{option_map_or}
+use Rattle.mps_base.specs.Address.{Id}
+use Rattle.mps_base.specs.declared.moves.Move.{Move}
+use Rattle.mps_buffer.specs.Points.{WereMadeBefore}
+use Rattle.mps_format.specs.Layout.{Layout}
+use Rattle.mps_buffer.specs.Points.{WereMadeBefore}
+use Rattle.mps_model.specs.declared.call.Call.TheVariants as call
+use Rattle.mps_model.specs.declared.reply.Reply.TheVariants as reply
+use Rattle.mps_model.specs.Answer.{Replied}
+use Rattle.mps_model.specs.Checked.{done}
+use Rattle.mps_model.specs.Graph.{contains, ids_in_blocks, ids_of_client, targets}
+use Rattle.mps_model.specs.Collection.{Collection}
+use Rattle.mps_model.specs.World as world
+use Rattle.mps_model.specs.World.{World, Pool, address_of, is_live, live_ids, is_automatic_kind, pool_is, pool_at, is_running}
+use Rattle.mps_model.specs.Effect.{Everything, condemned_by, is_on_chain, world_after_moves}
+use Rattle.mps_model.specs.Flip.{flip_act, is_nothing}
+use Rattle.mps_model.specs.History.{HeldAreLive}
+use Rattle.mps_model.proofs.Cutting.{world_after_moves-append}
+use Rattle.mps_model.proofs.Reaching.{list_all-contains}
+use Rattle.mps_laws.proofs.Sound.HeldIds.{all-append}
+use Rattle.mps_laws.proofs.QuietSteps.{IsSound}
+use Rattle.mps_heap_spec.specs.State.{HeapState}
+use Rattle.mps_format.specs.declared.pool.Pool as ours
+use Rattle.mps_format.specs.declared.pool.Pool.TheVariants as pool
+use Rattle.mps_abstract.specs.Colours.{AllReferredLive}
+use Rattle.mps_abstract.specs.Collecting.{Collecting}
+use Rattle.mps_abstract.specs.Units.{Ends}
+use Rattle.mps_abstract.specs.FlipLaws.{IsAtRest, flipped, FixesHeld}
+use Rattle.mps_abstract.specs.WholeLaws.{IsCollectDone}
+use Rattle.mps_abstract.proofs.Addresses.{listed_is_live, live_is_listed}
+use Rattle.mps_abstract.proofs.Lists.{contains_cases, contains_here, contains_later, contains_left, contains_right, list_all-members}
+use Rattle.mps_abstract.proofs.FlipActs.FlipBegins.{client_of_fixed, flip_done, flip_ended}
+use Rattle.mps_abstract.proofs.Rows.{last_units_done}
+use Rattle.mps_abstract.proofs.WholeCollections.WholeBegins.{nothing_remembered, begun_running}
+use Rattle.mps_abstract.proofs.WholeCollections.WholeEnds.{a_whole_collection}
+use Rattle.mps_refinement.specs.RightStep.{IsRightIn, step_of}
+use Rattle.mps_refinement.specs.StandsFor.{AreParts, ArePools, IsPool, IsReached, Past, StandsFor}
+use Rattle.mps_refinement.proofs.Worlds.Reached.{reached_well_formed, reached_live}
+use Rattle.mps_refinement.proofs.Worlds.RestingActs.{resting_sound}
+use Rattle.mps_refinement.proofs.Worlds.Steps.{HasParts, moving_is_right}
+use Rattle.mps_refinement.specs.Collect.Leaving.{IsPlain, IsCollected, AreInPlace}
+use Rattle.mps_refinement.specs.Collect.Standing.{IsCollectedHeap, world_collected}
+use Rattle.mps_refinement.proofs.Collect.Leavings.{a_collection_moves_objects}
+use Rattle.mps_refinement.proofs.Collect.CollectedParts as parts_of
+
+-- ---- lists
+
+-- what one of some leads to is among what all lead to
+in_flat : (next : ℕ → List ℕ) (xs : List ℕ) (x y : ℕ) → contains xs x ≡ true → contains (next x) y ≡ true
+    → contains (flat_map next xs) y ≡ true
+in_flat next [] x y h g = absurd (false≢true h)
+in_flat next (z ∷ zs) x y h g = elim (contains_cases z zs x h) [
+  | inl same ↦ contains_left (next z) (flat_map next zs) y (ap (λ n. contains (next n) y) same ∙ g)
+  | inr later ↦ contains_right (next z) (flat_map next zs) y (in_flat next zs x y later g)
+]
+
+all_flat : (p : ℕ → Bool) (next : ℕ → List ℕ) (xs : List ℕ)
+    → ((x : ℕ) → contains xs x ≡ true → list_all p (next x) ≡ true) → list_all p (flat_map next xs) ≡ true
+all_flat p next [] each = refl
+all_flat p next (x ∷ xs) each =
+    all-append p (next x) (flat_map next xs) (each x (contains_here x xs))
+    (all_flat p next xs (λ y h. each y (contains_later x xs y h)))
+
+-- what stands at a place that is within a list
+pub something : {A : Type 0} (xs : List A) (n : ℕ) → n < length xs → (x : A) × (slice_get xs n ≡ Some x)
+something [] n less = absurd (omega (arith, less))
+something (x ∷ xs) zero less = (x, refl)
+something (x ∷ xs) (suc n) less = something xs n (omega (arith, less))
+
+-- ---- a heap at rest may begin a collection
+
+module _ {F : Type 0} (layout : F → Layout) where
+  no_chain : (formats : ℕ → Layout) (p : ours.Pool F) (q : Pool) → IsPool layout formats p q → q.chain ≡ None
+  no_chain formats (pool.Automatic kind format) q is = ap (λ (x : Pool). x.chain) is.0
+  no_chain formats (pool.OneSize words) q is = ap (λ (x : Pool). x.chain) is
+  no_chain formats pool.AnySize q is = ap (λ (x : Pool). x.chain) is
+
+  not_on_chain : (w : World) (pools : List (ours.Pool F)) → ArePools layout w.formats pools w.pools → (chain number : ℕ)
+      → is_on_chain w chain number ≡ false
+  not_on_chain w pools are chain number = of_pool (slice_get w.pools number) refl
+    where
+      of_pool : (o : Option Pool) → slice_get w.pools number ≡ o
+          → option_map_or (λ on. on == chain) (option_and_then (λ (p : Pool). p.chain) o) false ≡ false
+      of_pool None e = refl
+      of_pool (Some q) e =
+          let within = slice_get_within w.pools number q e in
+          let count = are.count in
+          let p = something pools number (omega (arith, within, count)) in
+          let is = are.each number p.0 p.1 in
+          let same = same_Some is.0 q (sym is.1 ∙ e) in
+          ap (λ (o : Option ℕ). option_map_or (λ on. on == chain) o false)
+          (sym (ap (λ (x : Pool). x.chain) same) ∙ no_chain w.formats p.0 is.0 is.2)
+
+  pub may_begin : (past : Past) (h : HeapState F) (w : World) → AreParts layout past h w → IsReached w → IsAtRest w
+  may_begin past h w parts reached =
+      let live = reached_live w reached in
+      let referred : list_all (is_live w) (flat_map (targets w.graph) (live_ids w)) ≡ true =
+      sym (ap (λ o. is_some o || list_all (is_live w) (flat_map (targets w.graph) (live_ids w))) parts.at_rest) ∙ live.referred in
+      record {
+        none_runs = parts.at_rest;
+        well_formed = reached_well_formed w reached;
+        held_live = λ id held. list_all-contains (is_live w) (ids_of_client w.graph) id live.client held;
+        referred_live = λ id target there refers.
+            list_all-contains (is_live w) (flat_map (targets w.graph) (live_ids w)) target referred
+            (in_flat (targets w.graph) (live_ids w) id target (live_is_listed w id there) refers);
+        on_chains = λ chain number on. absurd (true≢false (sym on ∙ not_on_chain w h.pools parts.pools chain number));
+      }
+
+  -- ---- the call
+
+  -- what is shown of the moves of a collection of everything, whose act of a flip left this state
+  pub record IsCollection (w : World) (acted : Collecting) (ms : List Move) : Type 0 where
+    pub moves_done : IsCollectDone w ms
+    pub leaves : IsCollected w (world_after_moves w ms)
+    pub places : AreInPlace w acted (world_after_moves w ms)
+    pub held_live : (id : Id) → contains (ids_of_client (world_after_moves w ms).graph) id ≡ true
+        → is_live (world_after_moves w ms) id ≡ true
+    pub referred_live : AllReferredLive (world_after_moves w ms).graph (is_live (world_after_moves w ms))
+
+  module _ (past : Past) (h after : HeapState F) (w : World) (parts : AreParts layout past h w) (reached : IsReached w) (plain : IsPlain w)
+      (made : WereMadeBefore (length w.flips) h.points) (acted : Collecting) (ms : List Move) (c : IsCollection w acted ms) where
+    abbrev v : World
+    v = parts_of.v layout past h after w parts (reached_well_formed w reached) plain.none_registered made acted c.leaves.but_moved.addresses
+        c.leaves.but_moved.segments c.leaves.but_moved.tails
+
+    none_runs : c.leaves.but_moved.collection ≡ None
+    none_runs = sym (ap (λ (u : World). u.collection) c.leaves.but_moved.world) ∙ c.leaves.ended
+
+    world_is : world_collected w ms ≡ v
+    world_is =
+        ap (λ (u : World). record u { state = world.Parked }) c.leaves.but_moved.world
+        ∙ ap (λ (o : Option Collection). record v { collection = o }) none_runs
+
+    places_then : AreInPlace w acted v
+    places_then = subst (λ u. AreInPlace w acted u) world_is (record {
+      manual = c.places.manual;
+      pinned = c.places.pinned;
+      holds = c.places.holds;
+      held = c.places.held;
+      held_live = c.places.held_live;
+    })
+
+    held_then : (id : Id) → contains (ids_of_client v.graph) id ≡ true → is_live v id ≡ true
+    held_then = subst (λ (u : World). (id : Id) → contains (ids_of_client u.graph) id ≡ true → is_live u id ≡ true) world_is c.held_live
+
+    referred_then : AllReferredLive v.graph (is_live v)
+    referred_then = subst (λ (u : World). AllReferredLive u.graph (is_live u)) world_is c.referred_live
+
+    module _ (heap : IsCollectedHeap past w h after acted.world.addresses (world_collected w ms)) where
+      heap_then : IsCollectedHeap past w h after acted.world.addresses v
+      heap_then = subst (λ u. IsCollectedHeap past w h after acted.world.addresses u) world_is heap
+
+      live_then : HeldAreLive v
+      live_then = record {
+        client = list_all-members (is_live v) (ids_of_client v.graph) held_then;
+        blocks = list_all-members (is_live v) (ids_in_blocks v.graph) (λ id there.
+            ap is_some (places_then.manual id (parts_of.places_same layout past h after w parts (reached_well_formed w reached)
+            plain.none_registered made acted c.leaves.but_moved.addresses c.leaves.but_moved.segments c.leaves.but_moved.tails heap_then
+            places_then id there))
+            ∙ list_all-contains (is_live w) (ids_in_blocks w.graph) id (reached_live w reached).blocks there);
+        referred = all_flat (is_live v) (targets v.graph) (live_ids v) (λ id listed.
+            list_all-members (is_live v) (targets v.graph id) (λ target refers.
+            referred_then id target (listed_is_live v id listed) refers));
+      }
+
+      pub collection_is_right : (line : ℕ) → IsRightIn layout w (step_of line call.Collect ms (Replied reply.Ok)) after
+      collection_is_right line =
+          moving_is_right layout w line call.Collect ms (Replied reply.Ok) after (done (world_collected w ms)) refl reached (record {
+            moving = record {
+              legal = c.moves_done.legal;
+              due = c.moves_done.due;
+              comes = refl;
+              answers = refl;
+              marked = tt;
+              supported = refl;
+              sound = subst IsSound (sym world_is) (resting_sound v refl live_then);
+            };
+            has = subst (λ u. HasParts layout after u) (sym world_is) (record {
+              past = past;
+              parts = parts_of.collected_parts layout past h after w parts (reached_well_formed w reached) plain.none_registered made acted
+                  c.leaves.but_moved.addresses c.leaves.but_moved.segments c.leaves.but_moved.tails heap_then places_then;
+            });
+          })
+
+  -- ---- where something is condemned
+
+  ends_collection : (w : World) (first later : List Move) (y : Collecting) (count : ℕ) → IsAtRest w
+      → is_nothing (condemned_by w Everything) ≡ false → FixesHeld w (flipped w Everything []) first y → Ends y count later → IsPlain w
+      → IsCollection w y (flip_act w Everything ++ later)
+  ends_collection w first later y count rest some fixed ends plain =
+      let act_leads = (flip_done w Everything [] first y rest refl some (nothing_remembered w rest) fixed).leads in
+      let leads : world_after_moves w (flip_act w Everything ++ later) ≡ world_after_moves y.world later =
+      world_after_moves-append w (flip_act w Everything) later ∙ ap (λ (u : World). world_after_moves u later) act_leads in
+      let last = last_units_done y count later (begun_running w first y rest some fixed) ends in
+      record {
+        moves_done = a_whole_collection.2 w (flip_act w Everything ++ later) rest.none_runs
+            (a_whole_collection.0 w first later y count rest some fixed ends);
+        leaves = a_collection_moves_objects.0 w first later y count rest some fixed ends plain;
+        places = a_collection_moves_objects.1 w first later y count rest some fixed ends;
+        held_live = subst (λ (u : World). (id : Id) → contains (ids_of_client u.graph) id ≡ true → is_live u id ≡ true) (sym leads)
+            last.held_live;
+        referred_live = subst (λ (u : World). AllReferredLive u.graph (is_live u)) (sym leads) last.referred_live;
+      }
+
+  -- a `collect` of a heap at rest, where something is condemned
+  pub collect_is_right : (h after : HeapState F) (w : World) (line : ℕ) (first later : List Move) (y : Collecting) (count : ℕ)
+      → (st : StandsFor layout h w) → IsPlain w → WereMadeBefore (length w.flips) h.points
+      → is_nothing (condemned_by w Everything) ≡ false → FixesHeld w (flipped w Everything []) first y → Ends y count later
+      → IsCollectedHeap st.past w h after y.world.addresses (world_collected w (flip_act w Everything ++ later))
+      → IsRightIn layout w (step_of line call.Collect (flip_act w Everything ++ later) (Replied reply.Ok)) after
+  collect_is_right h after w line first later y count st plain made some fixed ends heap =
+      let rest = may_begin st.past h w st.parts st.reached in
+      collection_is_right st.past h after w st.parts st.reached plain made y (flip_act w Everything ++ later)
+      (ends_collection w first later y count rest some fixed ends plain) heap line
+
+  -- ---- where nothing is condemned
+
+  nothing_collection : (w : World) → IsAtRest w → is_nothing (condemned_by w Everything) ≡ true
+      → IsCollection w (flipped w Everything []) (flip_act w Everything)
+  nothing_collection w rest nothing =
+      let ended = flip_ended w Everything rest refl nothing in
+      record {
+        moves_done = a_whole_collection.2 w (flip_act w Everything) rest.none_runs (a_whole_collection.1 w rest nothing);
+        leaves = a_collection_moves_objects.2 w rest nothing;
+        places = subst (λ ms. AreInPlace w (flipped w Everything []) (world_after_moves w ms)) (sym ended.act) (record {
+          manual = λ id there. refl;
+          pinned = λ id there. refl;
+          holds = λ id there. refl;
+          held = λ id there. refl;
+          held_live = λ id there. rest.held_live id (client_of_fixed w.graph id there);
+        });
+        held_live = ended.held_live;
+        referred_live = ended.referred_live;
+      }
+
+  -- a `collect` where nothing is condemned: slots and messages hold what they held
+  pub collect_of_nothing_is_right : (h after : HeapState F) (w : World) (line : ℕ) → (st : StandsFor layout h w) → IsPlain w
+      → WereMadeBefore (length w.flips) h.points → is_nothing (condemned_by w Everything) ≡ true
+      → IsCollectedHeap st.past w h after w.addresses (world_collected w (flip_act w Everything))
+      → IsRightIn layout w (step_of line call.Collect (flip_act w Everything) (Replied reply.Ok)) after
+  collect_of_nothing_is_right h after w line st plain made nothing heap =
+      collection_is_right st.past h after w st.parts st.reached plain made (flipped w Everything []) (flip_act w Everything)
+      (nothing_collection w (may_begin st.past h w st.parts st.reached) nothing) heap line

@@ -1,0 +1,235 @@
+-- A call `collect` of a heap that stands for a world is right, and keeps the room of its trail.
+use Rattle.std.proofs.Common.{◌≡◌, ◌∙◌, ℕ, suc, ◌<◌, false, refl, sym, ap, subst, List, [], ◌∷◌, ◌++◌, length, Option, IsSome, arith}
+use Rattle.std.proofs.lemmas.List.{append_assoc, append_cancel_left, length-map}
+use Rattle.mps_base.specs.Address.{Address, Id}
+use Rattle.mps_base.specs.Segment.{Segment}
+use Rattle.mps_base.specs.Trail.{Moves}
+use Rattle.mps_base.specs.declared.moves.Move.{Move}
+use Rattle.mps_buffer.specs.Points.{WereMadeBefore}
+use Rattle.mps_format.specs.Layout.{Layout}
+use Rattle.mps_model.specs.declared.call.Call.TheVariants as call
+use Rattle.mps_model.specs.declared.reply.Reply.TheVariants as reply
+use Rattle.mps_model.specs.Answer.{Replied}
+use Rattle.mps_model.specs.Effect.{Everything, condemned_by, condemned_zones, world_flipped, world_after_moves}
+use Rattle.mps_model.specs.Flip.{flip_act, is_nothing}
+use Rattle.mps_model.specs.World.{World, area_words}
+use Rattle.mps_model.proofs.Cutting.{world_after_moves-append}
+use Rattle.mps_root.specs.State.{kept, RootsState}
+use Rattle.mps_heap_spec.specs.Collecting.{IsCollected}
+use Rattle.mps_trace.specs.PoolsCollecting.{IsTraceOf}
+use Rattle.mps_heap_spec.specs.State.{HeapState}
+use Rattle.mps_abstract.specs.Collecting.{Collecting}
+use Rattle.mps_abstract.specs.FlipLaws.{IsAtRest, IsFlipDone}
+use Rattle.mps_abstract.proofs.FlipActs.FlipBegins.{flip_done}
+use Rattle.mps_abstract.proofs.WholeCollections.WholeBegins.{nothing_remembered}
+use Rattle.mps_trace_laws.specs.Image.AtRest.{StandsAtRest}
+use Rattle.mps_trace.specs.Begin.{Begins, EndsAtOnce, nailed_at_flip}
+use Rattle.mps_trace.specs.Collect.{at_once, in_units, most_moves}
+use Rattle.mps_trace.specs.Flip.{at_flip, automatic_of}
+use Rattle.mps_trace.specs.Trace.{TraceState, Traced, traced}
+use Rattle.mps_trace.specs.Unit.{EndsWithin}
+use Rattle.mps_trace.specs.declared.running.Running.{Running}
+use Rattle.mps_trace_laws.specs.Nails.Nailed.{AreWordsShown, words_of_areas}
+use Rattle.mps_trace_laws.specs.Units.Laws.{HasSegmentsOf, AreScansDone, AreLastTracedUnitsDone}
+use Rattle.mps_trace_laws.proofs.Units.Rows.{the_end_is_done}
+use Rattle.mps_trace_laws.specs.Begin.Before.{StandsBefore}
+use Rattle.mps_trace_laws.specs.Begin.Begun.{AreRootsHeld, IsActDone, ACollectionBegins, ACollectionOfNothingEnds, IsOverAtOnce}
+use Rattle.mps_refinement.specs.RightMoving.{IsRightMoving, KeepsRoom}
+use Rattle.mps_refinement.specs.RightStep.{IsRightIn, step_of}
+use Rattle.mps_refinement.specs.StandsFor.{StandsFor, AreSlots, address_of_id}
+use Rattle.mps_refinement.specs.Numbering.{AreNumbered}
+use Rattle.mps_refinement.specs.Collect.Leaving.{IsButMoved}
+use Rattle.mps_refinement.proofs.Collect.ActedRoots.{IsInOrder, messages_acted, tables_acted}
+use Rattle.mps_refinement.proofs.Collect.CollectIsRight.{collect_is_right, collect_of_nothing_is_right}
+use Rattle.mps_refinement.proofs.Collect.CollectedHeaps.{IsLeft, collected_heap, plain, same_condemned}
+use Rattle.mps_refinement.proofs.Collect.CollectedSegments.{none_condemned, none_kept, segments_at_once}
+use Rattle.mps_refinement.proofs.Collect.Leavings.{a_collection_moves_objects}
+use Rattle.mps_refinement.proofs.Collect.RoomKept.{begin_pushes, units_keep_room, at_once_keeps_room}
+use Rattle.mps_refinement.proofs.Collect.RootsAfter.{roots_stay, messages_after, tables_after, AreRootsAfter}
+use Rattle.mps_gen.specs.State.{ChainsState}
+use Rattle.mps_final.specs.State.{FinalsState}
+use Rattle.mps_format.specs.declared.pool.Policy.{Policy}
+
+-- what has to be known of a heap that stands for a world before it collects everything: how its roots stand for those of the world, and
+-- all that a flip needs, whatever words are at hand for its pools
+pub record IsBefore {F : Type 0} (layout : F → Layout) (h : HeapState F) (m : Moves) (w : World) : Type 0 where
+  pub stands : (t : TraceState F) → IsTraceOf h.pools t → StandsBefore layout t h.segs m h.points w
+  pub rows : List (List (Option Id))
+  pub roots : AreRootsHeld w h.roots h.finals rows
+  pub areas : AreWordsShown (words_of_areas h.roots.areas) (area_words w)
+  pub ordered : (key : ℕ) → IsSome (kept h.roots.tables key) → IsInOrder h.roots key
+
+-- the call made these moves, rightly in a world
+pub record IsRightThere {F : Type 0} (layout : F → Layout) (w : World) (m m' : Moves) (h' : HeapState F) : Type 0 where
+  pub moves : List Move
+  pub appended : m'.moves ≡ m.moves ++ moves
+  pub right : (line : ℕ) → IsRightIn layout w (step_of line call.Collect moves (Replied reply.Ok)) h'
+  pub room : KeepsRoom m m'
+
+module _ {F : Type 0} (layout : F → Layout) (begins : ACollectionBegins F) (nothing_ends : ACollectionOfNothingEnds F)
+    (scans : (formats : List (Option (Policy F))) (of : ChainsState) (at_flip : List (Option Address))
+    → AreScansDone layout formats of at_flip)
+    (h : HeapState F) (m : Moves) (h' : HeapState F) (m' : Moves) (collected : IsCollected layout h m h' m')
+    (made : WereMadeBefore h.points.flips h.points) where
+  abbrev t : TraceState F
+  t = collected.before
+
+  abbrev x : Traced
+  x = traced t h.segs m
+
+  abbrev z : Traced
+  z = traced collected.after h'.segs m'
+
+  module _ (w : World) (st : StandsFor layout h w) (known : IsBefore layout h m w) where
+    before : StandsBefore layout t h.segs m h.points w
+    before = known.stands t collected.of_pools
+
+    made_then : WereMadeBefore (length w.flips) h.points
+    made_then = subst (λ n. WereMadeBefore n h.points) st.parts.point_flips made
+
+    -- ---- where something is condemned
+
+    module _ (b : Traced) (run : Running)
+        (begun : Begins layout t.formats t.chains h.points h.roots h.finals x h'.roots h'.finals b run)
+        (ends : EndsWithin layout t.formats t.chains b run (most_moves h.segs.grains) z) where
+      act : IsActDone layout t m w known.rows h.roots h'.roots h'.finals b run
+      act = begins layout t h.segs m h.points h.roots h'.roots h.finals h'.finals w known.rows b run before known.areas known.roots begun
+
+      abbrev y : Collecting
+      y = act.after
+
+      last : AreLastTracedUnitsDone b y (suc ends.count) z
+      last =
+          the_end_is_done layout t.formats t.chains w.addresses b z run y (most_moves h.segs.grains) (scans t.formats t.chains w.addresses)
+          act.stands ends
+
+      some_of : (ts : List Segment) → 0 < length ts → is_nothing ts ≡ false
+      some_of [] none = absurd (omega (arith, none))
+      some_of (s ∷ ts) some = refl
+
+      some : is_nothing (condemned_by w Everything) ≡ false
+      some = subst (λ ts. is_nothing ts ≡ false) (same_condemned layout st.past h w st.parts m h' m' collected before)
+          (some_of (automatic_of t.formats h.segs.segments) begun.some)
+
+      abbrev u : World
+      u = world_after_moves w (flip_act w Everything ++ last.moves)
+
+      abbrev rest : IsAtRest w
+      rest = before.plain.rest
+
+      act_leads : IsFlipDone w Everything act.first y
+      act_leads = flip_done w Everything [] act.first y rest refl some (nothing_remembered w rest) act.fixes
+
+      leads : u ≡ world_after_moves y.world last.moves
+      leads =
+          world_after_moves-append w (flip_act w Everything) last.moves ∙ ap (λ (v : World). world_after_moves v last.moves) act_leads.leads
+
+      moved : IsButMoved (world_flipped w (condemned_zones w Everything)) u
+      moved =
+          (a_collection_moves_objects.0 w act.first last.moves y (suc ends.count) rest some act.fixes last.units
+          (plain layout st.past h w st.parts m h' m' collected before)).but_moved
+
+      left : IsLeft st.past w h h' y.world.addresses u
+      left =
+          let tables =
+          tables_after layout t.formats t.chains h.roots (nailed_at_flip t.formats h.points h.roots x)
+          (length h.roots.order) h'.roots begun.before begun.slots
+          in
+          let messages =
+          messages_after layout t.formats t.chains h.finals begun.before (length h.finals.messages) h'.finals b begun.messages
+          in
+          record {
+            segments = subst (HasSegmentsOf h'.segs) (sym leads) last.segments;
+            image = subst (StandsAtRest h'.segs) (sym leads) last.stands;
+            not_condemned = none_condemned ends.last.before z ends.last.over;
+            not_kept = none_kept ends.last.before z ends.last.over;
+            tables =
+                tables_acted w rest (λ id at there. (before.segments.image.placed.address id at there).not_null) st.past.table_number
+                h.roots h'.roots st.parts.tables known.rows known.roots.tables known.ordered tables y act.slots;
+            roots = tables;
+            messages =
+                messages_acted y h'.finals.messages w.graph.messages
+                (messages.as_many ∙ (ap (λ (xs : List Address). length xs) st.parts.messages
+                ∙ length-map w.graph.messages (address_of_id w.addresses))) act.messages;
+            registered = messages.registered;
+          }
+
+      pub right_in_units : IsRightThere layout w m m' h'
+      right_in_units = record {
+        moves = flip_act w Everything ++ last.moves;
+        appended =
+            last.trail ∙ ap (λ ms. ms ++ last.moves) (act.trail ∙ ap (λ ms. m.moves ++ ms) (sym act_leads.act))
+            ∙ append_assoc m.moves (flip_act w Everything) last.moves;
+        right = λ line.
+            collect_is_right layout h h' w line act.first last.moves y (suc ends.count) st
+            (plain layout st.past h w st.parts m h' m' collected before) made_then some act.fixes last.units
+            (collected_heap layout st.past h w st.parts m h' m' collected before y.world.addresses u moved left);
+        room =
+            units_keep_room layout t w.addresses m b z run y (most_moves h.segs.grains) (scans t.formats t.chains w.addresses) act.stands
+            (begin_pushes layout t h.points h.roots h'.roots h.finals h'.finals x b run begun) ends;
+      }
+
+    -- ---- where nothing is condemned
+
+    module _ (ends : EndsAtOnce t.formats h.points h.roots h.finals x h'.roots h'.finals z) where
+      over : IsOverAtOnce m w z
+      over = nothing_ends layout t h.segs m h.points h.roots h'.roots h.finals h'.finals w z before ends
+
+      abbrev v : World
+      v = world_after_moves w (flip_act w Everything)
+
+      moved_at_once : IsButMoved (world_flipped w (condemned_zones w Everything)) v
+      moved_at_once = (a_collection_moves_objects.2 w before.plain.rest over.nothing).but_moved
+
+      left_at_once : IsLeft st.past w h h' w.addresses v
+      left_at_once = record {
+        segments = segments_at_once t.formats h.points x z w before.segments.segments before.plain.rest over.nothing ends.over;
+        image = over.stands;
+        not_condemned = none_condemned (at_flip t.formats h.points x) z ends.over;
+        not_kept = none_kept (at_flip t.formats h.points x) z ends.over;
+        tables =
+            subst (λ (roots : RootsState). AreNumbered (AreSlots w.addresses) st.past.table_number (kept roots.tables) w.graph.tables)
+            (sym ends.roots_are) st.parts.tables;
+        roots = subst (AreRootsAfter h.roots) (sym ends.roots_are) (roots_stay h.roots);
+        messages = ap (λ (f : FinalsState). f.messages) ends.finals_are ∙ st.parts.messages;
+        registered = ap (λ (f : FinalsState). f.registered) ends.finals_are;
+      }
+
+      pub right_at_once : IsRightThere layout w m m' h'
+      right_at_once = record {
+        moves = flip_act w Everything;
+        appended = over.trail;
+        right = λ line.
+            collect_of_nothing_is_right layout h h' w line st (plain layout st.past h w st.parts m h' m' collected before) made_then
+            over.nothing
+            (collected_heap layout st.past h w st.parts m h' m' collected before w.addresses v moved_at_once left_at_once);
+        room =
+            at_once_keeps_room layout t h.points h.roots h'.roots h.finals h'.finals x z ends
+            (let room = before.room in omega (arith, room));
+      }
+
+    pub right_there : IsRightThere layout w m m' h'
+    right_there = elim collected.collects [
+      | at_once ends ↦ right_at_once ends
+      | in_units {between = b} run begun ends ↦ right_in_units b run begun ends
+    ]
+
+  -- ---- in each world
+
+  -- the call made the same moves, whatever the world is
+  pub collect_right : (w : World) → StandsFor layout h w → ((v : World) → StandsFor layout h v → IsBefore layout h m v)
+      → IsRightMoving layout h call.Collect m.moves m'.moves (Replied reply.Ok) h'
+  collect_right w st known =
+      let one = right_there w st (known w st) in
+      record {
+        moves = one.moves;
+        appended = one.appended;
+        right = λ v line other.
+            let there = right_there v other (known v other) in
+            subst (λ ms. IsRightIn layout v (step_of line call.Collect ms (Replied reply.Ok)) h')
+            (append_cancel_left m.moves there.moves one.moves (sym there.appended ∙ one.appended)) (there.right line);
+      }
+
+  -- and its trail keeps its room
+  pub collect_keeps_room : (w : World) → StandsFor layout h w → IsBefore layout h m w → KeepsRoom m m'
+  collect_keeps_room w st known = (right_there w st known).room

@@ -1,0 +1,137 @@
+-- The parts of a heap after a collection of everything stand for the world after it.
+use Rattle.std.proofs.Common.{◌≡◌, ◌∙◌, ℕ, ◌+◌, ◌≤◌, ◌<◌, true, false, refl, sym, ap, subst, List, [], length, map, Option, Some, None, IsSome, is_some}
+use Rattle.std.proofs.lemmas.Bool.{false≢true}
+use Rattle.std.specs.Prelude.{Bool, option_map, not}
+use Rattle.std.specs.Option.{option_map_or}
+use Rattle.mps_base.specs.Address.{Id, Address, max_grains, word_of}
+use Rattle.mps_base.specs.Segment.{Segment}
+use Rattle.mps_buffer.specs.Points.{PointsState, WereMadeBefore, point_at, emptied}
+use Rattle.mps_buffer.proofs.MadeBefore.{point_at-flipped, was_point}
+use Rattle.mps_buffer.specs.declared.point.Point.{Point}
+use Rattle.mps_format.specs.Layout.{Layout}
+use Rattle.mps_trace_laws.specs.Image.Memory.{words_of_arena}
+use Rattle.mps_ld.proofs.Flips.{flips_after}
+use Rattle.mps_ld.specs.Flips.{AreFlips}
+use Rattle.mps_model.specs.Graph.{Object, contains, ids_in_blocks, ids_in_slots, is_automatic, object_at}
+use Rattle.mps_model.specs.World as world
+use Rattle.mps_model.specs.World.{World, object_is}
+use Rattle.mps_model.specs.WellFormed.{IsWellFormed}
+use Rattle.mps_model.specs.Effect.{Everything, condemned_zones, world_flipped}
+use Rattle.mps_model.proofs.Reaching.{list_all-contains}
+use Rattle.mps_root.specs.State.{kept}
+use Rattle.mps_abstract.proofs.Lists.{contains_left, contains_right}
+use Rattle.mps_abstract.specs.Collecting.{Collecting}
+use Rattle.mps_names.specs.State.{thing_named}
+use Rattle.mps_heap_spec.specs.State.{HeapState}
+use Rattle.mps_format.specs.Pools.{size_of_pool}
+use Rattle.mps_refinement.specs.StandsFor.{AreParts, ArePools, IsPoint, Past, address_of_id, state_of}
+use Rattle.mps_refinement.specs.Numbering.{AreNumbered}
+use Rattle.mps_refinement.proofs.Parts.Named.{ThingsStay, named_alike}
+use Rattle.mps_refinement.proofs.Parts.Numbering.{kept_alike}
+use Rattle.mps_refinement.proofs.Parts.Ordering.{ordered_alike}
+use Rattle.mps_refinement.specs.Collect.Leaving.{AreInPlace}
+use Rattle.mps_refinement.specs.Collect.Standing.{IsCollectedHeap}
+use Rattle.mps_refinement.proofs.Collect.SameAddresses.{same_ids, same_places, tables_same, areas_same}
+use Rattle.mps_refinement.proofs.Collect.FlippedPoints.{points_counted, points_flipped, one_flip_more}
+
+module _ {F : Type 0} (layout : F → Layout) (past : Past) (h after : HeapState F) (w : World) (parts : AreParts layout past h w)
+    (formed : IsWellFormed w) (none_registered : w.graph.registered ≡ []) (made : WereMadeBefore (length w.flips) h.points)
+    (acted : Collecting) (addresses : List (Option Address)) (segments : List Segment)
+    (tails : List world.Tail) where
+  -- the world after it
+  abbrev pub v : World
+  v = record (world_flipped w (condemned_zones w Everything)) {
+    addresses = addresses;
+    segments = segments;
+    tails = tails;
+    state = world.Parked;
+    collection = None;
+  }
+
+  module _ (heap : IsCollectedHeap past w h after acted.world.addresses v) (places : AreInPlace w acted v) where
+    points_stay : (key : ℕ) → IsSome (point_at h.points key) → IsSome (point_at after.points key)
+    points_stay key there = of_point (point_at h.points key) refl there
+      where
+        of_point : (o : Option Point) → point_at h.points key ≡ o → IsSome o → IsSome (point_at after.points key)
+        of_point None e some = absurd (false≢true some)
+        of_point (Some p) e some =
+            ap is_some (ap (λ s. point_at s key) heap.points ∙ point_at-flipped h.points key ∙ ap (option_map emptied) e)
+
+    stay : ThingsStay h after
+    stay = record {
+      pools = λ n less. subst (λ ps. n < length ps) (sym heap.pools) less;
+      tables = heap.tables_there;
+      areas = λ key there. ap (λ rows. is_some (kept rows key)) heap.areas ∙ there;
+      blocks = λ n less. subst (λ rows. n < length rows) (sym heap.blocks) less;
+      points = points_stay;
+      dependencies = λ n less. subst (λ ds. n < length ds) (sym heap.dependencies) less;
+    }
+
+    -- places of tables of blocks hold manual blocks
+    pub places_same : (id : Id) → contains (ids_in_blocks w.graph) id ≡ true → object_is is_automatic w id ≡ false
+    places_same id there = manual_is (object_at w.graph id)
+        (list_all-contains (object_is (λ o. not (is_automatic o)) w) (ids_in_blocks w.graph) id formed.blocks there)
+      where
+        not_true : (b : Bool) → not b ≡ true → b ≡ false
+        not_true true e = absurd (false≢true e)
+        not_true false e = refl
+
+        manual_is : (o : Option Object)
+            → option_map_or (λ o. not (is_automatic o)) o false ≡ true
+            → option_map_or is_automatic o false ≡ false
+        manual_is None e = refl
+        manual_is (Some o) e = not_true (is_automatic o) e
+
+    points_now : AreNumbered (IsPoint (length v.flips) (world.is_copying_pool v) v.point_memories) past.point_number (point_at after.points)
+        v.graph.points
+    points_now = subst (λ n. AreNumbered (IsPoint n (world.is_copying_pool v) v.point_memories) past.point_number (point_at after.points)
+        v.graph.points) (sym (one_flip_more w.flips (condemned_zones w Everything)))
+        (subst (λ s. AreNumbered (IsPoint (length w.flips + 1) (world.is_copying_pool w) v.point_memories) past.point_number (point_at s)
+        v.graph.points) (sym heap.points)
+        (points_flipped (length w.flips) (world.is_copying_pool w) w.point_memories past.point_number h.points w.graph.points made
+        parts.points))
+
+    pub collected_parts : AreParts layout past after v
+    collected_parts = record {
+      grains = heap.grains ∙ parts.grains;
+      limit = heap.limit ∙ parts.limit;
+      segments = heap.segments;
+      image = heap.image;
+      resting = record {
+        at_most = subst (λ n. n ≤ max_grains) (sym heap.grains) parts.resting.at_most;
+        not_condemned = heap.not_condemned;
+        not_kept = heap.not_kept;
+        within = λ key p held is reserved.
+            let was = was_point h.points key p (sym (ap (λ s. point_at s key) heap.points) ∙ is) in
+            subst (λ n. word_of held.at.0 + held.words ≤ words_of_arena n) (sym heap.grains)
+            (parts.resting.within key was.0 held was.1 (ap (λ (q : Point). q.reservation) was.2 ∙ reserved));
+        aligned = λ key p held is reserved.
+            let was = was_point h.points key p (sym (ap (λ s. point_at s key) heap.points) ∙ is) in
+            parts.resting.aligned key was.0 held was.1 (ap (λ (q : Point). q.reservation) was.2 ∙ reserved);
+      };
+      tables = tables_same acted.world.addresses addresses past.table_number (kept after.roots.tables) w.graph.tables
+          (λ id there. places.held id (contains_left (ids_in_slots w.graph) w.graph.messages id there)) heap.tables;
+      ordered = ordered_alike parts.ordered after.roots.order heap.order heap.tables_there;
+      areas = areas_same w.addresses addresses past.area_number (kept after.roots.areas) w.graph.areas (λ id there. places.holds id there)
+          (kept_alike parts.areas (λ key. ap (λ rows. kept rows key) heap.areas));
+      blocks = heap.blocks ∙ (parts.blocks ∙ same_places w.addresses addresses w.graph.blocks
+          (λ id there. places.manual id (places_same id there)));
+      roots_counted = heap.live_roots ∙ parts.roots_counted;
+      slots_counted = heap.live_slots ∙ parts.slots_counted;
+      points = points_now;
+      points_counted = heap.live_points ∙ (parts.points_counted ∙ sym (points_counted w.graph.points));
+      registered = heap.registered ∙ sym (ap (map (address_of_id addresses)) none_registered);
+      messages = heap.messages ∙ same_ids acted.world.addresses addresses w.graph.messages
+          (λ id there. places.held id (contains_right (ids_in_slots w.graph) w.graph.messages id there));
+      flips = subst (λ e. AreFlips e v.flips) (sym heap.epochs) (flips_after h.epochs w.flips (condemned_zones w Everything) parts.flips);
+      point_flips = ap (λ (s : PointsState). s.flips) heap.points
+          ∙ (ap (λ n. n + 1) parts.point_flips ∙ sym (one_flip_more w.flips (condemned_zones w Everything)));
+      dependencies = heap.dependencies ∙ parts.dependencies;
+      lawful = parts.lawful;
+      pools = subst (λ ps. ArePools layout w.formats ps w.pools) (sym heap.pools) parts.pools;
+      sizes = heap.sizes ∙ (parts.sizes ∙ ap (map size_of_pool) (sym heap.pools));
+      chains = parts.chains;
+      names = named_alike h after past w.graph.names parts.names (λ name. ap (λ ns. thing_named ns name) heap.names) stay;
+      state = ap state_of (sym heap.parked);
+      at_rest = refl;
+    }

@@ -1,0 +1,38 @@
+-- The call `collect` of a heap that stands for a world: it can be done, it is right, and its trail keeps its room.
+use Rattle.std.proofs.Common.{◌≤◌}
+use Rattle.mps_base.specs.Trail.{Moves}
+use Rattle.mps_format.specs.Layout.{Layout}
+use Rattle.mps_model.specs.World.{World}
+use Rattle.mps_trace.specs.Collect.{most_moves}
+use Rattle.mps_trace_laws.proofs.Units.Scanning.{scans_are_done}
+use Rattle.mps_trace_laws.proofs.Begin.Acted.{a_collection_begins}
+use Rattle.mps_trace_laws.proofs.Begin.FlipStands.{flip_stands}
+use Rattle.mps_trace_laws.proofs.Begin.OverAtOnce.{a_collection_of_nothing_ends}
+use Rattle.mps_trace_laws.proofs.Begin.RootsReady.{roots_can_be_fixed}
+use Rattle.mps_trace_laws.proofs.Begin.UnitsFew.{units_are_few}
+use Rattle.mps_heap_spec.specs.State.{HeapState}
+use Rattle.mps_refinement.specs.StandsFor.{StandsFor}
+use Rattle.mps_refinement.specs.Collect.Collecting.{MayCollect, AHeapCanCollect, ACollectIsRight}
+use Rattle.mps_refinement.proofs.Collect.BeforeAFlip.{is_before}
+use Rattle.mps_refinement.proofs.Collect.CanCollect.{can_collect_all}
+use Rattle.mps_refinement.proofs.Collect.CollectRight.{IsBefore, collect_right, collect_keeps_room}
+
+module _ {F : Type 0} (layout : F → Layout) (h : HeapState F) (m : Moves) (may : MayCollect layout h m) where
+  -- all that has to be known of it before, in each world
+  known_before : (w : World) → StandsFor layout h w → (n : Moves) → most_moves h.segs.grains ≤ n.spare → IsBefore layout h n w
+  known_before w st n room = is_before layout st.past h w st.parts st.reached may.marked may.can n room
+
+pub a_heap_can_collect : {F : Type 0} → AHeapCanCollect F
+a_heap_can_collect layout h m may =
+    can_collect_all layout (a_collection_begins flip_stands) (roots_can_be_fixed flip_stands) units_are_few (scans_are_done layout) h m
+    may.world may.stands (known_before layout h m may may.world may.stands) may.room
+
+pub a_collect_is_right : {F : Type 0} → ACollectIsRight F
+a_collect_is_right layout h m h' m' may made collected = record {
+  right =
+      collect_right layout (a_collection_begins flip_stands) a_collection_of_nothing_ends (scans_are_done layout) h m h' m' collected made
+      may.world may.stands (λ w stands. known_before layout h m may w stands m may.room);
+  room =
+      collect_keeps_room layout (a_collection_begins flip_stands) a_collection_of_nothing_ends (scans_are_done layout) h m h' m' collected
+      made may.world may.stands (known_before layout h m may may.world may.stands m may.room);
+}

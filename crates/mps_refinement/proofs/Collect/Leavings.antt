@@ -1,0 +1,250 @@
+-- What a whole collection leaves of the world.
+use Rattle.std.proofs.Common.{◌≡◌, ◌∙◌, ℕ, true, false, refl, sym, ap, List, [], ◌++◌, Some, None, subst, inl, inr}
+use Rattle.std.proofs.lemmas.Bool.{false≢true, cases_Bool}
+use Rattle.std.specs.Prelude.{is_some}
+use Rattle.mps_base.specs.Address.{Id}
+use Rattle.mps_base.specs.declared.moves.Move.{Move}
+use Rattle.mps_model.specs.Graph.{contains, ids_in_holds, ids_in_slots, is_automatic, ids_of_client}
+use Rattle.mps_model.specs.Collection.{is_condemned}
+use Rattle.mps_model.specs.World.{World, address_of, is_live, object_is, has_area_word, live_automatic_ids, ids_of_area_words}
+use Rattle.mps_model.specs.Effect.{Everything, condemned_by, condemned_zones, world_flipped, world_after_moves}
+use Rattle.mps_model.specs.Flip.{flip_act, is_nothing}
+use Rattle.mps_model.proofs.Cutting.{world_after_moves-append}
+use Rattle.mps_abstract.specs.Collecting.{Collecting, Running, is_white_in}
+use Rattle.mps_abstract.specs.Fixing.{Fixes, fixes_no_more, passes, keeps}
+use Rattle.mps_abstract.specs.Units.{IsUnit, scans, examines, posts, splats, reclaims, IsLastUnit, reclaims_last, GoesOn, begun, by_one_more, Ends, by_last}
+use Rattle.mps_abstract.specs.FlipLaws.{IsAtRest, flipped, FixesHeld}
+use Rattle.mps_abstract.proofs.Lists.{contains_here, contains_later, contains_at, contains_left, contains-filter, contains_filtered}
+use Rattle.mps_abstract.proofs.Keeping.{not_white_if_kept, not_white_outside}
+use Rattle.mps_abstract.proofs.UnitScans.{targets_may_be_fixed, strong_is_tracing}
+use Rattle.mps_abstract.proofs.Reclaimed.{frees, cleared, final_collection}
+use Rattle.mps_abstract.proofs.Reclaiming.{goes_on_leads, last_leads}
+use Rattle.mps_abstract.proofs.Rows.{units_shown}
+use Rattle.mps_abstract.proofs.FlipActs.FlipLists.{holds_show}
+use Rattle.mps_abstract.proofs.FlipActs.Flipped.{flipped_running}
+use Rattle.mps_abstract.proofs.FlipActs.FlipBegins.{client_of_fixed, flip_done, flip_ended}
+use Rattle.mps_abstract.proofs.WholeCollections.WholeBegins.{everything, nothing_remembered, begun_running, whole_begun}
+use Rattle.mps_refinement.specs.Collect.Staying.{StaysInPlace}
+use Rattle.mps_refinement.specs.Collect.Leaving.{IsButMoved, IsPlain, IsCollected, AreInPlace, ACollectionMovesObjects}
+use Rattle.mps_refinement.proofs.Collect.KeptPlaces.{MayKeep, running_may_keep, kept, keep_may, keep_live, fixes_stay, ends_stay}
+
+-- ---- worlds that differ by where objects lie
+
+pub same_world : (w : World) → IsButMoved w w
+same_world w = record { addresses = w.addresses; segments = w.segments; tails = w.tails; collection = w.collection; world = refl }
+
+pub moved_on : {u v w : World} → IsButMoved u v → IsButMoved v w → IsButMoved u w
+moved_on a b = record {
+  addresses = b.addresses;
+  segments = b.segments;
+  tails = b.tails;
+  collection = b.collection;
+  world = b.world ∙ ap (λ (t : World). record t {
+    addresses = b.addresses;
+    segments = b.segments;
+    tails = b.tails;
+    collection = b.collection;
+  }) a.world;
+}
+
+pub still_plain : {v w : World} → IsButMoved v w → IsPlain v → IsPlain w
+still_plain m p = subst (λ (v : World). IsPlain v) (sym m.world) (record {
+  none_registered = p.none_registered;
+  none_weak = p.none_weak;
+})
+
+-- ---- objects are fixed
+
+pub fixes_move : {x y : Collecting} {ids : List Id} {ms : List Move} → Fixes x ids ms y → MayKeep x
+    → ((n : Id) → contains ids n ≡ true → is_live x.world n ≡ true) → IsButMoved x.world y.world
+fixes_move (fixes_no_more {x}) may live = same_world x.world
+fixes_move (passes {id = id} {ids} black rest) may live = fixes_move rest may (λ n h. live n (contains_later id ids n h))
+fixes_move {x} (keeps {id = id} {ids} {these} {those} {c} white keep rest) may live =
+    let there = live id (contains_here id ids) in
+    let one = kept x may id there these c keep in
+    moved_on (record {
+      addresses = one.addresses;
+      segments = one.segments;
+      tails = one.tails;
+      collection = Some c;
+      world = one.world;
+    })
+    (fixes_move rest (keep_may x may id there these c keep)
+    (λ n h. keep_live x may id there these c keep n ∙ live n (contains_later id ids n h)))
+
+-- ---- units
+
+pub unit_moves : {x y : Collecting} {ms : List Move} → Running x → IsPlain x.world → IsUnit x ms y → IsButMoved x.world y.world
+unit_moves {x} run plain (scans id {y} {ms} grey strong fixes) =
+    let may = targets_may_be_fixed x id run (strong_is_tracing x id run grey strong) grey in
+    fixes_move fixes (running_may_keep x run) (λ n h. (may n h).0)
+unit_moves {x} run plain (examines id due black) = same_world x.world
+unit_moves {x} run plain (posts id {ms} {c} due white keep) =
+    absurd (false≢true (sym (ap (λ ids. contains ids id) plain.none_registered)
+    ∙ contains_at x.world.graph.registered x.next id due.registered))
+unit_moves {x} run plain (splats id {y} {cells} drained examined grey done) =
+    absurd (false≢true (sym (plain.none_weak id) ∙ drained id grey))
+unit_moves {x} run plain (reclaims {s = s} {freed} {c} next not_last runs) = record {
+  addresses = (frees x run s freed next).addresses;
+  segments = (cleared x run s freed next).segments;
+  tails = x.world.tails;
+  collection = Some (final_collection x run s freed next);
+  world = goes_on_leads x run s freed next not_last;
+}
+
+pub units_move : {x y : Collecting} {count : ℕ} {ms : List Move} → Running x → IsPlain x.world → GoesOn x count ms y
+    → IsButMoved x.world y.world
+units_move {x} run plain begun = same_world x.world
+units_move run plain (by_one_more row unit) =
+    let before = units_move run plain row in
+    moved_on before (unit_moves (units_shown run row).running (still_plain before plain) unit)
+
+-- the last one, after which no collection runs
+pub record EndsMoved (before after : World) : Type 0 where
+  pub but_moved : IsButMoved before after
+  pub ended : after.collection ≡ None
+
+last_unit_moves : {x : Collecting} {ms : List Move} → Running x → IsLastUnit x ms → EndsMoved x.world (world_after_moves x.world ms)
+last_unit_moves {x} run (reclaims_last {s = s} {freed} next last) = record {
+  but_moved = record {
+    addresses = (frees x run s freed next).addresses;
+    segments = (cleared x run s freed next).segments;
+    tails = x.world.tails;
+    collection = None;
+    world = last_leads x run s freed next last;
+  };
+  ended = ap (λ (v : World). v.collection) (last_leads x run s freed next last);
+}
+
+pub ends_move : {x : Collecting} {count : ℕ} {ms : List Move} → Running x → IsPlain x.world → Ends x count ms
+    → EndsMoved x.world (world_after_moves x.world ms)
+ends_move {x} run plain (by_last {y = y} {done = done} {piece} row last) =
+    let shown = units_shown run row in
+    let leads : world_after_moves x.world (done ++ piece) ≡ world_after_moves y.world piece =
+    world_after_moves-append x.world done piece ∙ ap (λ v. world_after_moves v piece) shown.leads in
+    let at_end = last_unit_moves shown.running last in
+    subst (λ v. EndsMoved x.world v) (sym leads) (record {
+      but_moved = moved_on (units_move run plain row) at_end.but_moved;
+      ended = at_end.ended;
+    })
+
+-- ---- the whole collection
+
+module _ (w : World) (first : List Move) (y : Collecting) (rest : IsAtRest w) (some : is_nothing (condemned_by w Everything) ≡ false)
+    (fixed : FixesHeld w (flipped w Everything []) first y) where
+  abbrev begins : Collecting
+  begins = flipped w Everything []
+
+  running : Running y
+  running = begun_running w first y rest some fixed
+
+  may_keep : MayKeep begins
+  may_keep = record { runs = refl; different = (flipped_running w Everything [] rest some (nothing_remembered w rest)).different }
+
+  held_live : (n : Id) → contains (ids_in_slots w.graph ++ w.graph.messages) n ≡ true → is_live begins.world n ≡ true
+  held_live n h = rest.held_live n (client_of_fixed w.graph n h)
+
+  flip_stays : StaysInPlace begins y
+  flip_stays = fixes_stay fixed may_keep held_live
+
+  flip_moves : IsButMoved begins.world y.world
+  flip_moves = fixes_move fixed may_keep held_live
+
+  act_leads : world_after_moves w (flip_act w Everything) ≡ y.world
+  act_leads = (flip_done w Everything [] first y rest refl some (nothing_remembered w rest) fixed).leads
+
+  all_lead : (later : List Move) → world_after_moves w (flip_act w Everything ++ later) ≡ world_after_moves y.world later
+  all_lead later = world_after_moves-append w (flip_act w Everything) later ∙ ap (λ (v : World). world_after_moves v later) act_leads
+
+  -- right after the record of the flip
+  from_flip : IsButMoved (world_flipped w (condemned_zones w Everything)) begins.world
+  from_flip = record {
+    addresses = w.addresses;
+    segments = w.segments;
+    tails = [];
+    collection = Some begins.running;
+    world = refl;
+  }
+
+  plain_then : IsPlain w → IsPlain y.world
+  plain_then plain = still_plain flip_moves (record { none_registered = plain.none_registered; none_weak = plain.none_weak })
+
+  pub whole_collected : (count : ℕ) (later : List Move) → Ends y count later → IsPlain w
+      → IsCollected w (world_after_moves w (flip_act w Everything ++ later))
+  whole_collected count later ends plain =
+      let at_end = ends_move running (plain_then plain) ends in
+      subst (λ v. IsCollected w v) (sym (all_lead later)) (record {
+        but_moved = moved_on (moved_on from_flip flip_moves) at_end.but_moved;
+        ended = at_end.ended;
+      })
+
+  -- ---- what stays
+
+  module _ (count : ℕ) (later : List Move) (ends : Ends y count later) where
+    since_act : (n : Id) → is_white_in y n ≡ false
+        → address_of (world_after_moves w (flip_act w Everything ++ later)) n ≡ address_of y.world n
+    since_act n h = ap (λ (v : World). address_of v n) (all_lead later) ∙ ends_stay running ends n h
+
+    since_flip : (n : Id) → is_white_in begins n ≡ false
+        → address_of (world_after_moves w (flip_act w Everything ++ later)) n ≡ address_of w n
+    since_flip n h = since_act n (flip_stays.not_white n h) ∙ flip_stays.in_place n h
+
+    not_condemned : (n : Id) → object_is is_automatic w n ≡ false → is_condemned begins.running n ≡ false
+    not_condemned n manual = elim (cases_Bool (is_condemned begins.running n)) [
+      | inl is ↦ absurd (false≢true (sym manual
+          ∙ (flipped_running w Everything [] rest some (nothing_remembered w rest)).condemned.objects n is))
+      | inr isnt ↦ isnt
+    ]
+
+    held_black : (n : Id) → contains (ids_in_slots w.graph ++ w.graph.messages) n ≡ true → is_white_in y n ≡ false
+    held_black n h =
+        let begun_whole = whole_begun w first y rest some fixed in
+        begun_whole.roots.kept n (contains_left (ids_of_client begins.world.graph)
+        (ids_of_area_words begins.world ++ begun_whole.posted) n (client_of_fixed begins.world.graph n h))
+
+    held_lives : (n : Id) → contains (ids_in_slots w.graph ++ w.graph.messages) n ≡ true → is_live y.world n ≡ true
+    held_lives n h =
+        let begun_whole = whole_begun w first y rest some fixed in
+        begun_whole.roots.live n (contains_left (ids_of_client begins.world.graph)
+        (ids_of_area_words begins.world ++ begun_whole.posted) n (client_of_fixed begins.world.graph n h))
+
+    -- an object in which an area word lies is pinned, as everything is condemned
+    is_pinned : (n : Id) → contains (ids_of_area_words w) n ≡ true → contains begins.running.pinned n ≡ true
+    is_pinned n h =
+        let word = contains-filter (has_area_word w) (live_automatic_ids w) n h in
+        contains_filtered (has_area_word begins.world) begins.running.condemned n word.1 (everything w rest n word.0)
+
+    -- what an area word holds is pinned, or wasn't condemned
+    hold_black : (n : Id) → contains (ids_in_holds w.graph) n ≡ true → is_white_in begins n ≡ false
+    hold_black n h = elim (cases_Bool (is_condemned begins.running n)) [
+      | inl is ↦ not_white_if_kept begins.running.condemned begins.colours n (contains_filtered (has_area_word w) begins.running.condemned n
+          (holds_show w w.graph.areas n rest.well_formed.words h) is)
+      | inr isnt ↦ not_white_outside begins.running.condemned begins.colours n isnt
+    ]
+
+    pub in_place : AreInPlace w y (world_after_moves w (flip_act w Everything ++ later))
+    in_place = record {
+      manual = λ n h. since_flip n (not_white_outside begins.running.condemned begins.colours n (not_condemned n h));
+      pinned = λ n h. since_flip n (not_white_if_kept begins.running.condemned begins.colours n (is_pinned n h));
+      holds = λ n h. since_flip n (hold_black n h);
+      held = λ n h. since_act n (held_black n h);
+      held_live = λ n h. ap is_some (since_act n (held_black n h)) ∙ held_lives n h;
+    }
+
+-- ---- where nothing is condemned
+
+nothing_collected : (w : World) → IsAtRest w → is_nothing (condemned_by w Everything) ≡ true
+    → IsCollected w (world_after_moves w (flip_act w Everything))
+nothing_collected w rest nothing =
+    let ended = flip_ended w Everything rest refl nothing in
+    subst (λ ms. IsCollected w (world_after_moves w ms)) (sym ended.act) (record {
+      but_moved = record { addresses = w.addresses; segments = w.segments; tails = []; collection = None; world = refl };
+      ended = refl;
+    })
+
+pub a_collection_moves_objects : ACollectionMovesObjects
+a_collection_moves_objects = (
+  (λ w first later y count rest some fixed ends plain. whole_collected w first y rest some fixed count later ends plain),
+  (λ w first later y count rest some fixed ends. in_place w first y rest some fixed count later ends),
+  (λ w rest nothing. nothing_collected w rest nothing),
+)

@@ -1,0 +1,150 @@
+-- Words that are borrowed: those of the manual block in a place, and the cells of an object in a slot. The run of blocks that begins at its
+-- address has the words of the model's block, and they are the arena's words there.
+use Rattle.std.proofs.Common.{◌≡◌, ◌∙◌, ℕ, ◌+◌, ◌-◌, ◌<◌, ◌≤◌, refl, ap, subst, length, map, Option, Some, Ok, Contains, inl, inr, arith}
+use Rattle.std.proofs.lemmas.Bool.{and_parts, cases_lt, leb-true}
+use Rattle.std.specs.Prelude.{nat_le, slice_get, slice_range}
+use Rattle.mps_base.specs.Address.{Address, Id, word_of}
+use Rattle.mps_base.specs.declared.names.Slot.{Slot}
+use Rattle.mps_base.specs.declared.refusal.Refusal.TheVariants as refusal
+use Rattle.mps_format.specs.Layout.{Layout}
+use Rattle.mps_laws.proofs.Acts.{required-is}
+use Rattle.mps_laws.proofs.Same as same
+use Rattle.mps_laws.proofs.Lookups.{there_is}
+use Rattle.mps_laws.proofs.Same.{Same, fits, same_ok}
+use Rattle.mps_model.specs.Allocating as allocating
+use Rattle.mps_model.specs.Allocating.{words_at}
+use Rattle.mps_model.specs.Checked as model
+use Rattle.mps_model.specs.Checked.{Checked, Found, Numbered, ◌>>=◌}
+use Rattle.mps_model.specs.Graph.{Object, size_of, size_of_body}
+use Rattle.mps_model.specs.Image.{image_of_cell}
+use Rattle.mps_model.specs.World.{World}
+use Rattle.mps_heap_spec.specs.Finding.{block_place_in, object_in}
+use Rattle.mps_heap_spec.specs.declared.found.Block.{Block}
+use Rattle.mps_heap_spec.specs.declared.found.Entry.{Entry}
+use Rattle.mps_heap_spec.specs.Manual.{block_in, word_in_block}
+use Rattle.mps_heap_spec.specs.State.{HeapState}
+use Rattle.mps_refinement.specs.StandsFor.{AreParts, IsReached, Past}
+use Rattle.mps_refinement.proofs.Lookups.BlockRuns.{automatic_words, manual_words, run_is, run_there}
+use Rattle.mps_refinement.proofs.Worlds.Known.{known}
+use Rattle.mps_refinement.proofs.Lookups.LiveObjects.{IsObject, object_same}
+use Rattle.mps_refinement.proofs.Lookups.Lookups.{IsPlaceFound, place_same}
+use Rattle.mps_refinement.proofs.Lookups.ManualBlocks.{IsBlock, IsWordOf, block_same, block_words, lies, setting, word_same}
+use Rattle.mps_refinement.proofs.Worlds.Reached.{reached_sound}
+
+-- where our row comes to something, so does the model's, and they fit
+pub record FitsOurs {A B : Type 0} (Fits : A → B → Type 0) (y : Checked B) (a : A) : Type 0 where
+  pub value : B
+  pub comes : y ≡ Ok value
+  pub fit : Fits a value
+
+pub fits_ours : {A B : Type 0} (Fits : A → B → Type 0) (x : Checked A) (y : Checked B) (a : A) → Same Fits x y → x ≡ Ok a
+    → FitsOurs Fits y a
+fits_ours Fits x y a (fits {a = own} {b = value} fit) e =
+    let is : own ≡ a = cc in record { value = value; comes = refl; fit = subst (λ z. Fits z value) is fit }
+fits_ours Fits x y a same.refused e = absurd cc
+
+module _ {F : Type 0} (layout : F → Layout) (h : HeapState F) (w : World) (past : Past) (parts : AreParts layout past h w)
+    (reached : IsReached w) where
+  -- ---- the words of a manual block
+
+  pub record IsBlockBorrowed (place : Slot) (at : Address) : Type 0 where
+    pub found : Found (Option ℕ)
+    pub place_is : model.block_place_in w place ≡ Ok found
+    pub id : Id
+    pub held : found.value ≡ Some id
+    pub block : IsBlock w at id
+    -- its run has its words, and no other run begins there
+    pub run : Contains h.segs.blocks (record { from = word_of at; count = length block.right.words })
+    pub one : (n : ℕ) → Contains h.segs.blocks (record { from = word_of at; count = n }) → n ≡ length block.right.words
+    -- and these are the arena's
+    pub words : slice_range h.segs.words (word_of at) (word_of at + length block.right.words) ≡ block.right.words
+    pub each : (k : ℕ) → k < length block.right.words → word_in_block h at k ≡ Ok (word_of at + k)
+    pub within : word_of at + length block.right.words ≤ length h.segs.words
+
+  pub block_borrowed : (place : Slot) (entry : Entry Address) (at : Address) → block_place_in h place ≡ Ok entry → block_in h entry ≡ Ok at
+      → IsBlockBorrowed place at
+  block_borrowed place entry at place_is block_is =
+      let own = known w reached in
+      let s = setting layout past h w parts own in
+      let p = fits_ours (IsPlaceFound past h w place) (block_place_in h place) (model.block_place_in w place) entry
+      (place_same layout past h w parts place) place_is in
+      let b = fits_ours (IsBlock w) (block_in h entry) (allocating.block_in p.value) at
+      (block_same layout past h w parts own place.index entry p.value p.fit.fit) block_is in
+      let size : size_of b.fit.object ≡ length b.fit.right.words = ap size_of_body b.fit.right.body in
+      record {
+        found = p.value;
+        place_is = p.comes;
+        id = b.value;
+        held = required-is p.value.value refusal.NotABlock b.value b.comes;
+        block = b.fit;
+        run = subst (λ n. Contains h.segs.blocks (record { from = word_of at; count = n })) size
+            (run_there s w.addresses parts.image.placed h.segs parts.image.runs.blocks b.value at b.fit.object b.fit.address b.fit.there);
+        one = λ n there.
+            run_is s w.addresses parts.image.placed h.segs parts.image.runs.blocks b.value at b.fit.object b.fit.address b.fit.there n there
+            ∙ size;
+        words = manual_words h.segs w parts.image parts.at_rest
+            (reached_sound w reached parts.at_rest) b.value at b.fit.object b.fit.address
+            b.fit.there b.fit.right.words b.fit.right.body;
+        each = λ k low. word_there at b.value b.fit k low;
+        within = all_within at b.value b.fit;
+      }
+    where
+      word_there : (a : Address) (id : Id) (x : IsBlock w a id) (k : ℕ) → k < length x.right.words
+          → word_in_block h a k ≡ Ok (word_of a + k)
+      word_there a id x k low =
+          let own = known w reached in
+          let value = there_is x.right.words k low in
+          let model_is : model.required (slice_get (words_at w.graph id) k) refusal.BadIndex ≡ Ok value.0 =
+          ap (λ ws. model.required (slice_get ws k) refusal.BadIndex) (block_words layout past h w parts own a id x)
+          ∙ ap (λ o. model.required o refusal.BadIndex) value.1 in
+          let word = same_ok (IsWordOf h.segs.words x.right.words a k) (word_in_block h a k)
+          (model.required (slice_get (words_at w.graph id) k) refusal.BadIndex) value.0
+          (word_same layout past h w parts own a id x k) model_is in
+          word.comes ∙ ap Ok word.fit.is
+
+      all_within : (a : Address) (id : Id) (x : IsBlock w a id) → word_of a + length x.right.words ≤ length h.segs.words
+      all_within a id x =
+          elim (cases_lt 0 (length x.right.words)) [
+            | inl some ↦
+                let own = known w reached in
+                let last = length x.right.words - 1 in
+                let l = lies layout past h w parts own a id x last (omega (arith, some)) in
+                let low = parts.image.placed.within id last x.object (word_of a + last) l in
+                let long = parts.image.words.long in
+                omega (arith, low, long, some)
+            | inr none ↦
+                let sized = (and_parts (nat_le 1 (length x.right.words)) (nat_le (length x.right.words) 65536) x.right.size).0 in
+                let some = leb-true 1 (length x.right.words) sized in
+                absurd (omega (arith, none, some))
+          ]
+
+  -- ---- the cells of an object
+
+  pub record IsObjectBorrowed (slot : Slot) (b : Block F) : Type 0 where
+    pub object : Numbered Object
+    pub is : IsObject layout h w b object
+    pub run : Contains h.segs.blocks (record { from = word_of b.at; count = length is.cells })
+    pub one : (n : ℕ) → Contains h.segs.blocks (record { from = word_of b.at; count = n }) → n ≡ length is.cells
+    -- the arena's words are those of its cells
+    pub words : slice_range h.segs.words (word_of b.at) (word_of b.at + length is.cells) ≡ map (image_of_cell w b.head) is.cells
+
+  pub object_borrowed : (slot : Slot) (b : Block F) → object_in layout h slot ≡ Ok b → IsObjectBorrowed slot b
+  object_borrowed slot b found =
+      let own = known w reached in
+      let s = setting layout past h w parts own in
+      let o = fits_ours (IsObject layout h w) (object_in layout h slot)
+      (model.slot_in w slot >>= (λ (from : Found (Option ℕ)). model.object_in w from.value)) b (object_same layout past h w parts own slot)
+      found in
+      let size : size_of o.value.value ≡ length o.fit.cells = ap size_of_body o.fit.body in
+      record {
+        object = o.value;
+        is = o.fit;
+        run = subst (λ n. Contains h.segs.blocks (record { from = word_of b.at; count = n })) size
+            (run_there s w.addresses parts.image.placed h.segs parts.image.runs.blocks o.value.number b.at o.value.value o.fit.address
+            o.fit.object);
+        one = λ n there.
+            run_is s w.addresses parts.image.placed h.segs parts.image.runs.blocks o.value.number b.at o.value.value o.fit.address
+            o.fit.object n there ∙ size;
+        words = automatic_words h.segs w parts.image parts.at_rest (reached_sound w reached parts.at_rest) o.value.number b.at o.value.value
+            o.fit.address o.fit.object b.head o.fit.cells o.fit.is_weak o.fit.body;
+      }

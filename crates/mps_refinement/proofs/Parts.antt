@@ -1,0 +1,23 @@
+-- The parts of a heap represent those of a world, after each kind of change.
+pub mod Counts
+pub mod Numbering
+pub mod Ordering
+pub mod EntryWritten
+pub mod PartsByKind
+pub mod PartsWritten
+pub mod BlockParts
+pub mod ClearedWords
+pub mod PointWritten
+pub mod ReservedImage
+pub mod ReservedParts
+pub mod BlockPlaces
+pub mod StillHeld
+pub mod FreedParts
+pub mod Named
+pub mod PartsMade
+pub mod WrittenReservation
+pub mod ObjectMore
+pub mod CommittedParts
+pub mod AllocatedParts
+pub mod PointImage
+pub mod PoolImage

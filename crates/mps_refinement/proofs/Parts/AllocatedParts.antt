@@ -1,0 +1,390 @@
+-- After an `alloc` the parts of a heap stand for those of the world after it.
+use Rattle.std.proofs.Common.{◌≡◌, ◌∙◌, ℕ, zero, suc, ◌+◌, ◌-◌, ◌*◌, ◌%◌, ◌<◌, ◌≤◌, Bool, true, false, refl, sym, ap, subst, List, [], length, map, replicate, Option, Some, Contains, arith, slice_index}
+use Rattle.std.proofs.lemmas.Bool.{false≢true}
+use Rattle.std.proofs.lemmas.List.{length-replicate}
+use Rattle.std.proofs.lemmas.Option.{none-some, same_Some, slice_get_within, slice_get-map}
+use Rattle.std.specs.Prelude.{◌&&◌, not, slice_get, slice_set, option_map}
+use Rattle.std.specs.Option.{option_map_or}
+use Rattle.mps_arena.specs.Arena.{cleared_words}
+use Rattle.mps_base.specs.Address.{Address, Id, Word, word_of, address_of_word, max_grains}
+use Rattle.mps_base.specs.Placement.{Placement, Place, NewSegment, OverLimit, NoFreeRun}
+use Rattle.mps_base.specs.Run.{Run, Covers, with_run}
+use Rattle.mps_base.specs.Segment.{Segment, grains_of_segment, segment_over, words_of_segment}
+use Rattle.mps_base.specs.declared.names.Rank.TheVariants as rank
+use Rattle.mps_bits.specs.Table.{bit}
+use Rattle.mps_format.specs.Layout.{Layout}
+use Rattle.mps_trace_laws.specs.Image.ArenaLaws.{AreSegmentsKept, setting_with_segments}
+use Rattle.mps_trace_laws.specs.Image.AtRest.{StandsAtRest}
+use Rattle.mps_trace_laws.specs.Image.Changes.{AreFree, AreHome, IsAllocated}
+use Rattle.mps_trace_laws.specs.Image.Image.{IsFixedWord, Stands, black_cells, no_colours}
+use Rattle.mps_trace_laws.specs.Image.Memory.{Lies, Memory, Setting, is_condemned_word, memory_in, pool_layout, pool_over_word, setting_at_rest, words_of_arena}
+use Rattle.mps_trace_laws.specs.Image.SegmentWords.{AreSegmentsInOrder}
+use Rattle.mps_trace_laws.proofs.Image.ArenaLaws.{segments_change}
+use Rattle.mps_trace_laws.proofs.Image.ClientLaws.{block_is_allocated}
+use Rattle.mps_trace_laws.proofs.Image.SegmentWords.{segments_are_home}
+use Rattle.mps_laws.proofs.Positions.LegalMoves.{HasLayout}
+use Rattle.mps_laws.proofs.Lookups.{entry_at-at_last, entry_at-last, entry_within, slice_get-at_last, slice_get-kept}
+use Rattle.mps_laws.proofs.Positions.Occupancy.{Occupant, OfBlock, OfReservation, Shape, occupancy_of, run_of, shape_of, run_of_block}
+use Rattle.mps_laws.proofs.Positions.Segments.{IsAmong, among_aligned, among_with, found_segment, segment_bounds}
+use Rattle.mps_laws.proofs.Sound.SoundGraph.{IsSoundGraph, auto}
+use Rattle.mps_model.specs.Allocating.{address_of_placement}
+use Rattle.mps_model.specs.Checked.{Found}
+use Rattle.mps_model.specs.Graph.{Cell, NumberCell, Manual, Object, entry_at, is_automatic, size_of, with_last}
+use Rattle.mps_model.specs.World.{World, extent}
+use Rattle.mps_heap_spec.specs.declared.found.Entry.{Entry}
+use Rattle.mps_heap_spec.specs.State.{HeapState}
+use Rattle.mps_root.specs.State.{with_place}
+use Rattle.mps_seg.specs.Segs.{SegsState, noted_for, segments_after}
+use Rattle.mps_refinement.specs.StandsFor.{AreParts, Past, address_of_target}
+use Rattle.mps_refinement.proofs.Parts.BlockParts.{blocks_changed, with_blocks, world_with_blocks}
+use Rattle.mps_refinement.proofs.Parts.BlockPlaces.{place_length, place_written, places_count, places_counted}
+use Rattle.mps_refinement.proofs.Parts.ClearedWords.{cleared_long, cleared_word, other_word}
+use Rattle.mps_refinement.proofs.Parts.CommittedParts.{aligned_otherwise, in_order_still, segment_there}
+use Rattle.mps_refinement.proofs.Lookups.Found.{mapped_some}
+use Rattle.mps_refinement.proofs.Worlds.Known.{IsKnown}
+use Rattle.mps_refinement.proofs.Lookups.Lookups.{IsPlaceEntry}
+use Rattle.mps_refinement.proofs.Lookups.ManualBlocks.{passes_there}
+use Rattle.mps_refinement.proofs.Worlds.PlacedOnce.{ArePlacedOnce}
+use Rattle.mps_refinement.proofs.Worlds.PlacesByMoves.{places_of}
+use Rattle.mps_refinement.proofs.Parts.PointWritten.{none_set}
+use Rattle.mps_refinement.proofs.Parts.ReservedImage.{block_covers, none_condemned, reservation_covers}
+use Rattle.mps_refinement.proofs.Parts.StillHeld.{messages_still, registered_still, slots_still, words_still}
+
+-- ---- placements
+
+-- a placement is at a word
+placed_at_word : (q : Placement) → address_of_placement q % 8 ≡ 0
+placed_at_word (Place word) = omega arith
+placed_at_word (NewSegment grain grains) = omega arith
+placed_at_word (OverLimit committed need limit) = refl
+placed_at_word (NoFreeRun need longest) = refl
+
+-- held segments stay
+among_after : (q : Placement) (pool : ℕ) (ss : List Segment) (t : Segment) → IsAmong t ss → IsAmong t
+    (segments_after q pool 0 rank.Exact ss)
+among_after (Place word) pool ss t there = there
+among_after (NewSegment grain grains) pool ss t there = among_with _ t ss there
+among_after (OverLimit committed need limit) pool ss t there = there
+among_after (NoFreeRun need longest) pool ss t there = there
+
+-- a new segment is not condemned
+noted_clear : (q : Placement) (bits : List Bool) (grain : ℕ) → bit bits grain ≡ false → bit (noted_for q false bits) grain ≡ false
+noted_clear (Place word) bits grain clear = clear
+noted_clear (NewSegment first grains) bits grain clear = none_set bits first grain clear
+noted_clear (OverLimit committed need limit) bits grain clear = clear
+noted_clear (NoFreeRun need longest) bits grain clear = clear
+
+all_zero : (count i x : ℕ) → slice_get (replicate count 0) i ≡ Some x → x ≡ 0
+all_zero zero i x e = absurd (none-some x e)
+all_zero (suc count) zero x e = sym (same_Some 0 x e)
+all_zero (suc count) (suc i) x e = all_zero count i x e
+
+abbrev is_block : Occupant → Bool
+is_block (OfBlock id) = true
+is_block _ = false
+
+abbrev number_of : Occupant → ℕ
+number_of (OfBlock id) = id
+number_of _ = 0
+
+-- ---- the segments
+
+-- the segments with a block of n words at an address, which a placement gave; its words are 0
+abbrev pub segments_made : SegsState → Placement → (pool words : ℕ) → Address → SegsState
+segments_made s q pool words at = record s {
+  segments = segments_after q pool 0 rank.Exact s.segments;
+  condemned = noted_for q false s.condemned;
+  summaries = noted_for q 0 s.summaries;
+  covered = with_run (record { from = word_of at; count = words }) s.covered;
+  blocks = with_run (record { from = word_of at; count = words }) s.blocks;
+  words = cleared_words s.words (word_of at) words;
+}
+
+module _ {F : Type 0} (layout : F → Layout) (past : Past) (h : HeapState F) (w : World) (parts : AreParts layout past h w)
+    (known : IsKnown w) (graph : IsSoundGraph w) (once : ArePlacedOnce (places_of w)) (pool words : ℕ) (some : 0 < words) (q : Placement)
+  where
+    abbrev at : Address
+    at = address_of_placement q
+
+    abbrev object : Object
+    object = record { pool = pool; body = Manual (replicate words 0) }
+
+    abbrev new : Id
+    new = length w.graph.objects
+
+    abbrev segs : SegsState
+    segs = segments_made h.segs q pool words at
+
+    abbrev objects_after : List Object
+    objects_after = with_last w.graph.objects object
+
+    abbrev addresses_after : List (Option Address)
+    addresses_after = with_last w.addresses (Some at)
+
+    abbrev segments_now : List Segment
+    segments_now = segments_after q pool 0 rank.Exact w.segments
+
+    -- a world with the block
+    abbrev pub world_with : List (List (Option ℕ)) → World
+    world_with places = world_with_blocks w objects_after addresses_after places segments_now
+
+    size_is : size_of object ≡ words
+    size_is = length-replicate words 0
+
+    module _ (places : List (List (Option ℕ))) (laid : HasLayout (w.grains + 1) w) (after : HasLayout (w.grains + 1)
+        (world_with places)) where
+      abbrev v : World
+      v = world_with places
+
+      -- ---- where it lies
+
+      new_object : slice_get objects_after new ≡ Some object
+      new_object = slice_get-at_last w.graph.objects object
+
+      new_address : entry_at addresses_after new ≡ Some at
+      new_address =
+          ap (entry_at addresses_after) (sym known.formed.addresses) ∙ entry_at-at_last w.addresses (Some at)
+
+      abbrev own : (k : ℕ) → k < words → Lies objects_after addresses_after new k object (word_of at + k)
+      own k low = record {
+        at = at;
+        address = new_address;
+        object = new_object;
+        within = (let e = size_is in omega (arith, low, e));
+        is = refl;
+      }
+
+      own_covers : (k : ℕ) → k < words → Covers (run_of (occupancy_of v) (OfBlock new)) (word_of at + k)
+      own_covers k low =
+          block_covers (occupancy_of v) objects_after addresses_after new k object (word_of at + k) refl refl (own k low)
+
+      -- all words of it lie in one segment
+      record IsIn : Type 0 where
+        segment : Segment
+        held : IsAmong segment segments_now
+        of_pool : segment.pool ≡ pool
+        above : word_of segment.base ≤ word_of at
+        below : word_of at + words ≤ word_of segment.base + 512 * segment.grains
+
+      home : IsIn
+      home =
+          let first = own_covers 0 some in
+          let last = own_covers (words - 1) (omega (arith, some)) in
+          let x = after.placed.homes (OfBlock new) (omega (arith, first.0, first.1)) in
+          let run : run_of (occupancy_of v) (OfBlock new) ≡ extent at (size_of object) =
+          ap (λ o. run_of_block o (entry_at addresses_after new))
+          (slice_get-map shape_of objects_after new ∙ ap (option_map shape_of) new_object)
+          ∙ ap (run_of_block (Some (shape_of object))) new_address in
+          let from : (run_of (occupancy_of v) (OfBlock new)).from ≡ word_of at = ap (λ (r : Run). r.from) run in
+          let pool_is : x.segment.pool ≡ pool =
+          x.of_pool ∙ ap (λ o. option_map_or (λ (y : Shape). y.pool) o 0)
+          (slice_get-map shape_of objects_after new ∙ ap (option_map shape_of) new_object) in
+          record {
+            segment = x.segment;
+            held = x.held;
+            of_pool = pool_is;
+            above = omega (arith, x.above, from);
+            below = omega (arith, x.below, last.1, some);
+          }
+
+      within_arena : (k : ℕ) → k < words → word_of at + k < words_of_arena w.grains
+      within_arena k low =
+          let x = home in
+          let bounds = segment_bounds 1 (w.grains + 1) segments_now x.segment after.ascending x.held in
+          let a = among_aligned x.segment segments_now after.aligned x.held in
+          let below = x.below in
+          omega (arith, low, below, bounds.2, a)
+
+      fits : word_of at + words ≤ length h.segs.words
+      fits =
+          let last = within_arena (words - 1) (omega (arith, some)) in
+          let grains = parts.grains in
+          let long = parts.image.words.long in
+          omega (arith, last, some, grains, long)
+
+      -- ---- the segments, and then the block
+
+      abbrev setting_before : Setting
+      setting_before = setting_at_rest h.segs w.graph.objects w.graph.points w.point_memories (pool_layout w)
+
+      abbrev setting_between : Setting
+      setting_between = setting_with_segments setting_before (pool_over_word segs) (is_condemned_word segs)
+
+      clear_after : (grain : ℕ) → bit segs.condemned grain ≡ false
+      clear_after grain = noted_clear q h.segs.condemned grain (parts.resting.not_condemned grain)
+
+      segments_are : segs.segments ≡ segments_now
+      segments_are = ap (λ ss. segments_after q pool 0 rank.Exact ss) parts.segments
+
+      still_over : (j k : ℕ) (o : Object) (n : Word) → Lies w.graph.objects w.addresses j k o n
+          → segment_over segs.segments (address_of_word n) ≡ segment_over h.segs.segments (address_of_word n)
+      still_over j k o n l =
+          let c = block_covers (occupancy_of w) w.graph.objects w.addresses j k o n refl refl l in
+          let x = laid.placed.homes (OfBlock j) (omega (arith, c.0, c.1)) in
+          let inside : Covers (words_of_segment x.segment) n = (omega (arith, x.above, c.0), omega (arith, x.below, c.1)) in
+          ap (λ ss. segment_over ss (address_of_word n)) segments_are
+          ∙ found_segment 1 (w.grains + 1) segments_now x.segment after.ascending after.aligned
+          (among_after q pool w.segments x.segment x.held) n
+          inside
+          ∙ sym (found_segment 1 (w.grains + 1) w.segments x.segment laid.ascending laid.aligned x.held n inside)
+          ∙ ap (λ ss. segment_over ss (address_of_word n)) (sym parts.segments)
+
+      kept : AreSegmentsKept setting_before w.addresses (pool_over_word segs) (is_condemned_word segs)
+      kept = record {
+        pool = λ j k o n l. ap (option_map (λ (x : Segment). x.pool)) (still_over j k o n l);
+        is_condemned = λ j k o n l. none_condemned segs clear_after n ∙ sym (none_condemned h.segs parts.resting.not_condemned n);
+        old_pool = λ j from to o k e. absurd (none-some from e);
+        was_condemned = λ j from to o k e. absurd (none-some from e);
+      }
+
+      between : Stands setting_between (memory_in h.segs) w.addresses no_colours
+      between =
+          segments_change setting_before (memory_in h.segs) w.addresses no_colours (black_cells [] no_colours) (pool_over_word segs)
+          (is_condemned_word segs) parts.image kept
+
+      old_still : (j k : ℕ) (o : Object) (n : Word) → Lies w.graph.objects w.addresses j k o n → Lies objects_after addresses_after j k o n
+      old_still j k o n l = record {
+        at = l.at;
+        address = entry_at-last w.addresses (Some at) j (entry_within w.addresses j l.at l.address) ∙ l.address;
+        object = slice_get-kept w.graph.objects object o j l.object;
+        within = l.within;
+        is = l.is;
+      }
+
+      -- its words are free before
+      free : AreFree setting_between w.addresses at (size_of object)
+      free = record {
+        within = λ k lt. let low = within_arena k (let e = size_is in omega (arith, lt, e)) in let grains = parts.grains in omega
+            (arith, low, grains);
+        unoccupied = λ k j i o lt l.
+            let low : k < words = (let e = size_is in omega (arith, lt, e)) in
+            let c = block_covers (occupancy_of v) objects_after addresses_after j i o (word_of at + k) refl refl (old_still j i o
+            (word_of at + k) l) in
+            let one : j ≡ new = ap number_of (after.placed.apart (OfBlock j) (OfBlock new) (word_of at + k) c (own_covers k low)) in
+            let below = slice_get_within w.graph.objects j o l.object in
+            omega (arith, one, below);
+        unreserved = λ k point i r lt l.
+            let low : k < words = (let e = size_is in omega (arith, lt, e)) in
+            let c = reservation_covers (occupancy_of v) w.graph.points w.point_memories point i r (word_of at + k) refl refl l in
+            false≢true (ap is_block (after.placed.apart (OfReservation point) (OfBlock new) (word_of at + k) c (own_covers k low)));
+        unforwarded = λ k lt. record { clear = λ j from to o i e f apart x kt same. none-some from e };
+      }
+
+      in_order : AreSegmentsInOrder segs.segments
+      in_order =
+          subst AreSegmentsInOrder (sym segments_are) (record {
+            aligned = aligned_otherwise segments_now after.aligned;
+            ascending = in_order_still 1 (w.grains + 1) (max_grains + 1) (map grains_of_segment segments_now)
+                (let most = parts.resting.at_most in let grains = parts.grains in omega (arith, most, grains)) after.ascending;
+          })
+
+      at_home : AreHome setting_between at (size_of object) pool
+      at_home =
+          let x = home in
+          let a = among_aligned x.segment segments_now after.aligned x.held in
+          let below = x.below in
+          subst (AreHome setting_between at (size_of object)) x.of_pool
+          (segments_are_home segs w.graph.objects w.graph.points w.point_memories (pool_layout w) [] [] (λ id. true) x.segment at
+          (size_of object) in_order
+          (subst (λ ss. Contains ss x.segment) (sym segments_are) (segment_there x.segment segments_now x.held)) (placed_at_word q)
+          (let e = size_is in omega (arith, some, e)) x.above (let e = size_is in omega (arith, below, e, a)))
+
+      allocated : IsAllocated setting_between (memory_in h.segs) w.addresses no_colours object at
+          (cleared_words h.segs.words (word_of at) words) (memory_in h.segs).kept
+      allocated = record {
+        numbered = known.formed.addresses;
+        positive = let e = size_is in omega (arith, some, e);
+        not_white = refl;
+        not_grey = refl;
+        fresh = refl;
+        mark = ap (λ b. b && not ((memory_in h.segs).kept (word_of at))) (none_condemned segs clear_after (word_of at));
+        kept_others = λ n other. refl;
+        long = cleared_long h.segs.words (word_of at) words fits;
+        cells = λ i c e.
+            let number = mapped_some NumberCell (slice_get (replicate words 0) i) c (sym (slice_get-map NumberCell (replicate words 0) i)
+            ∙ e) in
+            let low : i < words = (let x = slice_get_within
+            (replicate words 0) i number.0 number.1 in let l = length-replicate {A = ℕ} words 0 in
+            omega (arith, x, l)) in
+            subst (λ (x : Cell). IsFixedWord [] addresses_after no_colours 0 x
+            (slice_index (cleared_words h.segs.words (word_of at) words) (word_of at + i))) number.2 (record {
+              holds = cleared_word h.segs.words (word_of at) words fits i low ∙ sym (all_zero words i number.0 number.1);
+              not_white = λ t x. absurd (none-some t x);
+            });
+        others = λ n apart.
+            other_word h.segs.words (word_of at) words fits n (λ l lt. apart l (let e = size_is in omega (arith, lt, e)));
+      }
+
+      abbrev memory_of : ℕ → Memory
+      memory_of count = record (memory_in h.segs) {
+        words = cleared_words h.segs.words (word_of at) words;
+        blocks = with_run (record { from = word_of at; count = count }) h.segs.blocks;
+        covered = with_run (record { from = word_of at; count = count }) h.segs.covered;
+      }
+
+      -- the words with the block
+      image_made : StandsAtRest segs v
+      image_made =
+          subst (λ n. Stands (setting_at_rest segs objects_after w.graph.points w.point_memories (pool_layout v))
+          (memory_of n) addresses_after
+          no_colours) size_is
+          (block_is_allocated setting_between (memory_in h.segs) w.addresses no_colours object at
+          (cleared_words h.segs.words (word_of at) words) (memory_in h.segs).kept between allocated free at_home)
+
+    -- ---- the parts
+
+    -- automatic objects stay where they are
+    still : (j : Id) → auto w j ≡ true → entry_at addresses_after j ≡ entry_at w.addresses j
+    still j is =
+        let o = passes_there is_automatic (slice_get w.graph.objects j) is in
+        let low = slice_get_within w.graph.objects j o.0 o.1 in
+        let lengths = known.formed.addresses in
+        entry_at-last w.addresses (Some at) j (omega (arith, low, lengths))
+
+    pub parts_made : (index : ℕ) (entry : Entry Address) (found : Found (Option ℕ)) → IsPlaceEntry past h w index entry found
+        → HasLayout (w.grains + 1) w
+        → HasLayout (w.grains + 1) (world_with (slice_set w.graph.blocks found.number (slice_set found.list found.index (Some new))))
+        → AreParts layout past (with_blocks h segs (with_place h.roots.blocks entry.key entry.index at))
+        (world_with (slice_set w.graph.blocks found.number (slice_set found.list found.index (Some new))))
+    parts_made index entry found is laid after =
+        let places = slice_set w.graph.blocks found.number (slice_set found.list found.index (Some new)) in
+        let same_key : entry.key ≡ found.number = sym is.number in
+        let same_index : entry.index ≡ found.index = is.index_is ∙ sym is.found_index in
+        let has = is.has in
+        let lengths = known.formed.addresses in
+        let own_target : at ≡ address_of_target addresses_after (Some new) =
+        sym (ap (λ o. option_map_or (λ x. x) o 0) (ap (entry_at addresses_after) (sym lengths) ∙ entry_at-at_last w.addresses (Some at))) in
+        blocks_changed layout past h w segs (with_place h.roots.blocks entry.key entry.index at) objects_after addresses_after places
+        segments_now
+        parts (record {
+          grains = refl;
+          limit = refl;
+          segments_are = ap (λ ss. segments_after q pool 0 rank.Exact ss) parts.segments;
+          image = image_made places laid after;
+          resting = record {
+            at_most = parts.resting.at_most;
+            not_condemned = λ grain. noted_clear q h.segs.condemned grain (parts.resting.not_condemned grain);
+            not_kept = parts.resting.not_kept;
+            within = parts.resting.within;
+            aligned = parts.resting.aligned;
+          };
+          tables = slots_still w graph addresses_after still parts.tables;
+          areas = words_still w graph addresses_after still parts.areas;
+          blocks_are =
+              ap (λ bs. with_place bs entry.key entry.index at) parts.blocks
+              ∙ ap (λ n. with_place (map (map (address_of_target w.addresses)) w.graph.blocks) n entry.index at) same_key
+              ∙ ap (λ i. with_place (map (map (address_of_target w.addresses)) w.graph.blocks) found.number i at) same_index
+              ∙ ap (λ a. with_place (map (map (address_of_target w.addresses)) w.graph.blocks) found.number found.index a) own_target
+              ∙ place_written w.graph.blocks found.number found.index found.list (Some new) has (address_of_target w.addresses)
+              (address_of_target addresses_after) refl (λ m k j there apart.
+              let low = once.below m k j there in
+              ap (λ o. option_map_or (λ x. x) o 0) (sym (entry_at-last w.addresses (Some at) j (omega (arith, low, lengths)))));
+          count = places_count w.graph.blocks found.number found.index found.list (Some new) has;
+          counted = places_counted w.graph.blocks found.number found.index found.list (Some new) has;
+          registered = parts.registered ∙ registered_still w graph addresses_after still;
+          messages = parts.messages ∙ messages_still w graph addresses_after still;
+          there =
+              ap (λ n. length (with_place h.roots.blocks n entry.index at)) same_key
+              ∙ ap (λ i. length (with_place h.roots.blocks found.number i at)) same_index
+              ∙ place_length w.graph.blocks found.number found.index found.list (Some new) has h.roots.blocks at;
+        })

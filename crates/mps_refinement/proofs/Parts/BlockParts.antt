@@ -1,0 +1,69 @@
+-- The parts of a heap still stand for those of a world after blocks were changed in both: the segments, what objects there are and
+-- where they lie, and the places of tables of blocks.
+use Rattle.std.proofs.Common.{◌≡◌, ◌∙◌, ℕ, ◌+◌, refl, sym, ap, List, map, length, Option, arith}
+use Rattle.std.specs.Prelude.{sum_by, count_by, is_some}
+use Rattle.mps_base.specs.Address.{Address}
+use Rattle.mps_base.specs.Segment.{Segment}
+use Rattle.mps_format.specs.Layout.{Layout}
+use Rattle.mps_trace_laws.specs.Image.AtRest.{StandsAtRest}
+use Rattle.mps_model.specs.Graph.{Object, Slots}
+use Rattle.mps_model.specs.Making.{length_of}
+use Rattle.mps_model.specs.World.{World}
+use Rattle.mps_root.specs.State.{kept}
+use Rattle.mps_seg.specs.Segs.{SegsState}
+use Rattle.mps_heap_spec.specs.State.{HeapState}
+use Rattle.mps_refinement.specs.Numbering.{AreNumbered}
+use Rattle.mps_refinement.specs.StandsFor.{Past, AreParts, AreSlots, AreWords, IsArenaAtRest, address_of_id, address_of_target}
+use Rattle.mps_refinement.proofs.Parts.Named.{named_alike}
+use Rattle.mps_refinement.proofs.Parts.PartsByKind.{parts_of_kinds, points_of, pools_of, states_of}
+
+module _ {F : Type 0} (h : HeapState F) (segs : SegsState) (blocks : List (List ℕ)) where
+  -- the state with these segments and places
+  abbrev pub with_blocks : HeapState F
+  with_blocks = record h { segs = segs; roots = record h.roots { blocks = blocks } }
+
+-- the world with these objects at these addresses, places and segments
+abbrev pub world_with_blocks : World → List Object → List (Option Address) → List Slots → List Segment → World
+world_with_blocks w objects addresses places segments =
+    record w { graph = record w.graph { objects = objects; blocks = places }; addresses = addresses; segments = segments }
+
+-- what is shown of the change
+pub record AreBlocks {F : Type 0} (past : Past) (h : HeapState F) (w : World) (segs : SegsState) (blocks : List (List ℕ))
+    (objects : List Object) (addresses : List (Option Address)) (places : List Slots) (segments : List Segment) : Type 0 where
+  pub grains : segs.grains ≡ h.segs.grains
+  pub limit : segs.limit ≡ h.segs.limit
+  pub segments_are : segs.segments ≡ segments
+  pub image : StandsAtRest segs (world_with_blocks w objects addresses places segments)
+  pub resting : IsArenaAtRest segs.grains segs.condemned segs.marks.kept h.points
+  pub tables : AreNumbered (AreSlots addresses) past.table_number (kept h.roots.tables) w.graph.tables
+  pub areas : AreNumbered (AreWords addresses) past.area_number (kept h.roots.areas) w.graph.areas
+  pub blocks_are : blocks ≡ map (map (address_of_target addresses)) places
+  pub count : length places ≡ length w.graph.blocks
+  pub counted : sum_by length places ≡ sum_by length w.graph.blocks
+  pub registered : h.finals.registered ≡ map (address_of_id addresses) w.graph.registered
+  pub messages : h.finals.messages ≡ map (address_of_id addresses) w.graph.messages
+  pub there : length blocks ≡ length h.roots.blocks
+
+pub blocks_changed : {F : Type 0} (layout : F → Layout) (past : Past) (h : HeapState F) (w : World) (segs : SegsState)
+    (blocks : List (List ℕ)) (objects : List Object) (addresses : List (Option Address)) (places : List Slots) (segments : List Segment)
+    → AreParts layout past h w → AreBlocks past h w segs blocks objects addresses places segments
+    → AreParts layout past (with_blocks h segs blocks) (world_with_blocks w objects addresses places segments)
+blocks_changed layout past h w segs blocks objects addresses places segments parts are =
+    parts_of_kinds (are.grains ∙ parts.grains, are.limit ∙ parts.limit, are.segments_are) (are.image, are.resting) (
+      are.tables,
+      parts.ordered,
+      are.areas,
+      are.blocks_are,
+      parts.roots_counted ∙ ap (λ n. count_by is_some w.graph.tables + count_by is_some w.graph.areas + n) (sym are.count),
+      parts.slots_counted ∙ ap (λ n. sum_by length_of w.graph.tables + sum_by length_of w.graph.areas + n) (sym are.counted),
+    )
+    (points_of parts) (are.registered, are.messages) parts.dependencies (pools_of parts)
+    (named_alike h (with_blocks h segs blocks) past w.graph.names parts.names (λ name. refl) (record {
+      pools = λ n low. low;
+      tables = λ key some. some;
+      areas = λ key some. some;
+      blocks = λ n low. let same = are.there in omega (arith, low, same);
+      points = λ key some. some;
+      dependencies = λ n low. low;
+    }))
+    (states_of parts)

@@ -1,0 +1,272 @@
+-- After a `free` the parts of a heap stand for those of the world after it.
+use Rattle.std.proofs.Common.{◌≡◌, ◌∙◌, ℕ, ◌+◌, ◌*◌, Bool, true, false, refl, sym, ap, subst, List, [], ◌∷◌, map, Option, Some, None, inl, inr, arith, length}
+use Rattle.std.proofs.lemmas.Bool.{cases_lt, false≢true, le-leb, lt-leb, lt-ltb, le-ltb, ltb-true, ne_eqb}
+use Rattle.std.proofs.lemmas.Option.{none-some}
+use Rattle.std.specs.Prelude.{◌==◌, ◌&&◌, ◌||◌, not, nat_le, nat_lt, slice_get, slice_set, option_map, if◌then◌else◌}
+use Rattle.std.specs.List.{list_any}
+use Rattle.std.specs.Option.{option_map_or}
+use Rattle.mps_base.specs.Address.{Address, Id, Word, word_of, address_of_word, grain_of}
+use Rattle.mps_base.specs.Run.{Run, Covers, runs_within}
+use Rattle.mps_base.specs.Segment.{Segment, end_of_segment, segment_over, without_segment, words_of_segment}
+use Rattle.mps_format.specs.Layout.{Layout}
+use Rattle.mps_trace_laws.specs.Image.ArenaLaws.{AreSegmentsKept}
+use Rattle.mps_trace_laws.specs.Image.AtRest.{StandsAtRest}
+use Rattle.mps_trace_laws.specs.Image.Image.{black_cells, no_colours}
+use Rattle.mps_trace_laws.specs.Image.Memory.{Lies, Setting, is_condemned_word, memory_in, pool_layout, pool_over_word, setting_at_rest}
+use Rattle.mps_trace_laws.proofs.Image.ArenaLaws.{segments_change}
+use Rattle.mps_trace_laws.proofs.Image.ClientLaws.{manual_block_is_freed}
+use Rattle.mps_trace_laws.proofs.Image.SegmentMarks.{removing_clears}
+use Rattle.mps_trace_laws.proofs.Image.Shaped.{are_shaped_objects}
+use Rattle.mps_laws.proofs.Positions.LegalMoves.{HasLayout}
+use Rattle.mps_laws.proofs.Lookups.{entry_at-set_other}
+use Rattle.mps_laws.proofs.Positions.Occupancy.{OfBlock, occupancy_of, shape_of}
+use Rattle.mps_laws.proofs.Positions.Segments.{IsAligned, IsAmong, among_without, found_segment}
+use Rattle.mps_laws.proofs.Sound.SoundGraph.{IsSoundGraph, auto}
+use Rattle.mps_manual.specs.Manual.{any_size, block_removed, freed, given_back, is_none, is_unused}
+use Rattle.mps_model.specs.Graph.{Object, entry_at, is_automatic, is_automatic_body}
+use Rattle.mps_model.specs.World as world
+use Rattle.mps_model.specs.World.{World, Collected, OneSize, AnySize, begins_in, is_any_size_kind, is_automatic_kind, object_is}
+use Rattle.mps_model.specs.Effect.{with_address}
+use Rattle.mps_seg.specs.Segs.{SegsState}
+use Rattle.mps_heap_spec.specs.declared.found.Entry.{Entry}
+use Rattle.mps_heap_spec.specs.State.{HeapState}
+use Rattle.mps_format.specs.Pools.{size_of_pool}
+use Rattle.mps_format.specs.declared.pool.Pool.{Pool}
+use Rattle.mps_format.specs.declared.pool.Pool.TheVariants as pool
+use Rattle.mps_model.specs.Checked.{Found}
+use Rattle.mps_root.specs.State.{with_place}
+use Rattle.mps_refinement.specs.StandsFor.{AreParts, IsPool, Past, address_of_target}
+use Rattle.mps_refinement.proofs.Parts.BlockParts.{blocks_changed, with_blocks, world_with_blocks}
+use Rattle.mps_refinement.proofs.Parts.BlockPlaces.{place_length, place_written, places_count, places_counted}
+use Rattle.mps_refinement.proofs.Worlds.Known.{IsKnown}
+use Rattle.mps_refinement.proofs.Lookups.Lookups.{IsPlaceEntry}
+use Rattle.mps_refinement.proofs.Lookups.ManualBlocks.{IsBlock, setting}
+use Rattle.mps_refinement.proofs.Worlds.PlacedOnce.{ArePlacedOnce, is_sized}
+use Rattle.mps_refinement.proofs.Worlds.PlacesByMoves.{places_of}
+use Rattle.mps_refinement.proofs.Parts.PointWritten.{none_set}
+use Rattle.mps_refinement.proofs.Parts.ReservedImage.{block_covers}
+use Rattle.mps_refinement.proofs.Parts.StillHeld.{messages_still, registered_still, reservation_targets, slots_still, words_still}
+use Rattle.mps_seg.specs.Collecting.{bit_of}
+use Rattle.mps_bits.specs.Table.{bit}
+
+-- ---- whether a segment is given back
+
+-- whether a run begins in a segment, by words and by bytes
+begins_alike : (t : Segment) → IsAligned t → (r : Run)
+    → (nat_le (word_of t.base) r.from && nat_lt r.from (word_of (end_of_segment t))) ≡ begins_in t r
+begins_alike t aligned r = ap (λ b. b && nat_lt r.from (word_of (end_of_segment t))) low ∙ ap (λ b. nat_le t.base (8 * r.from) && b) high
+  where
+    low : nat_le (word_of t.base) r.from ≡ nat_le t.base (8 * r.from)
+    low = elim (cases_lt r.from (word_of t.base)) [
+      | inl before ↦ lt-leb (word_of t.base) r.from before ∙ sym (lt-leb t.base (8 * r.from) (omega (arith, before, aligned)))
+      | inr after ↦ le-leb (word_of t.base) r.from after ∙ sym (le-leb t.base (8 * r.from) (omega (arith, after, aligned)))
+    ]
+
+    high : nat_lt r.from (word_of (end_of_segment t)) ≡ nat_lt (8 * r.from) (end_of_segment t)
+    high = elim (cases_lt r.from (word_of (end_of_segment t))) [
+      | inl before ↦
+          lt-ltb r.from (word_of (end_of_segment t)) before ∙ sym (lt-ltb (8 * r.from) (end_of_segment t) (omega (arith, before, aligned)))
+      | inr after ↦
+          le-ltb r.from (word_of (end_of_segment t)) after ∙ sym (le-ltb (8 * r.from) (end_of_segment t) (omega (arith, after, aligned)))
+    ]
+
+-- nothing is left in a segment, for the segments and for the model
+unused_alike : (t : Segment) → IsAligned t → (covered : List Run) → is_unused covered t ≡ not (list_any (begins_in t) covered)
+unused_alike t aligned [] = refl
+unused_alike t aligned (r ∷ rs) =
+    ap (λ b. is_none (if b then r ∷ runs_within (word_of t.base) (word_of (end_of_segment t)) rs
+    else runs_within (word_of t.base) (word_of (end_of_segment t)) rs)) (begins_alike t aligned r)
+    ∙ elim (begins_in t r) as (λ b. is_none (if b then r ∷ runs_within (word_of t.base) (word_of (end_of_segment t)) rs
+    else runs_within (word_of t.base) (word_of (end_of_segment t)) rs) ≡ not (b || list_any (begins_in t) rs)) [
+      | true ↦ refl
+      | false ↦ unused_alike t aligned rs
+    ]
+
+-- a manual pool has blocks of any sizes exactly where its size is so
+pub any_size_alike : {F : Type 0} (layout : F → Layout) (formats : ℕ → Layout) (p : Pool F) (q : world.Pool) → IsPool layout formats p q
+    → is_automatic_kind q.kind ≡ false → is_sized q.kind ≡ true → (size_of_pool p == any_size) ≡ is_any_size_kind q.kind
+any_size_alike layout formats (pool.Automatic kind format) q is manual sized =
+    absurd (false≢true (sym manual ∙ ap (λ (x : world.Pool). is_automatic_kind x.kind) is.0))
+any_size_alike layout formats (pool.OneSize words) q is manual sized =
+    let kind : q.kind ≡ OneSize words = ap (λ (x : world.Pool). x.kind) is in
+    not_any (sym (ap is_sized kind) ∙ sized) ∙ sym (ap is_any_size_kind kind)
+  where
+    not_any : nat_lt 0 words ≡ true → (words == any_size) ≡ false
+    not_any some = ne_eqb words 0
+        (λ e. let low = ltb-true 0 words some in omega (arith, e, low))
+any_size_alike layout formats pool.AnySize q is manual sized = sym (ap (λ (x : world.Pool). is_any_size_kind x.kind) is)
+
+-- ---- the segments
+
+-- the segments after a block is freed, whose segment is given back or not
+abbrev pub segments_freed : SegsState → (at : Address) → Segment → (given : Bool) → SegsState
+segments_freed s at t given =
+    if given then record (block_removed s at) { segments = without_segment s.segments t.base } else block_removed s at
+
+pub freed_is : (size : ℕ) (s : SegsState) (at : Address) (t : Segment) → segment_over s.segments at ≡ Some t
+    → freed size s at ≡ segments_freed s at t (size == any_size && is_unused (block_removed s at).covered t)
+freed_is size s at t over =
+    elim (size == any_size) as (λ b. (if b then given_back (block_removed s at) (segment_over s.segments at) else block_removed s at)
+    ≡ segments_freed s at t (b && is_unused (block_removed s at).covered t)) [
+      | true ↦ ap (given_back (block_removed s at)) over
+      | false ↦ refl
+    ]
+
+module _ {F : Type 0} (layout : F → Layout) (past : Past) (h : HeapState F) (w : World) (parts : AreParts layout past h w)
+    (known : IsKnown w) (graph : IsSoundGraph w) (at : Address) (id : Id) (b : IsBlock w at id) where
+  manual : is_automatic b.object ≡ false
+  manual = ap is_automatic_body b.right.body
+
+  pub not_automatic : auto w id ≡ false
+  not_automatic = ap (λ o. option_map_or is_automatic o false) b.there ∙ manual
+
+  abbrev addresses_after : List (Option Address)
+  addresses_after = slice_set w.addresses id None
+
+  -- the words without the block
+  pub image_removed : StandsAtRest (block_removed h.segs at) (with_address w id None)
+  image_removed =
+      let clears = removing_clears h.segs at in
+      manual_block_is_freed (setting layout past h w parts known) (memory_in h.segs) w.addresses no_colours id at b.object
+      (memory_in (block_removed h.segs at)).kept (memory_in (block_removed h.segs at)).grey parts.image
+      (are_shaped_objects w parts.lawful known.formed.objects)
+      (λ point i r u tag live cell. reservation_targets w graph point i r u tag live cell) b.address b.there manual clears.0 clears.1
+
+  -- whether its segment is given back is the same in both
+  pub unused_is : (t : Segment) → IsAligned t
+      → is_unused (block_removed h.segs at).covered t ≡ world.is_empty_segment (with_address w id None) t
+  unused_is t aligned =
+      ap (λ rs. is_unused rs t) image_removed.runs.covered ∙ unused_alike t aligned (world.covered (with_address w id None))
+
+  -- automatic objects stay where they are
+  still : (j : Id) → auto w j ≡ true → entry_at addresses_after j ≡ entry_at w.addresses j
+  still j is =
+      entry_at-set_other w.addresses id j None (λ same. false≢true (sym not_automatic ∙ ap (auto w) same ∙ is))
+
+  -- the segment over a word of a block stays, where it isn't given back
+  over_still : (base : Address) (v : World) → v.segments ≡ without_segment w.segments base → v.graph.objects ≡ w.graph.objects
+      → v.addresses ≡ addresses_after → HasLayout (w.grains + 1) w → HasLayout (v.grains + 1) v → (j k : ℕ) (o : Object) (n : Word)
+      → Lies w.graph.objects addresses_after j k o n
+      → segment_over (without_segment h.segs.segments base) (address_of_word n) ≡ segment_over h.segs.segments (address_of_word n)
+  over_still base v segments objects addresses laid after j k o n l =
+      let c = block_covers (occupancy_of v) w.graph.objects addresses_after j k o n
+      (ap (map shape_of) objects) addresses l in
+      let home = after.placed.homes (OfBlock j) (omega (arith, c.0, c.1)) in
+      let inside : Covers (words_of_segment home.segment) n = (omega (arith, home.above, c.0), omega (arith, home.below, c.1)) in
+      let here : segment_over v.segments (address_of_word n) ≡ Some home.segment =
+      found_segment 1 (v.grains + 1) v.segments home.segment after.ascending after.aligned home.held n inside in
+      let before : segment_over w.segments (address_of_word n) ≡ Some home.segment =
+      found_segment 1 (w.grains + 1) w.segments home.segment laid.ascending laid.aligned
+      (among_without base home.segment w.segments (subst (IsAmong home.segment) segments home.held)) n inside in
+      ap (λ ss. segment_over (without_segment ss base) (address_of_word n)) parts.segments
+      ∙ ap (λ ss. segment_over ss (address_of_word n)) (sym segments) ∙ here ∙ sym before
+      ∙ ap (λ ss. segment_over ss (address_of_word n)) (sym parts.segments)
+
+  -- the words with the segment given back
+  image_given : (t : Segment) (v : World) → v.segments ≡ without_segment w.segments t.base → v.graph.objects ≡ w.graph.objects
+      → v.addresses ≡ addresses_after → HasLayout (w.grains + 1) w → HasLayout (v.grains + 1) v
+      → StandsAtRest (segments_freed h.segs at t true) (with_address w id None)
+  image_given t v segments objects addresses laid after =
+      let segs = segments_freed h.segs at t true in
+      let s : Setting = setting_at_rest (block_removed h.segs at) w.graph.objects w.graph.points w.point_memories (pool_layout w) in
+      let kept : AreSegmentsKept s addresses_after (pool_over_word segs) (is_condemned_word segs) = record {
+        pool = λ j k o n l. ap (option_map (λ (x : Segment). x.pool)) (over_still t.base v segments objects addresses laid after j k o n l);
+        is_condemned = λ j k o n l.
+            ap (λ (x : Option Segment). bit_of h.segs.condemned
+            (option_map (λ (y : Segment). grain_of y.base) x))
+            (over_still t.base v segments objects addresses laid after j k o n l);
+        old_pool = λ j from to o k e. absurd (none-some from e);
+        was_condemned = λ j from to o k e. absurd (none-some from e);
+      } in
+      segments_change s (memory_in (block_removed h.segs at)) addresses_after no_colours (black_cells [] no_colours) (pool_over_word segs)
+      (is_condemned_word segs) image_removed kept
+
+  -- the words after the free
+  pub image_after : (t : Segment) (given : Bool) (v : World)
+      → v.segments ≡ (if given then without_segment w.segments t.base else w.segments) → v.graph.objects ≡ w.graph.objects
+      → v.addresses ≡ addresses_after → HasLayout (w.grains + 1) w → HasLayout (v.grains + 1) v
+      → StandsAtRest (segments_freed h.segs at t given) (with_address w id None)
+  image_after t true v segments objects addresses laid after = image_given t v segments objects addresses laid after
+  image_after t false v segments objects addresses laid after = image_removed
+
+  -- ---- the parts
+
+  segs_grains : (t : Segment) (given : Bool) → (segments_freed h.segs at t given).grains ≡ h.segs.grains
+  segs_grains t true = refl
+  segs_grains t false = refl
+
+  segs_limit : (t : Segment) (given : Bool) → (segments_freed h.segs at t given).limit ≡ h.segs.limit
+  segs_limit t true = refl
+  segs_limit t false = refl
+
+  segs_condemned : (t : Segment) (given : Bool) → (segments_freed h.segs at t given).condemned ≡ h.segs.condemned
+  segs_condemned t true = refl
+  segs_condemned t false = refl
+
+  segs_kept : (t : Segment) (given : Bool)
+      → (segments_freed h.segs at t given).marks.kept ≡ slice_set h.segs.marks.kept (word_of at) false
+  segs_kept t true = refl
+  segs_kept t false = refl
+
+  segs_segments : (t : Segment) (given : Bool)
+      → (segments_freed h.segs at t given).segments ≡ (if given then without_segment w.segments t.base else w.segments)
+  segs_segments t true = ap (λ ss. without_segment ss t.base) parts.segments
+  segs_segments t false = parts.segments
+
+  pub parts_freed : (index : ℕ) (entry : Entry Address) (found : Found (Option ℕ)) → IsPlaceEntry past h w index entry found
+      → found.value ≡ Some id → ArePlacedOnce (places_of w) → (t : Segment) (given : Bool)
+      → HasLayout (w.grains + 1) w
+      → HasLayout (w.grains + 1) (world_with_blocks w w.graph.objects addresses_after
+      (slice_set w.graph.blocks found.number (slice_set found.list found.index None))
+      (if given then without_segment w.segments t.base else w.segments))
+      → AreParts layout past
+      (with_blocks h (segments_freed h.segs at t given) (with_place h.roots.blocks entry.key entry.index 0))
+      (world_with_blocks w w.graph.objects addresses_after
+      (slice_set w.graph.blocks found.number (slice_set found.list found.index None))
+      (if given then without_segment w.segments t.base else w.segments))
+  parts_freed index entry found is value once t given laid after =
+      let places = slice_set w.graph.blocks found.number (slice_set found.list found.index None) in
+      let segments = if given then without_segment w.segments t.base else w.segments in
+      let v = world_with_blocks w w.graph.objects addresses_after places segments in
+      let same_key : entry.key ≡ found.number = sym is.number in
+      let same_index : entry.index ≡ found.index = is.index_is ∙ sym is.found_index in
+      let has = is.has in
+      blocks_changed layout past h w (segments_freed h.segs at t given) (with_place h.roots.blocks entry.key entry.index 0) w.graph.objects
+      addresses_after places segments parts (record {
+        grains = segs_grains t given;
+        limit = segs_limit t given;
+        segments_are = segs_segments t given;
+        image = image_after t given v refl refl refl laid after;
+        resting = record {
+          at_most = let most = parts.resting.at_most in let e = segs_grains t given in omega (arith, most, e);
+          not_condemned = λ grain.
+              ap (λ bits. bit bits grain) (segs_condemned t given) ∙ parts.resting.not_condemned grain;
+          not_kept = λ n.
+              ap (λ bits. bit bits n) (segs_kept t given) ∙ none_set h.segs.marks.kept (word_of at) n (parts.resting.not_kept n);
+          within = λ key p held e f.
+              let low = parts.resting.within key p held e f in let g = segs_grains t given in omega (arith, low, g);
+          aligned = parts.resting.aligned;
+        };
+        tables = slots_still w graph addresses_after still parts.tables;
+        areas = words_still w graph addresses_after still parts.areas;
+        blocks_are =
+            ap (λ bs. with_place bs entry.key entry.index 0) parts.blocks
+            ∙ ap (λ n. with_place (map (map (address_of_target w.addresses)) w.graph.blocks) n entry.index 0) same_key
+            ∙ ap (λ i. with_place (map (map (address_of_target w.addresses)) w.graph.blocks) found.number i 0) same_index
+            ∙ place_written w.graph.blocks found.number found.index found.list None has (address_of_target w.addresses)
+            (address_of_target addresses_after) refl (λ m k j there apart.
+            ap (λ o. option_map_or (λ x. x) o 0) (sym (entry_at-set_other w.addresses id j None (λ same.
+            apart (once.once m k found.number found.index j there (record {
+              row = found.list;
+              table = has;
+              entry = ap (slice_get found.list) is.found_index ∙ is.there ∙ ap Some (value ∙ ap Some same);
+            }))))));
+        count = places_count w.graph.blocks found.number found.index found.list None has;
+        counted = places_counted w.graph.blocks found.number found.index found.list None has;
+        registered = parts.registered ∙ registered_still w graph addresses_after still;
+        messages = parts.messages ∙ messages_still w graph addresses_after still;
+        there =
+            ap (λ n. length (with_place h.roots.blocks n entry.index 0)) same_key
+            ∙ ap (λ i. length (with_place h.roots.blocks found.number i 0)) same_index
+            ∙ place_length w.graph.blocks found.number found.index found.list None has h.roots.blocks 0;
+      })

@@ -1,0 +1,179 @@
+-- Names stand for the same things in a heap and in the model after a thing is made or dropped.
+use Rattle.std.proofs.Common.{◌≡◌, ◌≢◌, ◌∙◌, ℕ, ◌<◌, Bool, true, false, true≢false, refl, sym, ap, subst, List, length, Option, Some, None, IsSome, is_some}
+use Rattle.std.proofs.lemmas.Option.{none-some, same_Some}
+use Rattle.std.specs.Prelude.{if◌then◌else◌, option_map}
+use Rattle.mps_base.specs.Name.{same_name}
+use Rattle.mps_base.specs.declared.names.Name.{Name}
+use Rattle.mps_buffer.specs.Points.{point_at}
+use Rattle.mps_laws.proofs.Naming.{dropped_once, made_once, name_dropped, name_made, same_name_equal, same_name_itself}
+use Rattle.mps_model.specs.Graph as graph
+use Rattle.mps_model.specs.Graph.{NamedThing, thing_in, with_last, without_name}
+use Rattle.mps_names.specs.State.{IsSameMap, Updates, thing_named}
+use Rattle.mps_names.specs.declared.names.Thing.{Thing}
+use Rattle.mps_names.specs.declared.names.Thing.TheVariants as thing
+use Rattle.mps_root.specs.State.{kept}
+use Rattle.mps_heap_spec.specs.State.{HeapState}
+use Rattle.mps_refinement.specs.Numbering.{renumbered}
+use Rattle.mps_refinement.specs.StandsFor.{AreNamed, IsThere, Past, numbered_thing}
+use Rattle.mps_refinement.proofs.Parts.Numbering.{renumbered_other}
+
+-- ---- things that stay
+
+-- what is there in one state is there in another
+pub record ThingsStay {F : Type 0} (h after : HeapState F) : Type 0 where
+  pub pools : (number : ℕ) → number < length h.pools → number < length after.pools
+  pub tables : (key : ℕ) → IsSome (kept h.roots.tables key) → IsSome (kept after.roots.tables key)
+  pub areas : (key : ℕ) → IsSome (kept h.roots.areas key) → IsSome (kept after.roots.areas key)
+  pub blocks : (number : ℕ) → number < length h.roots.blocks → number < length after.roots.blocks
+  pub points : (key : ℕ) → IsSome (point_at h.points key) → IsSome (point_at after.points key)
+  pub dependencies : (number : ℕ) → number < length h.dependencies → number < length after.dependencies
+
+module _ {F : Type 0} (h after : HeapState F) where
+  pub stays_there : ThingsStay h after → (t : Thing) → IsThere h t → IsThere after t
+  stays_there stay (thing.Chain number) there = there
+  stays_there stay (thing.Pool number) there = stay.pools number there
+  stays_there stay (thing.Table key) there = stay.tables key there
+  stays_there stay (thing.Area key) there = stay.areas key there
+  stays_there stay (thing.Blocks number) there = stay.blocks number there
+  stays_there stay (thing.Point key) there = stay.points key there
+  stays_there stay (thing.Dependency number) there = stay.dependencies number there
+
+  -- names that stand for the same things
+  pub named_alike : (past : Past) (names : List NamedThing) → AreNamed past h names → IsSameMap h.names after.names → ThingsStay h after
+      → AreNamed past after names
+  named_alike past names are alike stay = record {
+    named = λ name. are.named name ∙ ap (option_map (numbered_thing past)) (sym (alike name));
+    there = λ name t is. stays_there stay t (are.there name t (sym (alike name) ∙ is));
+    unique = λ name other t is those. are.unique name other t (sym (alike name) ∙ is) (sym (alike other) ∙ those);
+    once = are.once;
+  }
+
+pub nothing_there : {A : Type 0} (o : Option A) → o ≡ None → IsSome o → ⊥
+nothing_there o none some = true≢false (sym some ∙ ap is_some none)
+
+-- ---- numbers of other things, after a key got another
+
+module _ {F : Type 0} (past : Past) (h : HeapState F) (key number : ℕ) where
+  other_than_free : {A : Type 0} (ours : ℕ → Option A) → ours key ≡ None → (k : ℕ) → IsSome (ours k) → k ≢ key
+  other_than_free ours free k some same = nothing_there (ours k) (ap ours same ∙ free) some
+
+  pub tables_renumbered : kept h.roots.tables key ≡ None → (t : Thing) → IsThere h t
+      → numbered_thing (record past { table_number = renumbered past.table_number key number }) t ≡ numbered_thing past t
+  tables_renumbered free (thing.Table k) there =
+      ap graph.TableThing (renumbered_other past.table_number key number k (other_than_free (kept h.roots.tables) free k there))
+  tables_renumbered free _ there = refl
+
+  pub areas_renumbered : kept h.roots.areas key ≡ None → (t : Thing) → IsThere h t
+      → numbered_thing (record past { area_number = renumbered past.area_number key number }) t ≡ numbered_thing past t
+  areas_renumbered free (thing.Area k) there =
+      ap graph.AreaThing (renumbered_other past.area_number key number k (other_than_free (kept h.roots.areas) free k there))
+  areas_renumbered free _ there = refl
+
+  pub points_renumbered : point_at h.points key ≡ None → (t : Thing) → IsThere h t
+      → numbered_thing (record past { point_number = renumbered past.point_number key number }) t ≡ numbered_thing past t
+  points_renumbered free (thing.Point k) there =
+      ap graph.PointThing (renumbered_other past.point_number key number k (other_than_free (point_at h.points) free k there))
+  points_renumbered free _ there = refl
+
+-- ---- a thing is made
+
+module _ {F : Type 0} (past anew : Past) (h after : HeapState F) (names : List NamedThing) (are : AreNamed past h names) (name : Name)
+  where
+    -- a free name is free in the model too
+    pub free_there : thing_named h.names name ≡ None → thing_in names name ≡ None
+    free_there free = are.named name ∙ ap (option_map (numbered_thing past)) free
+
+    pub named_made : (t : Thing) (made : graph.Thing) → Updates h.names after.names name (Some t) → thing_named h.names name ≡ None
+        → numbered_thing anew t ≡ made → ((other : Thing) → IsThere h other → numbered_thing anew other ≡ numbered_thing past other)
+        → ThingsStay h after → IsThere after t → (IsThere h t → ⊥)
+        → AreNamed anew after (with_last names (record { name = name; thing = made }))
+    named_made t made now free is others stay there new = record {
+      named = λ n. named n (same_name name n) refl;
+      there = λ n other found. thing_there n other found (same_name name n) refl;
+      unique = λ n m other these those. unique n m other these those (same_name name n) (same_name name m) refl refl;
+      once = made_once names name made (free_there free) are.once;
+    }
+      where
+        the_name : (n : Name) → same_name name n ≡ true → thing_named after.names n ≡ Some t
+        the_name n same = ap (thing_named after.names) (sym (same_name_equal name n same)) ∙ now.named
+
+        -- what another name stands for was there
+        other_there : (n : Name) (other : Thing) → thing_named after.names n ≡ Some other → same_name name n ≡ false → IsThere h other
+        other_there n other found differs = are.there n other (sym (now.others n differs) ∙ found)
+
+        renamed : (n : Name) (o : Option Thing) → thing_named h.names n ≡ o
+            → option_map (numbered_thing past) o ≡ option_map (numbered_thing anew) o
+        renamed n None e = refl
+        renamed n (Some other) e = ap Some (sym (others other (are.there n other e)))
+
+        named : (n : Name) (b : Bool) → same_name name n ≡ b
+            → thing_in (with_last names (record { name = name; thing = made })) n
+            ≡ option_map (numbered_thing anew) (thing_named after.names n)
+        named n true same =
+            name_made names name made n (free_there free) ∙ ap (λ b. if b then Some made else thing_in names n) same
+            ∙ sym (ap (option_map (numbered_thing anew)) (the_name n same) ∙ ap Some is)
+        named n false differs =
+            name_made names name made n (free_there free) ∙ ap (λ b. if b then Some made else thing_in names n) differs
+            ∙ are.named n ∙ renamed n (thing_named h.names n) refl
+            ∙ ap (option_map (numbered_thing anew)) (sym (now.others n differs))
+
+        thing_there : (n : Name) (other : Thing) → thing_named after.names n ≡ Some other → (b : Bool) → same_name name n ≡ b
+            → IsThere after other
+        thing_there n other found true same =
+            subst (IsThere after) (same_Some t other (sym (the_name n same) ∙ found)) there
+        thing_there n other found false differs = stays_there h after stay other (other_there n other found differs)
+
+        -- no other name stands for what was made
+        not_the_other : (n m : Name) (other : Thing) → thing_named after.names n ≡ Some other → thing_named after.names m ≡ Some other
+            → same_name name n ≡ true → same_name name m ≡ false → ⊥
+        not_the_other n m other these those same differs =
+            new (subst (IsThere h) (sym (same_Some t other (sym (the_name n same) ∙ these))) (other_there m other those differs))
+
+        unique : (n m : Name) (other : Thing) → thing_named after.names n ≡ Some other → thing_named after.names m ≡ Some other
+            → (b c : Bool) → same_name name n ≡ b → same_name name m ≡ c → same_name n m ≡ true
+        unique n m other these those true true e f =
+            ap (same_name n) (sym (same_name_equal name m f) ∙ same_name_equal name n e) ∙ same_name_itself n
+        unique n m other these those true false e f = absurd (not_the_other n m other these those e f)
+        unique n m other these those false true e f = absurd (not_the_other m n other those these f e)
+        unique n m other these those false false e f =
+            are.unique n m other (sym (now.others n e) ∙ these) (sym (now.others m f) ∙ those)
+
+-- ---- a thing is dropped
+
+module _ {F : Type 0} (past : Past) (h after : HeapState F) (names : List NamedThing) (are : AreNamed past h names) (name : Name) where
+  pub named_dropped : (t : Thing) → thing_named h.names name ≡ Some t → Updates h.names after.names name None
+      → ((other : Thing) → IsThere h other → other ≢ t → IsThere after other) → AreNamed past after (without_name names name)
+  named_dropped t was now stay = record {
+    named = λ n. named n (same_name name n) refl;
+    there = λ n other found. stay other (was_there n other found) (other_thing n other found);
+    unique = λ n m other these those. are.unique n m other (was_named n other these) (was_named m other those);
+    once = dropped_once names name are.once;
+  }
+    where
+      none_now : (n : Name) → same_name name n ≡ true → thing_named after.names n ≡ None
+      none_now n same = ap (thing_named after.names) (sym (same_name_equal name n same)) ∙ now.named
+
+      by_name : (n : Name) (other : Thing) → thing_named after.names n ≡ Some other → (b : Bool) → same_name name n ≡ b
+          → same_name name n ≡ false
+      by_name n other found true same = absurd (none-some other (sym (none_now n same) ∙ found))
+      by_name n other found false differs = differs
+
+      was_named : (n : Name) (other : Thing) → thing_named after.names n ≡ Some other → thing_named h.names n ≡ Some other
+      was_named n other found = sym (now.others n (by_name n other found (same_name name n) refl)) ∙ found
+
+      was_there : (n : Name) (other : Thing) → thing_named after.names n ≡ Some other → IsThere h other
+      was_there n other found = are.there n other (was_named n other found)
+
+      other_thing : (n : Name) (other : Thing) → thing_named after.names n ≡ Some other → other ≢ t
+      other_thing n other found same =
+          true≢false (sym (are.unique name n t was (was_named n other found ∙ ap Some same))
+          ∙ by_name n other found (same_name name n) refl)
+
+      named : (n : Name) (b : Bool) → same_name name n ≡ b
+          → thing_in (without_name names name) n ≡ option_map (numbered_thing past) (thing_named after.names n)
+      named n true same =
+          name_dropped names name n are.once ∙ ap (λ b. if b then None else thing_in names n) same
+          ∙ sym (ap (option_map (numbered_thing past)) (none_now n same))
+      named n false differs =
+          name_dropped names name n are.once ∙ ap (λ b. if b then None else thing_in names n) differs
+          ∙ are.named n ∙ ap (option_map (numbered_thing past)) (sym (now.others n differs))

@@ -1,0 +1,167 @@
+-- The parts of a heap that stand for those of a world, after things were made or dropped: a lemma for each kind of thing, over the
+-- facts that change.
+use Rattle.std.proofs.Common.{◌≡◌, ℕ, ◌<◌, refl, sym, ap, subst, List, length, map, Option, IsSome}
+use Rattle.mps_buffer.specs.declared.point.Point.{Point}
+use Rattle.mps_format.specs.Layout.{Layout}
+use Rattle.mps_trace_laws.specs.Image.AtRest.{StandsAtRest}
+use Rattle.mps_ld.specs.State.{LdState}
+use Rattle.mps_model.specs.Graph as graph
+use Rattle.mps_model.specs.Graph.{AreaWord, NamedThing, Slots}
+use Rattle.mps_model.specs.Making.{live_points, live_roots, live_slots}
+use Rattle.mps_model.specs.World as world
+use Rattle.mps_model.specs.World.{World, Dependency, PointMemory}
+use Rattle.mps_model.specs.Checked.{with_graph}
+use Rattle.mps_names.specs.State.{NamesState, IsSameMap}
+use Rattle.mps_root.specs.State.{RootsState, kept}
+use Rattle.mps_heap_spec.specs.Making.{IsUntouched}
+use Rattle.mps_heap_spec.specs.State.{HeapState}
+use Rattle.mps_format.specs.Pools.{size_of_pool}
+use Rattle.mps_heap_spec.specs.declared.arena.ArenaState.{ArenaState}
+use Rattle.mps_format.specs.declared.pool.Pool.{Pool}
+use Rattle.mps_refinement.specs.Numbering.{AreNumbered, AreOrdered}
+use Rattle.mps_refinement.specs.StandsFor.{AreNamed, AreParts, ArePools, AreSlots, AreWords, IsPoint, Past, StandsFor, address_of_target, kept_of, state_of, IsArenaAtRest}
+use Rattle.mps_refinement.proofs.Parts.Named.{ThingsStay, named_alike}
+use Rattle.mps_refinement.proofs.Parts.PartsByKind.{parts_of_kinds, arena_of, finals_of, image_of, points_of, pools_of, roots_of, states_of}
+
+-- where the things are those of another state, all stay
+pub all_stay : {F : Type 0} (h after : HeapState F) → after.pools ≡ h.pools → after.roots ≡ h.roots → after.points ≡ h.points
+    → after.dependencies ≡ h.dependencies → ThingsStay h after
+all_stay h after pools roots points dependencies = record {
+  pools = λ n low. subst (λ ps. n < length ps) (sym pools) low;
+  tables = λ key some. subst (λ (r : RootsState). IsSome (kept r.tables key)) (sym roots) some;
+  areas = λ key some. subst (λ (r : RootsState). IsSome (kept r.areas key)) (sym roots) some;
+  blocks = λ n low. subst (λ (r : RootsState). n < length r.blocks) (sym roots) low;
+  points = λ key some. subst (λ ps. IsSome (Rattle.mps_buffer.specs.Points.point_at ps key)) (sym points) some;
+  dependencies = λ n low. subst (λ ds. n < length ds) (sym dependencies) low;
+}
+
+module _ {F : Type 0} (layout : F → Layout) (past : Past) (h : HeapState F) (w : World) (parts : AreParts layout past h w) where
+  -- ---- roots
+
+  -- the state with other roots, and the world with other tables, areas, tables of blocks and names
+  abbrev pub state_of_roots : RootsState → (roots_live slots_live : ℕ) → NamesState → HeapState F
+  state_of_roots roots roots_live slots_live names =
+      record h { roots = roots; live_roots = roots_live; live_slots = slots_live; names = names }
+
+  abbrev pub world_of_roots : List (Option Slots) → List (Option (List AreaWord)) → List Slots → List NamedThing → World
+  world_of_roots tables areas blocks named =
+      with_graph w (record w.graph { tables = tables; areas = areas; blocks = blocks; names = named })
+
+  abbrev pub past_of_roots : (tables areas : ℕ → ℕ) → Past
+  past_of_roots tables areas = record past { table_number = tables; area_number = areas }
+
+  -- the facts of other roots
+  pub record AreOtherRoots (table_number area_number : ℕ → ℕ) (roots : RootsState) (roots_live slots_live : ℕ) (names : NamesState)
+      (tables : List (Option Slots)) (areas : List (Option (List AreaWord))) (blocks : List Slots) (named : List NamedThing) : Type 0 where
+    pub tables_are : AreNumbered (AreSlots w.addresses) table_number (kept roots.tables) tables
+    pub ordered : AreOrdered table_number roots.order (kept roots.tables) tables
+    pub areas_are : AreNumbered (AreWords w.addresses) area_number (kept roots.areas) areas
+    pub blocks_are : roots.blocks ≡ map (map (address_of_target w.addresses)) blocks
+    pub roots_counted : roots_live ≡ live_roots (record w.graph { tables = tables; areas = areas; blocks = blocks })
+    pub slots_counted : slots_live ≡ live_slots (record w.graph { tables = tables; areas = areas; blocks = blocks })
+    pub names_are : AreNamed (past_of_roots table_number area_number) (state_of_roots roots roots_live slots_live names) named
+
+  pub roots_changed : (table_number area_number : ℕ → ℕ) (roots : RootsState) (roots_live slots_live : ℕ) (names : NamesState)
+      (tables : List (Option Slots)) (areas : List (Option (List AreaWord))) (blocks : List Slots) (named : List NamedThing)
+      → AreOtherRoots table_number area_number roots roots_live slots_live names tables areas blocks named
+      → AreParts layout (past_of_roots table_number area_number) (state_of_roots roots roots_live slots_live names)
+      (world_of_roots tables areas blocks named)
+  roots_changed table_number area_number roots roots_live slots_live names tables areas blocks named are =
+      parts_of_kinds (arena_of parts) (image_of parts)
+      (are.tables_are, are.ordered, are.areas_are, are.blocks_are, are.roots_counted, are.slots_counted) (points_of parts)
+      (finals_of parts) parts.dependencies (pools_of parts) are.names_are (states_of parts)
+
+  -- ---- points
+
+  abbrev pub state_of_points : List (Option Point) → (points_live : ℕ) → NamesState → HeapState F
+  state_of_points points points_live names =
+      record h { points = record h.points { points = points }; live_points = points_live; names = names }
+
+  abbrev pub world_of_points : List (Option graph.Point) → List PointMemory → List NamedThing → World
+  world_of_points points memories named =
+      record w { graph = record w.graph { points = points; names = named }; point_memories = memories }
+
+  pub record AreOtherPoints (point_number : ℕ → ℕ) (points : List (Option Point)) (points_live : ℕ) (names : NamesState)
+      (numbered : List (Option graph.Point)) (memories : List PointMemory) (named : List NamedThing) : Type 0 where
+    pub points_are : AreNumbered (IsPoint (length w.flips) (world.is_copying_pool w) memories) point_number (kept points) numbered
+    pub points_counted : points_live ≡ live_points (record w.graph { points = numbered })
+    pub image_stands : StandsAtRest h.segs (world_of_points numbered memories w.graph.names)
+    pub resting_still : IsArenaAtRest h.segs.grains h.segs.condemned h.segs.marks.kept (record h.points { points = points })
+    pub names_are : AreNamed (record past { point_number = point_number }) (state_of_points points points_live names) named
+
+  pub points_changed : (point_number : ℕ → ℕ) (points : List (Option Point)) (points_live : ℕ) (names : NamesState)
+      (numbered : List (Option graph.Point)) (memories : List PointMemory) (named : List NamedThing)
+      → AreOtherPoints point_number points points_live names numbered memories named
+      → AreParts layout (record past { point_number = point_number }) (state_of_points points points_live names)
+      (world_of_points numbered memories named)
+  points_changed point_number points points_live names numbered memories named are =
+      parts_of_kinds (arena_of parts) (are.image_stands, are.resting_still) (roots_of parts) (are.points_are, are.points_counted)
+      (finals_of parts) parts.dependencies (pools_of parts) are.names_are (states_of parts)
+
+  -- ---- pools
+
+  abbrev pub state_of_pools : List (Pool F) → (sizes : List ℕ) → NamesState → HeapState F
+  state_of_pools pools sizes names = record h { pools = pools; sizes = sizes; names = names }
+
+  abbrev pub world_of_pools : List world.Pool → List NamedThing → World
+  world_of_pools pools named = record w { graph = record w.graph { names = named }; pools = pools }
+
+  pub record AreOtherPools (pools : List (Pool F)) (sizes : List ℕ) (names : NamesState) (numbered : List world.Pool)
+      (named : List NamedThing) : Type 0 where
+    pub pools_are : ArePools layout w.formats pools numbered
+    pub sizes_are : sizes ≡ map size_of_pool pools
+    pub points_are : AreNumbered (IsPoint (length w.flips) (world.is_copying_pool (world_of_pools numbered w.graph.names)) w.point_memories)
+        past.point_number (kept h.points.points) w.graph.points
+    pub image_stands : StandsAtRest h.segs (world_of_pools numbered w.graph.names)
+    pub names_are : AreNamed past (state_of_pools pools sizes names) named
+
+  pub pools_changed : (pools : List (Pool F)) (sizes : List ℕ) (names : NamesState) (numbered : List world.Pool)
+      (named : List NamedThing) → AreOtherPools pools sizes names numbered named
+      → AreParts layout past (state_of_pools pools sizes names) (world_of_pools numbered named)
+  pools_changed pools sizes names numbered named are =
+      parts_of_kinds (arena_of parts) (are.image_stands, parts.resting) (roots_of parts) (are.points_are, parts.points_counted)
+      (finals_of parts) parts.dependencies (parts.lawful, are.pools_are, are.sizes_are, parts.chains) are.names_are (states_of parts)
+
+  -- ---- dependencies
+
+  abbrev pub state_of_dependencies : List LdState → NamesState → HeapState F
+  state_of_dependencies dependencies names = record h { dependencies = dependencies; names = names }
+
+  abbrev pub world_of_dependencies : List Dependency → List NamedThing → World
+  world_of_dependencies dependencies named = record w { graph = record w.graph { names = named }; dependencies = dependencies }
+
+  pub dependencies_changed : (states : List LdState) (names : NamesState) (dependencies : List Dependency) (named : List NamedThing)
+      → states ≡ map kept_of dependencies → AreNamed past (state_of_dependencies states names) named
+      → AreParts layout past (state_of_dependencies states names) (world_of_dependencies dependencies named)
+  dependencies_changed states names dependencies named are names_are =
+      parts_of_kinds (arena_of parts) (image_of parts) (roots_of parts) (points_of parts) (finals_of parts) are (pools_of parts) names_are
+      (states_of parts)
+
+  -- ---- the arena's limit and state, and names in another order
+
+  pub arena_changed : (limit : ℕ) (arena : ArenaState) (state : world.ArenaState) (names : NamesState) → state ≡ state_of arena
+      → IsSameMap h.names names
+      → AreParts layout past (record h { segs = record h.segs { limit = limit }; arena = arena; names = names })
+      (record w { limit = limit; state = state })
+  arena_changed limit arena state names is same =
+      let after = record h { segs = record h.segs { limit = limit }; arena = arena; names = names } in
+      parts_of_kinds (parts.grains, refl, parts.segments) (image_of parts) (roots_of parts) (points_of parts) (finals_of parts)
+      parts.dependencies (pools_of parts)
+      (named_alike h after past w.graph.names parts.names same (all_stay h after refl refl refl refl))
+      (parts.flips, parts.point_flips, is, parts.at_rest)
+
+  -- what stands for the world stands for it with other names of the same meaning
+  pub untouched_parts : (names : NamesState) → IsSameMap h.names names → AreParts layout past (record h { names = names }) w
+  untouched_parts names same =
+      subst (λ (v : World). AreParts layout past (record h { names = names }) v)
+      (ap (λ (l : ℕ). record w { limit = l }) parts.limit) (arena_changed h.segs.limit h.arena w.state names parts.state same)
+
+-- a call that changed nothing that can be seen
+pub untouched_stands : {F : Type 0} (layout : F → Layout) (h after : HeapState F) (w : World) → IsUntouched h after → StandsFor layout h w
+    → StandsFor layout after w
+untouched_stands layout h after w untouched st = record {
+  past = st.past;
+  parts = subst (λ s. AreParts layout st.past s w) (sym untouched.state)
+      (untouched_parts layout st.past h w st.parts after.names untouched.names);
+  reached = st.reached;
+}

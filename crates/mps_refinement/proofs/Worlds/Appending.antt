@@ -1,0 +1,226 @@
+-- A call that makes moves appends them: what it comes to over a trail is what it comes to over one that has no moves yet, and its moves
+-- are those. So it is right over each trail.
+use Rattle.std.proofs.Common.{◌≡◌, ◌∙◌, ℕ, Bool, true, false, refl, sym, ap, subst, List, [], ◌∷◌, ◌++◌, Ok, Err}
+use Rattle.std.proofs.lemmas.List.{append-nil, append_assoc}
+use Rattle.std.specs.Prelude.{◌==◌, ◌-◌, if◌then◌else◌, not, slice_get, Option, Some, None}
+use Rattle.mps_arena.specs.Arena.{answer_of_placement}
+use Rattle.mps_base.specs.Run.{Run}
+use Rattle.mps_base.specs.Segment.{Segment, segment_over}
+use Rattle.mps_base.specs.declared.address.Addr.{Addr}
+use Rattle.mps_base.specs.Placement.{Placement, Place, NewSegment, OverLimit, NoFreeRun}
+use Rattle.mps_base.specs.Trail.{Moves, with_move}
+use Rattle.mps_base.specs.declared.moves.Move.{Move}
+use Rattle.mps_base.specs.declared.moves.Move.TheVariants as moves
+use Rattle.mps_base.specs.declared.names.Name.{Name}
+use Rattle.mps_base.specs.declared.names.Rank.TheVariants as rank
+use Rattle.mps_base.specs.declared.names.Slot.{Slot}
+use Rattle.mps_base.specs.declared.refusal.Refusal.TheVariants as refusal
+use Rattle.mps_manual.specs.Manual.{allocated, answer_of_alloc, any_size, block_removed, has_blocks_of, is_unused, moves_freed, moves_given_back}
+use Rattle.mps_buffer.specs.Points.{placement_at}
+use Rattle.mps_format.specs.Layout.{Layout}
+use Rattle.mps_model.specs.declared.call.Call.{Call}
+use Rattle.mps_model.specs.declared.call.Call.TheVariants as call
+use Rattle.mps_model.specs.Answer.{Answer}
+use Rattle.mps_model.specs.Checked.{Checked, ◌>>=◌, ◌>>◌, refuse_when, required}
+use Rattle.mps_seg.specs.Placing.{placement_in_gaps}
+use Rattle.mps_seg.specs.Segs.{SegsState, moves_after}
+use Rattle.mps_heap_spec.specs.Allocating.{reserved, committed, check_reserve}
+use Rattle.mps_heap_spec.specs.Coming.{Moved, ComesMoving}
+use Rattle.mps_heap_spec.specs.Finding.{block_place_in, point_named, pool_named, slot_in}
+use Rattle.mps_heap_spec.specs.Manual.{block_allocated, block_freed, block_in, with_block_place}
+use Rattle.mps_heap_spec.specs.State.{HeapState}
+use Rattle.mps_format.specs.Pools.{is_automatic_pool}
+use Rattle.mps_heap_spec.specs.declared.found.Committed.{Committed}
+use Rattle.mps_heap_spec.specs.declared.found.Committed.TheVariants.{AsBlock, AsFlipped}
+use Rattle.mps_refinement.specs.Answering.{answer_to, says_committed, says_ok}
+use Rattle.mps_refinement.specs.RightMoving.{IsRightMoving}
+use Rattle.mps_refinement.specs.RightStep.{IsRight}
+use Rattle.mps_refinement.proofs.Calls.Allocs.{alloc_is_right}
+use Rattle.mps_refinement.proofs.Calls.Frees.{free_is_right}
+use Rattle.mps_refinement.proofs.Calls.RightCommit.{commit_is_right}
+use Rattle.mps_refinement.proofs.Calls.RightReserve.{reserve_is_right}
+
+-- ---- trails
+
+-- a trail with these moves before its own
+abbrev after_moves : List Move → Moves → Moves
+after_moves ms trail = record { moves = ms ++ trail.moves; spare = trail.spare }
+
+-- a trail that has no moves, with the same room
+abbrev fresh : Moves → Moves
+fresh trail = record { moves = []; spare = trail.spare }
+
+unmoved : (trail : Moves) → trail ≡ after_moves trail.moves (fresh trail)
+unmoved trail = ap (λ (ms : List Move). record { moves = ms; spare = trail.spare }) (sym (append-nil trail.moves))
+
+moves_after-appends : (p : Placement) (pool generation : ℕ) (trail : Moves)
+    → moves_after p pool generation trail ≡ after_moves trail.moves (moves_after p pool generation (fresh trail))
+moves_after-appends (NewSegment grain grains) pool generation trail = refl
+moves_after-appends (Place word) pool generation trail = unmoved trail
+moves_after-appends (OverLimit committed need limit) pool generation trail = unmoved trail
+moves_after-appends (NoFreeRun need longest) pool generation trail = unmoved trail
+
+move_appends : (ms : List Move) (t u : Moves) (m : Move) → t ≡ after_moves ms u → with_move t m ≡ after_moves ms (with_move u m)
+move_appends ms t u m is =
+    ap (λ (x : Moves). with_move x m) is
+    ∙ ap (λ (xs : List Move). record { moves = xs; spare = u.spare - 1 }) (append_assoc ms u.moves (m ∷ []))
+
+given_back_appends : (covered : List Run) (s : Option Segment) (ms : List Move) (t u : Moves) → t ≡ after_moves ms u
+    → moves_given_back covered s t ≡ after_moves ms (moves_given_back covered s u)
+given_back_appends covered None ms t u is = is
+given_back_appends covered (Some s) ms t u is = of_use (is_unused covered s)
+  where
+    of_use : (unused : Bool) → (if unused then with_move t (moves.Unseg (record { 0 = s.base })) else t)
+        ≡ after_moves ms (if unused then with_move u (moves.Unseg (record { 0 = s.base })) else u)
+    of_use true = move_appends ms t u (moves.Unseg (record { 0 = s.base })) is
+    of_use false = is
+
+freed_appends : (size : ℕ) (s : SegsState) (trail : Moves) (at : Addr)
+    → moves_freed size s trail at ≡ after_moves trail.moves (moves_freed size s (fresh trail) at)
+freed_appends size s trail at = of_size (size == any_size)
+  where
+    freeing : with_move trail (moves.Free at) ≡ after_moves trail.moves (with_move (fresh trail) (moves.Free at))
+    freeing = refl
+
+    of_size : (any : Bool)
+        → (if any then moves_given_back (block_removed s at.0).covered (segment_over s.segments at.0) (with_move trail (moves.Free at))
+        else with_move trail (moves.Free at))
+        ≡ after_moves trail.moves (if any then moves_given_back (block_removed s at.0).covered (segment_over s.segments at.0)
+        (with_move (fresh trail) (moves.Free at)) else with_move (fresh trail) (moves.Free at))
+    of_size true = given_back_appends _ (segment_over s.segments at.0) trail.moves _ _ freeing
+    of_size false = freeing
+
+-- ---- outcomes
+
+module _ {F A : Type 0} where
+  abbrev with_moves : List Move → Checked (Moved F A) → Checked (Moved F A)
+  with_moves ms (Ok m) = Ok (record m { trail = after_moves ms m.trail })
+  with_moves ms (Err why) = Err why
+
+  -- an outcome over a trail, and over a fresh one
+  abbrev Appends : Moves → Checked (Moved F A) → Checked (Moved F A) → Type 0
+  Appends trail x y = x ≡ with_moves trail.moves y
+
+  after_check : {X : Type 0} (trail : Moves) (x : Checked X) (f g : X → Checked (Moved F A)) → ((a : X) → Appends trail (f a) (g a))
+      → Appends trail (x >>= f) (x >>= g)
+  after_check trail (Ok a) f g each = each a
+  after_check trail (Err why) f g each = refl
+
+  after_refusal : {X : Type 0} (trail : Moves) (x : Checked X) (f g : Checked (Moved F A)) → Appends trail f g
+      → Appends trail (x >> f) (x >> g)
+  after_refusal trail (Ok a) f g is = is
+  after_refusal trail (Err why) f g is = refl
+
+  ok_appends : (trail : Moves) (answer : A) (state : HeapState F) (t u : Moves) → t ≡ after_moves trail.moves u
+      → Appends trail (Ok (record { answer = answer; state = state; trail = t }))
+      (Ok (record { answer = answer; state = state; trail = u }))
+  ok_appends trail answer state t u is = ap (λ (x : Moves). Ok (record { answer = answer; state = state; trail = x })) is
+
+  module _ (layout : F → Layout) (h : HeapState F) (c : Call) (trail : Moves) (says : A → Answer) where
+    -- what is known of the call over a fresh trail
+    abbrev IsRightFresh : Checked (Moved F A) → Type 0
+    IsRightFresh x =
+        (result : Checked A) (after : HeapState F) (trail_after : Moves) → ComesMoving h (fresh trail) x result after trail_after
+        → IsRight layout h c trail_after.moves (answer_to says result) after
+
+    of_fresh : (y : Checked (Moved F A)) → IsRightFresh y → (result : Checked A) (after : HeapState F) (trail_after : Moves)
+        → ComesMoving h trail (with_moves trail.moves y) result after trail_after
+        → IsRightMoving layout h c trail.moves trail_after.moves (answer_to says result) after
+    of_fresh (Ok m) right result after trail_after comes = record {
+      moves = m.trail.moves;
+      appended = ap (λ (t : Moves). t.moves) comes.moves;
+      right = right result after m.trail (record { answer = comes.answer; state = comes.state; moves = refl });
+    }
+    of_fresh (Err why) right result after trail_after comes = record {
+      moves = [];
+      appended = ap (λ (t : Moves). t.moves) comes.moves ∙ sym (append-nil trail.moves);
+      right = right result after (fresh trail) (record { answer = comes.answer; state = comes.state; moves = refl });
+    }
+
+    -- a call that is right over a fresh trail is right over this one
+    appended_right : (x y : Checked (Moved F A)) → Appends trail x y → IsRightFresh y → (result : Checked A) (after : HeapState F)
+        (trail_after : Moves) → ComesMoving h trail x result after trail_after
+        → IsRightMoving layout h c trail.moves trail_after.moves (answer_to says result) after
+    appended_right x y appends right result after trail_after comes =
+        of_fresh y right result after trail_after
+        (subst (λ z. ComesMoving h trail z result after trail_after) appends comes)
+
+-- ---- the calls
+
+module _ {F : Type 0} (layout : F → Layout) (h : HeapState F) (trail : Moves) where
+  reserve_appends : (name : Name) (head : ℕ)
+      → Appends trail (reserved layout h trail name head) (reserved layout h (fresh trail) name head)
+  reserve_appends name head =
+      after_check trail (check_reserve layout h name head) _ _ (λ r.
+      after_check trail (answer_of_placement _) _ _ (λ at.
+      ok_appends trail tt _ _ _ (moves_after-appends (placement_at r.point.value h.segs r.words) r.point.value.pool 0 trail)))
+
+  pub reserve_is_right_after : (name : Name) (head : ℕ) (result : Checked (Unit {0})) (after : HeapState F) (trail_after : Moves)
+      → ComesMoving h trail (reserved layout h trail name head) result after trail_after
+      → IsRightMoving layout h (call.Reserve name head) trail.moves trail_after.moves (answer_to says_ok result) after
+  reserve_is_right_after name head =
+      appended_right layout h (call.Reserve name head) trail says_ok (reserved layout h trail name head)
+      (reserved layout h (fresh trail) name head) (reserve_appends name head)
+      (λ result after trail_after. reserve_is_right layout h (fresh trail) name head result after trail_after refl)
+
+  commit_appends : (name : Name) (target : Slot) → Appends trail (committed h trail name target) (committed h (fresh trail) name target)
+  commit_appends name target =
+      after_check trail (point_named h name) _ _ (λ point.
+      after_check trail (slot_in h target) _ _ (λ slot.
+      after_check trail (required point.value.reservation refusal.NotOpen) _ _ (λ held.
+      of_flip (held.flips == h.points.flips) _ _ _)))
+    where
+      of_flip : (same : Bool) (x y : HeapState F) (m : Move)
+          → Appends trail
+          (Ok (if same then record { answer = AsBlock; state = x; trail = with_move trail m }
+          else record { answer = AsFlipped; state = y; trail = trail }))
+          (Ok (if same then record { answer = AsBlock; state = x; trail = with_move (fresh trail) m }
+          else record { answer = AsFlipped; state = y; trail = fresh trail }))
+      of_flip true x y m = refl
+      of_flip false x y m = ok_appends trail AsFlipped y trail (fresh trail) (unmoved trail)
+
+  pub commit_is_right_after : (name : Name) (target : Slot) (result : Checked Committed) (after : HeapState F) (trail_after : Moves)
+      → ComesMoving h trail (committed h trail name target) result after trail_after
+      → IsRightMoving layout h (call.Commit name target) trail.moves trail_after.moves (answer_to says_committed result) after
+  commit_is_right_after name target =
+      appended_right layout h (call.Commit name target) trail says_committed (committed h trail name target)
+      (committed h (fresh trail) name target) (commit_appends name target)
+      (λ result after trail_after. commit_is_right layout h (fresh trail) name target result after trail_after refl)
+
+  alloc_appends : (pool : Name) (words : ℕ) (place : Slot)
+      → Appends trail (block_allocated h trail pool words place) (block_allocated h (fresh trail) pool words place)
+  alloc_appends pool words place =
+      after_check trail (pool_named h pool) _ _ (λ from.
+      after_refusal trail (refuse_when (is_automatic_pool from.value) refusal.WrongPool) _ _ (
+      after_check trail (block_place_in h place) _ _ (λ into.
+      after_check trail (required (slice_get h.sizes from.key) refusal.BadName) _ _ (λ size.
+      after_refusal trail (refuse_when (not (has_blocks_of size words)) refusal.BadSize) _ _ (
+      after_refusal trail (refuse_when (not (into.value == 0)) refusal.NameTaken) _ _ (
+      after_check trail (answer_of_alloc size h.segs from.key words) _ _ (λ at.
+      ok_appends trail tt (with_block_place (record h { segs = allocated h.segs from.key words at }) into at.0) _ _
+      (move_appends trail.moves _ _ (moves.Alloc at words from.key)
+      (moves_after-appends (placement_in_gaps h.segs from.key rank.Exact words) from.key 0 trail)))))))))
+
+  pub alloc_is_right_after : (pool : Name) (words : ℕ) (place : Slot) (result : Checked (Unit {0})) (after : HeapState F)
+      (trail_after : Moves) → ComesMoving h trail (block_allocated h trail pool words place) result after trail_after
+      → IsRightMoving layout h (call.Alloc pool words place) trail.moves trail_after.moves (answer_to says_ok result) after
+  alloc_is_right_after pool words place =
+      appended_right layout h (call.Alloc pool words place) trail says_ok (block_allocated h trail pool words place)
+      (block_allocated h (fresh trail) pool words place) (alloc_appends pool words place)
+      (alloc_is_right layout h (fresh trail) refl pool words place)
+
+  free_appends : (place : Slot) → Appends trail (block_freed h trail place) (block_freed h (fresh trail) place)
+  free_appends place =
+      after_check trail (block_place_in h place) _ _ (λ from.
+      after_check trail (block_in h from) _ _ (λ at.
+      after_check trail (required (segment_over h.segs.segments at) refusal.NotABlock) _ _ (λ s.
+      after_check trail (required (slice_get h.sizes s.pool) refusal.NotABlock) _ _ (λ size.
+      ok_appends trail tt _ _ _ (freed_appends size h.segs trail (record { 0 = at }))))))
+
+  pub free_is_right_after : (place : Slot) (result : Checked (Unit {0})) (after : HeapState F) (trail_after : Moves)
+      → ComesMoving h trail (block_freed h trail place) result after trail_after
+      → IsRightMoving layout h (call.Free place) trail.moves trail_after.moves (answer_to says_ok result) after
+  free_is_right_after place =
+      appended_right layout h (call.Free place) trail says_ok (block_freed h trail place)
+      (block_freed h (fresh trail) place) (free_appends place)
+      (free_is_right layout h (fresh trail) refl place)

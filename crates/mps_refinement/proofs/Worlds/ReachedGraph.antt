@@ -1,0 +1,38 @@
+-- The graph of a world that a legal history reaches is sound: cells have the kinds that heads say, points are of automatic pools.
+use Rattle.std.proofs.Common.{ℕ, refl, sym, subst, [], ◌∷◌}
+use Rattle.std.proofs.lemmas.Option.{none-some}
+use Rattle.mps_format.specs.Layout.{Layout}
+use Rattle.mps_model.specs.Step.{History}
+use Rattle.mps_model.specs.World.{World, empty_world_of}
+use Rattle.mps_model.specs.History.{IsLegalFrom, world_after, world_after_steps}
+use Rattle.mps_laws.proofs.Replays.FreeSteps.{BlocksAreLive}
+use Rattle.mps_laws.proofs.Positions.LegalMoves.{HasLayout}
+use Rattle.mps_laws.proofs.Replays.Replay.{empty_layout, legal_step_replayed, limit_after, live_after}
+use Rattle.mps_laws.proofs.Sound.SoundGraph.{IsSoundGraph}
+use Rattle.mps_laws.proofs.Sound.SoundHistories.{SlotsAreLive, step_sound}
+use Rattle.mps_refinement.specs.StandsFor.{IsReached}
+
+steps_sound : (limit : ℕ) (w : World) (h : History) → HasLayout limit w → BlocksAreLive w → SlotsAreLive w → IsSoundGraph w
+    → IsLegalFrom w h → IsSoundGraph (world_after_steps w h)
+steps_sound limit w [] laid live slots sound legal = sound
+steps_sound limit w (s ∷ ss) laid live slots sound legal =
+    let one = legal_step_replayed limit 0 s.line w laid live s.call s.moves s.answer legal.0 in
+    let after = step_sound limit s.line w laid live slots sound s.call s.moves s.answer legal.0 in
+    steps_sound (limit_after limit s.call) (world_after w s) ss one.layout (live_after w s live legal.0) after.1 after.0 legal.1
+
+empty_sound : (formats : ℕ → Layout) → IsSoundGraph (empty_world_of formats)
+empty_sound formats = record {
+  objects = λ id o e. absurd (none-some o e);
+  reservations = λ n p r e k. absurd (none-some p e);
+  points = λ n p e. absurd (none-some p e);
+  slots = refl;
+  words = λ n area e. absurd (none-some area e);
+  blocks = refl;
+  registered = refl;
+  messages = refl;
+}
+
+pub reached_graph : (w : World) → IsReached w → IsSoundGraph w
+reached_graph w r =
+    subst IsSoundGraph (sym r.is)
+    (steps_sound 1 (empty_world_of w.formats) r.history (empty_layout w.formats) refl refl (empty_sound w.formats) r.legal)

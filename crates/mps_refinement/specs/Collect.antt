@@ -1,0 +1,5 @@
+-- A full collection of a heap: a legal step of its world.
+pub mod Staying
+pub mod Leaving
+pub mod Standing
+pub mod Collecting

@@ -1,0 +1,12 @@
+-- The begin of a full collection: the flip of the model.
+pub mod UnitsFew
+pub mod HeldSegments
+pub mod NothingAtHand
+pub mod StrongNails
+pub mod CondemnedIds
+pub mod FlippedSegments
+pub mod FlippedImage
+pub mod FlipStands
+pub mod RootsReady
+pub mod Acted
+pub mod OverAtOnce

@@ -1,0 +1,187 @@
+-- The act of a flip, in words, is the abstract collector's: slots and messages are fixed, and the state stands before the first unit.
+use Rattle.std.proofs.Common.{◌≡◌, ◌∙◌, ◌<◌, false, refl, sym, ap, subst, List, [], ◌∷◌, ◌++◌, length, Option, Some, arith}
+use Rattle.std.proofs.lemmas.List.{append_assoc}
+use Rattle.std.specs.Prelude.{IsTrue, map, slice_get}
+use Rattle.std.specs.List.{flat_map}
+use Rattle.std.specs.Option.{option_map_or}
+use Rattle.mps_base.specs.Address.{Id}
+use Rattle.mps_base.specs.Segment.{Segment}
+use Rattle.mps_base.specs.Trail.{Moves}
+use Rattle.mps_base.specs.declared.moves.Move.{Move}
+use Rattle.mps_buffer.specs.Points.{PointsState}
+use Rattle.mps_final.specs.State.{FinalsState}
+use Rattle.mps_format.specs.Layout.{Layout}
+use Rattle.mps_gen.specs.State.{ChainsState}
+use Rattle.mps_root.specs.State.{RootsState}
+use Rattle.mps_seg.specs.Segs.{SegsState}
+use Rattle.mps_model.specs.Effect.{Everything, condemned_by}
+use Rattle.mps_model.specs.Flip.{flip_of, is_nothing}
+use Rattle.mps_model.specs.Graph.{Graph, entry_at, for_object, is_weak_object}
+use Rattle.mps_model.specs.World.{World, Pool, area_words, is_automatic_kind, is_copying_kind, is_copying_pool, generations_of, pool_is}
+use Rattle.mps_abstract.specs.Colours.{is_black}
+use Rattle.mps_abstract.specs.Collecting.{Collecting, is_tracing_band}
+use Rattle.mps_abstract.specs.Fixing.{Fixes, fixes_no_more, passes, keeps}
+use Rattle.mps_abstract.specs.FlipLaws.{flipped, FixesHeld}
+use Rattle.mps_abstract.proofs.WholeCollections.WholeBegins.{begun_running}
+use Rattle.mps_abstract.proofs.WholeCollections.WholePaths.{fixed_same}
+use Rattle.mps_trace_laws.specs.Image.Image.{CellSet, black_cells}
+use Rattle.mps_trace_laws.specs.Image.Memory.{pool_layout, live_reservation}
+use Rattle.mps_trace.specs.Begin.{Begins, nailed_at_flip}
+use Rattle.mps_trace.specs.Flip.{automatic_of}
+use Rattle.mps_trace.specs.Trace.{TraceState, Traced, traced}
+use Rattle.mps_trace.specs.declared.running.Running.{Running as RunningState}
+use Rattle.mps_trace_laws.specs.Fix.Steps.{IsSameGraph}
+use Rattle.mps_trace_laws.specs.Fix.Tracing.{AreKnownPools, TracingStands}
+use Rattle.mps_trace_laws.specs.Fix.Housed.{AreAllExact}
+use Rattle.mps_trace_laws.proofs.Fix.ExactSegments.{copying_segments_are_exact}
+use Rattle.mps_trace_laws.proofs.Fix.CellLists.{fewer_done}
+use Rattle.mps_trace_laws.proofs.Fix.ScanRun.{shaped_still}
+use Rattle.mps_trace_laws.specs.Nails.Nailed.{AreWordsShown, words_of_areas}
+use Rattle.mps_trace_laws.specs.Roots.OneRoot.{AreFixed}
+use Rattle.mps_trace_laws.specs.Roots.Beginning.{AreRootsFixed}
+use Rattle.mps_trace_laws.specs.Roots.Housed.{AreRootsHoused}
+use Rattle.mps_trace_laws.proofs.Roots.Beginning.{roots_are_steps, what_is_held_is_fixed}
+use Rattle.mps_trace_laws.proofs.Roots.Housed.{roots_keep_housed}
+use Rattle.mps_trace_laws.specs.Flip.Condemned.{AreFormatsOf, AllCopying}
+use Rattle.mps_trace_laws.proofs.Flip.Condemned.{flip_is_the_models}
+use Rattle.mps_trace_laws.proofs.Flip.Reservations.{no_reservation_is_live}
+use Rattle.mps_trace_laws.specs.Units.Standing.{AreCondemnedUnreserved, IsMoving, UnitStands, tracing}
+use Rattle.mps_trace_laws.specs.Begin.Before.{StandsBefore}
+use Rattle.mps_trace_laws.specs.Begin.Begun.{AFlipStands, AreRootsHeld, IsFlipStanding, IsActDone, ACollectionBegins}
+use Rattle.mps_format.specs.declared.pool.Policy.{Policy}
+
+-- ---- something is condemned
+
+has_some : {A : Type 0} (xs : List A) → 0 < length xs → is_nothing xs ≡ false
+has_some [] some = absurd (omega (arith, some))
+has_some (x ∷ xs) some = refl
+
+-- where segments of automatic pools are condemned in words, the model's flip condemns some
+pub something_condemned : {F : Type 0} (formats : List (Option (Policy F))) (ts : List Segment) (w : World) → ts ≡ w.segments
+    → AreFormatsOf formats (pool_is is_automatic_kind w) → AllCopying (pool_is is_automatic_kind w) (is_copying_pool w)
+    → 0 < length (automatic_of formats ts) → is_nothing (condemned_by w Everything) ≡ false
+something_condemned formats ts w same known copying some =
+    subst (λ (us : List Segment). is_nothing us ≡ false) (flip_is_the_models formats ts w same known copying).segments
+    (has_some (automatic_of formats ts) some)
+
+-- ---- what fixes leave
+
+-- a collector is as far as it was
+record IsAsFar (x y : Collecting) : Type 0 where
+  next : y.next ≡ x.next
+  band : y.band ≡ x.band
+  cursor : y.cursor ≡ x.cursor
+
+as_far : {x y : Collecting} {ids : List Id} {ms : List Move} → Fixes x ids ms y → IsAsFar x y
+as_far fixes_no_more = record { next = refl; band = refl; cursor = refl }
+as_far (passes black rest) = as_far rest
+as_far (keeps white keep rest) = let far = as_far rest in record { next = far.next; band = far.band; cursor = far.cursor }
+
+moving_still : {F : Type 0} (layout : F → Layout) (formats : List (Option (Policy F))) (of : ChainsState) (w w' : World) → IsSameGraph w w'
+    → AreKnownPools layout formats of (pool_is is_automatic_kind w') (is_copying_pool w') (pool_layout w') (generations_of w') → IsMoving layout formats of w
+    → IsMoving layout formats of w'
+moving_still layout formats of w w' same pools moving = record {
+  shaped = shaped_still w w' same moving.shaped;
+  pools = pools;
+  strong = λ id. ap (λ (g : Graph). for_object g id is_weak_object false) same.graph ∙ moving.strong id;
+}
+
+-- ---- the act
+
+module _ {F : Type 0} (flip_stands : AFlipStands F) (layout : F → Layout) (t : TraceState F) (s : SegsState)
+    (m : Moves) (points : PointsState) (roots roots' : RootsState) (finals finals' : FinalsState) (w : World)
+    (rows : List (List (Option Id))) (z : Traced) (run : RunningState) (before : StandsBefore layout t s m points w)
+    (words : AreWordsShown (words_of_areas roots.areas) (area_words w)) (held : AreRootsHeld w roots finals rows)
+    (begins : Begins layout t.formats t.chains points roots finals (traced t s m) roots' finals' z run) where
+  abbrev y : Collecting
+  y = flipped w Everything []
+
+  abbrev x : Traced
+  x = nailed_at_flip t.formats points roots (traced t s m)
+
+  abbrev done : CellSet
+  done = black_cells y.running.condemned y.colours
+
+  some : is_nothing (condemned_by w Everything) ≡ false
+  some =
+      something_condemned t.formats s.segments w before.segments.segments.same_segments before.pools.formats before.pools.copying
+      begins.some
+
+  flip : IsFlipStanding layout t m w x
+  flip = flip_stands layout t s m points roots w before words some
+
+  all : AreRootsFixed layout t.formats t.chains w.addresses done x z y roots roots' finals' rows w.graph.messages
+  all =
+      roots_are_steps layout t.formats t.chains w.addresses done x begins.before z y rows w.graph.messages roots roots' finals finals'
+      flip.moving.shaped flip.traces held.tables held.messages begins.slots begins.messages
+
+  abbrev fixed : AreFixed layout t.formats t.chains w.addresses done x z y
+      (flat_map (λ row. row) rows ++ map Some w.graph.messages)
+  fixed = all.fixed
+
+  abbrev after : Collecting
+  after = fixed.after
+
+  -- each object lies in one segment then, and neither a segment nor a grey block is weak
+  kept : AreRootsHoused z after
+  kept =
+      roots_keep_housed layout t.formats t.chains w.addresses done x begins.before z y rows w.graph.messages roots roots' finals finals'
+      flip.traces flip.housed
+      (record {
+        exact =
+            subst (λ (ts : List Segment). AreAllExact ts) (sym flip.traces.state.segments.same_segments)
+            (copying_segments_are_exact w before.plain.rest.well_formed before.pools.copying);
+        marks = flip.strong;
+      })
+      held.tables held.messages begins.slots begins.messages all
+
+  fixes : FixesHeld w y fixed.moves after
+  fixes =
+      what_is_held_is_fixed layout t.formats t.chains w.addresses done x z y rows w.graph.messages roots roots' finals' w all held.all
+      refl
+
+  far : IsAsFar y after
+  far = as_far fixes
+
+  -- the cells of black objects are fixed: no object is black that wasn't
+  traces : TracingStands layout t.formats t.chains w.addresses (black_cells after.running.condemned after.colours) z after
+  traces =
+      fewer_done layout t.formats t.chains w.addresses done (black_cells after.running.condemned after.colours) z after
+      (λ id i is. fixed.leaves.black id (subst (λ ids. IsTrue (is_black ids after.colours id)) fixed.same_condemned is))
+      fixed.stands
+
+  unreserved : AreCondemnedUnreserved z.segs after.world.graph.points after.world.point_memories
+  unreserved u there condemned point l r n lies =
+      absurd ((no_reservation_is_live w.graph.points w.point_memories).not_live point r
+      (ap (λ (g : Graph). live_reservation (entry_at g.points point)) (sym fixed.same.graph) ∙ lies.reserved))
+
+  stands : UnitStands layout t.formats t.chains w.addresses z run after
+  stands = record {
+    running = begun_running w fixed.moves after before.plain.rest some fixes;
+    examined = far.next ∙ sym ((fixed_same fixes).registered_before ∙ ap (λ (ids : List Id). length ids) before.plain.none_registered);
+    cursor = ap (λ (r : RunningState). r.cursor.0) begins.run_is ∙ sym far.cursor;
+    moving = moving_still layout t.formats t.chains y.world after.world fixed.same fixed.stands.state.pools flip.moving;
+    unreserved = unreserved;
+    band = tracing (record {
+      traces = traces;
+      band = ap is_tracing_band far.band;
+      housed = kept.housed;
+      exact = kept.strong.exact;
+      strong = kept.strong.marks;
+    });
+  }
+
+  pub act_done : IsActDone layout t m w rows roots roots' finals' z run
+  act_done = record {
+    first = fixed.moves;
+    after = after;
+    fixes = fixes;
+    stands = stands;
+    trail = fixed.trail ∙ ap (λ ms. ms ++ fixed.moves) flip.trail ∙ append_assoc m.moves (flip_of w Everything ∷ []) fixed.moves;
+    slots = all.slots;
+    messages = all.messages;
+  }
+
+pub a_collection_begins : {F : Type 0} → AFlipStands F → ACollectionBegins F
+a_collection_begins flip_stands layout t s m points roots roots' finals finals' w rows z run before words held begins =
+    act_done flip_stands layout t s m points roots roots' finals finals' w rows z run before words held begins

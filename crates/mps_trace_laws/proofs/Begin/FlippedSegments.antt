@@ -1,0 +1,121 @@
+-- The segments right after a flip of everything.
+use Rattle.std.proofs.Common.{◌≡◌, ◌∙◌, ℕ, ◌+◌, ◌*◌, true, false, List, [], length, Option, Some, None, Contains, refl, sym, ap, subst}
+use Rattle.std.specs.Prelude.{◌||◌, IsTrue, option_map}
+use Rattle.mps_base.specs.Address.{Address, Word, address_of_word, grain_of, words_of_grain}
+use Rattle.mps_base.specs.Run.{IsAscending}
+use Rattle.mps_base.specs.Segment.{Segment, segment_over}
+use Rattle.mps_base.specs.Trail.{Moves}
+use Rattle.mps_base.specs.declared.names.Rank.TheVariants.{Exact}
+use Rattle.mps_bits.specs.Table.{bit}
+use Rattle.mps_format.specs.Layout.{Layout}
+use Rattle.mps_marks.specs.Marks.{MarkTables}
+use Rattle.mps_amc.proofs.Found.{over_is_there}
+use Rattle.mps_buffer.specs.Points.{PointsState}
+use Rattle.mps_seg.specs.Segs.{SegsState}
+use Rattle.mps_seg.specs.Collecting.{rank_of}
+use Rattle.mps_trace.specs.Flip as flip
+use Rattle.mps_trace.specs.Trace.{TraceState, traced}
+use Rattle.mps_model.specs.Effect.{Everything}
+use Rattle.mps_model.specs.Graph.{contains}
+use Rattle.mps_model.specs.World.{World}
+use Rattle.mps_abstract.specs.Collecting.{Collecting}
+use Rattle.mps_abstract.specs.FlipLaws.{flipped}
+use Rattle.mps_trace_laws.specs.Image.Memory.{is_condemned_word, pool_over_word, words_of_arena}
+use Rattle.mps_trace_laws.specs.Flip.Condemned.{IsFlipOfEverything, AreCondemnedToo, bases_of}
+use Rattle.mps_trace_laws.specs.Flip.CondemnedWords.{AreWordsCondemned}
+use Rattle.mps_trace_laws.specs.Flip.Reservations.{IsNothingMoved}
+use Rattle.mps_trace_laws.proofs.Flip.Condemned.{flip_is_the_models, flip_condemns}
+use Rattle.mps_trace_laws.proofs.Flip.CondemnedWords.{flip_condemns_words}
+use Rattle.mps_trace_laws.proofs.Flip.Reservations.{flip_moves_nothing}
+use Rattle.mps_trace_laws.specs.Nails.Nailed.{AreTablesWhole, AreMarkedAt}
+use Rattle.mps_trace_laws.specs.Begin.Before.{StandsBefore}
+use Rattle.mps_trace_laws.proofs.Begin.HeldSegments.{begin_in_table, ready_to_condemn, copying_is_exact}
+use Rattle.mps_trace_laws.proofs.Begin.StrongNails.{AreCondemnedExact}
+
+module _ {F : Type 0} (layout : F → Layout) (t : TraceState F) (s : SegsState) (m : Moves) (points : PointsState) (w : World)
+    (b : StandsBefore layout t s m points w) where
+  abbrev pub segments_flipped : SegsState
+  segments_flipped = (flip.at_flip t.formats points (traced t s m)).segs
+
+  abbrev g : SegsState
+  g = segments_flipped
+
+  abbrev y : Collecting
+  y = flipped w Everything []
+
+  none_condemned : (u : Segment) → Contains s.segments u → bit s.condemned (grain_of u.base) ≡ false
+  none_condemned u there = b.segments.not_condemned (grain_of u.base)
+
+  pub moved : IsNothingMoved s g
+  moved = flip_moves_nothing t.formats points (traced t s m)
+
+  pub models : IsFlipOfEverything (flip.automatic_of t.formats s.segments) w
+  models = flip_is_the_models t.formats s.segments w b.segments.segments.same_segments b.pools.formats b.pools.copying
+
+  pub condemns : AreCondemnedToo s g (bases_of (flip.automatic_of t.formats s.segments))
+  condemns = flip_condemns t.formats points (traced t s m) (begin_in_table s b.segments.held b.segments.tables)
+
+  pub condemns_words : AreWordsCondemned t.formats s g
+  condemns_words = flip_condemns_words t.formats points (traced t s m) (ready_to_condemn s b.segments.held b.segments.tables none_condemned)
+
+  -- ---- which are condemned
+
+  bases : bases_of (flip.automatic_of t.formats s.segments) ≡ y.running.condemned_segments
+  bases = models.bases
+
+  pub bit_is : (u : Segment) → Contains g.segments u
+      → bit g.condemned (grain_of u.base) ≡ contains y.running.condemned_segments u.base
+  bit_is u there = condemns.exactly none_condemned u there ∙ ap (λ (bs : List Address). contains bs u.base) bases
+
+  pub is_held : (base : Address) → IsTrue (contains y.running.condemned_segments base)
+      → (u : Segment) × Contains g.segments u × (u.base ≡ base)
+  is_held base listed = condemns.held base (ap (λ (bs : List Address). contains bs base) bases ∙ listed)
+
+  -- ---- tables and marks
+
+  pub whole : AreTablesWhole g
+  whole =
+      let before = b.segments.whole.sizes in
+      let words : words_of_grain * (s.grains + 1) ≡ words_of_grain * (g.grains + 1) =
+      ap (λ (n : ℕ). words_of_grain * (n + 1)) (sym moved.grains)
+      in
+      let grains : s.grains + 1 ≡ g.grains + 1 = ap (λ (n : ℕ). n + 1) (sym moved.grains) in
+      record {
+        sizes = record {
+          kept_size = ap (λ (k : MarkTables). length k.kept) moved.marks ∙ before.kept_size ∙ words;
+          exact_size = ap (λ (k : MarkTables). length k.exact) moved.marks ∙ before.exact_size ∙ words;
+          weak_size = ap (λ (k : MarkTables). length k.weak) moved.marks ∙ before.weak_size ∙ words;
+          condemned_size = condemns.entries ∙ before.condemned_size ∙ grains;
+          summaries_size = ap (λ (zones : List ℕ). length zones) moved.summaries ∙ before.summaries_size ∙ grains;
+        };
+        order =
+            subst (λ (n : ℕ). IsAscending 0 (words_of_arena n) g.blocks) (sym moved.grains)
+            (subst (IsAscending 0 (words_of_arena s.grains)) (sym moved.blocks) b.segments.whole.order);
+      }
+
+  pub unmarked : AreMarkedAt g (λ n. false)
+  unmarked = record {
+    kept = λ n. ap (λ (k : MarkTables). bit k.kept n) moved.marks ∙ b.segments.unmarked.kept n;
+    grey = λ n. ap (λ (k : MarkTables). bit k.exact n || bit k.weak n) moved.marks ∙ b.segments.unmarked.grey n;
+  }
+
+  -- condemned segments are of pools that move blocks, so of rank exact
+  exact_over : (n : Word) → is_condemned_word g n ≡ true → (o : Option Segment) → segment_over g.segments (address_of_word n) ≡ o
+      → rank_of o ≡ Exact
+  exact_over n condemned None over = refl
+  exact_over n condemned (Some u) over =
+      let pool : pool_over_word s n ≡ Some u.pool =
+      sym (condemns_words.pools n) ∙ ap (λ (o : Option Segment). option_map (λ (v : Segment). v.pool) o) over
+      in
+      let automatic : flip.is_automatic t.formats u.pool ≡ true = sym (condemns_words.words n u.pool pool) ∙ condemned in
+      let there : Contains w.segments u =
+      subst (λ (ts : List Segment). Contains ts u) (condemns.segments ∙ b.segments.segments.same_segments)
+      (over_is_there g.segments (address_of_word n) u over)
+      in
+      copying_is_exact w b.plain.rest.well_formed u there (b.pools.copying u.pool (sym (b.pools.formats u.pool) ∙ automatic))
+
+  pub strong : AreCondemnedExact g
+  strong = record {
+    none = λ n. ap (λ (k : MarkTables). bit k.weak n) moved.marks ∙ b.segments.strong n;
+    exact = λ n condemned. exact_over n condemned (segment_over g.segments (address_of_word n)) refl;
+  }

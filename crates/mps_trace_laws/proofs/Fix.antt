@@ -1,0 +1,25 @@
+-- Fixes and scans: steps of the abstract collector.
+pub mod Growing
+pub mod InWords
+pub mod Hands
+pub mod Copying
+pub mod Found
+pub mod OneFix
+pub mod Taking
+pub mod NewTail
+pub mod Objects
+pub mod Copied
+pub mod Staying
+pub mod Grown
+pub mod Room
+pub mod Steps
+pub mod FixSteps
+pub mod EachFix
+pub mod EachCell
+pub mod CellLists
+pub mod ScanRun
+pub mod Scanned
+pub mod CanScan
+pub mod Housed
+pub mod Ranks
+pub mod ExactSegments

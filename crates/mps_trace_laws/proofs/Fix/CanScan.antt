@@ -1,0 +1,43 @@
+-- A block of an object that is to be scanned can be.
+use Rattle.std.proofs.Common.{◌≡◌, ◌∙◌, refl, sym, ap, slice_index, subst, inl}
+use Rattle.std.specs.Prelude.{slice_get}
+use Rattle.mps_base.specs.Address.{word_of}
+use Rattle.mps_format.specs.Layout.{Layout}
+use Rattle.mps_amc.specs.Moving.{BlockStands, size_at}
+use Rattle.mps_trace_laws.specs.Image.Memory.{pool_layout}
+use Rattle.mps_trace_laws.specs.Image.Fixing.{Target}
+use Rattle.mps_trace.specs.Trace.{traced}
+use Rattle.mps_trace.specs.Scan.{AreReady}
+use Rattle.mps_trace_laws.specs.Fix.Tracing.{setting_of}
+use Rattle.mps_trace_laws.specs.Fix.Scanning.{AnObjectCanBeScanned}
+use Rattle.mps_trace_laws.proofs.Fix.Found as found
+use Rattle.mps_trace_laws.proofs.Fix.ScanRun.{ready}
+
+pub object_can_be_scanned : {F : Type 0} → AnObjectCanBeScanned F
+object_can_be_scanned {F} layout t s m at_flip done y holder at o shaped stands scan =
+    let x = traced t s m in
+    let target : Target (setting_of s at_flip y) y.world.addresses holder at.0 at.0 o =
+    record { means = inl scan.there; there = scan.there; object = scan.object; automatic = scan.automatic; read = refl }
+    in
+    let its = found.its_segment F layout t.formats t.chains at_flip done x y shaped stands at.0 holder at.0 o target in
+    let head = found.head_there F layout t.formats t.chains at_flip done x y shaped stands at.0 holder at.0 o target in
+    let collected = stands.state.collected holder o scan.object scan.automatic in
+    let format = stands.state.pools.listed o.pool collected in
+    let format_is : layout format.0.format ≡ pool_layout y.world o.pool = stands.state.pools.format_is o.pool format.0 format.1 in
+    let block : BlockStands (layout format.0.format) s.words at.0 (size_at (layout format.0.format) s.words at.0) =
+    subst (λ (g : Layout). BlockStands g s.words at.0 (size_at g s.words at.0)) (sym format_is)
+    (found.block_stands F layout t.formats t.chains at_flip done x y shaped stands at.0 holder at.0 o target format.0 format.1 refl)
+    in
+    record {
+      aligned = found.is_aligned F layout t.formats t.chains at_flip done x y shaped stands at.0 holder at.0 o target;
+      segment = its.0;
+      over = its.1;
+      format = format.0;
+      listed = ap (slice_get t.formats) its.2 ∙ format.1;
+      valid = block.valid;
+      within = block.within;
+      ready =
+          subst (λ (g : Layout). AreReady layout g t.formats t.chains (slice_index s.words (word_of at.0)) at x) (sym format_is)
+          (subst (λ h. AreReady layout (pool_layout y.world o.pool) t.formats t.chains h at x) (sym head)
+          (ready F layout t.formats t.chains at_flip done x y shaped stands holder at o scan));
+    }

@@ -1,0 +1,179 @@
+-- The bits of condemned segments after a flip, and the model's flip of everything.
+use Rattle.std.proofs.Common.{◌≡◌, ◌∙◌, ℕ, suc, ◌==◌, ◌<◌, Bool, true, false, refl, sym, ap, subst, List, [], ◌∷◌, length, map, Option, Some, None, Contains, inl, inr, arith}
+use Rattle.std.proofs.lemmas.Bool.{false≢true, cases_Bool, or_right, eqb-true, eqb-false, cond-true, cond-false}
+use Rattle.std.proofs.lemmas.List.{get_or-set_same, get_or-set_other, length-set}
+use Rattle.std.specs.Prelude.{◌||◌, ◌≢◌, filter, if◌then◌else◌, slice_set}
+use Rattle.mps_base.specs.Address.{Address, Grain, address_of_grain, grain_of}
+use Rattle.mps_base.specs.Segment.{Segment, grains_of_segment}
+use Rattle.mps_base.specs.Zones.{zones_of_runs}
+use Rattle.mps_base.specs.declared.moves.Move.{Move}
+use Rattle.mps_base.specs.declared.moves.Move.TheVariants.{Flip}
+use Rattle.mps_bits.specs.Table.{bit}
+use Rattle.mps_buffer.specs.declared.point.Held.{Held}
+use Rattle.mps_buffer.specs.declared.point.Point.{Point}
+use Rattle.mps_buffer.specs.Points.{ended, ended_at, all_ended, without_reservation}
+use Rattle.mps_abstract.proofs.Lists.{contains_cases}
+use Rattle.mps_gen.specs.State.{max_chains}
+use Rattle.mps_model.specs.Graph.{contains}
+use Rattle.mps_model.specs.World.{is_automatic_kind, is_copying_pool, pool_is}
+use Rattle.mps_model.specs.Effect.{Everything, condemned_by}
+use Rattle.mps_seg.specs.Segs.{SegsState}
+use Rattle.mps_seg.specs.Collecting.{condemning}
+use Rattle.mps_trace.specs.Flip.{is_automatic, automatic_of, condemning_all, zones_of}
+use Rattle.mps_trace.proofs.Ending.{segments_stay}
+use Rattle.mps_trace_laws.specs.Flip.Condemned.{AFlipIsTheModels, AFlipCondemns, bases_of}
+use Rattle.mps_trace_laws.proofs.Flip.Filtered.{filter_same, filter_again}
+
+-- ---- the model's flip
+
+pub flip_is_the_models : {F : Type 0} → AFlipIsTheModels F
+flip_is_the_models formats ts w same known copying =
+    let segments : automatic_of formats ts ≡ condemned_by w Everything =
+    filter_same (λ (t : Segment). is_automatic formats t.pool) (λ (t : Segment). pool_is is_automatic_kind w t.pool) ts
+    (λ t. known t.pool)
+    ∙ ap (λ (xs : List Segment). filter (λ (t : Segment). pool_is is_automatic_kind w t.pool) xs) same
+    in
+    let zones =
+    ap (λ (xs : List Segment). zones_of xs) segments
+    ∙ sym (ap (λ (xs : List Segment). zones_of_runs (map grains_of_segment xs))
+    (filter_again (λ (t : Segment). pool_is is_automatic_kind w t.pool) (λ (t : Segment). is_copying_pool w t.pool) w.segments
+    (λ t. copying t.pool)))
+    in
+    record {
+      segments = segments;
+      bases = ap (λ (xs : List Segment). bases_of xs) segments;
+      zones = zones;
+      move = ap (λ (z : ℕ). let m : Move = Flip (record { 0 = z }) max_chains 0 in m) zones;
+    }
+
+-- ---- bits
+
+bit_set : (bits : List Bool) (n : Grain) → n < length bits → bit (slice_set bits n true) n ≡ true
+unfolding bit
+bit_set bits n within = get_or-set_same bits n true false within
+
+bit_other : (bits : List Bool) (n m : Grain) → m ≢ n → bit (slice_set bits n true) m ≡ bit bits m
+unfolding bit
+bit_other bits n m other = get_or-set_other bits n m true false other
+
+-- whether a base is one of a list whose first is this one
+first_or_later : (here later before set : Bool) → (here ≡ true → set ≡ true) → (here ≡ false → set ≡ before)
+    → (later || set) ≡ ((here || later) || before)
+first_or_later true later before set is_set same = or_right later set (is_set refl)
+first_or_later false later before set is_set same = ap (λ b. later || b) (same refl)
+
+-- segments that begin with a grain
+abbrev AreAligned : List Segment → Type 0
+AreAligned ts = (t : Segment) → Contains ts t → address_of_grain (grain_of t.base) ≡ t.base
+
+there_first : (t : Segment) (ts : List Segment) → Contains (t ∷ ts) t
+there_first t ts = (0, omega arith, refl)
+
+there_later : (t u : Segment) (ts : List Segment) → Contains ts u → Contains (t ∷ ts) u
+there_later t u ts (k, within, is) = (suc k, omega (arith, within), is)
+
+module _ (p : Segment → Bool) (base : Address) where
+  -- one more condemned segment
+  with_one : address_of_grain (grain_of base) ≡ base → (t : Segment) (s : SegsState) (later : Bool)
+      → address_of_grain (grain_of t.base) ≡ t.base → grain_of base < length s.condemned
+      → (later || bit (condemning s t.base).condemned (grain_of base)) ≡ ((t.base == base || later) || bit s.condemned (grain_of base))
+  with_one aligned t s later its within =
+      first_or_later (t.base == base) later (bit s.condemned (grain_of base)) (bit (condemning s t.base).condemned (grain_of base))
+      (λ e. subst (λ (b : Address). bit (slice_set s.condemned (grain_of b) true) (grain_of base) ≡ true)
+      (sym (eqb-true t.base base e)) (bit_set s.condemned (grain_of base) within))
+      (λ e. bit_other s.condemned (grain_of t.base) (grain_of base)
+      (λ g. eqb-false t.base base e (sym its ∙ ap (λ (n : Grain). address_of_grain n) (sym g) ∙ aligned)))
+
+  bit_after : address_of_grain (grain_of base) ≡ base → (ts : List Segment) (s : SegsState) → AreAligned ts
+      → grain_of base < length s.condemned → bit (condemning_all (filter p ts) s).condemned (grain_of base)
+      ≡ (contains (bases_of (filter p ts)) base || bit s.condemned (grain_of base))
+  bit_after aligned [] s each within = refl
+  bit_after aligned (t ∷ ts) s each within =
+      let rest : AreAligned ts = λ u there. each u (there_later t u ts there) in
+      elim (p t) as (λ b. bit (condemning_all (if b then t ∷ filter p ts else filter p ts) s).condemned (grain_of base)
+      ≡ (contains (bases_of (if b then t ∷ filter p ts else filter p ts)) base || bit s.condemned (grain_of base))) [
+        | true ↦
+            bit_after aligned ts (condemning s t.base) rest
+            (subst (λ (n : ℕ). grain_of base < n) (sym (length-set s.condemned (grain_of t.base) true)) within)
+            ∙ with_one aligned t s (contains (bases_of (filter p ts)) base) (each t (there_first t ts)) within
+        | false ↦ bit_after aligned ts s rest within
+      ]
+
+  -- what is condemned was held
+  held_of : (ts : List Segment) → contains (bases_of (filter p ts)) base ≡ true → (t : Segment) × Contains ts t × (t.base ≡ base)
+  held_of [] h = absurd (false≢true h)
+  held_of (t ∷ ts) h =
+      elim (p t) as (λ b. contains (bases_of (if b then t ∷ filter p ts else filter p ts)) base ≡ true
+      → (u : Segment) × Contains (t ∷ ts) u × (u.base ≡ base)) [
+        | true ↦ (λ g. elim (contains_cases t.base (bases_of (filter p ts)) base g) [
+          | inl e ↦ (t, there_first t ts, e)
+          | inr e ↦ let u = held_of ts e in (u.0, there_later t u.0 ts u.1, u.2)
+        ])
+        | false ↦ (λ g. let u = held_of ts g in (u.0, there_later t u.0 ts u.1, u.2))
+      ] h
+
+segments_after : (ts : List Segment) (s : SegsState) → (condemning_all ts s).segments ≡ s.segments
+segments_after [] s = refl
+segments_after (t ∷ ts) s = segments_after ts (condemning s t.base)
+
+entries_after : (ts : List Segment) (s : SegsState) → length (condemning_all ts s).condemned ≡ length s.condemned
+entries_after [] s = refl
+entries_after (t ∷ ts) s = entries_after ts (condemning s t.base) ∙ length-set s.condemned (grain_of t.base) true
+
+-- ---- the end of reservations condemns nothing
+
+module _ (flips : ℕ) where
+  one_condemns_none : (o : Option Held) (s : SegsState) → (ended flips o s).condemned ≡ s.condemned
+  one_condemns_none None s = refl
+  one_condemns_none (Some h) s =
+      let same : Bool = h.flips == flips in
+      elim (cases_Bool same) [
+        | inl is ↦ ap (λ (x : SegsState). x.condemned) (cond-true same (without_reservation s h) s is)
+        | inr is ↦ ap (λ (x : SegsState). x.condemned) (cond-false same (without_reservation s h) s is)
+      ]
+
+  point_condemns_none : (o : Option Point) (s : SegsState) → (ended_at flips o s).condemned ≡ s.condemned
+  point_condemns_none None s = refl
+  point_condemns_none (Some p) s = one_condemns_none p.reservation s
+
+  condemned_stay : (ps : List (Option Point)) (s : SegsState) → (all_ended flips ps s).condemned ≡ s.condemned
+  condemned_stay [] s = refl
+  condemned_stay (p ∷ ps) s = condemned_stay ps (ended_at flips p s) ∙ point_condemns_none p s
+
+-- ---- both
+
+or_none : (b c : Bool) → c ≡ false → (b || c) ≡ b
+or_none true c is = refl
+or_none false c is = is
+
+pub flip_condemns : {F : Type 0} → AFlipCondemns F
+flip_condemns formats points x begin =
+    let p : Segment → Bool = λ (t : Segment). is_automatic formats t.pool in
+    let e : SegsState = all_ended points.flips points.points x.segs in
+    let after : SegsState = condemning_all (automatic_of formats e.segments) e in
+    let ended_same : e.segments ≡ x.segs.segments = segments_stay points.flips points.points x.segs in
+    let bits_same : e.condemned ≡ x.segs.condemned = condemned_stay points.flips points.points x.segs in
+    let segments : after.segments ≡ x.segs.segments = segments_after (automatic_of formats e.segments) e ∙ ended_same in
+    let before : (t : Segment) → Contains after.segments t → Contains x.segs.segments t =
+    λ t there. subst (λ (ts : List Segment). Contains ts t) segments there
+    in
+    let bits : (t : Segment) → Contains after.segments t → bit after.condemned (grain_of t.base)
+    ≡ (contains (bases_of (automatic_of formats x.segs.segments)) t.base || bit x.segs.condemned (grain_of t.base)) =
+    λ t there.
+    ap (λ (ts : List Segment). bit (condemning_all (automatic_of formats ts) e).condemned (grain_of t.base)) ended_same
+    ∙ bit_after p t.base (begin.aligned t (before t there)) x.segs.segments e begin.aligned
+    (subst (λ (bs : List Bool). grain_of t.base < length bs) (sym bits_same) (begin.within t (before t there)))
+    ∙ ap (λ (bs : List Bool). contains (bases_of (automatic_of formats x.segs.segments)) t.base || bit bs (grain_of t.base)) bits_same
+    in
+    record {
+      segments = segments;
+      entries = entries_after (automatic_of formats e.segments) e ∙ ap (λ (bs : List Bool). length bs) bits_same;
+      bits = bits;
+      held = λ base listed.
+          subst (λ (ts : List Segment). (t : Segment) × Contains ts t × (t.base ≡ base)) (sym segments)
+          (held_of p base x.segs.segments listed);
+      exactly = λ none t there.
+          bits t there
+          ∙ or_none (contains (bases_of (automatic_of formats x.segs.segments)) t.base) (bit x.segs.condemned (grain_of t.base))
+          (none t (before t there));
+    }

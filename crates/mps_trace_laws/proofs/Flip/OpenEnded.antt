@@ -1,0 +1,31 @@
+-- A flip ends the reservations that are open, in whatever order points have them.
+use Rattle.std.proofs.Common.{◌≡◌, ◌∙◌, sym, ap, List, [], ◌∷◌, ◌++◌, subst}
+use Rattle.mps_base.specs.Run.{Run, IsAscending, in_order, with_run}
+use Rattle.mps_model.specs.World.{extents_of, reserved_extents}
+use Rattle.mps_trace_laws.specs.Flip.Ended.{open_runs, AreCovered, AFlipLeavesRuns}
+use Rattle.mps_trace_laws.proofs.Flip.Apart.{begin_apart}
+use Rattle.mps_trace_laws.proofs.Flip.Ended.{flip_ends_reservations}
+use Rattle.mps_trace_laws.proofs.Flip.Reservations.{no_reservation_is_live}
+
+-- after the same blocks, runs with the same order are in the same order
+order_after : (blocks rs qs : List Run) → in_order rs ≡ in_order qs → in_order (blocks ++ rs) ≡ in_order (blocks ++ qs)
+order_after [] rs qs same = same
+order_after (b ∷ bs) rs qs same = ap (with_run b) (order_after bs rs qs same)
+
+pub flip_leaves_runs : {F : Type 0} → AFlipLeavesRuns F
+flip_leaves_runs formats points x s addresses condemned is_condemned_over high runs ascending same =
+    let extents : List Run = extents_of s.objects addresses in
+    let reserved : List Run = reserved_extents s.points s.point_memories in
+    let open_ones : List Run = open_runs points.flips points.points in
+    let covered : x.segs.covered ≡ in_order (extents ++ open_ones) =
+    runs.covered ∙ order_after extents reserved open_ones (sym runs.reservations ∙ same)
+    in
+    let c : AreCovered x.segs extents open_ones = record { blocks = runs.blocks; reservations = same; covered = covered } in
+    let after = flip_ends_reservations formats points x extents c
+    (begin_apart 0 high extents open_ones (subst (IsAscending 0 high) covered ascending)) in
+    let none = no_reservation_is_live s.points s.point_memories in
+    record {
+      blocks = after.blocks;
+      reservations = after.reservations ∙ sym (ap in_order none.extents);
+      covered = after.covered ∙ sym (ap (λ rs. in_order (extents ++ rs)) none.extents);
+    }

@@ -1,0 +1,231 @@
+-- One fix keeps the image, whatever the code finds: of an address, and of the reference in a word.
+use Rattle.std.proofs.Common.{◌≡◌, ◌∙◌, ℕ, ◌+◌, ◌<◌, Bool, true, false, refl, sym, ap, List, Option, Some, None, subst, inl, arith, slice_index}
+use Rattle.std.proofs.lemmas.Bool.{false≢true, and_right, and_from}
+use Rattle.std.proofs.lemmas.Option.{none-some, same_Some}
+use Rattle.std.specs.Prelude.{slice_get, slice_set, not, IsTrue}
+use Rattle.mps_base.specs.Address.{Address, Id, Word, word_of}
+use Rattle.mps_model.specs.Graph.{ReferenceCell, Object, entry_at, size_of}
+use Rattle.mps_abstract.specs.Colours.{Colours, is_white, keeping}
+use Rattle.mps_trace_laws.specs.Image.Memory.{Setting, Memory, Lies, all_cells}
+use Rattle.mps_trace_laws.specs.Image.Image.{AreShaped, CellSet, ImageStands, is_white_over}
+use Rattle.mps_trace_laws.specs.Image.Fixing.{Target, AreCopied, AreAtHand, IsMarkSet, AreMarksMoved, marked_in, copied_in, address_moved, IsNotForwarded, IsToKeep, FixAt, passes, forwards, is_kept, stays, copies, FixWord, null, writes, FixesOne, nothing, passed, kept, moved, IsFixedAt, IsFixedCell}
+use Rattle.mps_trace_laws.proofs.Image.Entries.{entry_at-set_same, entry_at-set_other}
+use Rattle.mps_trace_laws.proofs.Image.Targets as targets
+use Rattle.mps_trace_laws.proofs.Image.References as references
+use Rattle.mps_trace_laws.proofs.Image.Written.{cell_written, no_cell_changed}
+use Rattle.mps_trace_laws.proofs.Image.Marked as marking
+use Rattle.mps_trace_laws.proofs.Image.Copied as copying
+use Rattle.mps_trace_laws.proofs.Image.Runs.{runs_moved}
+
+-- after a block was copied the image stands, while the word that led to it still holds the address that it had
+image_copied : (s : Setting) (m : Memory) (addresses : List (Option Address)) (k : Colours) (done : CellSet) (t : Id) (from to : Address)
+    (o : Object) (words' : List ℕ) (kept' grey' : Word → Bool) → ImageStands s m addresses k done
+    → copying.IsMove s addresses k t from to o → AreCopied (s.layout o.pool) m.words words' from to (size_of o)
+    → AreMarksMoved m.kept m.grey kept' grey' (word_of from) (word_of to)
+    → ImageStands s (copied_in m words' kept' grey' from to (size_of o)) (address_moved addresses t to) (keeping k t) done
+image_copied s m addresses k done t from to o words' kept' grey' st v copy b = record {
+  placed = copying.placed_moved s addresses k t from to o st.placed v;
+  words = copying.words_copied s addresses k t from to o st.placed v m.words words' copy st.words;
+  fixed = copying.fixed_copied s addresses k t from to o st.placed v m.words words' copy done st.fixed;
+  marks = copying.marks_moved s addresses k t from to o st.placed v m.kept m.grey kept' grey' b st.marks;
+  runs = runs_moved s m addresses k t from to o words' kept' grey' st.placed v st.runs;
+}
+
+-- ---- an address is fixed
+
+module _ (s : Setting) (m : Memory) (addresses : List (Option Address)) (k : Colours) (done : CellSet)
+    (shaped : AreShaped s.objects s.layout)
+    (st : ImageStands s m addresses k done) (t address now : ℕ) (p : Object) (x : Target s addresses t address now p) where
+  at_moved : (answer : Address) → answer ≡ now → is_white s.condemned k t ≡ false → IsFixedAt s m addresses k done t answer
+  at_moved answer e w = record {
+    addresses_after = addresses;
+    colours_after = k;
+    step = passed t w;
+    there = x.there ∙ ap Some (sym e);
+    not_white = w;
+    stands = st;
+  }
+
+  at_there : address ≡ now → is_white s.condemned k t ≡ false → IsFixedAt s m addresses k done t address
+  at_there e w = at_moved address e w
+
+  at_stay : (kept' grey' : Word → Bool) → address ≡ now → is_white s.condemned k t ≡ true → IsMarkSet m.kept kept' (word_of address)
+      → IsMarkSet m.grey grey' (word_of address) → IsFixedAt s (marked_in m kept' grey') addresses k done t address
+  at_stay kept' grey' e w keeps greys = record {
+    addresses_after = addresses;
+    colours_after = keeping k t;
+    step = kept t w;
+    there = x.there ∙ ap Some (sym e);
+    not_white = marking.kept_not_white s.condemned k t;
+    stands =
+        marking.image_marked s m addresses k done t now kept' grey' st x.there
+        (subst (λ y. IsMarkSet m.kept kept' (word_of y)) e keeps) (subst (λ y. IsMarkSet m.grey grey' (word_of y)) e greys);
+  }
+
+  abbrev Copying : (to : Address) (words' : List ℕ) (kept' grey' : Word → Bool) (from pool size : ℕ) → Type 0
+  Copying to words' kept' grey' from pool size =
+      s.is_condemned_over (word_of from) ≡ true → AreAtHand s addresses to size pool → AreCopied (s.layout pool) m.words words' from to size
+      → AreMarksMoved m.kept m.grey kept' grey' (word_of from) (word_of to)
+      → IsFixedAt s (copied_in m words' kept' grey' from to size) addresses k done t to
+
+  copies_there : (to : Address) (words' : List ℕ) (kept' grey' : Word → Bool) → is_white s.condemned k t ≡ true
+      → Copying to words' kept' grey' now p.pool (size_of p)
+  copies_there to words' kept' grey' w condemned hand copy marks =
+      let v : copying.IsMove s addresses k t now to p = record {
+        there = x.there;
+        object = x.object;
+        white = w;
+        at_flip = st.marks.unmoved t now x.there x.read w;
+        condemned = condemned;
+        hand = hand;
+      } in
+      record {
+        addresses_after = address_moved addresses t to;
+        colours_after = keeping k t;
+        step = moved t now to w x.there;
+        there = entry_at-set_same addresses t now x.there (Some to);
+        not_white = marking.kept_not_white s.condemned k t;
+        stands = image_copied s m addresses k done t now to p words' kept' grey' st v copy marks;
+      }
+
+  at_copy : (to : Address) (words' : List ℕ) (kept' grey' : Word → Bool) (pool size : ℕ) → is_white s.condemned k t ≡ true → address ≡ now
+      → pool ≡ p.pool → size ≡ size_of p → Copying to words' kept' grey' address pool size
+  at_copy to words' kept' grey' pool size w ea ep ez =
+      subst (λ f. Copying to words' kept' grey' f pool size) (sym ea)
+      (subst (λ q. Copying to words' kept' grey' now q size) (sym ep)
+      (subst (λ z. Copying to words' kept' grey' now p.pool z) (sym ez) (copies_there to words' kept' grey' w)))
+
+  -- the pool that the code finds is the object's
+  pool_of_target : (pool : ℕ) → s.pool_over (word_of address) ≡ Some pool → pool ≡ p.pool
+  pool_of_target pool e =
+      same_Some pool p.pool (sym e ∙ targets.pool_at_target s m addresses k done shaped st t address now p x)
+
+  not_forwarded_there : (pool : ℕ) → pool ≡ p.pool → IsNotForwarded s m.words address pool
+      → (address ≡ now) × (is_white s.condemned k t ≡ is_white_over s.is_condemned_over m.kept (word_of address))
+  not_forwarded_there pool ep isnt =
+      targets.is_there s m addresses k done shaped st t address now p x (subst (λ q. IsNotForwarded s m.words address q) ep isnt)
+
+  -- what is to be kept is white, and is there
+  white_there : (pool : ℕ) → IsToKeep s m address pool → (address ≡ now) × (is_white s.condemned k t ≡ true)
+  white_there pool is =
+      let e = not_forwarded_there pool (pool_of_target pool is.over) is.not_forwarded in
+      (e.0, e.1 ∙ and_from (s.is_condemned_over (word_of address)) (not (m.kept (word_of address))) is.condemned (ap not is.not_kept))
+
+  -- whatever the code finds at an address that means a live object: the image stands, it answers where the object is then, and
+  -- the object isn't white
+  pub fix_at : (answer : Address) (m' : Memory) → FixAt s addresses m address answer m' → IsFixedAt s m' addresses k done t answer
+  fix_at answer m' (passes c) =
+      let e = targets.not_condemned s m addresses k done shaped st t address now p x c in at_there e.0 e.1
+  fix_at answer m' (forwards pool size over in_range head) =
+      let head' = subst (λ q. slice_index m.words (word_of address) ≡ (s.layout q).forwarded_head size) (pool_of_target pool over) head in
+      let e = targets.is_forwarded s m addresses k done shaped st t address now p x size in_range head' in
+      at_moved (slice_index m.words (word_of address + 1)) e.0 e.1
+  fix_at answer m' (is_kept pool over isnt is) =
+      let e = not_forwarded_there pool (pool_of_target pool over) isnt in
+      at_there e.0 (e.1 ∙ and_right (s.is_condemned_over (word_of address)) (not (m.kept (word_of address))) (ap not is))
+  fix_at answer m' (stays pool kept' grey' is keeps greys) = let e = white_there pool is in at_stay kept' grey' e.0 e.1 keeps greys
+  fix_at answer m' (copies pool to size words' kept' grey' is whole hand copy marks) =
+      let ep = pool_of_target pool is.over in
+      let e = white_there pool is in
+      let size_is : size ≡ size_of p =
+      whole ∙ ap (λ q. (s.layout q).size (slice_index m.words (word_of address))) ep
+      ∙ targets.size_at_target s m addresses k done shaped st t address now p x e.0
+      in
+      at_copy to words' kept' grey' pool size e.1 e.0 ep size_is is.condemned hand copy marks
+
+-- ---- a word is fixed
+
+-- an object that isn't white stays where it is
+pub holder_stays : (s : Setting) (addresses addresses' : List (Option Address)) (k k' : Colours) (t : Option Id) (holder i : ℕ) (o : Object)
+    (n : Word) → FixesOne s.condemned addresses k t addresses' k' → is_white s.condemned k holder ≡ false
+    → Lies s.objects addresses holder i o n → Lies s.objects addresses' holder i o n
+holder_stays s addresses addresses' k k' t holder i o n nothing w l = l
+holder_stays s addresses addresses' k k' t holder i o n (passed u w') w l = l
+holder_stays s addresses addresses' k k' t holder i o n (kept u w') w l = l
+holder_stays s addresses addresses' k k' t holder i o n (moved u from to w' e) w l = record {
+  at = l.at;
+  address =
+      entry_at-set_other addresses u holder (Some to) (λ same. false≢true (sym w ∙ ap (is_white s.condemned k) same ∙ w')) ∙ l.address;
+  object = l.object;
+  within = l.within;
+  is = l.is;
+}
+
+module _ (s : Setting) (m : Memory) (addresses : List (Option Address)) (k : Colours) (done : CellSet)
+    (shaped : AreShaped s.objects s.layout)
+    (all_read : (id : Id) → IsTrue (s.is_read id)) (st : ImageStands s m addresses k done) (holder i : ℕ) (o : Object) (n : Word) (tag : ℕ)
+    (lies : Lies s.objects addresses holder i o n) where
+  -- a null reference
+  pub fix_null : (address : Address) (m' : Memory) → slice_get (all_cells o.body) i ≡ Some (ReferenceCell None tag)
+      → (s.layout o.pool).target (slice_index m.words n) ≡ address → FixWord s addresses (s.layout o.pool) m n address m'
+      → IsFixedCell s m' addresses k done None holder i
+  fix_null address m' cell read (null e) = record {
+    addresses_after = addresses;
+    colours_after = k;
+    step = nothing;
+    stands =
+        targets.passed s addresses k done holder i o n (ReferenceCell None tag) lies cell m (record {
+          holds = st.words.cells holder i o n (ReferenceCell None tag) (all_read holder) lies cell;
+          not_white = λ u e'. absurd (none-some u e');
+        }) st;
+  }
+  fix_null address m' cell read (writes answer lt f) =
+      absurd (let e = references.found_null s m.words addresses shaped st.placed st.words all_read holder i o n tag lies cell in
+      omega (arith, lt, e, read))
+
+  module _ (t now : ℕ) (holder_kept : is_white s.condemned k holder ≡ false)
+      (cell : slice_get (all_cells o.body) i ≡ Some (ReferenceCell (Some t) tag)) (there : entry_at addresses t ≡ Some now) where
+    -- the word is written after what its address means was fixed
+    write_cell : (address answer : Address) (m₁ : Memory) → references.ReadsAddress (s.layout o.pool) (slice_index m.words n) address tag
+        → IsFixedAt s m₁ addresses k done t answer
+        → IsFixedCell s (record m₁ { words = slice_set m₁.words n ((s.layout o.pool).retarget (slice_index m.words n) answer) }) addresses k
+        done (Some t) holder i
+    write_cell address answer m₁ r f =
+        let new = (s.layout o.pool).retarget (slice_index m.words n) answer in
+        record {
+          addresses_after = f.addresses_after;
+          colours_after = f.colours_after;
+          step = f.step;
+          stands =
+              cell_written s s.objects m₁ f.addresses_after f.colours_after done holder i o n (ReferenceCell (Some t) tag) new
+              (no_cell_changed s.objects holder i o (ReferenceCell (Some t) tag) lies.object cell) f.stands
+              (holder_stays s addresses f.addresses_after k f.colours_after (Some t) holder i o n f.step holder_kept lies) (record {
+                holds = record {
+                  address = answer;
+                  is = r.retarget answer (f.stands.placed.address t answer f.there);
+                  means = inl f.there;
+                };
+                not_white = λ u e. subst (λ y. is_white s.condemned f.colours_after y ≡ false) (same_Some t u e) f.not_white;
+              });
+        }
+
+    fix_object : (address : Address) (p : Object) (m' : Memory) → Target s addresses t address now p
+        → references.ReadsAddress (s.layout o.pool) (slice_index m.words n) address tag → 0 < address
+        → FixWord s addresses (s.layout o.pool) m n address m' → IsFixedCell s m' addresses k done (Some t) holder i
+    fix_object address p m' x r lt (null e) = absurd (omega (arith, e, lt))
+    fix_object address p m' x r lt (writes {m' = m₁} answer lt' f) =
+        write_cell address answer m₁ r (fix_at s m addresses k done shaped st t address now p x answer m₁ f)
+
+    -- what the code does with a reference of an object that isn't white, and whose target is live, keeps the image
+    pub fix_keeps : (address : Address) (m' : Memory) → (s.layout o.pool).target (slice_index m.words n) ≡ address
+        → FixWord s addresses (s.layout o.pool) m n address m' → IsFixedCell s m' addresses k done (Some t) holder i
+    fix_keeps address m' read f =
+        let found = references.found s m.words addresses shaped st.placed st.words all_read holder i o n tag lies t now cell there in
+        let e : found.address ≡ address = sym found.read.target ∙ read in
+        fix_object address found.object m' (subst (λ y. Target s addresses t y now found.object) e found.target)
+        (subst (λ y. references.ReadsAddress (s.layout o.pool) (slice_index m.words n) y tag) e found.read)
+        (subst (λ y. 0 < y) e found.not_null) f
+
+-- a word is fixed, whatever it refers to
+pub fix_word : (s : Setting) (m : Memory) (addresses : List (Option Address)) (k : Colours) (done : CellSet) (holder i tag : ℕ) (o : Object)
+    (n : Word) (t : Option Id) → AreShaped s.objects s.layout → ((id : Id) → IsTrue (s.is_read id)) → ImageStands s m addresses k done
+    → Lies s.objects addresses holder i o n → is_white s.condemned k holder ≡ false
+    → slice_get (all_cells o.body) i ≡ Some (ReferenceCell t tag)
+    → ((u : Id) → t ≡ Some u → (now : Address) × (entry_at addresses u ≡ Some now)) → (address : Address) (m' : Memory)
+    → (s.layout o.pool).target (slice_index m.words n) ≡ address → FixWord s addresses (s.layout o.pool) m n address m'
+    → IsFixedCell s m' addresses k done t holder i
+fix_word s m addresses k done holder i tag o n None shaped all_read st lies not_white cell live address m' read f =
+    fix_null s m addresses k done shaped all_read st holder i o n tag lies address m' cell read f
+fix_word s m addresses k done holder i tag o n (Some t) shaped all_read st lies not_white cell live address m' read f =
+    let there = live t refl in
+    fix_keeps s m addresses k done shaped all_read st holder i o n tag lies t there.0 not_white cell there.1 address m' read f

@@ -1,0 +1,8 @@
+-- The units of a collection: those of the abstract collector.
+pub mod Counting
+pub mod Entering
+pub mod RoomLeft
+pub mod Reclaiming
+pub mod Rows
+pub mod Scanning
+pub mod Ready

@@ -1,0 +1,99 @@
+-- The last band begins where nothing is grey in words.
+use Rattle.std.proofs.Common.{◌≡◌, ◌∙◌, ℕ, ◌≤◌, Bool, true, false, refl, sym, subst, List, [], ◌∷◌, Contains, inl, inr, arith}
+use Rattle.std.proofs.lemmas.Bool.{cases_Bool, true≢false}
+use Rattle.std.specs.Prelude.{◌||◌, ◌+◌, ◌*◌, map}
+use Rattle.std.specs.List.{AllByRecursion}
+use Rattle.mps_base.specs.Address.{Address, word_of, max_grains, grain_of, address_of_grain, words_of_grain}
+use Rattle.mps_base.specs.Run.{Run, IsAscending, end_of}
+use Rattle.mps_base.specs.Segment.{Segment, end_of_segment, grains_of_segment}
+use Rattle.mps_base.proofs.Runs.{IsAscending-bounds}
+use Rattle.mps_bits.specs.Table.{bit}
+use Rattle.mps_model.specs.Accessing.{address_or_null}
+use Rattle.mps_abstract.specs.Colours.{AreAllScanned, is_grey}
+use Rattle.mps_abstract.specs.Collecting.{Collecting, Running}
+use Rattle.mps_abstract.proofs.Addresses.{address_of-live}
+use Rattle.mps_trace_laws.specs.Image.Memory.{pool_layout}
+use Rattle.mps_trace_laws.specs.Image.SegmentWords.{AreSegmentsInOrder}
+use Rattle.mps_seg.specs.Segs.{SegsState}
+use Rattle.mps_trace.specs.Scan.{IsDrained}
+use Rattle.mps_trace.specs.Trace.{Traced}
+use Rattle.mps_trace_laws.specs.Fix.Tracing.{AreHeld}
+use Rattle.mps_trace_laws.proofs.Reclaim.SegmentBounds.{segment_cases, contains_no_segment}
+use Rattle.mps_trace_laws.proofs.Reclaim.LastBand.{the_last_band_begins}
+use Rattle.mps_trace_laws.specs.Units.Standing.{StandsTracing, StandsReclaiming, tracing, reclaiming, AreInArena}
+use Rattle.mps_trace_laws.specs.Units.Laws.{TheLastBandIsEntered}
+use Rattle.mps_format.specs.declared.pool.Policy.{Policy}
+
+-- ---- segments
+
+aligned_so : (ss : List Segment) → AllByRecursion (λ (t : Segment). address_of_grain (grain_of t.base) ≡ t.base) ss
+    → AllByRecursion (λ (t : Segment). t.base ≡ address_of_grain (grain_of t.base)) ss
+aligned_so [] all = tt
+aligned_so (t ∷ ss) all = (sym all.0, aligned_so ss all.1)
+
+ascending_below : (low high high' : ℕ) (rs : List Run) → high ≤ high' → IsAscending low high rs → IsAscending low high' rs
+ascending_below low high high' [] up asc = omega (arith, up, asc)
+ascending_below low high high' (r ∷ rs) up asc = (asc.0, asc.1, ascending_below (end_of r) high high' rs up asc.2)
+
+pub held_in_order : (s : SegsState) → AreHeld s → AreSegmentsInOrder s.segments
+held_in_order s held = record {
+  aligned = aligned_so s.segments held.aligned;
+  ascending =
+      ascending_below 1 (s.grains + 1) (max_grains + 1) (map grains_of_segment s.segments)
+      (let small = held.small in omega (arith, small)) held.ascending;
+}
+
+ends_below : (low high : ℕ) (ss : List Segment) (t : Segment)
+    → AllByRecursion (λ (u : Segment). address_of_grain (grain_of u.base) ≡ u.base) ss
+    → IsAscending low high (map grains_of_segment ss) → Contains ss t → word_of (end_of_segment t) ≤ words_of_grain * high
+ends_below low high [] t aligned asc there = absurd (contains_no_segment t there)
+ends_below low high (s ∷ ss) t aligned asc there =
+    let bound = IsAscending-bounds (end_of (grains_of_segment s)) high (map grains_of_segment ss) asc.2 in
+    let base = aligned.0 in
+    elim (segment_cases ss t s there) [
+      | inl same ↦ subst (λ (x : Segment). word_of (end_of_segment x) ≤ words_of_grain * high) same (omega (arith, bound, base))
+      | inr later ↦ ends_below (end_of (grains_of_segment s)) high ss t aligned.1 asc.2 later
+    ]
+
+pub held_inside : (s : SegsState) → AreHeld s → AreInArena s
+held_inside s held t there = ends_below 1 (s.grains + 1) s.segments t held.aligned held.ascending there
+
+-- ---- nothing is grey
+
+either_is : (a b : Bool) → a ≡ false → b ≡ false → (a || b) ≡ false
+either_is false false first second = refl
+either_is true b first second = absurd (true≢false first)
+either_is false true first second = absurd (true≢false second)
+
+module _ {F : Type 0} (layout : F → Rattle.mps_format.specs.Layout.Layout) (formats : List (Rattle.std.specs.Prelude.Option (Policy F)))
+    (of : Rattle.mps_gen.specs.State.ChainsState) (at_flip : List (Rattle.std.specs.Prelude.Option Address)) (x : Traced)
+    (y : Collecting) (run : Running y) (st : StandsTracing layout formats of at_flip x y) (drained : IsDrained x.segs) where
+  none_grey : AreAllScanned y.colours
+  none_grey id =
+      elim (cases_Bool (is_grey y.colours id)) [
+        | inr black ↦ black
+        | inl grey ↦
+            let at = address_or_null y.world id in
+            st.traces.state.image.marks.grey_there id at (address_of-live y.world id (run.grey.grey_live id grey))
+            ∙ either_is (bit x.segs.marks.exact (word_of at)) (bit x.segs.marks.weak (word_of at)) (drained (word_of at))
+            (st.strong (word_of at))
+      ]
+
+  pub entered : StandsReclaiming x y
+  entered = record {
+    segments = st.traces.state.segments;
+    frees =
+        the_last_band_begins x.segs y.world y.running y.colours (pool_layout y.world) at_flip none_grey st.traces.state.image
+        (held_in_order x.segs st.traces.state.held) st.housed (sym st.traces.state.segments.same_segments)
+        st.traces.state.condemned.is_bit;
+    scanned = none_grey;
+    inside = held_inside x.segs st.traces.state.held;
+    room = st.traces.room;
+  }
+
+pub the_last_band_is_entered : {F : Type 0} → TheLastBandIsEntered F
+the_last_band_is_entered layout formats of at_flip x run y stands drained =
+    elim stands.band [
+      | tracing st ↦ entered layout formats of at_flip x y stands.running st drained
+      | reclaiming st ↦ st
+    ]

@@ -1,0 +1,267 @@
+-- A reclaim is a unit of the abstract collector, and the state stands for it then.
+use Rattle.std.proofs.Common.{◌≡◌, ◌∙◌, suc, ◌+◌, ◌*◌, ◌≤◌, true, false, not, refl, sym, ap, subst, List, [], ◌∷◌, ◌++◌, Option, Contains, inl, inr, arith}
+use Rattle.std.proofs.lemmas.Bool.{cases_Bool, true≢false}
+use Rattle.std.proofs.lemmas.Option.{same_Some}
+use Rattle.std.specs.Prelude.{◌==◌}
+use Rattle.mps_base.specs.Address.{Address, grain_of, word_of, words_of_grain}
+use Rattle.mps_base.specs.Segment.{Segment, end_of_segment}
+use Rattle.mps_base.specs.declared.address.Addr.{Addr}
+use Rattle.mps_bits.specs.Table.{bit}
+use Rattle.mps_format.specs.Layout.{Layout}
+use Rattle.mps_gen.specs.State.{ChainsState}
+use Rattle.mps_seg.specs.Segs.{SegsState}
+use Rattle.mps_amc.specs.Reclaiming.{lost_of, IsReclaimed, is_given, is_padded}
+use Rattle.mps_amc.proofs.Lost.{segments_after}
+use Rattle.mps_model.specs.Collection.{Collection}
+use Rattle.mps_model.specs.Effect.{world_after_moves}
+use Rattle.mps_model.specs.Flip.{end_where}
+use Rattle.mps_model.specs.Units.{is_last_condemned}
+use Rattle.mps_model.specs.World.{World}
+use Rattle.mps_abstract.specs.Collecting.{Reclaim, Collecting}
+use Rattle.mps_abstract.specs.Units.{IsReclaimedNext, reclaim_by, reclaimed}
+use Rattle.mps_abstract.proofs.Reclaimed.{final_world, final_collection}
+use Rattle.mps_abstract.proofs.Reclaiming.{goes_on_leads, last_leads, reclaims_shown}
+use Rattle.mps_trace_laws.specs.Image.Memory.{pool_layout}
+use Rattle.mps_trace.specs.Condemned.{IsNextCondemned, NoneLeft}
+use Rattle.mps_trace.specs.Trace.{Traced}
+use Rattle.mps_trace.specs.Unit.{ReclaimsNext, reclaimed_at}
+use Rattle.mps_trace.specs.declared.running.Running.{Running as RunningState}
+use Rattle.mps_trace_laws.proofs.Reclaim.Next.{next_reclaimed}
+use Rattle.mps_trace_laws.proofs.Reclaim.HeldSegments.{was_held, over_base}
+use Rattle.mps_trace_laws.proofs.Reclaim.LastBand.{known}
+use Rattle.mps_trace_laws.proofs.Reclaim.Reclaimed.{condemned_after}
+use Rattle.mps_trace_laws.proofs.Reclaim.Unit.{a_reclaim_is_a_unit, the_moves_are_the_models, the_last_reclaim_ends}
+use Rattle.mps_trace_laws.specs.Reclaim.Freed.{addresses_of}
+use Rattle.mps_trace_laws.specs.Reclaim.Left.{IsUnreserved}
+use Rattle.mps_trace_laws.specs.Reclaim.Units.{FreesFor, GoesOnSo}
+use Rattle.mps_trace_laws.specs.Units.Standing.{StandsReclaiming, UnitStands, IsMoving, reclaiming}
+use Rattle.mps_trace_laws.specs.Units.Laws.{HasSegmentsOf, IsTracedUnitDone, AReclaimIsDone, TheLastUnitIsDone}
+use Rattle.mps_trace_laws.specs.Fix.Tracing.{moves_left}
+use Rattle.mps_trace_laws.proofs.Units.Entering.{the_last_band_is_entered}
+use Rattle.mps_trace_laws.proofs.Units.RoomLeft.{moves_left_after, spare_after}
+use Rattle.mps_format.specs.declared.pool.Policy.{Policy}
+
+-- ---- what a reclaim leaves of segments
+
+-- each segment was held before, and the condemned ones and the arena are the same
+pub record AreAmong (g g' : SegsState) : Type 0 where
+  pub was : (u : Segment) → Contains g'.segments u → Contains g.segments u
+  pub condemned : g'.condemned ≡ g.condemned
+  pub grains : g'.grains ≡ g.grains
+  pub limit : g'.limit ≡ g.limit
+
+limit_after : (rs : List Rattle.mps_base.specs.Run.Run) (g : SegsState)
+    → (Rattle.mps_amc.specs.Reclaiming.without_blocks rs g).limit ≡ g.limit
+limit_after [] g = refl
+limit_after (r ∷ rs) g = limit_after rs (Rattle.mps_amc.specs.Reclaiming.without_block r g)
+
+grains_after : (rs : List Rattle.mps_base.specs.Run.Run) (g : SegsState)
+    → (Rattle.mps_amc.specs.Reclaiming.without_blocks rs g).grains ≡ g.grains
+grains_after [] g = refl
+grains_after (r ∷ rs) g = grains_after rs (Rattle.mps_amc.specs.Reclaiming.without_block r g)
+
+pub are_among : (fm : Layout) (g : SegsState) (moves : Rattle.mps_base.specs.Trail.Moves) (base : Addr) (g' : SegsState)
+    (moves' : Rattle.mps_base.specs.Trail.Moves) → IsReclaimed fm g moves base g' moves' → AreAmong g g'
+are_among fm g moves base g' moves' (is_given t found empty state trail) = record {
+  was = λ u held.
+      (was_held (λ s. not (s.base == base.0)) g.segments u
+      (subst (λ ss. Contains ss u) (ap (λ (y : SegsState). y.segments) state) held)).0;
+  condemned = ap (λ (y : SegsState). y.condemned) state ∙ condemned_after (lost_of g t) g;
+  grains = ap (λ (y : SegsState). y.grains) state ∙ grains_after (lost_of g t) g;
+  limit = ap (λ (y : SegsState). y.limit) state ∙ limit_after (lost_of g t) g;
+}
+are_among fm g moves base g' moves' (is_padded t found used state padded trail) = record {
+  was = λ u held.
+      subst (λ ss. Contains ss u) (ap (λ (y : SegsState). y.segments) state ∙ segments_after (lost_of g t) g) held;
+  condemned = ap (λ (y : SegsState). y.condemned) state ∙ condemned_after (lost_of g t) g;
+  grains = ap (λ (y : SegsState). y.grains) state ∙ grains_after (lost_of g t) g;
+  limit = ap (λ (y : SegsState). y.limit) state ∙ limit_after (lost_of g t) g;
+}
+
+-- ---- a reclaim
+
+module _ {F : Type 0} (layout : F → Layout) (formats : List (Option (Policy F))) (of : ChainsState) (at_flip : List (Option Address))
+    (x z : Traced) (run : RunningState) (y : Collecting) (base : Addr) (stands : UnitStands layout formats of at_flip x run y)
+    (next : ReclaimsNext layout formats x run base z) where
+  pub last_band : StandsReclaiming x y
+  last_band = the_last_band_is_entered layout formats of at_flip x run y stands next.drained
+
+  pub lowest : IsNextCondemned x.segs y.cursor base.0
+  lowest = subst (λ from. IsNextCondemned x.segs from base.0) stands.cursor next.lowest
+
+  abbrev t : Segment
+  t = lowest.segment
+
+  abbrev freed : List Address
+  freed = addresses_of (lost_of x.segs t)
+
+  pub is_next : IsReclaimedNext y t freed
+  is_next = next_reclaimed y x.segs (pool_layout y.world) base.0 stands.running last_band.scanned stands.examined last_band.frees lowest
+
+  unreserved : IsUnreserved y.world.graph.points y.world.point_memories t
+  unreserved = stands.unreserved t lowest.listed lowest.condemned
+
+  abbrev fm : Layout
+  fm = layout next.reclaimed.format.format
+
+  pub trail_is : z.moves.moves ++ end_where (is_last_condemned y.running t.base) ≡ x.moves.moves ++ reclaim_by y t.base freed
+  trail_is =
+      the_moves_are_the_models fm y x.segs (pool_layout y.world) base x.moves z.segs z.moves stands.running last_band.scanned
+      stands.examined last_band.frees lowest next.reclaimed.reclaimed
+
+  -- ---- whether it is the last one
+
+  pub not_last : (left : Addr) → IsNextCondemned x.segs (base.0 + 1) left.0 → is_last_condemned y.running t.base ≡ false
+  not_last left other =
+      elim (cases_Bool (is_last_condemned y.running t.base)) [
+        | inr is ↦ is
+        | inl last ↦
+            let begins = lowest.begins in
+            let above = other.above in
+            let at = other.begins in
+            let none = (known y x.segs (pool_layout y.world) stands.running last_band.frees t x.segs refl (inl refl)).0 last in
+            absurd (true≢false (sym other.condemned ∙ none other.segment other.listed (omega (arith, begins, above, at))))
+      ]
+
+  pub is_last : NoneLeft x.segs (base.0 + 1) → is_last_condemned y.running t.base ≡ true
+  is_last none =
+      (known y x.segs (pool_layout y.world) stands.running last_band.frees t x.segs refl (inl refl)).1
+      (λ u held above. none u held (let begins = lowest.begins in omega (arith, begins, above)))
+
+  -- the last one leaves the size of the arena and its limit
+  pub last_size : is_last_condemned y.running t.base ≡ true
+      → ((world_after_moves y.world (reclaim_by y t.base freed)).grains ≡ y.world.grains)
+      × ((world_after_moves y.world (reclaim_by y t.base freed)).limit ≡ y.world.limit)
+  last_size last =
+      let leads = last_leads y stands.running t freed is_next last in
+      (ap (λ (w : World). w.grains) leads, ap (λ (w : World). w.limit) leads)
+
+  -- ---- it goes on
+
+  module _ (more : is_last_condemned y.running t.base ≡ false) where
+    on : GoesOnSo y t freed (pool_layout y.world) z.segs
+    on =
+        (a_reclaim_is_a_unit fm y x.segs (pool_layout y.world) base x.moves z.segs z.moves stands.running last_band.scanned
+        stands.examined last_band.frees lowest unreserved next.reclaimed.reclaimed).goes_on more
+
+    leads : world_after_moves y.world (reclaim_by y t.base freed) ≡ final_world y stands.running t freed is_next
+    leads = goes_on_leads y stands.running t freed is_next more
+
+    collection_is : on.collection ≡ final_collection y stands.running t freed is_next
+    collection_is =
+        same_Some on.collection (final_collection y stands.running t freed is_next)
+        (sym on.runs ∙ ap (λ (w : World). w.collection) leads)
+
+    among : AreAmong x.segs z.segs
+    among = are_among fm x.segs x.moves base z.segs z.moves next.reclaimed.reclaimed
+
+    moving_on : IsMoving layout formats of (final_world y stands.running t freed is_next)
+    moving_on = record {
+      shaped = stands.moving.shaped;
+      pools = stands.moving.pools;
+      strong = stands.moving.strong;
+    }
+
+    room_on : moves_left (reclaimed y t.base freed on.collection) + 2 ≤ z.moves.spare
+    room_on =
+        let left = moves_left_after y stands.running t (lost_of x.segs t) is_next in
+        let same =
+        ap (λ (w : World). moves_left (record y { world = w; running = on.collection; band = Reclaim; cursor = suc t.base })) leads
+        ∙ ap (λ (c : Collection). moves_left (record y {
+          world = final_world y stands.running t freed is_next;
+          running = c;
+          band = Reclaim;
+          cursor = suc t.base;
+        })) collection_is
+        in
+        let taken =
+        spare_after fm x.segs x.moves base z.segs z.moves t
+        (over_base x.segs.segments last_band.frees.stands.order t lowest.listed) lowest.begins next.reclaimed.reclaimed
+        in
+        let before = last_band.room in
+        omega (arith, left, same, taken, before)
+
+    reclaiming_on : StandsReclaiming z (reclaimed y t.base freed on.collection)
+    reclaiming_on = record {
+      segments = subst (HasSegmentsOf z.segs) (sym leads) (record {
+        same_grains = among.grains ∙ last_band.segments.same_grains;
+        same_limit = among.limit ∙ last_band.segments.same_limit;
+        same_segments = sym on.frees.segments ∙ ap (λ (w : World). w.segments) leads;
+      });
+      frees =
+          subst (λ (w : World). FreesFor z.segs (world_after_moves y.world (reclaim_by y t.base freed)) on.collection y.colours
+          (pool_layout w))
+          (sym leads) on.frees;
+      scanned = last_band.scanned;
+      inside = λ u held.
+          subst (λ n. word_of (end_of_segment u) ≤ words_of_grain * (n + 1)) (sym among.grains) (last_band.inside u (among.was u held));
+      room = room_on;
+    }
+
+    stands_on : UnitStands layout formats of at_flip z (reclaimed_at base run) (reclaimed y t.base freed on.collection)
+    stands_on = record {
+      running = (reclaims_shown y stands.running t freed is_next on.collection more on.runs).running;
+      examined = stands.examined ∙ sym (ap (λ (c : Collection). c.registered_before) collection_is);
+      cursor = let begins = lowest.begins in omega (arith, begins);
+      moving = subst (IsMoving layout formats of) (sym leads) moving_on;
+      unreserved = λ u held condemned.
+          subst (λ (w : World). IsUnreserved w.graph.points w.point_memories u) (sym leads)
+          (stands.unreserved u (among.was u held) (sym (ap (λ bs. bit bs (grain_of u.base)) among.condemned) ∙ condemned));
+      band = reclaiming reclaiming_on;
+    }
+
+    pub done : IsTracedUnitDone layout formats of at_flip x y z (reclaimed_at base run)
+    done = record {
+      moves = reclaim_by y t.base freed;
+      after = reclaimed y t.base freed on.collection;
+      unit = on.unit;
+      stands = stands_on;
+      trail =
+          sym (Rattle.std.proofs.lemmas.List.append-nil z.moves.moves)
+          ∙ ap (λ b. z.moves.moves ++ end_where b) (sym more) ∙ trail_is;
+    }
+
+pub a_reclaim_is_done : {F : Type 0} → AReclaimIsDone F
+a_reclaim_is_done layout formats of at_flip x z run y base left stands next other =
+    done layout formats of at_flip x z run y base stands next (not_last layout formats of at_flip x z run y base stands next left other)
+
+-- ---- the last one
+
+pub the_last_unit_is_done : {F : Type 0} → TheLastUnitIsDone F
+the_last_unit_is_done layout formats of at_flip x z run y stands unit =
+    let next = unit.reclaimed in
+    let band = last_band layout formats of at_flip x unit.before run y unit.base stands next in
+    let low = lowest layout formats of at_flip x unit.before run y unit.base stands next in
+    let last = is_last layout formats of at_flip x unit.before run y unit.base stands next unit.last in
+    let there = stands.unreserved low.segment low.listed low.condemned in
+    let fm = layout next.reclaimed.format.format in
+    let freed = addresses_of (lost_of x.segs low.segment) in
+    let shown =
+    a_reclaim_is_a_unit fm y x.segs (pool_layout y.world) unit.base x.moves unit.before.segs unit.before.moves stands.running band.scanned
+    stands.examined band.frees low there next.reclaimed.reclaimed
+    in
+    let among = are_among fm x.segs x.moves unit.base unit.before.segs unit.before.moves next.reclaimed.reclaimed in
+    let sizes = last_size layout formats of at_flip x unit.before run y unit.base stands next last in
+    let end =
+    the_last_reclaim_ends fm y x.segs unit.base x.moves unit.before.segs unit.before.moves stands.running band.scanned stands.examined
+    band.frees low there next.reclaimed.reclaimed last
+    in
+    record {
+      moves = reclaim_by y low.segment.base freed;
+      last = shown.ends last;
+      ended = end.ended;
+      stands =
+          subst (λ (v : Traced). Rattle.mps_trace_laws.specs.Image.AtRest.StandsAtRest v.segs
+          (world_after_moves y.world (reclaim_by y low.segment.base freed))) (sym unit.over) end.stands;
+      segments =
+          subst (λ (v : Traced). HasSegmentsOf v.segs (world_after_moves y.world (reclaim_by y low.segment.base freed))) (sym unit.over)
+          (record {
+            same_grains = among.grains ∙ (band.segments.same_grains ∙ sym sizes.0);
+            same_limit = among.limit ∙ (band.segments.same_limit ∙ sym sizes.1);
+            same_segments = sym end.segments;
+          });
+      trail =
+          ap (λ (v : Traced). v.moves.moves) unit.over
+          ∙ ap (λ b. unit.before.moves.moves ++ end_where b) (sym last)
+          ∙ trail_is layout formats of at_flip x unit.before run y unit.base stands next;
+    }

@@ -1,0 +1,86 @@
+-- Rows of units, in words, are rows of units of the abstract collector.
+use Rattle.std.proofs.Common.{◌≡◌, ◌∙◌, ℕ, ◌+◌, sym, ap, subst, List, [], ◌++◌, Option, arith}
+use Rattle.std.proofs.lemmas.List.{append_assoc, append-nil}
+use Rattle.mps_base.specs.Address.{Address}
+use Rattle.mps_format.specs.Layout.{Layout}
+use Rattle.mps_gen.specs.State.{ChainsState}
+use Rattle.mps_trace_laws.specs.Image.AtRest.{StandsAtRest}
+use Rattle.mps_model.proofs.Cutting.{world_after_moves-append}
+use Rattle.mps_model.specs.Effect.{world_after_moves}
+use Rattle.mps_model.specs.World.{World}
+use Rattle.mps_abstract.specs.Collecting.{Collecting}
+use Rattle.mps_abstract.specs.Units.{GoesOn, begun, by_one_more, by_last}
+use Rattle.mps_abstract.proofs.Rows.{units_done}
+use Rattle.mps_trace.specs.Trace.{Traced}
+use Rattle.mps_trace.specs.Unit.{UnitTo, scans, reclaims, UnitsTo, begins, goes_on}
+use Rattle.mps_trace.specs.declared.running.Running.{Running as RunningState}
+use Rattle.mps_trace_laws.specs.Units.Standing.{UnitStands}
+use Rattle.mps_trace_laws.specs.Units.Laws.{HasSegmentsOf, AreScansDone, IsTracedUnitDone, AreTracedUnitsDone, UnitsAreDone, TheEndIsDone, TracedUnitsRunOut}
+use Rattle.mps_trace_laws.proofs.Units.Reclaiming.{a_reclaim_is_done, the_last_unit_is_done}
+use Rattle.mps_format.specs.declared.pool.Policy.{Policy}
+
+module _ {F : Type 0} (layout : F → Layout) (formats : List (Option (Policy F))) (of : ChainsState) (at_flip : List (Option Address))
+    (scanning : AreScansDone layout formats of at_flip) where
+  -- one unit
+  pub unit_done : (x z : Traced) (run run' : RunningState) (y : Collecting) → UnitStands layout formats of at_flip x run y
+      → UnitTo layout formats of x run z run' → IsTracedUnitDone layout formats of at_flip x y z run'
+  unit_done x z run _ y stands (scans one) = scanning x z run y stands one
+  unit_done x z run run' y stands (reclaims base left next other is) =
+      subst (λ r. IsTracedUnitDone layout formats of at_flip x y z r) (sym is)
+      (a_reclaim_is_done layout formats of at_flip x z run y base left stands next other)
+
+  one_more : (x v z : Traced) (run' run'' : RunningState) (y : Collecting) (count : ℕ)
+      → (before : AreTracedUnitsDone layout formats of at_flip x y count v run')
+      → IsTracedUnitDone layout formats of at_flip v before.after z run''
+      → AreTracedUnitsDone layout formats of at_flip x y (count + 1) z run''
+  one_more x v z run' run'' y count before unit = record {
+    moves = before.moves ++ unit.moves;
+    after = unit.after;
+    units =
+        subst (λ n. GoesOn y n (before.moves ++ unit.moves) unit.after) (omega arith) (by_one_more before.units unit.unit);
+    stands = unit.stands;
+    trail = unit.trail ∙ ap (λ ms. ms ++ unit.moves) before.trail ∙ append_assoc x.moves.moves before.moves unit.moves;
+  }
+
+  pub row_done : (x : Traced) (run : RunningState) (y : Collecting) → UnitStands layout formats of at_flip x run y
+      → (z : Traced) (run' : RunningState) (count : ℕ) → UnitsTo layout formats of x run count z run'
+      → AreTracedUnitsDone layout formats of at_flip x y count z run'
+  row_done x run y stands _ _ _ begins = record {
+    moves = [];
+    after = y;
+    units = begun;
+    stands = stands;
+    trail = sym (append-nil x.moves.moves);
+  }
+  row_done x run y stands z run'' _ (goes_on {y = v} {run' = run'} count units unit) =
+      let before = row_done x run y stands v run' count units in
+      one_more x v z run' run'' y count before (unit_done v z run' run'' before.after before.stands unit)
+
+pub units_are_done : {F : Type 0} → UnitsAreDone F
+units_are_done layout formats of at_flip x z run run' y count scanning stands units =
+    row_done layout formats of at_flip scanning x run y stands z run' count units
+
+pub the_end_is_done : {F : Type 0} → TheEndIsDone F
+the_end_is_done layout formats of at_flip x z run y most scanning stands ends =
+    let before = row_done layout formats of at_flip scanning x run y stands ends.before ends.run_before ends.count ends.units in
+    let last = the_last_unit_is_done layout formats of at_flip ends.before z ends.run_before before.after before.stands ends.last in
+    let leads = (units_done y before.after ends.count before.moves stands.running before.units).leads in
+    let whole : world_after_moves y.world (before.moves ++ last.moves) ≡ world_after_moves before.after.world last.moves =
+    world_after_moves-append y.world before.moves last.moves ∙ ap (λ w. world_after_moves w last.moves) leads
+    in
+    record {
+      moves = before.moves ++ last.moves;
+      units = by_last before.units last.last;
+      ended = ap (λ (w : World). w.collection) whole ∙ last.ended;
+      stands = subst (StandsAtRest z.segs) (sym whole) last.stands;
+      segments = subst (HasSegmentsOf z.segs) (sym whole) last.segments;
+      trail = last.trail ∙ ap (λ ms. ms ++ last.moves) before.trail ∙ append_assoc x.moves.moves before.moves last.moves;
+    }
+
+pub units_run_out : {F : Type 0} → TracedUnitsRunOut F
+units_run_out layout formats of at_flip x z run run' y count scanning stands units =
+    let row = row_done layout formats of at_flip scanning x run y stands z run' count units in
+    let shown = units_done y row.after count row.moves stands.running row.units in
+    let some = shown.some_left in
+    let fewer = shown.fewer in
+    omega (arith, some, fewer)

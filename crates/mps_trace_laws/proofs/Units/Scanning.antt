@@ -1,0 +1,267 @@
+-- A scan of a grey block is a unit of the abstract collector, and each grey block can be scanned.
+use Rattle.std.proofs.Common.{◌≡◌, ◌∙◌, ℕ, true, false, refl, sym, ap, subst, List, [], Option, Some, arith}
+use Rattle.std.proofs.lemmas.Bool.{false≢true, or_right}
+use Rattle.std.specs.Prelude.{◌==◌, Contains, ◌||◌, map, slice_get}
+use Rattle.std.specs.Option.{option_map_or}
+use Rattle.mps_base.specs.Address.{Address, Id, Word, address_of_word}
+use Rattle.mps_base.specs.declared.moves.Move.{Move}
+use Rattle.mps_bits.specs.Table.{bit}
+use Rattle.mps_format.specs.Layout.{Layout}
+use Rattle.mps_gen.specs.State.{ChainsState}
+use Rattle.mps_seg.specs.Segs.{at_word}
+use Rattle.mps_model.specs.Accessing.{address_or_null}
+use Rattle.mps_model.specs.Graph.{Cell, ReferenceCell, Body, Automatic, Manual, Object, contains, entry_at, targets, targets_of, targets_of_body, targets_of_cells, target_of_cell, is_automatic, is_automatic_body}
+use Rattle.mps_abstract.specs.Colours.{is_grey}
+use Rattle.mps_abstract.specs.Collecting.{Collecting, Running, is_tracing_band}
+use Rattle.mps_abstract.specs.Fixing.{Fixes, fixes_no_more, passes, keeps}
+use Rattle.mps_abstract.specs.Units.{scans, scanned}
+use Rattle.mps_abstract.proofs.Addresses.{address_of-live}
+use Rattle.mps_abstract.proofs.Kept.{held_in, keeps_leaves}
+use Rattle.mps_abstract.proofs.Lists.{contains_here, contains_later}
+use Rattle.mps_abstract.proofs.Scanning.{MayBeFixed, kept_rightly}
+use Rattle.mps_abstract.proofs.UnitScans.{scans_shown, targets_may_be_fixed}
+use Rattle.mps_abstract.proofs.WholeCollections.WholePaths.{fixed_same}
+use Rattle.mps_abstract.proofs.Calls.ClientLists.{among_entries, map-slice_get}
+use Rattle.mps_trace_laws.specs.Image.Image.{black_cells}
+use Rattle.mps_trace_laws.specs.Image.Memory.{all_cells}
+use Rattle.mps_trace.specs.Scan.{ScansOne}
+use Rattle.mps_trace.specs.Trace.{Traced, traced}
+use Rattle.mps_trace.specs.declared.running.Running.{Running as RunningState}
+use Rattle.mps_trace_laws.specs.Fix.Housed.{AreHoused, AreLive, IsStrong}
+use Rattle.mps_trace_laws.specs.Fix.Scanning.{IsToBeScanned, IsScan}
+use Rattle.mps_trace_laws.proofs.Fix.CanScan.{object_can_be_scanned}
+use Rattle.mps_trace_laws.proofs.Fix.Housed.{fixes_keep_housed}
+use Rattle.mps_trace_laws.proofs.Fix.Ranks.{scan_keeps_ranks}
+use Rattle.mps_trace_laws.proofs.Fix.Scanned.{scan_is_a_scan}
+use Rattle.mps_base.specs.Segment.{Segment}
+use Rattle.mps_model.specs.Collection.{Collection}
+use Rattle.mps_model.specs.World.{World}
+use Rattle.mps_trace_laws.specs.Reclaim.Left.{IsUnreserved}
+use Rattle.mps_trace_laws.proofs.Reclaim.HeldSegments.{found_at, found_held, same_base}
+use Rattle.mps_trace_laws.proofs.Units.Entering.{held_in_order}
+use Rattle.mps_trace_laws.specs.Units.Standing.{AreCondemnedUnreserved, StandsTracing, UnitStands, IsMoving, tracing, reclaiming}
+use Rattle.mps_trace_laws.specs.Units.Laws.{ScansAreDone, ScansAreReady, IsTracedUnitDone}
+use Rattle.mps_format.specs.declared.pool.Policy.{Policy}
+
+-- ---- what fixes leave of a world
+
+pub record IsStill {F : Type 0} (layout : F → Layout) (formats : List (Option (Policy F))) (of : ChainsState) (x y : Collecting) : Type 0 where
+  pub moving : IsMoving layout formats of x.world → IsMoving layout formats of y.world
+  pub cursor : y.cursor ≡ x.cursor
+  pub next : y.next ≡ x.next
+  pub band : y.band ≡ x.band
+  pub graph : y.world.graph ≡ x.world.graph
+  pub memories : y.world.point_memories ≡ x.world.point_memories
+  pub bases : y.running.condemned_segments ≡ x.running.condemned_segments
+  pub held : (base : Address) (s : Segment) → held_in x.world.segments base ≡ Some s → held_in y.world.segments base ≡ Some s
+
+module _ {F : Type 0} (layout : F → Layout) (formats : List (Option (Policy F))) (of : ChainsState) where
+  pub still : {x y : Collecting} {ids : List Id} {ms : List Move} → Fixes x ids ms y → Running x → is_tracing_band x.band ≡ true
+      → MayBeFixed x ids → IsStill layout formats of x y
+  still (fixes_no_more {x}) run trace may = record {
+    moving = λ m. m;
+    cursor = refl;
+    next = refl;
+    band = refl;
+    graph = refl;
+    memories = refl;
+    bases = refl;
+    held = λ base s e. e;
+  }
+  still {x} (passes {id = id} {ids = ids} black rest) run trace may =
+      still rest run trace (λ n h. may n (contains_later id ids n h))
+  still {x} (keeps {y = z} {id} {ids} {these} {those} {c} white keep rest) run trace may =
+      let first = may id (contains_here id ids) in
+      let one = kept_rightly x run trace id first.0 first.1 white keep in
+      let r = keeps_leaves x.world x.running id run.runs run.different first.0 keep in
+      let after = still rest one.running (ap is_tracing_band one.further.band ∙ trace) (λ n h.
+      let more = may n (contains_later id ids n h) in (one.further.live n ∙ more.0, one.further.survives n more.1)) in
+      record {
+        moving = λ m. after.moving (subst (IsMoving layout formats of) (sym r.world) (record {
+          shaped = m.shaped;
+          pools = m.pools;
+          strong = m.strong;
+        }));
+        cursor = after.cursor;
+        next = after.next;
+        band = after.band;
+        graph = after.graph ∙ ap (λ (w : World). w.graph) r.world;
+        memories = after.memories ∙ ap (λ (w : World). w.point_memories) r.world;
+        bases = after.bases ∙ ap (λ (d : Collection). d.condemned_segments) r.running;
+        held = λ base s e. after.held base s (ap (λ (w : World). held_in w.segments base) r.world ∙ r.held base s e);
+      }
+
+-- ---- the object of a grey word
+
+pub record IsGreyAt (y : Collecting) (n : Word) : Type 0 where
+  pub id : Id
+  pub there : entry_at y.world.addresses id ≡ Some (address_of_word n)
+  pub grey : is_grey y.colours id ≡ true
+
+cells_refer : (cells : List Cell) (i t tag : ℕ) → slice_get cells i ≡ Some (ReferenceCell (Some t) tag)
+    → contains (targets_of_cells cells) t ≡ true
+cells_refer cells i t tag e =
+    among_entries (map target_of_cell cells) i t (map-slice_get target_of_cell cells i (ReferenceCell (Some t) tag) e)
+
+body_refers : (b : Body) (i t tag : ℕ) → slice_get (all_cells b) i ≡ Some (ReferenceCell (Some t) tag) → is_automatic_body b ≡ true
+    → contains (targets_of_body b) t ≡ true
+body_refers (Automatic head cells is_weak) i t tag e automatic = cells_refer cells i t tag e
+body_refers (Manual words) i t tag e automatic = absurd (false≢true automatic)
+
+-- ---- a grey object
+
+module _ {F : Type 0} (layout : F → Layout) (formats : List (Option (Policy F))) (of : ChainsState) (at_flip : List (Option Address)) (x : Traced)
+    (run : RunningState) (y : Collecting) (stands : UnitStands layout formats of at_flip x run y) where
+  -- where a block is grey objects are traced
+  pub traced_so : (n : Word) → bit x.segs.marks.exact n ≡ true → StandsTracing layout formats of at_flip x y
+  traced_so n grey =
+      elim stands.band [
+        | tracing st ↦ st
+        | reclaiming st ↦
+            let marks = st.frees.stands.image.marks in
+            let set : (bit x.segs.marks.exact n || bit x.segs.marks.weak n) ≡ true = ap (λ b. b || bit x.segs.marks.weak n) grey in
+            let b = marks.marked n (or_right (bit x.segs.marks.kept n) (bit x.segs.marks.exact n || bit x.segs.marks.weak n) set) in
+            absurd (false≢true (sym (st.scanned b.id) ∙ marks.grey_there b.id b.at b.address
+            ∙ ap (λ w. bit x.segs.marks.exact w || bit x.segs.marks.weak w) (sym b.is) ∙ set))
+      ]
+
+  -- it is of a grey object
+  pub grey_at : (n : Word) → bit x.segs.marks.exact n ≡ true → IsGreyAt y n
+  grey_at n grey =
+      let st = traced_so n grey in
+      let marks = st.traces.state.image.marks in
+      let set : (bit x.segs.marks.exact n || bit x.segs.marks.weak n) ≡ true = ap (λ b. b || bit x.segs.marks.weak n) grey in
+      let b = marks.marked n (or_right (bit x.segs.marks.kept n) (bit x.segs.marks.exact n || bit x.segs.marks.weak n) set) in
+      let aligned = (st.traces.state.image.placed.address b.id b.at b.address).aligned in
+      let is = b.is in
+      let own : b.at ≡ address_of_word n = omega (arith, aligned, is) in
+      record {
+        id = b.id;
+        there = b.address ∙ ap Some own;
+        grey =
+            marks.grey_there b.id b.at b.address
+            ∙ ap (λ w. bit x.segs.marks.exact w || bit x.segs.marks.weak w) (sym b.is) ∙ set;
+      }
+
+  -- which is to be scanned
+  pub record IsFound (n : Word) (id : Id) : Type 0 where
+    pub object : Object
+    pub found : IsToBeScanned y id (address_of_word n) object
+
+  pub scanned_next : (n : Word) → bit x.segs.marks.exact n ≡ true → (g : IsGreyAt y n) → IsFound n g.id
+  scanned_next n grey g =
+      let st = traced_so n grey in
+      let o = st.traces.state.image.placed.exists g.id (address_of_word n) g.there in
+      let automatic : is_automatic o.0 ≡ true =
+      sym (ap (λ p. option_map_or is_automatic p false) o.1) ∙ stands.running.grey.grey_automatic g.id g.grey
+      in
+      let not_white = stands.running.grey.grey_kept g.id g.grey in
+      record {
+        object = o.0;
+        found = record {
+          there = g.there;
+          object = o.1;
+          automatic = automatic;
+          not_white = not_white;
+          live = λ i t tag cell.
+              let refers : contains (targets y.world.graph g.id) t ≡ true =
+              ap (λ p. contains (option_map_or targets_of p []) t) o.1 ∙ body_refers o.0.body i t tag cell automatic
+              in (
+                address_or_null y.world t,
+                address_of-live y.world t
+                    (stands.running.coloured.referred_live g.id t (stands.running.grey.grey_live g.id g.grey) not_white refers),
+              );
+        };
+      }
+
+  -- ---- a scan
+
+  module _ (z : Traced) (one : ScansOne layout formats of x z) where
+    abbrev g : IsGreyAt y one.word
+    g = grey_at one.word one.grey
+
+    abbrev st : StandsTracing layout formats of at_flip x y
+    st = traced_so one.word one.grey
+
+    scan : IsScan layout formats of at_flip x z y g.id
+    scan =
+        let found = scanned_next one.word one.grey g in
+        scan_is_a_scan layout formats of at_flip x z y g.id (at_word one.word) found.object stands.moving.shaped st.traces found.found
+        one.scanned
+
+    stays : IsStill layout formats of y scan.after
+    stays =
+        still layout formats of scan.fixes stands.running st.band
+        (targets_may_be_fixed y g.id stands.running st.band g.grey)
+
+    -- what it refers to is live
+    live : AreLive (targets y.world.graph g.id) y.world
+    live id among = (targets_may_be_fixed y g.id stands.running st.band g.grey id among).0
+
+    housed : AreHoused scan.after.world.graph.objects z.segs.segments scan.after.world.addresses
+    housed =
+        subst (λ ss. AreHoused scan.after.world.graph.objects ss scan.after.world.addresses)
+        (sym scan.stands.state.segments.same_segments)
+        (fixes_keep_housed layout formats of at_flip (black_cells y.running.condemned y.colours) x y scan.after
+        (targets y.world.graph g.id) scan.moves st.traces st.housed live scan.fixes)
+
+    strong : IsStrong z.segs
+    strong = scan_keeps_ranks layout formats of x z one (record { exact = st.exact; marks = st.strong })
+
+    -- a condemned segment was held and condemned before
+    unreserved_then : AreCondemnedUnreserved z.segs scan.after.world.graph.points scan.after.world.point_memories
+    unreserved_then u held condemned =
+        let now = scan.stands.state in
+        let was = st.traces.state in
+        let before : contains y.running.condemned_segments u.base ≡ true =
+        ap (λ bs. contains bs u.base) (sym stays.bases) ∙ sym (now.condemned.is_bit u held) ∙ condemned
+        in
+        let one = was.condemned.is_held u.base before in
+        let t : Segment = one.0 in
+        let bit_then = was.condemned.is_bit t one.1 ∙ ap (contains y.running.condemned_segments) one.2 ∙ before in
+        let order = held_in_order x.segs was.held in
+        let found =
+        ap (λ ss. held_in ss t.base) (sym was.segments.same_segments)
+        ∙ found_at x.segs.segments t t.base one.1 refl (λ v there is. same_base x.segs.segments order v t there one.1 is)
+        in
+        let there =
+        subst (λ ss. Contains ss t) (sym now.segments.same_segments)
+        (found_held (λ v. v.base == t.base) scan.after.world.segments t (stays.held t.base t found))
+        in
+        let same = same_base z.segs.segments (held_in_order z.segs now.held) t u there held one.2 in
+        subst (λ (v : Segment). IsUnreserved scan.after.world.graph.points scan.after.world.point_memories v) same
+        (subst (λ g. IsUnreserved g.points scan.after.world.point_memories t) (sym stays.graph)
+        (subst (λ ms. IsUnreserved y.world.graph.points ms t) (sym stays.memories) (stands.unreserved t one.1 bit_then)))
+
+    pub scan_done : IsTracedUnitDone layout formats of at_flip x y z run
+    scan_done = record {
+      moves = scan.moves;
+      after = scanned scan.after g.id;
+      unit = scans g.id g.grey (stands.moving.strong g.id) scan.fixes;
+      stands = record {
+        running = (scans_shown y scan.after g.id scan.moves stands.running g.grey (stands.moving.strong g.id) scan.fixes).running;
+        examined = stays.next ∙ stands.examined ∙ sym (fixed_same scan.fixes).registered_before;
+        cursor = stands.cursor ∙ sym stays.cursor;
+        moving = stays.moving stands.moving;
+        unreserved = unreserved_then;
+        band = tracing (record {
+          traces = scan.stands;
+          band = ap is_tracing_band stays.band ∙ st.band;
+          housed = housed;
+          exact = strong.exact;
+          strong = strong.marks;
+        });
+      };
+      trail = scan.trail;
+    }
+
+pub scans_are_done : {F : Type 0} → ScansAreDone F
+scans_are_done layout formats of at_flip x z run y stands one = scan_done layout formats of at_flip x run y stands z one
+
+pub scans_are_ready : {F : Type 0} → ScansAreReady F
+scans_are_ready layout t s m at_flip run y stands n grey =
+    let g = grey_at layout t.formats t.chains at_flip (traced t s m) run y stands n grey in
+    let found = scanned_next layout t.formats t.chains at_flip (traced t s m) run y stands n grey g in
+    let st = traced_so layout t.formats t.chains at_flip (traced t s m) run y stands n grey in
+    object_can_be_scanned layout t s m at_flip (black_cells y.running.condemned y.colours) y g.id (at_word n) found.object
+    stands.moving.shaped st.traces found.found

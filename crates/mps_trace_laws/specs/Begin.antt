@@ -1,0 +1,3 @@
+-- The begin of a full collection: the flip of the model.
+pub mod Before
+pub mod Begun

@@ -1,0 +1,66 @@
+-- What the segments of an arena at rest represent before a full flip, and what a collector has to know of pools then.
+use Rattle.std.specs.Prelude.{◌≡◌, ℕ, ◌+◌, ◌*◌, ◌≤◌, false, IsTrue, [], length}
+use Rattle.mps_base.specs.Address.{Id, Grain}
+use Rattle.mps_base.specs.Generation.{target_generation}
+use Rattle.mps_base.specs.Run.{in_order}
+use Rattle.mps_base.specs.Trail.{Moves}
+use Rattle.mps_bits.specs.Table.{bit}
+use Rattle.mps_format.specs.Layout.{Layout}
+use Rattle.mps_seg.specs.Segs.{SegsState}
+use Rattle.mps_buffer.specs.Points.{PointsState}
+use Rattle.mps_amc.specs.Amc.{HasTail}
+use Rattle.mps_gen.specs.State as chains
+use Rattle.mps_model.specs.Graph.{is_weak_object}
+use Rattle.mps_model.specs.World.{World, is_automatic_kind, is_copying_pool, generations_of, pool_is, object_is, live_ids}
+use Rattle.mps_abstract.specs.FlipLaws.{IsAtRest}
+use Rattle.mps_trace_laws.specs.Image.AtRest.{StandsAtRest, AreTargetsLive}
+use Rattle.mps_trace_laws.specs.Image.Image.{AreShaped}
+use Rattle.mps_trace_laws.specs.Image.Memory.{pool_layout}
+use Rattle.mps_trace.specs.Trace.{TraceState}
+use Rattle.mps_trace_laws.specs.Fix.Housed.{AreHoused, HasNoWeakMark}
+use Rattle.mps_trace_laws.specs.Fix.Tracing.{AreSegmentsOf, AreHeld, HasTables, AreCoveredInOrder, AreReservationsHeld, AreKnownPools}
+use Rattle.mps_trace_laws.specs.Nails.Nailed.{AreTablesWhole, AreMarkedAt}
+use Rattle.mps_trace_laws.specs.Flip.Condemned.{AreFormatsOf, AllCopying}
+use Rattle.mps_trace_laws.specs.Flip.Ended.{open_runs}
+
+-- the segments of an arena at rest, as a world has them: nothing is marked or condemned, and each block and each live reservation lies
+-- in a held segment
+pub record AreSegmentsAtRest (s : SegsState) (w : World) : Type 0 where
+  pub segments : AreSegmentsOf s w.grains w.limit w.segments
+  pub held : AreHeld s
+  pub tables : HasTables s
+  pub whole : AreTablesWhole s
+  pub covered : AreCoveredInOrder s
+  pub image : StandsAtRest s w
+  pub not_condemned : (grain : Grain) → bit s.condemned grain ≡ false
+  pub unmarked : AreMarkedAt s (λ n. false)
+  pub strong : HasNoWeakMark s
+  pub housed : AreHoused w.graph.objects s.segments w.addresses
+  pub reserved : AreReservationsHeld s w.graph.points w.point_memories
+
+-- the pools of a world as a collector knows them: it has the format of each automatic pool, all of these move blocks, and each has words
+-- at hand for each generation
+pub record ArePoolsKnown {F : Type 0} (layout : F → Layout) (t : TraceState F) (w : World) : Type 0 where
+  pub formats : AreFormatsOf t.formats (pool_is is_automatic_kind w)
+  pub copying : AllCopying (pool_is is_automatic_kind w) (is_copying_pool w)
+  pub pools : AreKnownPools layout t.formats t.chains (pool_is is_automatic_kind w) (is_copying_pool w) (pool_layout w) (generations_of w)
+  pub tails : (pool generation : ℕ) → IsTrue (is_copying_pool w pool)
+      → HasTail t.amc pool (target_generation (chains.generations_of t.chains pool) generation)
+
+-- a world at rest in which nothing is registered and no object is weak, and its objects
+pub record IsPlainAtRest (w : World) : Type 0 where
+  pub rest : IsAtRest w
+  pub none_registered : w.graph.registered ≡ []
+  pub none_weak : (id : Id) → object_is is_weak_object w id ≡ false
+  pub shaped : AreShaped w.graph.objects (pool_layout w)
+  pub targets_live : AreTargetsLive w.graph.objects w.addresses
+
+-- all that a full flip needs: the reservations of the segments are those of points that no flip ended, and there is room for all
+-- moves of a collection
+pub record StandsBefore {F : Type 0} (layout : F → Layout) (t : TraceState F) (s : SegsState) (m : Moves) (points : PointsState) (w : World)
+    : Type 0 where
+  pub plain : IsPlainAtRest w
+  pub segments : AreSegmentsAtRest s w
+  pub pools : ArePoolsKnown layout t w
+  pub reservations : s.reservations ≡ in_order (open_runs points.flips points.points)
+  pub room : 2 * length (live_ids w) + length w.segments + 4 ≤ m.spare

@@ -1,0 +1,114 @@
+-- What the begin of a full collection, in words, is to the abstract collector.
+use Rattle.std.specs.Prelude.{◌≡◌, ℕ, ◌+◌, ◌*◌, ◌≤◌, false, IsTrue, Option, Some, List, [], ◌∷◌, ◌++◌, map, length, slice_get, slice_index_or}
+use Rattle.std.specs.List.{flat_map}
+use Rattle.mps_base.specs.Address.{Id}
+use Rattle.mps_base.specs.Trail.{Moves}
+use Rattle.mps_base.specs.declared.moves.Move.{Move}
+use Rattle.mps_format.specs.Layout.{Layout}
+use Rattle.mps_seg.specs.Segs.{SegsState}
+use Rattle.mps_buffer.specs.Points.{PointsState}
+use Rattle.mps_final.specs.State.{FinalsState}
+use Rattle.mps_root.specs.State.{RootsState}
+use Rattle.mps_model.specs.Effect.{Everything, condemned_by, world_after_moves}
+use Rattle.mps_model.specs.Flip.{flip_act, flip_of, is_nothing}
+use Rattle.mps_model.specs.Graph.{entries, ids_in_slots}
+use Rattle.mps_model.specs.World.{World, area_words, live_ids}
+use Rattle.mps_abstract.specs.Collecting.{Collecting, units_left}
+use Rattle.mps_abstract.specs.FlipLaws.{flipped, FixesHeld}
+use Rattle.mps_trace_laws.specs.Image.AtRest.{StandsAtRest}
+use Rattle.mps_trace_laws.specs.Image.Image.{black_cells}
+use Rattle.mps_trace.specs.Begin.{nailed_at_flip, Begins, EndsAtOnce, CanFixRoots}
+use Rattle.mps_trace.specs.Roots.{key_at, slot_of}
+use Rattle.mps_trace.specs.Trace.{TraceState, Traced, traced}
+use Rattle.mps_trace.specs.declared.running.Running.{Running as RunningState}
+use Rattle.mps_trace_laws.specs.Fix.Housed.{AreHoused, HasNoWeakMark}
+use Rattle.mps_trace_laws.specs.Fix.Tracing.{TracingStands}
+use Rattle.mps_trace_laws.specs.Nails.Nailed.{AreWordsShown, words_of_areas}
+use Rattle.mps_trace_laws.specs.Roots.OneRoot.{IsWhere}
+use Rattle.mps_trace_laws.specs.Roots.Rows.{AreHeldAtFlip}
+use Rattle.mps_trace_laws.specs.Roots.Tables.{AreTablesHeld}
+use Rattle.mps_trace_laws.specs.Units.Standing.{IsMoving, AreCondemnedUnreserved, UnitStands}
+use Rattle.mps_trace_laws.specs.Begin.Before.{StandsBefore}
+
+-- ---- the flip and the nails
+
+-- right after the flip, with the blocks nailed in which area words lie, the state represents the abstract collector right after the
+-- model's flip
+pub record IsFlipStanding {F : Type 0} (layout : F → Layout) (t : TraceState F) (m : Moves) (w : World) (x : Traced) : Type 0 where
+  pub traces : TracingStands layout t.formats t.chains w.addresses
+      (black_cells (flipped w Everything []).running.condemned (flipped w Everything []).colours) x (flipped w Everything [])
+  pub housed : AreHoused w.graph.objects x.segs.segments w.addresses
+  pub strong : HasNoWeakMark x.segs
+  pub moving : IsMoving layout t.formats t.chains (flipped w Everything []).world
+  pub unreserved : AreCondemnedUnreserved x.segs (flipped w Everything []).world.graph.points (flipped w Everything []).world.point_memories
+  pub trail : x.moves.moves ≡ m.moves ++ flip_of w Everything ∷ []
+
+-- if something is condemned
+abbrev pub AFlipStands : (F : Type 0) → Type 0
+AFlipStands F =
+    (layout : F → Layout) (t : TraceState F) (s : SegsState) (m : Moves) (points : PointsState) (roots : RootsState) (w : World)
+    → StandsBefore layout t s m points w → AreWordsShown (words_of_areas roots.areas) (area_words w)
+    → is_nothing (condemned_by w Everything) ≡ false
+    → IsFlipStanding layout t m w (nailed_at_flip t.formats points roots (traced t s m))
+
+-- ---- roots
+
+-- the tables in order, and messages, hold what those of a world do
+pub record AreRootsHeld (w : World) (roots : RootsState) (finals : FinalsState) (rows : List (List (Option Id))) : Type 0 where
+  pub tables : AreTablesHeld w.addresses (flipped w Everything []) roots rows
+  pub messages : AreHeldAtFlip w.addresses (flipped w Everything []) finals.messages (map Some w.graph.messages)
+  pub all : entries (flat_map (λ row. row) rows) ≡ ids_in_slots w.graph
+
+-- the roots can be fixed after the flip
+abbrev pub RootsCanBeFixed : (F : Type 0) → Type 0
+RootsCanBeFixed F =
+    (layout : F → Layout) (t : TraceState F) (s : SegsState) (m : Moves) (points : PointsState) (roots : RootsState) (finals : FinalsState)
+    (w : World) (rows : List (List (Option Id)))
+    → StandsBefore layout t s m points w → AreWordsShown (words_of_areas roots.areas) (area_words w) → AreRootsHeld w roots finals rows
+    → is_nothing (condemned_by w Everything) ≡ false
+    → CanFixRoots layout t roots finals (nailed_at_flip t.formats points roots (traced t s m))
+
+-- the act of the flip is done, by the moves of the trail: the state represents the abstract collector before its first unit, and slots and
+-- messages hold where their objects are then
+pub record IsActDone {F : Type 0} (layout : F → Layout) (t : TraceState F) (m : Moves) (w : World) (rows : List (List (Option Id)))
+    (roots roots' : RootsState) (finals' : FinalsState) (z : Traced) (run : RunningState) : Type 0 where
+  pub first : List Move
+  pub after : Collecting
+  pub fixes : FixesHeld w (flipped w Everything []) first after
+  pub stands : UnitStands layout t.formats t.chains w.addresses z run after
+  pub trail : z.moves.moves ≡ m.moves ++ flip_of w Everything ∷ first
+  pub slots : (n : ℕ) (row : List (Option Id)) → slice_get rows n ≡ Some row → (i : ℕ) (target : Option Id)
+      → slice_get row i ≡ Some target → IsWhere after (slot_of roots' (key_at roots n) i) target
+  pub messages : (i : ℕ) (target : Option Id) → slice_get (map Some w.graph.messages) i ≡ Some target
+      → IsWhere after (slice_index_or finals'.messages i 0) target
+
+-- a collection that begins is the act of the model's flip
+abbrev pub ACollectionBegins : (F : Type 0) → Type 0
+ACollectionBegins F =
+    (layout : F → Layout) (t : TraceState F) (s : SegsState) (m : Moves) (points : PointsState) (roots roots' : RootsState)
+    (finals finals' : FinalsState) (w : World) (rows : List (List (Option Id))) (z : Traced) (run : RunningState)
+    → StandsBefore layout t s m points w → AreWordsShown (words_of_areas roots.areas) (area_words w) → AreRootsHeld w roots finals rows
+    → Begins layout t.formats t.chains points roots finals (traced t s m) roots' finals' z run
+    → IsActDone layout t m w rows roots roots' finals' z run
+
+-- ---- if nothing is condemned
+
+-- the collection is over at once, as in the model
+pub record IsOverAtOnce (m : Moves) (w : World) (z : Traced) : Type 0 where
+  pub nothing : IsTrue (is_nothing (condemned_by w Everything))
+  pub stands : StandsAtRest z.segs (world_after_moves w (flip_act w Everything))
+  pub trail : z.moves.moves ≡ m.moves ++ flip_act w Everything
+
+abbrev pub ACollectionOfNothingEnds : (F : Type 0) → Type 0
+ACollectionOfNothingEnds F =
+    (layout : F → Layout) (t : TraceState F) (s : SegsState) (m : Moves) (points : PointsState) (roots roots' : RootsState)
+    (finals finals' : FinalsState) (w : World) (z : Traced) → StandsBefore layout t s m points w
+    → EndsAtOnce t.formats points roots finals (traced t s m) roots' finals' z → IsOverAtOnce m w z
+
+-- ---- units
+
+-- there are no more units than a collection has room for moves
+abbrev pub UnitsAreFew : Type 0
+UnitsAreFew =
+    (w : World) (first : List Move) (y : Collecting) → FixesHeld w (flipped w Everything []) first y
+    → w.graph.registered ≡ [] → units_left y ≤ 2 * length (live_ids w) + length w.segments

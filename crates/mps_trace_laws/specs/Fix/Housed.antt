@@ -1,0 +1,106 @@
+-- In which segments objects lie, of what rank segments and marks are, and that what a collector does keeps both.
+use Rattle.std.proofs.Common.{ap, arith}
+use Rattle.std.specs.Prelude.{◌≡◌, ℕ, zero, suc, ◌+◌, ◌≤◌, true, false, Option, Some, List, [], ◌∷◌, slice_get, Contains, refl}
+use Rattle.mps_base.specs.Address.{Address, Id, Word, word_of}
+use Rattle.mps_base.specs.Segment.{Segment, end_of_segment}
+use Rattle.mps_base.specs.declared.address.Addr.{Addr}
+use Rattle.mps_base.specs.declared.moves.Move.{Move}
+use Rattle.mps_base.specs.declared.names.Rank.TheVariants.{Exact, Weak}
+use Rattle.mps_bits.specs.Table.{bit}
+use Rattle.mps_format.specs.Layout.{Layout}
+use Rattle.mps_seg.specs.Segs.{SegsState}
+use Rattle.mps_gen.specs.State.{ChainsState}
+use Rattle.mps_model.specs.Graph.{Object, contains, entry_at, size_of}
+use Rattle.mps_model.specs.WellFormed.{IsWellFormed}
+use Rattle.mps_model.specs.World.{World, is_automatic_kind, is_copying_pool, is_live, pool_is}
+use Rattle.mps_abstract.specs.Collecting.{Collecting}
+use Rattle.mps_abstract.specs.Fixing.{Fixes}
+use Rattle.mps_trace_laws.specs.Image.Image.{CellSet}
+use Rattle.mps_trace.specs.Scan.{ScansOne}
+use Rattle.mps_trace.specs.Trace.{Traced, FixesTo}
+use Rattle.mps_trace_laws.specs.Fix.Tracing.{TracingStands}
+use Rattle.mps_format.specs.declared.pool.Policy.{Policy}
+
+-- ---- objects
+
+-- n words from an address on lie in one held segment
+pub record LieInOne (segments : List Segment) (at : Address) (size : ℕ) : Type 0 where
+  pub segment : Segment
+  pub held : Contains segments segment
+  pub above : word_of segment.base ≤ word_of at
+  pub below : word_of at + size ≤ word_of (end_of_segment segment)
+
+-- the words of each live object do
+abbrev pub AreHoused : List Object → List Segment → List (Option Address) → Type 0
+AreHoused objects segments addresses =
+    (id : Id) (at : Address) (o : Object) → entry_at addresses id ≡ Some at → slice_get objects id ≡ Some o
+    → LieInOne segments at (size_of o)
+
+-- these objects are live
+abbrev pub AreLive : List Id → World → Type 0
+AreLive ids w = (id : Id) → contains ids id ≡ true → is_live w id ≡ true
+
+-- if live objects are fixed, each object lies in one segment then, if each did before
+abbrev pub FixesKeepHoused : (F : Type 0) → Type 0
+FixesKeepHoused F =
+    (layout : F → Layout) (formats : List (Option (Policy F))) (of : ChainsState) (at_flip : List (Option Address)) (done : CellSet) (x : Traced)
+    (y after : Collecting) (ids : List Id) (moves : List Move) → TracingStands layout formats of at_flip done x y
+    → AreHoused y.world.graph.objects x.segs.segments y.world.addresses → AreLive ids y.world → Fixes y ids moves after
+    → AreHoused after.world.graph.objects after.world.segments after.world.addresses
+
+-- ---- ranks
+
+-- no weak block is grey
+abbrev pub HasNoWeakMark : SegsState → Type 0
+HasNoWeakMark s = (n : Word) → bit s.marks.weak n ≡ false
+
+-- no segment is of weak blocks
+abbrev pub AreAllExact : List Segment → Type 0
+AreAllExact segments = (t : Segment) → Contains segments t → t.rank ≡ Exact
+
+-- neither a segment nor a grey block is weak
+pub record IsStrong (s : SegsState) : Type 0 where
+  pub exact : AreAllExact s.segments
+  pub marks : HasNoWeakMark s
+
+-- of a well-formed world in which each automatic pool moves blocks no segment is
+abbrev pub CopyingSegmentsAreExact : Type 0
+CopyingSegmentsAreExact =
+    (w : World) → IsWellFormed w → ((pool : ℕ) → pool_is is_automatic_kind w pool ≡ true → is_copying_pool w pool ≡ true)
+    → AreAllExact w.segments
+
+-- a fix leaves none
+abbrev pub AFixKeepsRanks : (F : Type 0) → Type 0
+AFixKeepsRanks F =
+    (layout : F → Layout) (formats : List (Option (Policy F))) (of : ChainsState) (x z : Traced) (at answer : Addr)
+    → FixesTo layout formats of x at z answer → IsStrong x.segs → IsStrong z.segs
+
+-- and so does a scan
+abbrev pub AScanKeepsRanks : (F : Type 0) → Type 0
+AScanKeepsRanks F =
+    (layout : F → Layout) (formats : List (Option (Policy F))) (of : ChainsState) (x z : Traced) → ScansOne layout formats of x z
+    → IsStrong x.segs → IsStrong z.segs
+
+-- ---- vectors: two segments of one grain, the second of which begins where the first ends
+
+abbrev first_segment : Segment
+first_segment = record { base = 0x1000; grains = 1; pool = 0; generation = 0; rank = Exact }
+
+abbrev two_segments : List Segment
+two_segments = first_segment ∷ record first_segment { base = 0x2000 } ∷ []
+
+pub the_last_two_words_of_one : LieInOne two_segments 0x1ff0 2
+the_last_two_words_of_one = record { segment = first_segment; held = (0, omega arith, refl); above = omega arith; below = omega arith }
+
+pub two_words_over_its_end : LieInOne two_segments 0x1ff8 2 → ⊥
+two_words_over_its_end one = of_one one.segment one.held one.above one.below
+  where
+    of_one : (t : Segment) → Contains two_segments t → word_of t.base ≤ 1023 → 1025 ≤ word_of (end_of_segment t) → ⊥
+    of_one t (zero, within, is) above below =
+        let ends = ap (λ (u : Segment). word_of (end_of_segment u)) is in omega (arith, ends, below)
+    of_one t (suc zero, within, is) above below =
+        let begins = ap (λ (u : Segment). word_of u.base) is in omega (arith, begins, above)
+    of_one t (suc (suc k), within, is) above below = omega (arith, within)
+
+pub a_weak_segment : AreAllExact (record first_segment { rank = Weak } ∷ []) → ⊥
+a_weak_segment exact = let never : Weak ≡ Exact = exact (record first_segment { rank = Weak }) (0, omega arith, refl) in cc

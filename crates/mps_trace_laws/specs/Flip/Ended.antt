@@ -1,0 +1,68 @@
+-- A flip ends all open reservations: what is covered then is blocks alone.
+use Rattle.std.specs.Prelude.{◌≡◌, ◌≢◌, ℕ, ◌==◌, Bool, if◌then◌else◌, Option, Some, None, List, [], ◌∷◌, ◌++◌, map, refl}
+use Rattle.std.specs.List.{AllByRecursion}
+use Rattle.mps_base.specs.Address.{Address, Id, Word}
+use Rattle.mps_base.specs.Run.{Run, IsAscending, in_order}
+use Rattle.mps_buffer.specs.declared.point.Held.{Held}
+use Rattle.mps_buffer.specs.declared.point.Point.{Point}
+use Rattle.mps_buffer.specs.Points.{PointsState, run_of_held}
+use Rattle.mps_trace_laws.specs.Image.Bands.{setting_flipped}
+use Rattle.mps_trace_laws.specs.Image.Image.{RunsStand}
+use Rattle.mps_trace_laws.specs.Image.Memory.{Setting, memory_in}
+use Rattle.mps_model.specs.Effect.{doomed, without_buffer}
+use Rattle.mps_model.specs.World.{extents_of, reserved_extents}
+use Rattle.mps_seg.specs.Segs.{SegsState, new_segments}
+use Rattle.mps_trace.specs.Flip.{at_flip}
+use Rattle.mps_trace.specs.Trace.{Traced}
+use Rattle.mps_format.specs.declared.pool.Policy.{Policy}
+
+-- the run of a reservation that still covers its words
+abbrev pub open_run : (flips : ℕ) → Option Held → List Run
+open_run flips None = []
+open_run flips (Some h) = if h.flips == flips then run_of_held h ∷ [] else []
+
+abbrev pub open_run_at : (flips : ℕ) → Option Point → List Run
+open_run_at flips None = []
+open_run_at flips (Some p) = open_run flips p.reservation
+
+-- the runs of the reservations of points that still cover their words
+abbrev pub open_runs : (flips : ℕ) → List (Option Point) → List Run
+open_runs flips [] = []
+open_runs flips (p ∷ ps) = open_run_at flips p ++ open_runs flips ps
+
+-- each of these begins where no block does, and no other one of them
+abbrev pub BeginApart : (blocks : List Run) → List Run → Type 0
+BeginApart blocks [] = Unit {0}
+BeginApart blocks (r ∷ rs) =
+    AllByRecursion (λ (q : Run). q.from ≢ r.from) blocks × AllByRecursion (λ (q : Run). q.from ≢ r.from) rs × BeginApart blocks rs
+
+-- blocks and these reservations are what is covered
+pub record AreCovered (s : SegsState) (extents reserved : List Run) : Type 0 where
+  pub blocks : s.blocks ≡ in_order extents
+  pub reservations : s.reservations ≡ in_order reserved
+  pub covered : s.covered ≡ in_order (extents ++ reserved)
+
+abbrev pub AFlipEndsReservations : (F : Type 0) → Type 0
+AFlipEndsReservations F =
+    (formats : List (Option (Policy F))) (points : PointsState) (x : Traced) (blocks : List Run)
+    → AreCovered x.segs blocks (open_runs points.flips points.points) → BeginApart blocks (open_runs points.flips points.points)
+    → AreCovered (at_flip formats points x).segs blocks []
+
+-- if runs stand before a flip, what is covered ascends without overlap, and the reservations in words are those of points that no flip
+-- ended, in whatever order these are, runs stand after it
+abbrev pub AFlipLeavesRuns : (F : Type 0) → Type 0
+AFlipLeavesRuns F =
+    (formats : List (Option (Policy F))) (points : PointsState) (x : Traced) (s : Setting) (addresses : List (Option Address))
+    (condemned : List Id) (is_condemned_over : Word → Bool) (high : ℕ) → RunsStand s (memory_in x.segs) addresses
+    → IsAscending 0 high x.segs.covered → x.segs.reservations ≡ in_order (open_runs points.flips points.points)
+    → RunsStand
+    (setting_flipped s addresses (map doomed s.points) (map without_buffer s.point_memories) condemned is_condemned_over)
+    (memory_in (at_flip formats points x).segs) addresses
+
+-- ---- vectors
+
+pub two_that_begin_together : (r : Run) → BeginApart (r ∷ []) (r ∷ []) → ⊥
+two_that_begin_together r apart = apart.0.0 refl
+
+pub nothing_is_covered_at_first : AreCovered (new_segments 2 2) [] []
+nothing_is_covered_at_first = record { blocks = refl; reservations = refl; covered = refl }

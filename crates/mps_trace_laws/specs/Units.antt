@@ -1,0 +1,3 @@
+-- The units of a collection: those of the abstract collector.
+pub mod Standing
+pub mod Laws

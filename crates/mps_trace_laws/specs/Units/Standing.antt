@@ -1,0 +1,71 @@
+-- When the segments and the moves of a collector represent the abstract collector between two units of a collection. Automatic pools
+-- are those that move blocks, and no object is weak.
+use Rattle.std.specs.Prelude.{◌≡◌, ℕ, ◌+◌, ◌*◌, ◌≤◌, true, false, IsTrue, Option, List, Contains}
+use Rattle.mps_base.specs.Address.{Address, Id, word_of, words_of_grain, grain_of}
+use Rattle.mps_base.specs.Segment.{Segment, end_of_segment}
+use Rattle.mps_bits.specs.Table.{bit}
+use Rattle.mps_format.specs.Layout.{Layout}
+use Rattle.mps_seg.specs.Segs.{SegsState}
+use Rattle.mps_gen.specs.State.{ChainsState}
+use Rattle.mps_model.specs.Graph.{Point, is_weak_object}
+use Rattle.mps_model.specs.World.{World, PointMemory, is_automatic_kind, is_copying_pool, generations_of, pool_is, object_is}
+use Rattle.mps_abstract.specs.Colours.{AreAllScanned}
+use Rattle.mps_abstract.specs.Collecting.{Collecting, Running, AreAllExamined, is_tracing_band}
+use Rattle.mps_trace_laws.specs.Image.Memory.{pool_layout}
+use Rattle.mps_trace_laws.specs.Image.Image.{AreShaped, black_cells}
+use Rattle.mps_trace.specs.Trace.{Traced}
+use Rattle.mps_trace.specs.declared.running.Running.{Running as RunningState}
+use Rattle.mps_trace_laws.specs.Fix.Housed.{AreAllExact, AreHoused, HasNoWeakMark}
+use Rattle.mps_trace_laws.specs.Fix.Tracing.{AreKnownPools, AreSegmentsOf, TracingStands, moves_left}
+use Rattle.mps_trace_laws.specs.Reclaim.Left.{IsUnreserved}
+use Rattle.mps_trace_laws.specs.Reclaim.Units.{FreesFor}
+use Rattle.mps_format.specs.declared.pool.Policy.{Policy}
+
+-- what units leave as it is of a world: its objects, its pools, and that none is weak
+pub record IsMoving {F : Type 0} (layout : F → Layout) (formats : List (Option (Policy F))) (of : ChainsState) (w : World) : Type 0 where
+  pub shaped : AreShaped w.graph.objects (pool_layout w)
+  pub pools : AreKnownPools layout formats of (pool_is is_automatic_kind w) (is_copying_pool w) (pool_layout w) (generations_of w)
+  pub strong : (id : Id) → object_is is_weak_object w id ≡ false
+
+-- no live reservation lies in a condemned segment
+abbrev pub AreCondemnedUnreserved : SegsState → List (Option Point) → List PointMemory → Type 0
+AreCondemnedUnreserved s points memories =
+    (t : Segment) → Contains s.segments t → bit s.condemned (grain_of t.base) ≡ true → IsUnreserved points memories t
+
+-- the segments lie in the arena
+abbrev pub AreInArena : SegsState → Type 0
+AreInArena s = (t : Segment) → Contains s.segments t → word_of (end_of_segment t) ≤ words_of_grain * (s.grains + 1)
+
+-- objects are traced: the cells of black objects are fixed, each object lies in one segment, and no segment and no mark is weak
+pub record StandsTracing {F : Type 0} (layout : F → Layout) (formats : List (Option (Policy F))) (of : ChainsState)
+    (at_flip : List (Option Address)) (x : Traced) (y : Collecting) : Type 0 where
+  pub traces : TracingStands layout formats of at_flip (black_cells y.running.condemned y.colours) x y
+  pub band : IsTrue (is_tracing_band y.band)
+  pub housed : AreHoused y.world.graph.objects x.segs.segments y.world.addresses
+  pub exact : AreAllExact x.segs.segments
+  pub strong : HasNoWeakMark x.segs
+
+-- the last band: nothing is grey, and there is room for the moves that are left
+pub record StandsReclaiming (x : Traced) (y : Collecting) : Type 0 where
+  pub segments : AreSegmentsOf x.segs y.world.grains y.world.limit y.world.segments
+  pub frees : FreesFor x.segs y.world y.running y.colours (pool_layout y.world)
+  pub scanned : AreAllScanned y.colours
+  pub inside : AreInArena x.segs
+  pub room : moves_left y + 2 ≤ x.moves.spare
+
+-- the one or the other
+pub data StandsInBand {F : Type 0} (layout : F → Layout) (formats : List (Option (Policy F))) (of : ChainsState)
+    (at_flip : List (Option Address)) (x : Traced) (y : Collecting) : Type 0
+  where
+    tracing : StandsTracing layout formats of at_flip x y → StandsInBand layout formats of at_flip x y
+    reclaiming : StandsReclaiming x y → StandsInBand layout formats of at_flip x y
+
+-- between two units: the abstract collector runs, its registrations are examined, and it has reclaimed as much
+pub record UnitStands {F : Type 0} (layout : F → Layout) (formats : List (Option (Policy F))) (of : ChainsState)
+    (at_flip : List (Option Address)) (x : Traced) (run : RunningState) (y : Collecting) : Type 0 where
+  pub running : Running y
+  pub examined : AreAllExamined y
+  pub cursor : run.cursor.0 ≡ y.cursor
+  pub moving : IsMoving layout formats of y.world
+  pub unreserved : AreCondemnedUnreserved x.segs y.world.graph.points y.world.point_memories
+  pub band : StandsInBand layout formats of at_flip x y

@@ -1,7 +1,0 @@
-pub mod Counting
-pub mod Entering
-pub mod RoomLeft
-pub mod Reclaiming
-pub mod Rows
-pub mod Scanning
-pub mod Ready

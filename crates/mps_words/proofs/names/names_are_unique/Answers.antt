@@ -1,5 +1,0 @@
-use Rattle.mps_words.proofs.Unique.{names_differ}
-use Rattle.mps_words.proofs.names.names_are_unique.Goals as goal
-
-pub returns : goal.returns
-returns c = names_differ
