@@ -15,10 +15,7 @@ use Rattle.mps_model.specs.Step.{Step, History}
 use Rattle.mps_model.specs.History.{IsLegalHistoryOf}
 use Rattle.mps_model.specs.WellFormed.{IsWellFormed}
 use Rattle.mps_laws.specs.Replay.{reached}
-
-abbrev pub makes_arena : Call → Bool
-makes_arena (call.Arena grains limit) = true
-makes_arena _ = false
+use Rattle.mps_changes.specs.Change.{makes_arena}
 
 -- whether no command but the first makes an arena, as in any script
 abbrev pub is_arena_made_once : History → Bool

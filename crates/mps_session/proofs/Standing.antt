@@ -12,7 +12,7 @@ use Rattle.mps_format.specs.Layout.{Layout, IsLawful}
 use Rattle.mps_format.specs.Leaf.{leaf_layout}
 use Rattle.mps_format.specs.Mapped.{mapped_layout}
 use Rattle.mps_format.specs.declared.any.AnyFormat.{AnyFormat}
-use Rattle.mps_laws.specs.WellFormed.{makes_arena}
+use Rattle.mps_changes.specs.Change.{makes_arena}
 use Rattle.mps_laws.proofs.WellFormedHistories.{step_grains}
 use Rattle.mps_model.specs.Answer.{Answer, answer_of}
 use Rattle.mps_model.specs.FirstCall.{is_arena}

@@ -3,7 +3,7 @@ use Rattle.std.proofs.Common.{◌≡◌, false, refl, sym, subst, [], Ok, Err}
 use Rattle.mps_base.specs.declared.names.Name.{Name}
 use Rattle.mps_base.specs.declared.refusal.Refusal.{Refusal}
 use Rattle.mps_format.specs.Layout.{Layout}
-use Rattle.mps_laws.specs.WellFormed.{makes_arena}
+use Rattle.mps_changes.specs.Change.{makes_arena}
 use Rattle.mps_laws.proofs.Same.{Same, fits, refused, same_err}
 use Rattle.mps_model.specs.declared.call.Call.{Call}
 use Rattle.mps_model.specs.declared.reply.Reply.TheVariants as reply

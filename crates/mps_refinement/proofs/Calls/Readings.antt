@@ -1,7 +1,7 @@
 -- Calls that change nothing: right where what they read and the model's act come to the same answer.
 use Rattle.std.proofs.Common.{◌≡◌, Bool, true, false, refl, sym, ap, subst, [], Ok, Err}
 use Rattle.mps_format.specs.Layout.{Layout}
-use Rattle.mps_laws.specs.WellFormed.{makes_arena}
+use Rattle.mps_changes.specs.Change.{makes_arena}
 use Rattle.mps_laws.proofs.Same as same
 use Rattle.mps_laws.proofs.Same.{Same, fits}
 use Rattle.mps_model.specs.declared.call.Call.{Call}

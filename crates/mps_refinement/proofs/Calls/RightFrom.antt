@@ -6,7 +6,7 @@ use Rattle.mps_model.proofs.AtRest.{with_client_remembered-none}
 use Rattle.mps_model.specs.Step.{Step}
 use Rattle.mps_model.specs.World.{World}
 use Rattle.mps_model.specs.History.{with_client_remembered, world_after}
-use Rattle.mps_laws.specs.WellFormed.{makes_arena}
+use Rattle.mps_changes.specs.Change.{makes_arena}
 use Rattle.mps_laws.proofs.QuietSteps as quiet
 use Rattle.mps_heap_spec.specs.State.{HeapState}
 use Rattle.mps_refinement.specs.RightStep.{IsRightIn}

@@ -3,7 +3,7 @@ use Rattle.std.proofs.Common.{◌≡◌, ℕ, false, refl, sym, subst, [], Err}
 use Rattle.mps_base.specs.Trail.{Moves}
 use Rattle.mps_base.specs.declared.refusal.Refusal.{Refusal}
 use Rattle.mps_format.specs.Layout.{Layout}
-use Rattle.mps_laws.specs.WellFormed.{makes_arena}
+use Rattle.mps_changes.specs.Change.{makes_arena}
 use Rattle.mps_laws.proofs.QuietSteps.{IsQuiet, refused_step}
 use Rattle.mps_model.specs.declared.call.Call.{Call}
 use Rattle.mps_model.specs.Answer.{refused}

@@ -9,7 +9,8 @@ use Rattle.mps_model.specs.WellFormed.{IsWellFormed}
 use Rattle.mps_model.specs.History.{IsLegalHistoryOf, IsLegalStep, HeldAreLive, world_after}
 use Rattle.mps_model.proofs.Appending.{IsLegalFrom-append, world_after_steps-append}
 use Rattle.mps_laws.specs.Replay.{reached}
-use Rattle.mps_laws.specs.WellFormed.{is_arena_made_once, makes_arena}
+use Rattle.mps_laws.specs.WellFormed.{is_arena_made_once}
+use Rattle.mps_changes.specs.Change.{makes_arena}
 use Rattle.mps_laws.proofs.Held.{held_after}
 use Rattle.mps_laws.proofs.QuietSteps.{IsSound}
 use Rattle.mps_laws.proofs.WellFormedHistories.{reached_are_well_formed}

@@ -11,7 +11,7 @@ use Rattle.mps_model.specs.Checked.{Act, Checked}
 use Rattle.mps_model.specs.Reply.{act, answer_from, world_from}
 use Rattle.mps_model.specs.History.{IsLegalStep, moved_world, world_after}
 use Rattle.mps_model.proofs.AtRest.{with_client_remembered-none}
-use Rattle.mps_laws.specs.WellFormed.{makes_arena}
+use Rattle.mps_changes.specs.Change.{makes_arena}
 use Rattle.mps_laws.proofs.Acts.{for_world}
 use Rattle.mps_laws.proofs.Same as same
 use Rattle.mps_laws.proofs.Same.{Same, fits}

@@ -13,7 +13,7 @@ use Rattle.mps_format.specs.Layout.{Layout}
 use Rattle.mps_seg.specs.Segs.{SegsState}
 use Rattle.mps_seg.specs.declared.buffer.Buffer.{Buffer}
 use Rattle.mps_seg.specs.Buffer.{empty_buffer, run_of}
-use Rattle.mps_amc.specs.Moving.{moved_to, run_at}
+use Rattle.mps_amc.specs.Moving.{AreCopied, moved_to, run_at}
 use Rattle.mps_amc.specs.Amc.{AmcState, HasTail, tails_of}
 use Rattle.mps_amc.specs.Amc as amc
 use Rattle.mps_amc.proofs.Tails.{tail_written}
@@ -28,7 +28,7 @@ use Rattle.mps_abstract.specs.Colours.{keeping}
 use Rattle.mps_abstract.specs.Collecting.{Collecting}
 use Rattle.mps_trace_laws.specs.Image.Memory.{memory_in, pool_layout, words_of_arena}
 use Rattle.mps_trace_laws.specs.Image.Image.{CellSet, ImageStands}
-use Rattle.mps_trace_laws.specs.Image.Fixing.{AreCopied, AreMarksMoved, address_moved}
+use Rattle.mps_trace_laws.specs.Image.Fixing.{AreMarksMoved, address_moved}
 use Rattle.mps_trace_laws.proofs.Image.Copied as copying
 use Rattle.mps_trace_laws.proofs.Image.Extents.{all_extents, all_reserved}
 use Rattle.mps_laws.proofs.InOrder.{all_append}

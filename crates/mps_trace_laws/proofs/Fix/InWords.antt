@@ -9,12 +9,12 @@ use Rattle.mps_base.specs.Segment.{Segment, segment_over}
 use Rattle.mps_format.specs.Layout.{Layout, IsLawful, IsBlockSize}
 use Rattle.mps_seg.specs.Segs.{SegsState}
 use Rattle.mps_seg.specs.Collecting.{is_condemned_at, is_kept_at, keeping}
-use Rattle.mps_amc.specs.Moving.{IsForwarded, IsUnforwarded, BlockStands, size_at, run_at, moved_to, kept_in_place}
+use Rattle.mps_amc.specs.Moving.{AreCopied, IsForwarded, IsUnforwarded, BlockStands, size_at, run_at, moved_to, kept_in_place}
 use Rattle.mps_amc.specs.Moving as moving
 use Rattle.mps_model.specs.Graph.{Object, Point}
 use Rattle.mps_model.specs.World.{PointMemory}
 use Rattle.mps_trace_laws.specs.Image.Memory.{Setting, memory_in, setting_in, pool_over_word, is_condemned_word}
-use Rattle.mps_trace_laws.specs.Image.Fixing.{AreAtHand, AreCopied, IsNotForwarded, IsToKeep, FixAt, IsMarkSet, AreMarksMoved}
+use Rattle.mps_trace_laws.specs.Image.Fixing.{AreAtHand, IsNotForwarded, IsToKeep, FixAt, IsMarkSet, AreMarksMoved}
 use Rattle.mps_trace_laws.specs.Image.Fixing as fixing
 use Rattle.mps_trace_laws.proofs.Image.SegmentMarks.{HasMarks, keeping_marks, greying_marks, greying_keeps, moving_marks}
 use Rattle.mps_trace_laws.proofs.Fix.Growing.{grows_not}

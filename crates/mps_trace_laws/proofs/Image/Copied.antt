@@ -9,7 +9,8 @@ use Rattle.mps_model.specs.Checked.{head_of_body}
 use Rattle.mps_abstract.specs.Colours.{Colours, is_white, is_grey, keeping}
 use Rattle.mps_trace_laws.specs.Image.Memory.{Setting, Lies, LiesReserved, BlockBegins}
 use Rattle.mps_trace_laws.specs.Image.Image.{MeansAt, IsCellWord, IsAddress, LieApart, IsForwardedObject, WordsStand, IsFixedWord, CellSet, FixedCellsStand, MarksStand}
-use Rattle.mps_trace_laws.specs.Image.Fixing.{AreCopied, AreAtHand, AreMarksMoved, address_moved}
+use Rattle.mps_trace_laws.specs.Image.Fixing.{AreAtHand, AreMarksMoved, address_moved}
+use Rattle.mps_amc.specs.Moving.{AreCopied}
 use Rattle.mps_trace_laws.proofs.Image.Entries.{entry_at-set_same, entry_at-set_other, entry_replaced}
 use Rattle.mps_trace_laws.proofs.Image.Forwarded.{forwarded_still}
 use Rattle.mps_trace_laws.proofs.Image.Marked.{kept_not_white, others_white, others_grey, grey_now, still_not_white, begins_there, begins_apart}

@@ -13,7 +13,8 @@ use Rattle.mps_model.specs.Checked.{head_of_body}
 use Rattle.mps_abstract.specs.Colours.{Colours, is_white, is_grey}
 use Rattle.mps_trace_laws.specs.Image.Memory.{Setting, Memory, Lies, LiesReserved, all_cells}
 use Rattle.mps_trace_laws.specs.Image.Image.{IsCellWord, AreShaped, IsAddress, LieApart, CellSet, ImageStands, is_white_over}
-use Rattle.mps_trace_laws.specs.Image.Fixing.{AreCopied, AreAtHand, copies, FixWord, writes, IsFixedCell}
+use Rattle.mps_trace_laws.specs.Image.Fixing.{AreAtHand, copies, FixWord, writes, IsFixedCell}
+use Rattle.mps_amc.specs.Moving.{AreCopied}
 use Rattle.mps_trace_laws.proofs.Image.Fixing.{fix_keeps}
 
 abbrev one : Object

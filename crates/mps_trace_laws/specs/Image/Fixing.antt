@@ -11,17 +11,9 @@ use Rattle.mps_model.specs.World.{extent}
 use Rattle.mps_abstract.specs.Colours.{Colours, is_white, keeping}
 use Rattle.mps_trace_laws.specs.Image.Memory.{Setting, Memory, Lies, LiesReserved}
 use Rattle.mps_trace_laws.specs.Image.Image.{MeansAt, IsAddress, CellSet, with_cell, ImageStands}
+use Rattle.mps_amc.specs.Moving.{AreCopied}
 
 -- ---- words, marks and runs
-
--- a block was copied, and where it was it is forwarded now. What its other words hold is open
-pub record AreCopied (f : Layout) (words words' : List ℕ) (from to : Address) (size : ℕ) : Type 0 where
-  pub long : length words' ≡ length words
-  pub copied : (k : ℕ) → k < size → slice_index words' (word_of to + k) ≡ slice_index words (word_of from + k)
-  pub begins : BeginsForwarded f (drop (word_of from) words') size
-  pub leads : slice_index words' (word_of from + 1) ≡ to
-  pub others : (n : Word) → ((k : ℕ) → k < size → n ≢ word_of from + k) → ((k : ℕ) → k < size → n ≢ word_of to + k)
-      → slice_index words' n ≡ slice_index words n
 
 -- n free words for a block of a pool
 pub record AreAtHand (s : Setting) (addresses : List (Option Address)) (to : Address) (size pool : ℕ) : Type 0 where
@@ -166,12 +158,3 @@ no_other_address_changes = refl
 
 pub a_mark_that_is_left : AreMarksMoved (λ n. n == 3) (λ n. false) (λ n. n == 3) (λ n. n == 5) 3 5 → ⊥
 a_mark_that_is_left m = let e : true ≡ false = m.kept_clear in absurd cc
-
-pub a_word_that_is_not_copied :
-    AreCopied front_layout (0 ∷ 0 ∷ 0 ∷ 0x201 ∷ 7 ∷ 0 ∷ 0 ∷ []) (0 ∷ 0 ∷ 0 ∷ 0x204 ∷ 40 ∷ 0x201 ∷ 0 ∷ []) 24 40 2 → ⊥
-a_word_that_is_not_copied c = let e : 0 ≡ 7 = c.copied 1 (lit< tt) in omega (arith, e)
-
--- the forwarding word leads to the old address
-pub a_block_that_leads_nowhere :
-    AreCopied front_layout (0 ∷ 0 ∷ 0 ∷ 0x201 ∷ 7 ∷ 0 ∷ 0 ∷ []) (0 ∷ 0 ∷ 0 ∷ 0x204 ∷ 24 ∷ 0x201 ∷ 7 ∷ []) 24 40 2 → ⊥
-a_block_that_leads_nowhere c = let e : 24 ≡ 40 = c.leads in omega (arith, e)
