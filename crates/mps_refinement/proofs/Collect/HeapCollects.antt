@@ -12,17 +12,20 @@ use Rattle.mps_trace_laws.proofs.Begin.RootsReady.{roots_can_be_fixed}
 use Rattle.mps_trace_laws.proofs.Begin.UnitsFew.{units_are_few}
 use Rattle.mps_heap_spec.specs.State.{HeapState}
 use Rattle.mps_refinement.specs.StandsFor.{StandsFor}
-use Rattle.mps_refinement.specs.Collect.Collecting.{MayCollect, AHeapCanCollect, ACollectIsRight}
+use Rattle.mps_refinement.specs.Collect.Collecting.{MayCollect, ACollectIsRight}
 use Rattle.mps_refinement.proofs.Collect.BeforeAFlip.{is_before}
 use Rattle.mps_refinement.proofs.Collect.CanCollect.{can_collect_all}
 use Rattle.mps_refinement.proofs.Collect.CollectRight.{IsBefore, collect_right, collect_keeps_room}
+use Rattle.mps_heap_spec.specs.Collecting.{CanCollectAll}
 
 module _ {F : Type 0} (layout : F → Layout) (h : HeapState F) (m : Moves) (may : MayCollect layout h m) where
   -- all that has to be known of it before, in each world
   known_before : (w : World) → StandsFor layout h w → (n : Moves) → most_moves h.segs.grains ≤ n.spare → IsBefore layout h n w
   known_before w st n room = is_before layout st.past h w st.parts st.reached may.marked may.can n room
 
-pub a_heap_can_collect : {F : Type 0} → AHeapCanCollect F
+-- then it can, whatever the tails of its pools are
+pub a_heap_can_collect : {F : Type 0}
+    → (layout : F → Layout) (h : HeapState F) (m : Moves) → MayCollect layout h m → CanCollectAll layout h m
 a_heap_can_collect layout h m may =
     can_collect_all layout (a_collection_begins flip_stands) (roots_can_be_fixed flip_stands) units_are_few (scans_are_done layout) h m
     may.world may.stands (known_before layout h m may may.world may.stands) may.room

@@ -1,7 +1,7 @@
 -- What a whole collection leaves of the world.
 use Rattle.std.proofs.Common.{◌≡◌, ◌∙◌, ℕ, true, false, refl, sym, ap, List, [], ◌++◌, Some, None, subst, inl, inr}
 use Rattle.std.proofs.lemmas.Bool.{false≢true, cases_Bool}
-use Rattle.std.specs.Prelude.{is_some}
+use Rattle.std.specs.Prelude.{is_some, IsTrue}
 use Rattle.mps_base.specs.Address.{Id}
 use Rattle.mps_base.specs.declared.moves.Move.{Move}
 use Rattle.mps_model.specs.Graph.{contains, ids_in_holds, ids_in_slots, is_automatic, ids_of_client}
@@ -25,7 +25,7 @@ use Rattle.mps_abstract.proofs.FlipActs.Flipped.{flipped_running}
 use Rattle.mps_abstract.proofs.FlipActs.FlipBegins.{client_of_fixed, flip_done, flip_ended}
 use Rattle.mps_abstract.proofs.WholeCollections.WholeBegins.{everything, nothing_remembered, begun_running, whole_begun}
 use Rattle.mps_refinement.specs.Collect.Staying.{StaysInPlace}
-use Rattle.mps_refinement.specs.Collect.Leaving.{IsButMoved, IsPlain, IsCollected, AreInPlace, ACollectionMovesObjects}
+use Rattle.mps_refinement.specs.Collect.Leaving.{IsButMoved, IsPlain, IsCollected, AreInPlace}
 use Rattle.mps_refinement.proofs.Collect.KeptPlaces.{MayKeep, running_may_keep, kept, keep_may, keep_live, fixes_stay, ends_stay}
 
 -- ---- worlds that differ by where objects lie
@@ -242,7 +242,16 @@ nothing_collected w rest nothing =
       ended = refl;
     })
 
-pub a_collection_moves_objects : ACollectionMovesObjects
+-- if something is condemned, and if nothing is
+pub a_collection_moves_objects : ((w : World) (first later : List Move) (y : Collecting) (count : ℕ) → IsAtRest w → is_nothing
+    (condemned_by w Everything) ≡ false
+    → FixesHeld w (flipped w Everything []) first y → Ends y count later → IsPlain w
+    → IsCollected w (world_after_moves w (flip_act w Everything ++ later)))
+    × ((w : World) (first later : List Move) (y : Collecting) (count : ℕ) → IsAtRest w → is_nothing (condemned_by w Everything) ≡ false
+    → FixesHeld w (flipped w Everything []) first y → Ends y count later
+    → AreInPlace w y (world_after_moves w (flip_act w Everything ++ later)))
+    × ((w : World) → IsAtRest w → IsTrue (is_nothing (condemned_by w Everything))
+    → IsCollected w (world_after_moves w (flip_act w Everything)))
 a_collection_moves_objects = (
   (λ w first later y count rest some fixed ends plain. whole_collected w first y rest some fixed count later ends plain),
   (λ w first later y count rest some fixed ends. in_place w first y rest some fixed count later ends),

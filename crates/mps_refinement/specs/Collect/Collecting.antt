@@ -22,10 +22,6 @@ pub record MayCollect {F : Type 0} (layout : F → Layout) (h : HeapState F) (m 
   pub marked : IsMarked h.segs.grains h.segs.marks h.segs.condemned h.segs.summaries
   pub room : most_moves h.segs.grains ≤ m.spare
 
--- then it can, whatever the tails of its pools are
-abbrev pub AHeapCanCollect : (F : Type 0) → Type 0
-AHeapCanCollect F = (layout : F → Layout) (h : HeapState F) (m : Moves) → MayCollect layout h m → CanCollectAll layout h m
-
 -- what a call `collect` is, by a heap that is this one then, with a trail that is this one
 pub record IsRightCollect {F : Type 0} (layout : F → Layout) (h : HeapState F) (m : Moves) (h' : HeapState F) (m' : Moves) : Type 0 where
   pub right : IsRightMoving layout h call.Collect m.moves m'.moves (Replied reply.Ok) h'

@@ -41,14 +41,3 @@ pub record AreInPlace (w : World) (acted : Collecting) (after : World) : Type 0 
   pub held : (id : Id) → IsTrue (contains (ids_in_slots w.graph ++ w.graph.messages) id) → address_of after id ≡ address_of acted.world id
   pub held_live : (id : Id) → IsTrue (contains (ids_in_slots w.graph ++ w.graph.messages) id) → IsTrue (is_live after id)
 
--- if something is condemned, and if nothing is
-abbrev pub ACollectionMovesObjects : Type 0
-ACollectionMovesObjects =
-    ((w : World) (first later : List Move) (y : Collecting) (count : ℕ) → IsAtRest w → is_nothing (condemned_by w Everything) ≡ false
-    → FixesHeld w (flipped w Everything []) first y → Ends y count later → IsPlain w
-    → IsCollected w (world_after_moves w (flip_act w Everything ++ later)))
-    × ((w : World) (first later : List Move) (y : Collecting) (count : ℕ) → IsAtRest w → is_nothing (condemned_by w Everything) ≡ false
-    → FixesHeld w (flipped w Everything []) first y → Ends y count later
-    → AreInPlace w y (world_after_moves w (flip_act w Everything ++ later)))
-    × ((w : World) → IsAtRest w → IsTrue (is_nothing (condemned_by w Everything))
-    → IsCollected w (world_after_moves w (flip_act w Everything)))

@@ -16,8 +16,3 @@ pub record StaysInPlace (x y : Collecting) : Type 0 where
 abbrev pub EndsInPlace : Collecting → (after : World) → Type 0
 EndsInPlace x after = (id : Id) → is_white_in x id ≡ false → address_of after id ≡ address_of x.world id
 
-abbrev pub AKeptObjectStays : Type 0
-AKeptObjectStays =
-    ((x y : Collecting) (ms : List Move) → Running x → IsUnit x ms y → StaysInPlace x y)
-    × ((x y : Collecting) (count : ℕ) (ms : List Move) → Running x → GoesOn x count ms y → StaysInPlace x y)
-    × ((x : Collecting) (count : ℕ) (ms : List Move) → Running x → Ends x count ms → EndsInPlace x (world_after_moves x.world ms))

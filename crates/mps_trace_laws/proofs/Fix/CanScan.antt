@@ -1,19 +1,29 @@
 -- A block of an object that is to be scanned can be.
 use Rattle.std.proofs.Common.{◌≡◌, ◌∙◌, refl, sym, ap, slice_index, subst, inl}
-use Rattle.std.specs.Prelude.{slice_get}
-use Rattle.mps_base.specs.Address.{word_of}
+use Rattle.std.specs.Prelude.{slice_get, Option, List}
+use Rattle.mps_base.specs.Address.{word_of, Address, Id}
 use Rattle.mps_format.specs.Layout.{Layout}
 use Rattle.mps_amc.specs.Moving.{BlockStands, size_at}
 use Rattle.mps_trace_laws.specs.Image.Memory.{pool_layout}
 use Rattle.mps_trace_laws.specs.Image.Fixing.{Target}
-use Rattle.mps_trace.specs.Trace.{traced}
-use Rattle.mps_trace.specs.Scan.{AreReady}
-use Rattle.mps_trace_laws.specs.Fix.Tracing.{setting_of}
-use Rattle.mps_trace_laws.specs.Fix.Scanning.{AnObjectCanBeScanned}
+use Rattle.mps_trace.specs.Trace.{traced, TraceState}
+use Rattle.mps_trace.specs.Scan.{AreReady, CanScan}
+use Rattle.mps_trace_laws.specs.Fix.Tracing.{setting_of, TracingStands}
 use Rattle.mps_trace_laws.proofs.Fix.Found as found
 use Rattle.mps_trace_laws.proofs.Fix.ScanRun.{ready}
+use Rattle.mps_base.specs.declared.address.Addr.{Addr}
+use Rattle.mps_model.specs.Graph.{Object}
+use Rattle.mps_abstract.specs.Collecting.{Collecting}
+use Rattle.mps_trace_laws.specs.Image.Image.{CellSet, AreShaped}
+use Rattle.mps_seg.specs.Segs.{SegsState}
+use Rattle.mps_base.specs.Trail.{Moves}
+use Rattle.mps_trace_laws.specs.Fix.Scanning.{IsToBeScanned}
 
-pub object_can_be_scanned : {F : Type 0} → AnObjectCanBeScanned F
+-- a block of a live object that isn't white, if all that it refers to is live, can be scanned
+pub object_can_be_scanned : {F : Type 0}
+    → (layout : F → Layout) (t : TraceState F) (s : SegsState) (m : Moves) (at_flip : List (Option Address)) (done : CellSet)
+    (y : Collecting) (holder : Id) (at : Addr) (o : Object) → AreShaped y.world.graph.objects (pool_layout y.world)
+    → TracingStands layout t.formats t.chains at_flip done (traced t s m) y → IsToBeScanned y holder at.0 o → CanScan layout t s m at
 object_can_be_scanned {F} layout t s m at_flip done y holder at o shaped stands scan =
     let x = traced t s m in
     let target : Target (setting_of s at_flip y) y.world.addresses holder at.0 at.0 o =

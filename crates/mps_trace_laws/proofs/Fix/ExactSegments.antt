@@ -11,10 +11,10 @@ use Rattle.mps_base.specs.declared.names.Rank.TheVariants.{Exact, Weak}
 use Rattle.mps_laws.proofs.Sound.PoolKinds.{copying_not_weak}
 use Rattle.mps_laws.proofs.Positions.Segments.{IsAmong}
 use Rattle.mps_model.specs.Making.{is_weak_rank}
-use Rattle.mps_model.specs.WellFormed.{are_apart, is_right_segment, lies_within}
+use Rattle.mps_model.specs.WellFormed.{are_apart, is_right_segment, lies_within, IsWellFormed}
 use Rattle.mps_model.specs.World.{World, Pool, PoolKind, Collected, OneSize, AnySize, is_automatic_kind, is_copying_kind, is_copying_pool, is_weak_kind, pool_at, pool_is}
-use Rattle.mps_trace_laws.specs.Fix.Housed.{CopyingSegmentsAreExact}
 use Rattle.mps_trace_laws.proofs.Fix.Hands.{contains_among}
+use Rattle.mps_trace_laws.specs.Fix.Housed.{AreAllExact}
 
 -- a pool of weak references is automatic
 weak_automatic : (k : PoolKind) → is_weak_kind k ≡ true → is_automatic_kind k ≡ true
@@ -51,7 +51,10 @@ module _ (w : World) (moves : (pool : ℕ) → pool_is is_automatic_kind w pool 
       exact_rank t.rank t.pool
       (and_parts (begins && some && within) ranked right).1
 
-pub copying_segments_are_exact : CopyingSegmentsAreExact
+-- of a well-formed world in which each automatic pool moves blocks no segment is
+pub copying_segments_are_exact : (w : World) → IsWellFormed w → ((pool : ℕ) → pool_is is_automatic_kind w pool ≡ true
+    → is_copying_pool w pool ≡ true)
+    → AreAllExact w.segments
 copying_segments_are_exact w formed moves t held =
     let all = (and_parts (list_all (is_right_segment w) w.segments) (are_apart (map grains_of_segment w.segments)) formed.segments).0 in
     exact_of_right w moves t (right_in w moves w.segments t all (contains_among w.segments t held))

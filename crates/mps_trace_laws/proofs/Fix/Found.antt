@@ -29,9 +29,9 @@ use Rattle.mps_laws.proofs.Positions.ApartRuns.{AreApart, all_in_order, ascendin
 use Rattle.mps_laws.proofs.Positions.Segments.{among_aligned}
 use Rattle.mps_trace.specs.Trace.{Traced, CanFixAt, CanKeep, target_of}
 use Rattle.mps_trace_laws.specs.Fix.Tracing.{setting_of, TracingStands}
-use Rattle.mps_trace_laws.specs.Fix.Fixing.{ATargetCanBeFixed}
 use Rattle.mps_trace_laws.proofs.Fix.Hands.{contains_among, in_hand}
 use Rattle.mps_format.specs.declared.pool.Policy.{Policy}
+use Rattle.mps_base.specs.declared.address.Addr.{Addr}
 
 -- ---- runs
 
@@ -296,6 +296,11 @@ module _ (F : Type 0) (layout : F → Layout) (formats : List (Option (Policy F)
       condemned = λ is. let format = stands.state.pools.listed o.pool collected in can_keep format.0 format.1;
     }
 
-pub target_can_be_fixed : {F : Type 0} → ATargetCanBeFixed F
+-- an address that means a live automatic object can be fixed
+pub target_can_be_fixed : {F : Type 0}
+    → (layout : F → Layout) (formats : List (Option (Policy F))) (of : ChainsState) (at_flip : List (Option Address)) (done : CellSet)
+    (x : Traced) (y : Collecting) (at : Addr) (t : Id) (now : Address) (o : Object)
+    → AreShaped y.world.graph.objects (pool_layout y.world) → TracingStands layout formats of at_flip done x y
+    → Target (setting_of x.segs at_flip y) y.world.addresses t at.0 now o → CanFixAt layout formats of x at.0
 target_can_be_fixed {F} layout formats of at_flip done x y at t now o shaped stands target =
     can_fix F layout formats of at_flip done x y shaped stands at.0 t now o target

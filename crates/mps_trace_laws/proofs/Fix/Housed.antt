@@ -29,11 +29,16 @@ use Rattle.mps_abstract.proofs.Addresses.{id_at-live}
 use Rattle.mps_abstract.proofs.Kept.{different_set, taken_for, segment_leads}
 use Rattle.mps_abstract.proofs.KeepsLegal.{room_in_new}
 use Rattle.mps_abstract.proofs.Lists.{contains_here, contains_later, entry_at-set_cases, entry_that_is, there-set}
-use Rattle.mps_trace_laws.specs.Fix.Housed.{LieInOne, AreHoused, AreLive, FixesKeepHoused}
-use Rattle.mps_trace_laws.specs.Fix.Tracing.{setting_of}
+use Rattle.mps_trace_laws.specs.Fix.Housed.{LieInOne, AreHoused, AreLive}
+use Rattle.mps_trace_laws.specs.Fix.Tracing.{setting_of, TracingStands}
 use Rattle.mps_trace_laws.proofs.Fix.Hands.{contains_among}
 use Rattle.mps_trace_laws.proofs.Fix.NewTail.{among_contains}
 use Rattle.mps_trace_laws.proofs.Fix.Objects.{different}
+use Rattle.mps_format.specs.Layout.{Layout}
+use Rattle.mps_gen.specs.State.{ChainsState}
+use Rattle.mps_trace_laws.specs.Image.Image.{CellSet}
+use Rattle.mps_trace.specs.Trace.{Traced}
+use Rattle.mps_format.specs.declared.pool.Policy.{Policy}
 
 -- ---- words at hand
 
@@ -265,7 +270,13 @@ after_fixes {x} (keeps {id = id} {ids} {these} {those} {c} white keep rest) h li
     let after = kept_housed x.world x.running id h (live id (contains_here id ids)) keep in
     after_fixes rest after.keeps_housed (λ n among. after.live n (live n (contains_later id ids n among)))
 
-pub fixes_keep_housed : {F : Type 0} → FixesKeepHoused F
+-- if live objects are fixed, each object lies in one segment then, if each did before
+pub fixes_keep_housed : {F : Type 0}
+    → (layout : F → Layout) (formats : List (Option (Policy F))) (of : ChainsState) (at_flip : List (Option Address)) (done : CellSet)
+    (x : Traced)
+    (y after : Collecting) (ids : List Id) (moves : List Move) → TracingStands layout formats of at_flip done x y
+    → AreHoused y.world.graph.objects x.segs.segments y.world.addresses → AreLive ids y.world → Fixes y ids moves after
+    → AreHoused after.world.graph.objects after.world.segments after.world.addresses
 fixes_keep_housed layout formats of at_flip done x y after ids moves stands housed live fixes =
     let st = stands.state in
     let same = st.segments.same_segments in

@@ -23,8 +23,8 @@ use Rattle.mps_amc.specs.Amc.{AmcState, FixesAt, forwards, is_kept, keeps, IsFix
 use Rattle.mps_gen.specs.State.{ChainsState}
 use Rattle.mps_laws.proofs.Positions.Segments.{among_cases, found_among}
 use Rattle.mps_trace.specs.Trace.{Traced, FixesTo, passes, fixes, marks}
-use Rattle.mps_trace.specs.Scan.{FixesCell, is_null, leads, ScansTo, begins, goes_on, Scanned, word_at}
-use Rattle.mps_trace_laws.specs.Fix.Housed.{AreAllExact, IsStrong, AFixKeepsRanks, AScanKeepsRanks}
+use Rattle.mps_trace.specs.Scan.{FixesCell, is_null, leads, ScansTo, begins, goes_on, Scanned, word_at, ScansOne}
+use Rattle.mps_trace_laws.specs.Fix.Housed.{AreAllExact, IsStrong}
 use Rattle.mps_trace_laws.proofs.Fix.Hands.{contains_among}
 use Rattle.mps_trace_laws.proofs.Fix.NewTail.{among_contains}
 use Rattle.mps_format.specs.declared.pool.Policy.{Policy}
@@ -167,8 +167,14 @@ module _ {F : Type 0} (layout : F → Layout) (formats : List (Option (Policy F)
         marks = λ n. still_clear is.before.segs.marks.weak (word_of at.0) n (now.marks n);
       })
 
-pub fix_keeps_ranks : {F : Type 0} → AFixKeepsRanks F
+-- a fix leaves none
+pub fix_keeps_ranks : {F : Type 0}
+    → (layout : F → Layout) (formats : List (Option (Policy F))) (of : ChainsState) (x z : Traced) (at answer : Addr)
+    → FixesTo layout formats of x at z answer → IsStrong x.segs → IsStrong z.segs
 fix_keeps_ranks layout formats of x z at answer fixed strong = fix_strong layout formats of fixed strong
 
-pub scan_keeps_ranks : {F : Type 0} → AScanKeepsRanks F
+-- and so does a scan
+pub scan_keeps_ranks : {F : Type 0}
+    → (layout : F → Layout) (formats : List (Option (Policy F))) (of : ChainsState) (x z : Traced) → ScansOne layout formats of x z
+    → IsStrong x.segs → IsStrong z.segs
 scan_keeps_ranks layout formats of x z one strong = scanned_strong layout formats of x z _ one.scanned strong

@@ -27,7 +27,7 @@ use Rattle.mps_trace.specs.Scan.{ScansTo, begins, goes_on, FixesCell, CanFixCell
 use Rattle.mps_trace_laws.specs.Fix.Tracing.{TracingStands, setting_of}
 use Rattle.mps_trace_laws.specs.Fix.Steps.{IsSameGraph}
 use Rattle.mps_trace_laws.specs.Fix.Cells.{HoldsReference}
-use Rattle.mps_trace_laws.specs.Fix.Scanning.{with_cells, IsToBeScanned, IsScannedTo, AScanIsReady, AScanIsOfSteps}
+use Rattle.mps_trace_laws.specs.Fix.Scanning.{with_cells, IsToBeScanned, IsScannedTo}
 use Rattle.mps_trace_laws.proofs.Fix.CellLists.{targets_more, fewer_done, image_again, next_cells, no_cells}
 use Rattle.mps_trace_laws.proofs.Fix.EachCell.{can_cell, cell_step}
 use Rattle.mps_format.specs.declared.pool.Policy.{Policy}
@@ -270,10 +270,22 @@ module _ (F : Type 0) (layout : F → Layout) (formats : List (Option (Policy F)
       let r = reference cell first.reference in
       can_one w cell run (inside cell first.reference) r.target r.tag r.cell
 
-pub scan_is_ready : {F : Type 0} → AScanIsReady F
+-- while an object is scanned, each of its references can be fixed when its turn comes
+pub scan_is_ready : {F : Type 0}
+    → (layout : F → Layout) (formats : List (Option (Policy F))) (of : ChainsState) (at_flip : List (Option Address)) (done : CellSet)
+    (x : Traced) (y : Collecting) (holder : Id) (at : Addr) (o : Object) → AreShaped y.world.graph.objects (pool_layout y.world)
+    → TracingStands layout formats of at_flip done x y → IsToBeScanned y holder at.0 o
+    → AreReady layout (pool_layout y.world o.pool) formats of (head_of_body o.body) at x
 scan_is_ready {F} layout formats of at_flip done x y holder at o shaped stands scan =
     ready F layout formats of at_flip done x y shaped stands holder at o scan
 
-pub scan_is_of_steps : {F : Type 0} → AScanIsOfSteps F
+-- and the run up to a cell is one of steps of the abstract collector
+pub scan_is_of_steps : {F : Type 0}
+    → (layout : F → Layout) (formats : List (Option (Policy F))) (of : ChainsState) (at_flip : List (Option Address)) (done : CellSet)
+    (x z : Traced) (y : Collecting) (holder : Id) (at : Addr) (o : Object) (before : ℕ)
+    → AreShaped y.world.graph.objects (pool_layout y.world) → TracingStands layout formats of at_flip done x y
+    → IsToBeScanned y holder at.0 o
+    → ScansTo layout (pool_layout y.world o.pool) formats of (head_of_body o.body) at x before z
+    → IsScannedTo layout formats of at_flip done x z y holder o before
 scan_is_of_steps {F} layout formats of at_flip done x z y holder at o before shaped stands scan run =
     run_to F layout formats of at_flip done x y shaped stands holder at o scan run

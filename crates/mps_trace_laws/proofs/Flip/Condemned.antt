@@ -11,22 +11,28 @@ use Rattle.mps_base.specs.declared.moves.Move.TheVariants.{Flip}
 use Rattle.mps_bits.specs.Table.{bit}
 use Rattle.mps_buffer.specs.declared.point.Held.{Held}
 use Rattle.mps_buffer.specs.declared.point.Point.{Point}
-use Rattle.mps_buffer.specs.Points.{ended, ended_at, all_ended, without_reservation}
+use Rattle.mps_buffer.specs.Points.{ended, ended_at, all_ended, without_reservation, PointsState}
 use Rattle.mps_abstract.proofs.Lists.{contains_cases}
 use Rattle.mps_gen.specs.State.{max_chains}
 use Rattle.mps_model.specs.Graph.{contains}
-use Rattle.mps_model.specs.World.{is_automatic_kind, is_copying_pool, pool_is}
+use Rattle.mps_model.specs.World.{is_automatic_kind, is_copying_pool, pool_is, World}
 use Rattle.mps_model.specs.Effect.{Everything, condemned_by}
 use Rattle.mps_seg.specs.Segs.{SegsState}
 use Rattle.mps_seg.specs.Collecting.{condemning}
-use Rattle.mps_trace.specs.Flip.{is_automatic, automatic_of, condemning_all, zones_of}
+use Rattle.mps_trace.specs.Flip.{is_automatic, automatic_of, condemning_all, zones_of, at_flip}
 use Rattle.mps_trace.proofs.Ending.{segments_stay}
-use Rattle.mps_trace_laws.specs.Flip.Condemned.{AFlipIsTheModels, AFlipCondemns, bases_of}
+use Rattle.mps_trace_laws.specs.Flip.Condemned.{bases_of, AreCondemnedToo, BeginInTable, AllCopying, AreFormatsOf, IsFlipOfEverything}
 use Rattle.mps_trace_laws.proofs.Flip.Filtered.{filter_same, filter_again}
+use Rattle.mps_trace.specs.Trace.{Traced}
+use Rattle.mps_format.specs.declared.pool.Policy.{Policy}
 
 -- ---- the model's flip
 
-pub flip_is_the_models : {F : Type 0} → AFlipIsTheModels F
+-- if segments are those of a world, formats are of its automatic pools alone, and all of these move blocks
+pub flip_is_the_models : {F : Type 0}
+    → (formats : List (Option (Policy F))) (ts : List Segment) (w : World) → ts ≡ w.segments → AreFormatsOf formats
+    (pool_is is_automatic_kind w)
+    → AllCopying (pool_is is_automatic_kind w) (is_copying_pool w) → IsFlipOfEverything (automatic_of formats ts) w
 flip_is_the_models formats ts w same known copying =
     let segments : automatic_of formats ts ≡ condemned_by w Everything =
     filter_same (λ (t : Segment). is_automatic formats t.pool) (λ (t : Segment). pool_is is_automatic_kind w t.pool) ts
@@ -146,7 +152,9 @@ or_none : (b c : Bool) → c ≡ false → (b || c) ≡ b
 or_none true c is = refl
 or_none false c is = is
 
-pub flip_condemns : {F : Type 0} → AFlipCondemns F
+pub flip_condemns : {F : Type 0}
+    → (formats : List (Option (Policy F))) (points : PointsState) (x : Traced) → BeginInTable x.segs.segments (length x.segs.condemned)
+    → AreCondemnedToo x.segs (at_flip formats points x).segs (bases_of (automatic_of formats x.segs.segments))
 flip_condemns formats points x begin =
     let p : Segment → Bool = λ (t : Segment). is_automatic formats t.pool in
     let e : SegsState = all_ended points.flips points.points x.segs in

@@ -14,8 +14,11 @@ use Rattle.mps_seg.specs.Collecting.{bit_of}
 use Rattle.mps_trace.specs.Condemned.{AreAscending}
 use Rattle.mps_trace.specs.Flip.{is_automatic, automatic_of, at_flip}
 use Rattle.mps_trace_laws.specs.Flip.Condemned.{bases_of, AreCondemnedToo}
-use Rattle.mps_trace_laws.specs.Flip.CondemnedWords.{AFlipCondemnsWords}
 use Rattle.mps_trace_laws.proofs.Flip.Condemned.{flip_condemns}
+use Rattle.mps_buffer.specs.Points.{PointsState}
+use Rattle.mps_trace.specs.Trace.{Traced}
+use Rattle.mps_format.specs.declared.pool.Policy.{Policy}
+use Rattle.mps_trace_laws.specs.Flip.CondemnedWords.{AreReadyToCondemn, AreWordsCondemned}
 
 -- ---- the segment at a base
 
@@ -92,7 +95,9 @@ pool_of_found : (o : Option Segment) (pool : ℕ) → option_map (λ (t : Segmen
 pool_of_found None pool h = absurd cc
 pool_of_found (Some t) pool h = (t, refl, same_Some t.pool pool h)
 
-pub flip_condemns_words : {F : Type 0} → AFlipCondemnsWords F
+pub flip_condemns_words : {F : Type 0}
+    → (formats : List (Option (Policy F))) (points : PointsState) (x : Traced) → AreReadyToCondemn x.segs
+    → AreWordsCondemned formats x.segs (at_flip formats points x).segs
 flip_condemns_words formats points x ready =
     let s : SegsState = x.segs in
     let after : SegsState = (at_flip formats points x).segs in

@@ -5,14 +5,16 @@ use Rattle.mps_base.specs.Run.{Run, in_order, without_run}
 use Rattle.mps_base.specs.Segment.{Segment}
 use Rattle.mps_buffer.specs.declared.point.Held.{Held}
 use Rattle.mps_buffer.specs.declared.point.Point.{Point}
-use Rattle.mps_buffer.specs.Points.{run_of_held, without_reservation, ended_at, all_ended}
+use Rattle.mps_buffer.specs.Points.{run_of_held, without_reservation, ended_at, all_ended, PointsState}
 use Rattle.mps_trace_laws.proofs.Image.InOrder.{in_order-without}
 use Rattle.mps_model.specs.World.{extents_of}
 use Rattle.mps_seg.specs.Segs.{SegsState}
 use Rattle.mps_seg.specs.Collecting.{condemning}
 use Rattle.mps_trace.specs.Flip.{automatic_of, condemning_all, at_flip}
-use Rattle.mps_trace_laws.specs.Flip.Ended.{open_run_at, open_runs, BeginApart, AreCovered, AFlipEndsReservations, AFlipLeavesRuns}
+use Rattle.mps_trace_laws.specs.Flip.Ended.{open_run_at, open_runs, BeginApart, AreCovered}
 use Rattle.mps_trace_laws.proofs.Flip.Reservations.{no_reservation_is_live}
+use Rattle.mps_trace.specs.Trace.{Traced}
+use Rattle.mps_format.specs.declared.pool.Policy.{Policy}
 
 -- the run of a reservation, where it is open
 abbrev run_where : Bool → Held → List Run
@@ -62,7 +64,10 @@ condemned_covered (t ∷ ts) s blocks c =
     condemned_covered ts (condemning s t.base) blocks
     (record { blocks = c.blocks; reservations = c.reservations; covered = c.covered })
 
-pub flip_ends_reservations : {F : Type 0} → AFlipEndsReservations F
+pub flip_ends_reservations : {F : Type 0}
+    → (formats : List (Option (Policy F))) (points : PointsState) (x : Traced) (blocks : List Run)
+    → AreCovered x.segs blocks (open_runs points.flips points.points) → BeginApart blocks (open_runs points.flips points.points)
+    → AreCovered (at_flip formats points x).segs blocks []
 flip_ends_reservations formats points x blocks c apart =
     let e : SegsState = all_ended points.flips points.points x.segs in
     condemned_covered (automatic_of formats e.segments) e blocks

@@ -7,15 +7,17 @@ use Rattle.mps_base.specs.Run.{Run}
 use Rattle.mps_base.specs.Segment.{Segment}
 use Rattle.mps_buffer.specs.declared.point.Held.{Held}
 use Rattle.mps_buffer.specs.declared.point.Point as buffer
-use Rattle.mps_buffer.specs.Points.{ended, ended_at, all_ended, without_reservation}
+use Rattle.mps_buffer.specs.Points.{ended, ended_at, all_ended, without_reservation, PointsState}
 use Rattle.mps_trace_laws.specs.Image.Memory.{live_reservation}
 use Rattle.mps_model.specs.Graph.{Point, Reservation, entry_at, is_live_reservation}
 use Rattle.mps_model.specs.World.{PointMemory, extent_of_reservation, reserved_extents}
 use Rattle.mps_model.specs.Effect.{doomed, without_buffer}
 use Rattle.mps_seg.specs.Segs.{SegsState}
 use Rattle.mps_seg.specs.Collecting.{condemning}
-use Rattle.mps_trace.specs.Flip.{automatic_of, condemning_all}
-use Rattle.mps_trace_laws.specs.Flip.Reservations.{NoReservationIsLive, AFlipMovesNothing}
+use Rattle.mps_trace.specs.Flip.{automatic_of, condemning_all, at_flip}
+use Rattle.mps_trace_laws.specs.Flip.Reservations.{IsNothingMoved, AreNoneLive}
+use Rattle.mps_trace.specs.Trace.{Traced}
+use Rattle.mps_format.specs.declared.pool.Policy.{Policy}
 
 -- ---- doomed reservations
 
@@ -50,7 +52,9 @@ no_extents (Some p ∷ ps) (memory ∷ memories) =
     (doomed_covers_none p.reservation (without_buffer memory))
     ∙ no_extents ps memories
 
-pub no_reservation_is_live : NoReservationIsLive
+-- the points that the model's flip leaves
+pub no_reservation_is_live : (points : List (Option Point)) (memories : List PointMemory) → AreNoneLive (map doomed points)
+    (map without_buffer memories)
 no_reservation_is_live points memories = record {
   not_live = λ point r live. let e : None ≡ Some r = sym (none_live points point) ∙ live in absurd cc;
   extents = no_extents points memories;
@@ -89,7 +93,8 @@ module _ {X : Type 0} (of : SegsState → X)
         → of (condemning_all ts (all_ended flips ps s)) ≡ of s
     both_stay flips ps ts s = condemned_stays ts (all_ended flips ps s) ∙ ended_stays flips ps s
 
-pub flip_moves_nothing : {F : Type 0} → AFlipMovesNothing F
+pub flip_moves_nothing : {F : Type 0}
+    → (formats : List (Option (Policy F))) (points : PointsState) (x : Traced) → IsNothingMoved x.segs (at_flip formats points x).segs
 flip_moves_nothing formats points x =
     let e : SegsState = all_ended points.flips points.points x.segs in
     let ts : List Segment = automatic_of formats e.segments in

@@ -3,18 +3,22 @@ use Rattle.std.proofs.Common.{◌≡◌, ◌∙◌, ℕ, ◌+◌, ◌*◌, Bool,
 use Rattle.std.proofs.lemmas.Bool.{false≢true, cases_lt}
 use Rattle.std.proofs.lemmas.Option.{none-some}
 use Rattle.std.proofs.lemmas.List.{length-replicate, get_or-replicate, get_or_past}
-use Rattle.std.specs.Prelude.{not, ◌&&◌, ◌||◌, IsTrue}
+use Rattle.std.specs.Prelude.{not, ◌&&◌, ◌||◌, IsTrue, Option, List, slice_get, []}
 use Rattle.mps_base.specs.Address.{Address, Id, Word, word_of, words_of_grain}
 use Rattle.mps_base.specs.Run.{in_order}
 use Rattle.mps_bits.specs.Table.{bit}
-use Rattle.mps_model.specs.Graph.{Reservation, entry_at}
-use Rattle.mps_model.specs.World.{extents_of}
+use Rattle.mps_model.specs.Graph.{Reservation, entry_at, Point}
+use Rattle.mps_model.specs.World.{extents_of, PointMemory, reserved_extents}
 use Rattle.mps_seg.specs.Segs.{new_segments}
-use Rattle.mps_trace_laws.specs.Image.Memory.{LiesReserved, memory_in, words_of_arena}
-use Rattle.mps_trace_laws.specs.Image.ArenaLaws.{ANewArenaStands, SegmentsChange, PointsChange}
+use Rattle.mps_trace_laws.specs.Image.Memory.{LiesReserved, memory_in, words_of_arena, Setting, Memory, live_reservation, setting_at_rest}
+use Rattle.mps_trace_laws.specs.Image.ArenaLaws.{AreSegmentsKept, setting_with_segments}
 use Rattle.mps_trace_laws.proofs.Image.Marked.{begins_there}
 use Rattle.mps_trace_laws.proofs.Image.Reservations.{apart_still, reserved_unforwarded}
 use Rattle.mps_trace_laws.proofs.Image.Reserved.{image_reserved}
+use Rattle.mps_abstract.specs.Colours.{Colours}
+use Rattle.mps_trace_laws.specs.Image.Image.{CellSet, ImageStands, Stands, no_colours}
+use Rattle.mps_trace_laws.specs.Image.Changes.{setting_with_points}
+use Rattle.mps_format.specs.Layout.{Layout}
 
 -- ---- a new arena
 
@@ -27,7 +31,9 @@ clear_bit count n =
       | inr past ↦ get_or_past (replicate count false) n false (omega (arith, past, length-replicate {A = Bool} count false))
     ]
 
-pub new_arena_stands : ANewArenaStands
+-- a new arena stands for no object
+pub new_arena_stands : (grains limit : ℕ) (layout : ℕ → Layout)
+    → Stands (setting_at_rest (new_segments grains limit) [] [] [] layout) (memory_in (new_segments grains limit)) [] no_colours
 new_arena_stands grains limit layout = record {
   placed = record {
     exists = λ id at e. absurd (none-some at e);
@@ -68,7 +74,11 @@ new_arena_stands grains limit layout = record {
 
 -- ---- segments
 
-pub segments_change : SegmentsChange
+-- segments are taken, or given back where nothing lies
+pub segments_change : (s : Setting) (m : Memory) (addresses : List (Option Address)) (k : Colours) (done : CellSet) (pools : Word
+    → Option ℕ)
+    (condemned : Word → Bool) → ImageStands s m addresses k done → AreSegmentsKept s addresses pools condemned
+    → ImageStands (setting_with_segments s pools condemned) m addresses k done
 segments_change s m addresses k done pools condemned st kept = record {
   placed = record {
     exists = st.placed.exists;
@@ -115,7 +125,16 @@ segments_change s m addresses k done pools condemned st kept = record {
 
 -- ---- points
 
-pub points_change : PointsChange
+-- points are made and dropped that have no live reservation: all live reservations were there
+pub points_change : (s : Setting) (m : Memory) (addresses : List (Option Address)) (k : Colours) (done : CellSet) (points : List
+    (Option Point))
+    (memories : List PointMemory) → ImageStands s m addresses k done
+    → ((i : ℕ) (r : Reservation) (memory : PointMemory) → live_reservation (entry_at points i) ≡ Some r
+    → slice_get memories i ≡ Some memory
+    → (live_reservation (entry_at s.points i) ≡ Some r) × (slice_get s.point_memories i ≡ Some memory))
+    → ((i : ℕ) (r : Reservation) → live_reservation (entry_at points i) ≡ Some r → live_reservation (entry_at s.points i) ≡ Some r)
+    → reserved_extents points memories ≡ reserved_extents s.points s.point_memories
+    → ImageStands (setting_with_points s points memories) m addresses k done
 points_change s m addresses k done points memories st back live same =
     image_reserved s m m addresses k done points memories st (record {
       placed =

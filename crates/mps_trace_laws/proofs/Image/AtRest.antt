@@ -2,7 +2,7 @@
 use Rattle.std.proofs.Common.{◌≡◌, ◌∙◌, ℕ, zero, suc, ◌+◌, ◌-◌, ◌<◌, refl, sym, ap, List, [], ◌∷◌, length, Option, Some, None, inl, inr, arith, slice_index}
 use Rattle.std.proofs.lemmas.Option.{none-some, same_Some, slice_get-map, get_or_from_slice_get}
 use Rattle.std.proofs.lemmas.List.{ext_get_or, get_or-drop, get_or-take, length-map, length-drop, length-take}
-use Rattle.std.specs.Prelude.{slice_get, slice_range, get_or, take, drop, map, option_map, IsTrue}
+use Rattle.std.specs.Prelude.{slice_get, slice_range, get_or, take, drop, map, option_map, IsTrue, ◌↔◌}
 use Rattle.std.specs.Option.{option_map_or}
 use Rattle.mps_base.specs.Address.{Address, Id, word_of}
 use Rattle.mps_model.specs.Graph.{Cell, HeadCell, NumberCell, ReferenceCell, Body, Automatic, Manual, Object, entry_at, object_at, size_of, size_of_body, target_of_cell}
@@ -12,9 +12,10 @@ use Rattle.mps_model.specs.Image.{address_of_target, image_of_cell, image_of_bod
 use Rattle.mps_abstract.specs.Colours.{Colours}
 use Rattle.mps_trace_laws.specs.Image.Memory.{Setting, Memory, Lies, all_cells, memory_in, setting_at_rest, pool_layout}
 use Rattle.mps_trace_laws.specs.Image.Image.{IsCellWord, ImageStands, CellSet, black_cells, no_colours}
-use Rattle.mps_trace_laws.specs.Image.AtRest.{CellsHold, HoldsImages, AreSelfContained, RestingWordsAreImages, RestingArenaHoldsImages}
+use Rattle.mps_trace_laws.specs.Image.AtRest.{CellsHold, HoldsImages, AreSelfContained, AreTargetsLive, StandsAtRest}
 use Rattle.mps_trace_laws.proofs.Image.Scanning.{cell_there}
 use Rattle.mps_trace_laws.proofs.Image.Bands.{holds_now}
+use Rattle.mps_seg.specs.Segs.{SegsState}
 
 module _ (w : World) where
   address_there : (id : Id) (at : Address) → entry_at w.addresses id ≡ Some at → address_of_target w (Some id) ≡ at
@@ -107,7 +108,9 @@ module _ (w : World) where
         → slice_get (all_cells o.body) i ≡ Some c → slice_index words (word_of at + i) ≡ image_of_cell w (head_of_body o.body) c
     from_image same i c lt cell = sym (word_at i lt) ∙ ap (λ ws. get_or ws i 0) same ∙ word_in_image i c cell
 
-pub resting_words_are_images : RestingWordsAreImages
+-- if no collection runs, the words of each live object are its image exactly if its cells' words refer to addresses of now
+pub resting_words_are_images : (w : World) (words : List ℕ) → AreSelfContained w.graph.objects w.addresses words
+    → CellsHold w.graph.objects w.addresses words ↔ HoldsImages w words
 resting_words_are_images w words whole = (forward, backward)
   where
     with_object : (id : Id) (at : Address) → entry_at w.addresses id ≡ Some at → CellsHold w.graph.objects w.addresses words
@@ -136,7 +139,9 @@ pub cells_hold : (s : Setting) (m : Memory) (addresses : List (Option Address)) 
 cells_hold s m addresses k done none all_read st id i o n c l cell =
     holds_now s addresses (head_of_body o.body) c (slice_index m.words n) none (st.words.cells id i o n c (all_read id) l cell)
 
-pub resting_arena_holds_images : RestingArenaHoldsImages
+-- so if no collection runs, the words of each live object are its image
+pub resting_arena_holds_images : (s : SegsState) (w : World) → StandsAtRest s w → AreTargetsLive w.graph.objects w.addresses
+    → HoldsImages w s.words
 resting_arena_holds_images s w st live =
     let setting = setting_at_rest s w.graph.objects w.graph.points w.point_memories (pool_layout w) in
     (resting_words_are_images w s.words (record {

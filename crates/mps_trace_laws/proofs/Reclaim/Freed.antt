@@ -18,7 +18,6 @@ use Rattle.mps_trace_laws.specs.Image.Memory.{Setting, memory_in}
 use Rattle.mps_trace_laws.specs.Image.Image.{CellSet, ImageStands}
 use Rattle.mps_trace_laws.proofs.Image.SegmentWords.{over_word}
 use Rattle.mps_trace_laws.specs.Reclaim.Freed.{addresses_of, IsCondemnedSegment, IsWhiteIn, AreWhiteFreed}
-use Rattle.mps_trace_laws.specs.Reclaim.Laws.{LostBlocksAreWhite}
 use Rattle.mps_trace_laws.proofs.Reclaim.LostRuns.{IsLostRun, lost_is, is_lost_there, lost_ascend, run_at, address_there}
 use Rattle.mps_trace_laws.proofs.Image.BlockRuns.{run_of_object, run_there, extents_ascend}
 use Rattle.mps_trace_laws.proofs.Reclaim.SegmentBounds.{aligned_in, positive_in, over_inside, segment_bounds}
@@ -127,5 +126,8 @@ module _ (s : Setting) (g : SegsState) (addresses : List (Option Address)) (k : 
   pub white_freed : AreWhiteFreed s g addresses k t freed
   white_freed = record { ascending = freed_ascend; white = freed_white; all = white_is_lost; apart = freed_apart }
 
-pub lost_blocks_are_white : LostBlocksAreWhite
+-- the blocks that the reclaim of a segment frees are those of the white objects in it
+pub lost_blocks_are_white : (s : Setting) (g : SegsState) (addresses : List (Option Address)) (k : Colours) (done : CellSet) (t : Segment)
+    → ImageStands s (memory_in g) addresses k done → IsCondemnedSegment s g t
+    → AreWhiteFreed s g addresses k t (addresses_of (lost_of g t))
 lost_blocks_are_white s g addresses k done t st c = white_freed s g addresses k done t st c

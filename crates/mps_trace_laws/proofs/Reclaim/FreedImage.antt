@@ -8,9 +8,9 @@ use Rattle.mps_base.specs.Run.{Run}
 use Rattle.mps_base.specs.Segment.{Segment}
 use Rattle.mps_base.proofs.Runs.{contains_first, contains_later}
 use Rattle.mps_seg.specs.Segs.{SegsState}
-use Rattle.mps_amc.specs.Reclaiming.{lost_of, without_block, without_blocks}
+use Rattle.mps_amc.specs.Reclaiming.{lost_of, without_block, without_blocks, freed_in}
 use Rattle.mps_model.specs.Graph.{Object, entry_at, size_of}
-use Rattle.mps_model.specs.World.{extent}
+use Rattle.mps_model.specs.World.{extent, World}
 use Rattle.mps_model.specs.Units.{is_ascending}
 use Rattle.mps_abstract.specs.Colours.{Colours, is_white, AreAllScanned, AreDifferent}
 use Rattle.mps_abstract.proofs.Sweeping.{contains-above}
@@ -21,11 +21,12 @@ use Rattle.mps_trace_laws.proofs.Image.Entries.{entry_at-set_other}
 use Rattle.mps_trace_laws.proofs.Image.Marked.{begins_apart}
 use Rattle.mps_trace_laws.proofs.Image.SegmentMarks.{removing_clears}
 use Rattle.mps_trace_laws.specs.Reclaim.Freed.{addresses_of, addresses_without, AreWhiteUnread, IsCondemnedSegment}
-use Rattle.mps_trace_laws.specs.Reclaim.Laws.{LostBlocksAreFreed, FreesAreTheModels}
 use Rattle.mps_trace_laws.proofs.Reclaim.LostRuns.{address_there, lost_is}
 use Rattle.mps_trace_laws.proofs.Image.BlockRuns.{run_of_object}
 use Rattle.mps_trace_laws.proofs.Reclaim.Without.{without_none, without_more, without_one, frees_lead, frees_appended}
 use Rattle.mps_trace_laws.proofs.Reclaim.Freed.{white_freed, lost_is_white}
+use Rattle.mps_base.specs.Trail.{Moves}
+use Rattle.mps_trace_laws.specs.Reclaim.Moves.{AreFreesOf}
 
 pub lie_different : (s : Setting) (addresses : List (Option Address)) → LieApart s addresses → AreDifferent addresses
 lie_different s addresses placed i j at e f =
@@ -120,13 +121,19 @@ module _ (s : Setting) (g : SegsState) (addresses : List (Option Address)) (k : 
         white = ap (is_white s.condemned k) same ∙ w.white;
       }
 
-pub lost_blocks_are_freed : LostBlocksAreFreed
+-- once they are freed, the image stands for the objects that are left
+pub lost_blocks_are_freed : (s : Setting) (g : SegsState) (addresses : List (Option Address)) (k : Colours) (t : Segment) → Stands s
+    (memory_in g) addresses k
+    → IsCondemnedSegment s g t → AreAllScanned k → AreWhiteUnread s k
+    → Stands s (memory_in (freed_in g t)) (addresses_without (addresses_of (lost_of g t)) addresses) k
 lost_blocks_are_freed s g addresses k t st c scanned unread =
     all_freed s k scanned unread 0 (lost_of g t) g addresses st
     (white_freed s g addresses k (Rattle.mps_trace_laws.specs.Image.Image.black_cells s.condemned k) t st c).ascending
     (lost_white_run s g addresses k (Rattle.mps_trace_laws.specs.Image.Image.black_cells s.condemned k) t st c)
 
-pub frees_are_the_models : FreesAreTheModels
+-- the Frees of a reclaim are those of the model, and after them its objects have these addresses
+pub frees_are_the_models : (s : Setting) (w : World) (g : SegsState) (k : Colours) (done : CellSet) (t : Segment) (moves : Moves)
+    → ImageStands s (memory_in g) w.addresses k done → IsCondemnedSegment s g t → AreFreesOf w g t moves
 frees_are_the_models s w g k done t moves st c =
     let f = white_freed s g w.addresses k done t st c in
     record {

@@ -1,29 +1,43 @@
 -- The last band begins once nothing is grey; while it goes on a condemned segment is left, and the last one is known.
 use Rattle.std.proofs.Common.{◌≡◌, ◌∙◌, ◌⊎◌, ℕ, suc, ◌≤◌, true, false, sym, ap, subst, Contains, inl, inr, arith}
 use Rattle.std.proofs.lemmas.Bool.{cases_Bool, cases_lt, true≢false, leb-true, le-leb, eqb-true, ne_eqb}
-use Rattle.std.specs.Prelude.{IsTrue, ◌↔◌, nat_le, find, ◌==◌, not}
+use Rattle.std.specs.Prelude.{IsTrue, ◌↔◌, nat_le, find, ◌==◌, not, Option, List}
 use Rattle.mps_base.specs.Address.{Address, grain_of}
 use Rattle.mps_base.specs.Segment.{Segment, without_segment}
 use Rattle.mps_bits.specs.Table.{bit}
 use Rattle.mps_seg.specs.Segs.{SegsState}
-use Rattle.mps_amc.specs.Reclaiming.{lost_of, is_given, is_padded}
+use Rattle.mps_amc.specs.Reclaiming.{lost_of, is_given, is_padded, IsReclaimed}
 use Rattle.mps_amc.proofs.Lost.{segments_after}
 use Rattle.mps_model.proofs.Reaching.{list_all-contains}
 use Rattle.mps_model.specs.Graph.{contains}
-use Rattle.mps_model.specs.World.{segment_at, is_automatic_kind, pool_is}
+use Rattle.mps_model.specs.World.{segment_at, is_automatic_kind, pool_is, World}
 use Rattle.mps_model.specs.Units.{is_last_condemned}
 use Rattle.mps_abstract.specs.Collecting.{Collecting, Running}
 use Rattle.mps_abstract.proofs.KeptRunning.{one_that_is}
 use Rattle.mps_abstract.proofs.Lists.{find-passes, list_all-members}
 use Rattle.mps_trace_laws.specs.Image.Memory.{memory_in, setting_in}
 use Rattle.mps_trace_laws.proofs.Image.Bands.{freeing_begins}
-use Rattle.mps_trace.specs.Condemned.{NoneLeft}
+use Rattle.mps_trace.specs.Condemned.{NoneLeft, IsNextCondemned}
 use Rattle.mps_trace_laws.proofs.Reclaim.Reclaimed.{condemned_after}
 use Rattle.mps_trace_laws.specs.Reclaim.Units.{FreesFor}
-use Rattle.mps_trace_laws.specs.Reclaim.Laws.{TheLastBandBegins, OneIsLeft, TheLastIsKnown}
 use Rattle.mps_trace_laws.proofs.Reclaim.HeldSegments.{found_held, held_filtered, was_held}
+use Rattle.mps_base.specs.Trail.{Moves}
+use Rattle.mps_base.specs.declared.address.Addr.{Addr}
+use Rattle.mps_format.specs.Layout.{Layout}
+use Rattle.mps_model.specs.Collection.{Collection}
+use Rattle.mps_abstract.specs.Colours.{Colours, AreAllScanned}
+use Rattle.mps_trace_laws.specs.Image.SegmentWords.{AreSegmentsInOrder}
+use Rattle.mps_trace_laws.specs.Image.Image.{Stands}
+use Rattle.mps_trace_laws.specs.Fix.Housed.{AreHoused}
 
-pub the_last_band_begins : TheLastBandBegins
+-- once nothing is grey, an arena whose image stands for a world in which a collection runs stands for it in the last band
+pub the_last_band_begins : (g : SegsState) (w : World) (c : Collection) (k : Colours) (layout : ℕ → Layout) (at_flip : List
+    (Option Address)) → AreAllScanned k
+    → Stands (setting_in g w.graph.objects w.graph.points w.point_memories layout at_flip c.condemned (λ id. true)) (memory_in g)
+    w.addresses k
+    → AreSegmentsInOrder g.segments → AreHoused w.graph.objects g.segments w.addresses → w.segments ≡ g.segments
+    → ((t : Segment) → Contains g.segments t → bit g.condemned (grain_of t.base) ≡ contains c.condemned_segments t.base)
+    → FreesFor g w c k layout
 the_last_band_begins g w c k layout at_flip scanned st order housed segments bits = record {
   stands = record {
     image =
@@ -121,7 +135,11 @@ module _ (x : Collecting) (g : SegsState) (layout : ℕ → Rattle.mps_format.sp
     pub known : is_last_condemned x.running t.base ≡ true ↔ NoneLeft g' (suc t.base)
     known = (none_after_last, last_where_none)
 
-pub the_last_is_known : TheLastIsKnown
+-- after a reclaim none is left after the segment exactly where it was the last one
+pub the_last_is_known : (f : Layout) (x : Collecting) (g : SegsState) (layout : ℕ → Layout) (base : Addr) (moves : Moves)
+    (g' : SegsState) (moves' : Moves)
+    → Running x → FreesFor g x.world x.running x.colours layout → (next : IsNextCondemned g x.cursor base.0)
+    → IsReclaimed f g moves base g' moves' → is_last_condemned x.running next.segment.base ≡ true ↔ NoneLeft g' (suc next.segment.base)
 the_last_is_known fm x g layout base moves g' moves' run f next (is_given u found empty state trail) =
     known x g layout run f next.segment g'
     (ap (λ (y : SegsState). y.condemned) state ∙ condemned_after (lost_of g u) g)
@@ -131,5 +149,7 @@ the_last_is_known fm x g layout base moves g' moves' run f next (is_padded u fou
     (ap (λ (y : SegsState). y.condemned) state ∙ condemned_after (lost_of g u) g)
     (inl (ap (λ (y : SegsState). y.segments) state ∙ segments_after (lost_of g u) g))
 
-pub one_is_left : OneIsLeft
+-- while a collection runs, a condemned segment is left from the cursor on
+pub one_is_left : (x : Collecting) (g : SegsState) (layout : ℕ → Layout) → Running x → FreesFor g x.world x.running x.colours layout
+    → NoneLeft g x.cursor → ⊥
 one_is_left x g layout run f none = one_left x g layout run f none

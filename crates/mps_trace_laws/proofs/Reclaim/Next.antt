@@ -21,7 +21,6 @@ use Rattle.mps_trace.specs.Condemned.{IsNextCondemned}
 use Rattle.mps_trace_laws.specs.Reclaim.Freed.{addresses_of, IsCondemnedSegment, AreWhiteFreed}
 use Rattle.mps_trace_laws.specs.Reclaim.Left.{setting_freeing_in}
 use Rattle.mps_trace_laws.specs.Reclaim.Units.{FreesFor}
-use Rattle.mps_trace_laws.specs.Reclaim.Laws.{TheNextIsReclaimed}
 use Rattle.mps_trace_laws.proofs.Reclaim.SegmentBounds.{aligned_in, positive_in}
 use Rattle.mps_trace_laws.proofs.Reclaim.Freed.{white_freed}
 use Rattle.mps_trace_laws.proofs.Reclaim.HeldSegments.{same_base, found_held, found_at}
@@ -112,5 +111,9 @@ module _ (x : Collecting) (g : SegsState) (layout : ℕ → Layout) (base : Addr
         shown.apart u at (held_there b u e) (λ same. differ (sym (base_there b u e) ∙ same)) h;
   }
 
-pub the_next_is_reclaimed : TheNextIsReclaimed
+-- the lowest condemned segment from the cursor on is the one that is reclaimed next, and what it frees are the white objects in it
+pub the_next_is_reclaimed : (x : Collecting) (g : SegsState) (layout : ℕ → Layout) (base : Address) → Running x
+    → AreAllScanned x.colours → AreAllExamined x
+    → FreesFor g x.world x.running x.colours layout → (next : IsNextCondemned g x.cursor base)
+    → IsReclaimedNext x next.segment (addresses_of (lost_of g next.segment))
 the_next_is_reclaimed x g layout base run scanned examined f next = next_reclaimed x g layout base run scanned examined f next

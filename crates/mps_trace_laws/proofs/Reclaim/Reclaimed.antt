@@ -23,7 +23,6 @@ use Rattle.mps_trace_laws.proofs.Image.ArenaLaws.{segments_change}
 use Rattle.mps_trace_laws.specs.Reclaim.Freed.{addresses_of, addresses_without}
 use Rattle.mps_trace_laws.specs.Fix.Housed.{AreHoused}
 use Rattle.mps_trace_laws.specs.Reclaim.Left.{IsUnreserved, setting_freeing_in, StandsFreeing, IsReclaimShown}
-use Rattle.mps_trace_laws.specs.Reclaim.Laws.{AReclaimKeepsTheImage}
 use Rattle.mps_trace_laws.proofs.Reclaim.Around.{image_around, among_within, covered_by, contains_left}
 use Rattle.mps_trace_laws.proofs.Image.BlockRuns.{extent_there, run_there, contained_in_order}
 use Rattle.mps_trace_laws.proofs.Reclaim.FreedImage.{lost_blocks_are_freed}
@@ -268,7 +267,14 @@ module _ (g : SegsState) (objects : List Object) (points : List (Option Point)) 
       in
       subst (IsReclaimShown g objects points memories layout condemned k addresses t) (sym left_state) (swept_padded f g'.words pads)
 
-pub a_reclaim_keeps_the_image : AReclaimKeepsTheImage
+-- after the reclaim of a condemned segment without a reservation, given back or padded, the image stands for the objects that are left
+pub a_reclaim_keeps_the_image : (f : Layout) (g : SegsState) (objects : List Object) (points : List (Option Point))
+    (memories : List PointMemory) (layout : ℕ → Layout)
+    (condemned : List Id) (k : Colours) (addresses : List (Option Address)) (t : Segment) (moves : Moves) (base : Addr) (g' : SegsState)
+    (moves' : Moves) → StandsFreeing g objects points memories layout condemned k addresses → AreAllScanned k → Contains g.segments t
+    → t.base ≡ base.0 → bit g.condemned (grain_of t.base) ≡ true → IsUnreserved points memories t
+    → IsReclaimed f g moves base g' moves'
+    → IsReclaimShown g objects points memories layout condemned k addresses t g'
 a_reclaim_keeps_the_image f g objects points memories layout condemned k addresses t moves base g' moves' swept scanned held is bits
     unreserved reclaimed =
     reclaimed_sweeps g objects points memories layout condemned k addresses t swept scanned held bits unreserved f moves base g' moves' is

@@ -9,13 +9,19 @@ use Rattle.mps_base.specs.Run.{Run, IsAscending, end_of}
 use Rattle.mps_base.specs.Segment.{Segment, segment_over, end_of_segment, grains_of_segment}
 use Rattle.mps_seg.specs.Segs.{SegsState}
 use Rattle.mps_amc.specs.Reclaiming.{lost_between}
-use Rattle.mps_trace.specs.Condemned.{AreAscending}
+use Rattle.mps_trace.specs.Condemned.{AreAscending, AreInOrder, IsNextCondemned}
 use Rattle.mps_trace_laws.specs.Reclaim.Left.{setting_freeing_in}
-use Rattle.mps_trace_laws.specs.Reclaim.Laws.{TheNextCanBeReclaimed, SegmentsAreInOrder}
 use Rattle.mps_trace_laws.proofs.Image.BlockRuns.{extents_ascend}
 use Rattle.mps_trace_laws.proofs.Reclaim.SegmentBounds.{aligned_in, segment_cases, contains_no_segment}
 use Rattle.mps_trace_laws.proofs.Reclaim.HeldSegments.{over_base}
 use Rattle.mps_trace_laws.proofs.Reclaim.LostRuns.{lost_among, first_or_not}
+use Rattle.mps_trace_laws.specs.Image.SegmentWords.{AreSegmentsInOrder}
+use Rattle.mps_base.specs.Trail.{Moves}
+use Rattle.mps_base.specs.declared.address.Addr.{Addr}
+use Rattle.mps_format.specs.Layout.{Layout}
+use Rattle.mps_abstract.specs.Collecting.{Collecting}
+use Rattle.mps_trace_laws.specs.Reclaim.Room.{HasRoomFor, CanBeReclaimed}
+use Rattle.mps_trace_laws.specs.Reclaim.Units.{FreesFor}
 
 -- no more blocks are lost than there are
 lost_few : (g : SegsState) (low high : ℕ) (rs : List Run) → length (lost_among g low high rs) ≤ length rs
@@ -27,7 +33,10 @@ lost_few g low high (r ∷ rs) =
       | inr later ↦ let e = ap (λ (xs : List Run). length xs) later in omega (arith, rest, e)
     ]
 
-pub the_next_can_be_reclaimed : TheNextCanBeReclaimed
+-- the next condemned segment can be reclaimed
+pub the_next_can_be_reclaimed : (x : Collecting) (g : SegsState) (layout : ℕ → Layout) (moves : Moves) (base : Addr)
+    → FreesFor g x.world x.running x.colours layout → (next : IsNextCondemned g x.cursor base.0) → HasRoomFor g moves next.segment
+    → CanBeReclaimed g moves base next.segment
 the_next_can_be_reclaimed x g layout moves base f next room =
     let t = next.segment in
     let aligned = aligned_in g.segments t f.stands.order.aligned next.listed in
@@ -78,7 +87,8 @@ small_bases low high (s ∷ ss) t aligned asc most there =
       | inr later ↦ small_bases (end_of (grains_of_segment s)) high ss t aligned.1 asc.2 most later
     ]
 
-pub segments_are_in_order : SegmentsAreInOrder
+-- segments in order are in the order that a search for the next condemned one needs
+pub segments_are_in_order : (g : SegsState) → AreSegmentsInOrder g.segments → AreInOrder g
 segments_are_in_order g order = record {
   ascending = bases_ascend 1 (max_grains + 1) 0 g.segments order.aligned order.ascending (λ n above. omega arith);
   small = λ t held. small_bases 1 (max_grains + 1) g.segments t order.aligned order.ascending (omega arith) held;

@@ -2,7 +2,7 @@
 use Rattle.std.proofs.Common.{◌≡◌, ◌∙◌, ℕ, Bool, true, false, not, refl, sym, ap, subst, List, [], ◌∷◌, ◌++◌, Option, Some, None, Contains, inl, inr, arith}
 use Rattle.std.proofs.lemmas.Bool.{cases_Bool, true≢false, eq-eqb, not_from_true, leb-true}
 use Rattle.std.proofs.lemmas.List.{append_assoc, append-nil}
-use Rattle.std.specs.Prelude.{if◌then◌else◌, ◌==◌, ◌≢◌, nat_le}
+use Rattle.std.specs.Prelude.{if◌then◌else◌, ◌==◌, ◌≢◌, nat_le, IsTrue}
 use Rattle.std.specs.List.{list_any}
 use Rattle.std.specs.Option.{option_map_or}
 use Rattle.mps_base.specs.Address.{Address, grain_of, word_of, Id}
@@ -40,7 +40,7 @@ use Rattle.mps_trace_laws.proofs.Reclaim.Ending.{image_at_rest}
 use Rattle.mps_trace_laws.specs.Reclaim.Freed.{addresses_of, addresses_without}
 use Rattle.mps_trace_laws.specs.Reclaim.Left.{IsUnreserved, StandsFreeing, IsReclaimShown, setting_freeing_in}
 use Rattle.mps_trace_laws.specs.Reclaim.Units.{FreesFor, GoesOnSo, IsUnitReclaimed, EndsSo}
-use Rattle.mps_trace_laws.specs.Reclaim.Laws.{TheMovesAreTheModels, AReclaimIsAUnit, TheLastReclaimEnds}
+use Rattle.mps_trace_laws.specs.Reclaim.Laws.{AReclaimIsAUnit}
 use Rattle.mps_trace_laws.proofs.Reclaim.SegmentBounds.{aligned_in}
 use Rattle.mps_trace_laws.proofs.Reclaim.Emptied.{none_begins, one_begins}
 use Rattle.mps_trace_laws.proofs.Reclaim.FreedImage.{frees_are_the_models, lost_blocks_are_freed}
@@ -351,7 +351,13 @@ module _ (x : Collecting) (g : SegsState) (layout : ℕ → Layout) (base : Addr
           ends_so g' last shown same false (still_used u found used)
           (f.segments ∙ sym (ap (λ (y : SegsState). y.segments) state ∙ segments_after (lost_of g u) g))
 
-pub the_moves_are_the_models : TheMovesAreTheModels
+-- the moves of a reclaim are the model's, but for the end of the collection, which comes after them where the segment is the last one
+pub the_moves_are_the_models : (f : Layout) (x : Collecting) (g : SegsState) (layout : ℕ → Layout) (base : Addr) (moves : Moves)
+    (g' : SegsState) (moves' : Moves)
+    → Running x → AreAllScanned x.colours → AreAllExamined x → FreesFor g x.world x.running x.colours layout
+    → (next : IsNextCondemned g x.cursor base.0) → IsReclaimed f g moves base g' moves'
+    → moves'.moves ++ end_where (is_last_condemned x.running next.segment.base)
+    ≡ moves.moves ++ reclaim_by x next.segment.base (addresses_of (lost_of g next.segment))
 the_moves_are_the_models fm x g layout base moves g' moves' run scanned examined f next reclaimed =
     moves_are x g layout base run scanned examined f next fm moves g' moves' reclaimed
 
@@ -359,6 +365,12 @@ pub a_reclaim_is_a_unit : AReclaimIsAUnit
 a_reclaim_is_a_unit fm x g layout base moves g' moves' run scanned examined f next unreserved reclaimed =
     is_unit x g layout base run scanned examined f next fm moves g' moves' unreserved reclaimed
 
-pub the_last_reclaim_ends : TheLastReclaimEnds
+-- after the last reclaim, once marks and condemned bits are ended, the segments stand for a world at rest
+pub the_last_reclaim_ends : (f : Layout) (x : Collecting) (g : SegsState) (base : Addr) (moves : Moves) (g' : SegsState)
+    (moves' : Moves) → Running x
+    → AreAllScanned x.colours → AreAllExamined x → FreesFor g x.world x.running x.colours (pool_layout x.world)
+    → (next : IsNextCondemned g x.cursor base.0) → IsUnreserved x.world.graph.points x.world.point_memories next.segment
+    → IsReclaimed f g moves base g' moves' → IsTrue (is_last_condemned x.running next.segment.base)
+    → EndsSo x next.segment (addresses_of (lost_of g next.segment)) g'
 the_last_reclaim_ends fm x g base moves g' moves' run scanned examined f next unreserved reclaimed last =
     ends x g (pool_layout x.world) base run scanned examined f next fm moves g' moves' refl unreserved last reclaimed

@@ -3,13 +3,30 @@ use Rattle.std.proofs.Common.{◌≡◌, ◌∙◌, ℕ, ◌<◌, ◌≤◌, sym
 use Rattle.std.proofs.lemmas.List.{append-nil}
 use Rattle.std.proofs.lemmas.Option.{none-some}
 use Rattle.std.specs.Prelude.{slice_get, slice_index_or, take}
-use Rattle.mps_base.specs.Address.{Id}
-use Rattle.mps_model.specs.Graph.{entries}
+use Rattle.mps_base.specs.Address.{Id, Address}
+use Rattle.mps_model.specs.Graph.{entries, ids_in_slots}
 use Rattle.mps_abstract.specs.Fixing.{Fixes, fixes_no_more}
 use Rattle.mps_trace_laws.proofs.Fix.ScanRun.{shaped_still}
-use Rattle.mps_trace_laws.specs.Roots.Beginning.{RootsAreSteps, RootsAreReady, WhatIsHeldIsFixed}
+use Rattle.mps_trace_laws.specs.Roots.Beginning.{AreRootsFixed}
 use Rattle.mps_trace_laws.proofs.Roots.Rows.{joined, still_where, run_messages, ready_messages}
 use Rattle.mps_trace_laws.proofs.Roots.Tables.{all_of, entries_append, still_held, run_tables, ready_tables}
+use Rattle.std.specs.List.{flat_map}
+use Rattle.mps_final.specs.State.{FinalsState}
+use Rattle.mps_format.specs.Layout.{Layout}
+use Rattle.mps_gen.specs.State.{ChainsState}
+use Rattle.mps_root.specs.State.{RootsState}
+use Rattle.mps_model.specs.World.{World}
+use Rattle.mps_abstract.specs.Collecting.{Collecting}
+use Rattle.mps_abstract.specs.FlipLaws.{FixesHeld}
+use Rattle.mps_trace_laws.specs.Image.Image.{CellSet, AreShaped}
+use Rattle.mps_trace.specs.Trace.{Traced, TraceState}
+use Rattle.mps_format.specs.declared.pool.Policy.{Policy}
+use Rattle.mps_trace_laws.specs.Image.Memory.{pool_layout}
+use Rattle.mps_trace.specs.Begin.{CanFixRoots}
+use Rattle.mps_trace_laws.specs.Fix.Tracing.{TracingStands}
+use Rattle.mps_trace_laws.specs.Roots.Rows.{AreHeldAtFlip}
+use Rattle.mps_trace_laws.specs.Roots.Tables.{AreTablesHeld}
+use Rattle.mps_trace.specs.Roots.{FixesMessages, FixesTables}
 
 whole : {A : Type 0} (xs : List A) (n : ℕ) → n ≡ length xs → take n xs ≡ xs
 whole xs n is = ap (λ m. take m xs) is ∙ go xs
@@ -23,7 +40,16 @@ row_below [] n row is = absurd (none-some row is)
 row_below (r ∷ rs) Rattle.std.proofs.Common.zero row is = omega arith
 row_below (r ∷ rs) (Rattle.std.proofs.Common.suc n) row is = let h = row_below rs n row is in omega (arith, h)
 
-pub roots_are_steps : {F : Type 0} → RootsAreSteps F
+-- fixing all slots and then all messages is steps of the abstract collector
+pub roots_are_steps : {F : Type 0}
+    → (layout : F → Layout) (formats : List (Option (Policy F))) (of : ChainsState) (at_flip : List (Option Address)) (done : CellSet)
+    (x between z : Traced) (y : Collecting) (rows : List (List (Option Id))) (ids : List Id) (roots roots' : RootsState)
+    (finals finals' : FinalsState)
+    → AreShaped y.world.graph.objects (pool_layout y.world) → TracingStands layout formats of at_flip done x y
+    → AreTablesHeld at_flip y roots rows → AreHeldAtFlip at_flip y finals.messages (map Some ids)
+    → FixesTables layout formats of roots x (length roots.order) roots' between
+    → FixesMessages layout formats of finals between (length finals.messages) finals' z
+    → AreRootsFixed layout formats of at_flip done x z y roots roots' finals' rows ids
 unfolding joined
 roots_are_steps {F} layout formats of at_flip done x between z y rows ids roots roots' finals finals' shaped stands held messages tables
     run =
@@ -54,7 +80,12 @@ roots_are_steps {F} layout formats of at_flip done x between z y rows ids roots 
           let low = row_below targets i t e in let long = messages.long in two.answers i t (omega (arith, low, long)) e;
     }
 
-pub roots_are_ready : {F : Type 0} → RootsAreReady F
+-- and they can be fixed
+pub roots_are_ready : {F : Type 0}
+    → (layout : F → Layout) (t : TraceState F) (at_flip : List (Option Address)) (done : CellSet) (x : Traced) (y : Collecting)
+    (rows : List (List (Option Id))) (ids : List Id) (roots : RootsState) (finals : FinalsState)
+    → AreShaped y.world.graph.objects (pool_layout y.world) → TracingStands layout t.formats t.chains at_flip done x y
+    → AreTablesHeld at_flip y roots rows → AreHeldAtFlip at_flip y finals.messages (map Some ids) → CanFixRoots layout t roots finals x
 roots_are_ready {F} layout t at_flip done x y rows ids roots finals shaped stands held messages = record {
   slots = λ count roots' w within tables slots roots'' z' below run.
       ready_tables layout t.formats t.chains at_flip done x y rows roots shaped stands held count slots roots' roots'' w z' within tables
@@ -71,7 +102,13 @@ entries_of_ids : (ids : List Id) → entries (map Some ids) ≡ ids
 entries_of_ids [] = refl
 entries_of_ids (id ∷ ids) = ap (λ ns. id ∷ ns) (entries_of_ids ids)
 
-pub what_is_held_is_fixed : {F : Type 0} → WhatIsHeldIsFixed F
+-- if the tables in order hold what slots of a world do, and messages are its messages, this is what a flip of that world fixes
+pub what_is_held_is_fixed : {F : Type 0}
+    → (layout : F → Layout) (formats : List (Option (Policy F))) (of : ChainsState) (at_flip : List (Option Address)) (done : CellSet)
+    (x z : Traced) (y : Collecting) (rows : List (List (Option Id))) (ids : List Id) (roots roots' : RootsState) (finals' : FinalsState)
+    (w : World) (all : AreRootsFixed layout formats of at_flip done x z y roots roots' finals' rows ids)
+    → entries (flat_map (λ row. row) rows) ≡ ids_in_slots w.graph → ids ≡ w.graph.messages
+    → FixesHeld w y all.fixed.moves all.fixed.after
 what_is_held_is_fixed {F} layout formats of at_flip done x z y rows ids roots roots' finals' w all slots messages =
     let f = all.fixed in
     let these = entries (all_of rows ++ map Some ids) in

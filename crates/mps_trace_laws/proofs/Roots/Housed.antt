@@ -2,7 +2,7 @@
 use Rattle.std.proofs.Common.{◌≡◌, ◌∙◌, ℕ, zero, suc, true, refl, sym, ap, List, [], ◌∷◌, ◌++◌, map, Option, Some, None, subst, inl, inr}
 use Rattle.std.proofs.lemmas.Bool.{false≢true}
 use Rattle.std.proofs.lemmas.List.{append-nil}
-use Rattle.std.specs.Prelude.{is_some, slice_get}
+use Rattle.std.specs.Prelude.{is_some, slice_get, length}
 use Rattle.mps_base.specs.Address.{Address, Id}
 use Rattle.mps_final.specs.State.{FinalsState}
 use Rattle.mps_format.specs.Layout.{Layout}
@@ -18,10 +18,14 @@ use Rattle.mps_trace.specs.Trace.{Traced}
 use Rattle.mps_trace_laws.specs.Fix.Housed.{AreHoused, AreLive, IsStrong}
 use Rattle.mps_trace_laws.proofs.Fix.Housed.{fixes_keep_housed}
 use Rattle.mps_trace_laws.proofs.Fix.Ranks.{fix_strong}
-use Rattle.mps_trace_laws.specs.Roots.Housed.{RootsKeepHoused}
 use Rattle.mps_trace_laws.specs.Roots.Rows.{AreHeldAtFlip}
 use Rattle.mps_trace_laws.proofs.Roots.Tables.{all_of}
 use Rattle.mps_format.specs.declared.pool.Policy.{Policy}
+use Rattle.mps_trace_laws.specs.Image.Image.{CellSet}
+use Rattle.mps_trace_laws.specs.Fix.Tracing.{TracingStands}
+use Rattle.mps_trace_laws.specs.Roots.Beginning.{AreRootsFixed}
+use Rattle.mps_trace_laws.specs.Roots.Tables.{AreTablesHeld}
+use Rattle.mps_trace_laws.specs.Roots.Housed.{AreRootsHoused}
 
 -- ---- what is held is live
 
@@ -79,7 +83,16 @@ module _ {F : Type 0} (layout : F → Layout) (formats : List (Option (Policy F)
 
 -- ---- all of them
 
-pub roots_keep_housed : {F : Type 0} → RootsKeepHoused F
+-- fixing all slots and then all messages keeps both
+pub roots_keep_housed : {F : Type 0}
+    → (layout : F → Layout) (formats : List (Option (Policy F))) (of : ChainsState) (at_flip : List (Option Address)) (done : CellSet)
+    (x between z : Traced) (y : Collecting) (rows : List (List (Option Id))) (ids : List Id) (roots roots' : RootsState)
+    (finals finals' : FinalsState)
+    → TracingStands layout formats of at_flip done x y → AreHoused y.world.graph.objects x.segs.segments y.world.addresses
+    → IsStrong x.segs → AreTablesHeld at_flip y roots rows → AreHeldAtFlip at_flip y finals.messages (map Some ids)
+    → FixesTables layout formats of roots x (length roots.order) roots' between
+    → FixesMessages layout formats of finals between (length finals.messages) finals' z
+    → (all : AreRootsFixed layout formats of at_flip done x z y roots roots' finals' rows ids) → AreRootsHoused z all.fixed.after
 roots_keep_housed layout formats of at_flip done x between z y rows ids roots roots' finals finals' stands housed strong held messages
     tables run all =
     let f = all.fixed in

@@ -16,7 +16,7 @@ use Rattle.mps_trace.specs.Roots.{FixesRoot, is_null, leads, CanFixRootAt}
 use Rattle.mps_trace_laws.specs.Fix.Tracing.{TracingStands, setting_of}
 use Rattle.mps_trace_laws.proofs.Fix.Found.{target_can_be_fixed}
 use Rattle.mps_trace_laws.proofs.Fix.EachFix.{fix_is_a_step}
-use Rattle.mps_trace_laws.specs.Roots.OneRoot.{AreFixed, MeansLive, RefersTo, IsRootStep, ARootCanBeFixed, ARootIsAStep}
+use Rattle.mps_trace_laws.specs.Roots.OneRoot.{AreFixed, MeansLive, RefersTo, IsRootStep}
 use Rattle.mps_format.specs.declared.pool.Policy.{Policy}
 
 -- nothing was fixed, where the targets are null
@@ -73,10 +73,19 @@ module _ {F : Type 0} (layout : F → Layout) (formats : List (Option (Policy F)
         answers = (step.there, step.not_white);
       }
 
-pub root_can_be_fixed : {F : Type 0} → ARootCanBeFixed F
+-- a slot can be fixed
+pub root_can_be_fixed : {F : Type 0}
+    → (layout : F → Layout) (formats : List (Option (Policy F))) (of : ChainsState) (at_flip : List (Option Address)) (done : CellSet)
+    (x : Traced) (y : Collecting) (at : Address) (target : Option Id) → AreShaped y.world.graph.objects (pool_layout y.world)
+    → TracingStands layout formats of at_flip done x y → RefersTo at_flip y at target → CanFixRootAt layout formats of x at
 root_can_be_fixed {F} layout formats of at_flip done x y at target shaped stands refers =
     can_root layout formats of at_flip done x y shaped stands at target refers
 
-pub root_is_a_step : {F : Type 0} → ARootIsAStep F
+-- and what the collector does with it is a step of the abstract collector
+pub root_is_a_step : {F : Type 0}
+    → (layout : F → Layout) (formats : List (Option (Policy F))) (of : ChainsState) (at_flip : List (Option Address)) (done : CellSet)
+    (x z : Traced) (y : Collecting) (at answer : Address) (target : Option Id) → AreShaped y.world.graph.objects (pool_layout y.world)
+    → TracingStands layout formats of at_flip done x y → RefersTo at_flip y at target
+    → FixesRoot layout formats of x at z answer → IsRootStep layout formats of at_flip done x z y target answer
 root_is_a_step {F} layout formats of at_flip done x z y at answer target shaped stands refers fixed =
     root_step layout formats of at_flip done x y shaped stands z at answer target refers fixed

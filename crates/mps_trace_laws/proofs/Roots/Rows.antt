@@ -24,7 +24,7 @@ use Rattle.mps_trace_laws.specs.Fix.Steps.{IsSameGraph}
 use Rattle.mps_trace_laws.specs.Fix.Tracing.{TracingStands}
 use Rattle.mps_trace_laws.proofs.Fix.ScanRun.{both_same, shaped_still}
 use Rattle.mps_trace_laws.specs.Roots.OneRoot.{RefersTo, IsWhere, AreFixed}
-use Rattle.mps_trace_laws.specs.Roots.Rows.{HoldsAtFlip, AreHeldAtFlip, AreFixedBefore, SlotsAreSteps, SlotsAreReady, MessagesAreSteps, MessagesAreReady}
+use Rattle.mps_trace_laws.specs.Roots.Rows.{HoldsAtFlip, AreHeldAtFlip, AreFixedBefore}
 use Rattle.mps_trace_laws.proofs.Roots.OneRoot.{can_root, none_fixed, root_step}
 use Rattle.mps_format.specs.declared.pool.Policy.{Policy}
 
@@ -217,18 +217,44 @@ module _ {F : Type 0} (layout : F → Layout) (formats : List (Option (Policy F)
     ready_messages count finals' z run within =
         can_next x y shaped stands finals.messages targets held z finals'.messages count (run_messages run (omega (arith, within))) within
 
-pub slots_are_steps : {F : Type 0} → SlotsAreSteps F
+-- fixing slots of a table is steps of the abstract collector
+pub slots_are_steps : {F : Type 0}
+    → (layout : F → Layout) (formats : List (Option (Policy F))) (of : ChainsState) (at_flip : List (Option Address)) (done : CellSet)
+    (x z : Traced) (y : Collecting) (targets : List (Option Id)) (key count : ℕ) (roots roots' : RootsState)
+    → AreShaped y.world.graph.objects (pool_layout y.world) → TracingStands layout formats of at_flip done x y
+    → AreHeldAtFlip at_flip y (items_of roots.tables key) targets → count ≤ length (items_of roots.tables key)
+    → FixesSlots layout formats of key roots x count roots' z
+    → AreFixedBefore layout formats of at_flip done x z y (items_of roots.tables key) (items_of roots'.tables key) targets count
 slots_are_steps {F} layout formats of at_flip done x z y targets key count roots roots' shaped stands held within run =
     run_slots layout formats of at_flip done x y targets key roots shaped stands held run within
 
-pub slots_are_ready : {F : Type 0} → SlotsAreReady F
+-- and each can be fixed when its turn comes
+pub slots_are_ready : {F : Type 0}
+    → (layout : F → Layout) (formats : List (Option (Policy F))) (of : ChainsState) (at_flip : List (Option Address)) (done : CellSet)
+    (x z : Traced) (y : Collecting) (targets : List (Option Id)) (key count : ℕ) (roots roots' : RootsState)
+    → AreShaped y.world.graph.objects (pool_layout y.world) → TracingStands layout formats of at_flip done x y
+    → AreHeldAtFlip at_flip y (items_of roots.tables key) targets → count < length (items_of roots.tables key)
+    → FixesSlots layout formats of key roots x count roots' z → CanFixRootAt layout formats of z (slot_of roots' key count)
 slots_are_ready {F} layout formats of at_flip done x z y targets key count roots roots' shaped stands held within run =
     ready_slots layout formats of at_flip done x y targets key roots shaped stands held count roots' z run within
 
-pub messages_are_steps : {F : Type 0} → MessagesAreSteps F
+-- fixing messages is steps of the abstract collector
+pub messages_are_steps : {F : Type 0}
+    → (layout : F → Layout) (formats : List (Option (Policy F))) (of : ChainsState) (at_flip : List (Option Address)) (done : CellSet)
+    (x z : Traced) (y : Collecting) (ids : List Id) (count : ℕ) (finals finals' : FinalsState)
+    → AreShaped y.world.graph.objects (pool_layout y.world) → TracingStands layout formats of at_flip done x y
+    → AreHeldAtFlip at_flip y finals.messages (map Some ids) → count ≤ length finals.messages
+    → FixesMessages layout formats of finals x count finals' z
+    → AreFixedBefore layout formats of at_flip done x z y finals.messages finals'.messages (map Some ids) count
 messages_are_steps {F} layout formats of at_flip done x z y ids count finals finals' shaped stands held within run =
     run_messages layout formats of at_flip done x y (map Some ids) finals shaped stands held run within
 
-pub messages_are_ready : {F : Type 0} → MessagesAreReady F
+-- and each can be fixed when its turn comes
+pub messages_are_ready : {F : Type 0}
+    → (layout : F → Layout) (formats : List (Option (Policy F))) (of : ChainsState) (at_flip : List (Option Address)) (done : CellSet)
+    (x z : Traced) (y : Collecting) (ids : List Id) (count : ℕ) (finals finals' : FinalsState)
+    → AreShaped y.world.graph.objects (pool_layout y.world) → TracingStands layout formats of at_flip done x y
+    → AreHeldAtFlip at_flip y finals.messages (map Some ids) → count < length finals.messages
+    → FixesMessages layout formats of finals x count finals' z → CanFixRootAt layout formats of z (message_of finals' count)
 messages_are_ready {F} layout formats of at_flip done x z y ids count finals finals' shaped stands held within run =
     ready_messages layout formats of at_flip done x y (map Some ids) finals shaped stands held count finals' z run within

@@ -1,7 +1,7 @@
 -- The last band begins where nothing is grey in words.
 use Rattle.std.proofs.Common.{◌≡◌, ◌∙◌, ℕ, ◌≤◌, Bool, true, false, refl, sym, subst, List, [], ◌∷◌, Contains, inl, inr, arith}
 use Rattle.std.proofs.lemmas.Bool.{cases_Bool, true≢false}
-use Rattle.std.specs.Prelude.{◌||◌, ◌+◌, ◌*◌, map}
+use Rattle.std.specs.Prelude.{◌||◌, ◌+◌, ◌*◌, map, Option}
 use Rattle.std.specs.List.{AllByRecursion}
 use Rattle.mps_base.specs.Address.{Address, word_of, max_grains, grain_of, address_of_grain, words_of_grain}
 use Rattle.mps_base.specs.Run.{Run, IsAscending, end_of}
@@ -20,9 +20,11 @@ use Rattle.mps_trace.specs.Trace.{Traced}
 use Rattle.mps_trace_laws.specs.Fix.Tracing.{AreHeld}
 use Rattle.mps_trace_laws.proofs.Reclaim.SegmentBounds.{segment_cases, contains_no_segment}
 use Rattle.mps_trace_laws.proofs.Reclaim.LastBand.{the_last_band_begins}
-use Rattle.mps_trace_laws.specs.Units.Standing.{StandsTracing, StandsReclaiming, tracing, reclaiming, AreInArena}
-use Rattle.mps_trace_laws.specs.Units.Laws.{TheLastBandIsEntered}
+use Rattle.mps_trace_laws.specs.Units.Standing.{StandsTracing, StandsReclaiming, tracing, reclaiming, AreInArena, UnitStands}
 use Rattle.mps_format.specs.declared.pool.Policy.{Policy}
+use Rattle.mps_format.specs.Layout.{Layout}
+use Rattle.mps_gen.specs.State.{ChainsState}
+use Rattle.mps_trace.specs.declared.running.Running.{Running as RunningState}
 
 -- ---- segments
 
@@ -91,7 +93,10 @@ module _ {F : Type 0} (layout : F → Rattle.mps_format.specs.Layout.Layout) (fo
     room = st.traces.room;
   }
 
-pub the_last_band_is_entered : {F : Type 0} → TheLastBandIsEntered F
+-- where nothing but weak blocks is grey the state stands in the last band
+pub the_last_band_is_entered : {F : Type 0}
+    → (layout : F → Layout) (formats : List (Option (Policy F))) (of : ChainsState) (at_flip : List (Option Address)) (x : Traced)
+    (run : RunningState) (y : Collecting) → UnitStands layout formats of at_flip x run y → IsDrained x.segs → StandsReclaiming x y
 the_last_band_is_entered layout formats of at_flip x run y stands drained =
     elim stands.band [
       | tracing st ↦ entered layout formats of at_flip x y stands.running st drained

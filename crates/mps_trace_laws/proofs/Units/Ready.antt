@@ -3,7 +3,7 @@
 use Rattle.std.proofs.Common.{◌≡◌, ◌∙◌, ◌⊎◌, suc, ◌+◌, ◌*◌, ◌<◌, ◌≤◌, true, false, refl, sym, ap, subst, List, [], ◌∷◌, Option, Some, length, Contains, inl, inr, arith}
 use Rattle.std.proofs.lemmas.Bool.{cases_Bool, cases_lt}
 use Rattle.std.proofs.lemmas.Option.{same_Some}
-use Rattle.std.specs.Prelude.{IsTrue}
+use Rattle.std.specs.Prelude.{IsTrue, ℕ}
 use Rattle.mps_base.specs.Address.{Address, grain_of, word_of, words_of_grain}
 use Rattle.mps_base.specs.Run.{IsAscending}
 use Rattle.mps_base.specs.Segment.{Segment, segment_over, end_of_segment}
@@ -20,7 +20,7 @@ use Rattle.mps_trace_laws.specs.Image.Memory.{pool_layout}
 use Rattle.mps_trace.specs.Condemned.{IsNextCondemned, NoneLeft}
 use Rattle.mps_trace.specs.Reclaim.{CanReclaimAt}
 use Rattle.mps_trace.specs.Trace.{TraceState, traced}
-use Rattle.mps_trace.specs.Unit.{CanReclaimNext, HasRoomToEnd}
+use Rattle.mps_trace.specs.Unit.{CanReclaimNext, HasRoomToEnd, AreUnitsReady, CanUnit}
 use Rattle.mps_trace.specs.declared.running.Running.{Running as RunningState}
 use Rattle.mps_trace_laws.proofs.Image.BlockRuns.{extents_ascend}
 use Rattle.mps_trace_laws.proofs.Reclaim.SegmentBounds.{aligned_in, segment_cases, contains_no_segment}
@@ -30,7 +30,7 @@ use Rattle.mps_trace_laws.proofs.Reclaim.Next.{next_reclaimed}
 use Rattle.mps_trace_laws.proofs.Reclaim.Room.{segments_are_in_order}
 use Rattle.mps_trace_laws.specs.Reclaim.Left.{setting_freeing_in}
 use Rattle.mps_trace_laws.specs.Units.Standing.{StandsReclaiming, UnitStands}
-use Rattle.mps_trace_laws.specs.Units.Laws.{AUnitIsReady, UnitsAreReady}
+use Rattle.mps_trace_laws.specs.Units.Laws.{AreScansDone}
 use Rattle.mps_trace_laws.proofs.Units.Entering.{the_last_band_is_entered}
 use Rattle.mps_trace_laws.proofs.Units.RoomLeft.{lost_within}
 use Rattle.mps_trace_laws.proofs.Units.Rows.{row_done}
@@ -218,7 +218,10 @@ module _ {F : Type 0} (layout : F → Layout) (t : TraceState F) (s : SegsState)
         room = λ base low. to_end base (at_cursor base.0 low);
       }
 
-pub a_unit_is_ready : {F : Type 0} → AUnitIsReady F
+-- while the state stands a unit can be done
+pub a_unit_is_ready : {F : Type 0}
+    → (layout : F → Layout) (t : TraceState F) (s : SegsState) (m : Moves) (at_flip : List (Option Address)) (run : RunningState)
+    (y : Collecting) → UnitStands layout t.formats t.chains at_flip (traced t s m) run y → CanUnit layout t s m run
 a_unit_is_ready layout t s m at_flip run y stands = record {
   scan = scans_are_ready layout t s m at_flip run y stands;
   reclaim = λ drained.
@@ -226,7 +229,11 @@ a_unit_is_ready layout t s m at_flip run y stands = record {
       (the_last_band_is_entered layout t.formats t.chains at_flip (traced t s m) run y stands drained);
 }
 
-pub units_are_ready : {F : Type 0} → UnitsAreReady F
+-- and where scans are units each of n units can be done when its turn comes
+pub units_are_ready : {F : Type 0}
+    → (layout : F → Layout) (t : TraceState F) (s : SegsState) (m : Moves) (at_flip : List (Option Address)) (run : RunningState)
+    (y : Collecting) (most : ℕ) → AreScansDone layout t.formats t.chains at_flip
+    → UnitStands layout t.formats t.chains at_flip (traced t s m) run y → AreUnitsReady layout t s m run most
 units_are_ready layout t s m at_flip run y most scanning stands count v run' less units =
     let row = row_done layout t.formats t.chains at_flip scanning (traced t s m) run y stands v run' count units in
     a_unit_is_ready layout (record t { amc = v.amc }) v.segs v.moves at_flip run' row.after row.stands

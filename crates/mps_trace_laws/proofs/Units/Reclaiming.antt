@@ -24,7 +24,7 @@ use Rattle.mps_abstract.proofs.Reclaiming.{goes_on_leads, last_leads, reclaims_s
 use Rattle.mps_trace_laws.specs.Image.Memory.{pool_layout}
 use Rattle.mps_trace.specs.Condemned.{IsNextCondemned, NoneLeft}
 use Rattle.mps_trace.specs.Trace.{Traced}
-use Rattle.mps_trace.specs.Unit.{ReclaimsNext, reclaimed_at}
+use Rattle.mps_trace.specs.Unit.{ReclaimsNext, reclaimed_at, LastUnitTo}
 use Rattle.mps_trace.specs.declared.running.Running.{Running as RunningState}
 use Rattle.mps_trace_laws.proofs.Reclaim.Next.{next_reclaimed}
 use Rattle.mps_trace_laws.proofs.Reclaim.HeldSegments.{was_held, over_base}
@@ -35,7 +35,7 @@ use Rattle.mps_trace_laws.specs.Reclaim.Freed.{addresses_of}
 use Rattle.mps_trace_laws.specs.Reclaim.Left.{IsUnreserved}
 use Rattle.mps_trace_laws.specs.Reclaim.Units.{FreesFor, GoesOnSo}
 use Rattle.mps_trace_laws.specs.Units.Standing.{StandsReclaiming, UnitStands, IsMoving, reclaiming}
-use Rattle.mps_trace_laws.specs.Units.Laws.{HasSegmentsOf, IsTracedUnitDone, AReclaimIsDone, TheLastUnitIsDone}
+use Rattle.mps_trace_laws.specs.Units.Laws.{HasSegmentsOf, IsTracedUnitDone, IsLastTracedUnitDone}
 use Rattle.mps_trace_laws.specs.Fix.Tracing.{moves_left}
 use Rattle.mps_trace_laws.proofs.Units.Entering.{the_last_band_is_entered}
 use Rattle.mps_trace_laws.proofs.Units.RoomLeft.{moves_left_after, spare_after}
@@ -221,13 +221,22 @@ module _ {F : Type 0} (layout : F → Layout) (formats : List (Option (Policy F)
           ∙ ap (λ b. z.moves.moves ++ end_where b) (sym more) ∙ trail_is;
     }
 
-pub a_reclaim_is_done : {F : Type 0} → AReclaimIsDone F
+-- a reclaim after which others are left is a unit of the abstract collector
+pub a_reclaim_is_done : {F : Type 0}
+    → (layout : F → Layout) (formats : List (Option (Policy F))) (of : ChainsState) (at_flip : List (Option Address)) (x z : Traced)
+    (run : RunningState) (y : Collecting) (base left : Addr) → UnitStands layout formats of at_flip x run y
+    → ReclaimsNext layout formats x run base z → IsNextCondemned x.segs (base.0 + 1) left.0
+    → IsTracedUnitDone layout formats of at_flip x y z (reclaimed_at base run)
 a_reclaim_is_done layout formats of at_flip x z run y base left stands next other =
     done layout formats of at_flip x z run y base stands next (not_last layout formats of at_flip x z run y base stands next left other)
 
 -- ---- the last one
 
-pub the_last_unit_is_done : {F : Type 0} → TheLastUnitIsDone F
+-- the last unit is the abstract collector's
+pub the_last_unit_is_done : {F : Type 0}
+    → (layout : F → Layout) (formats : List (Option (Policy F))) (of : ChainsState) (at_flip : List (Option Address)) (x z : Traced)
+    (run : RunningState) (y : Collecting) → UnitStands layout formats of at_flip x run y → LastUnitTo layout formats x run z
+    → IsLastTracedUnitDone x y z
 the_last_unit_is_done layout formats of at_flip x z run y stands unit =
     let next = unit.reclaimed in
     let band = last_band layout formats of at_flip x unit.before run y unit.base stands next in

@@ -8,16 +8,17 @@ use Rattle.mps_trace_laws.specs.Image.AtRest.{StandsAtRest}
 use Rattle.mps_model.proofs.Cutting.{world_after_moves-append}
 use Rattle.mps_model.specs.Effect.{world_after_moves}
 use Rattle.mps_model.specs.World.{World}
-use Rattle.mps_abstract.specs.Collecting.{Collecting}
+use Rattle.mps_abstract.specs.Collecting.{Collecting, units_left}
 use Rattle.mps_abstract.specs.Units.{GoesOn, begun, by_one_more, by_last}
 use Rattle.mps_abstract.proofs.Rows.{units_done}
 use Rattle.mps_trace.specs.Trace.{Traced}
-use Rattle.mps_trace.specs.Unit.{UnitTo, scans, reclaims, UnitsTo, begins, goes_on}
+use Rattle.mps_trace.specs.Unit.{UnitTo, scans, reclaims, UnitsTo, begins, goes_on, EndsWithin}
 use Rattle.mps_trace.specs.declared.running.Running.{Running as RunningState}
 use Rattle.mps_trace_laws.specs.Units.Standing.{UnitStands}
-use Rattle.mps_trace_laws.specs.Units.Laws.{HasSegmentsOf, AreScansDone, IsTracedUnitDone, AreTracedUnitsDone, UnitsAreDone, TheEndIsDone, TracedUnitsRunOut}
+use Rattle.mps_trace_laws.specs.Units.Laws.{HasSegmentsOf, AreScansDone, IsTracedUnitDone, AreTracedUnitsDone, AreLastTracedUnitsDone}
 use Rattle.mps_trace_laws.proofs.Units.Reclaiming.{a_reclaim_is_done, the_last_unit_is_done}
 use Rattle.mps_format.specs.declared.pool.Policy.{Policy}
+use Rattle.std.specs.Prelude.{◌<◌, suc}
 
 module _ {F : Type 0} (layout : F → Layout) (formats : List (Option (Policy F))) (of : ChainsState) (at_flip : List (Option Address))
     (scanning : AreScansDone layout formats of at_flip) where
@@ -56,11 +57,21 @@ module _ {F : Type 0} (layout : F → Layout) (formats : List (Option (Policy F)
       let before = row_done x run y stands v run' count units in
       one_more x v z run' run'' y count before (unit_done v z run' run'' before.after before.stands unit)
 
-pub units_are_done : {F : Type 0} → UnitsAreDone F
+-- where scans are units of the abstract collector, rows of units are
+pub units_are_done : {F : Type 0}
+    → (layout : F → Layout) (formats : List (Option (Policy F))) (of : ChainsState) (at_flip : List (Option Address)) (x z : Traced)
+    (run run' : RunningState) (y : Collecting) (count : ℕ) → AreScansDone layout formats of at_flip
+    → UnitStands layout formats of at_flip x run y → UnitsTo layout formats of x run count z run'
+    → AreTracedUnitsDone layout formats of at_flip x y count z run'
 units_are_done layout formats of at_flip x z run run' y count scanning stands units =
     row_done layout formats of at_flip scanning x run y stands z run' count units
 
-pub the_end_is_done : {F : Type 0} → TheEndIsDone F
+-- and where the collection ends the abstract one does
+pub the_end_is_done : {F : Type 0}
+    → (layout : F → Layout) (formats : List (Option (Policy F))) (of : ChainsState) (at_flip : List (Option Address)) (x z : Traced)
+    (run : RunningState) (y : Collecting) (most : ℕ) → AreScansDone layout formats of at_flip
+    → UnitStands layout formats of at_flip x run y → (ends : EndsWithin layout formats of x run most z)
+    → AreLastTracedUnitsDone x y (suc ends.count) z
 the_end_is_done layout formats of at_flip x z run y most scanning stands ends =
     let before = row_done layout formats of at_flip scanning x run y stands ends.before ends.run_before ends.count ends.units in
     let last = the_last_unit_is_done layout formats of at_flip ends.before z ends.run_before before.after before.stands ends.last in
@@ -77,7 +88,11 @@ the_end_is_done layout formats of at_flip x z run y most scanning stands ends =
       trail = last.trail ∙ ap (λ ms. ms ++ last.moves) before.trail ∙ append_assoc x.moves.moves before.moves last.moves;
     }
 
-pub units_run_out : {F : Type 0} → TracedUnitsRunOut F
+-- a collection doesn't go on after as many units as the abstract collector has left
+pub units_run_out : {F : Type 0}
+    → (layout : F → Layout) (formats : List (Option (Policy F))) (of : ChainsState) (at_flip : List (Option Address)) (x z : Traced)
+    (run run' : RunningState) (y : Collecting) (count : ℕ) → AreScansDone layout formats of at_flip
+    → UnitStands layout formats of at_flip x run y → UnitsTo layout formats of x run count z run' → count < units_left y
 units_run_out layout formats of at_flip x z run run' y count scanning stands units =
     let row = row_done layout formats of at_flip scanning x run y stands z run' count units in
     let shown = units_done y row.after count row.moves stands.running row.units in

@@ -8,7 +8,7 @@ use Rattle.mps_base.specs.declared.moves.Move.{Move}
 use Rattle.mps_bits.specs.Table.{bit}
 use Rattle.mps_format.specs.Layout.{Layout}
 use Rattle.mps_gen.specs.State.{ChainsState}
-use Rattle.mps_seg.specs.Segs.{at_word}
+use Rattle.mps_seg.specs.Segs.{at_word, SegsState}
 use Rattle.mps_model.specs.Accessing.{address_or_null}
 use Rattle.mps_model.specs.Graph.{Cell, ReferenceCell, Body, Automatic, Manual, Object, contains, entry_at, targets, targets_of, targets_of_body, targets_of_cells, target_of_cell, is_automatic, is_automatic_body}
 use Rattle.mps_abstract.specs.Colours.{is_grey}
@@ -24,8 +24,8 @@ use Rattle.mps_abstract.proofs.WholeCollections.WholePaths.{fixed_same}
 use Rattle.mps_abstract.proofs.Calls.ClientLists.{among_entries, map-slice_get}
 use Rattle.mps_trace_laws.specs.Image.Image.{black_cells}
 use Rattle.mps_trace_laws.specs.Image.Memory.{all_cells}
-use Rattle.mps_trace.specs.Scan.{ScansOne}
-use Rattle.mps_trace.specs.Trace.{Traced, traced}
+use Rattle.mps_trace.specs.Scan.{ScansOne, CanScanGrey}
+use Rattle.mps_trace.specs.Trace.{Traced, traced, TraceState}
 use Rattle.mps_trace.specs.declared.running.Running.{Running as RunningState}
 use Rattle.mps_trace_laws.specs.Fix.Housed.{AreHoused, AreLive, IsStrong}
 use Rattle.mps_trace_laws.specs.Fix.Scanning.{IsToBeScanned, IsScan}
@@ -40,8 +40,9 @@ use Rattle.mps_trace_laws.specs.Reclaim.Left.{IsUnreserved}
 use Rattle.mps_trace_laws.proofs.Reclaim.HeldSegments.{found_at, found_held, same_base}
 use Rattle.mps_trace_laws.proofs.Units.Entering.{held_in_order}
 use Rattle.mps_trace_laws.specs.Units.Standing.{AreCondemnedUnreserved, StandsTracing, UnitStands, IsMoving, tracing, reclaiming}
-use Rattle.mps_trace_laws.specs.Units.Laws.{ScansAreDone, ScansAreReady, IsTracedUnitDone}
+use Rattle.mps_trace_laws.specs.Units.Laws.{IsTracedUnitDone, AreScansDone}
 use Rattle.mps_format.specs.declared.pool.Policy.{Policy}
+use Rattle.mps_base.specs.Trail.{Moves}
 
 -- ---- what fixes leave of a world
 
@@ -255,10 +256,16 @@ module _ {F : Type 0} (layout : F → Layout) (formats : List (Option (Policy F)
       trail = scan.trail;
     }
 
-pub scans_are_done : {F : Type 0} → ScansAreDone F
+-- each scan of a grey block is a unit of the abstract collector
+pub scans_are_done : {F : Type 0}
+    → (layout : F → Layout) (formats : List (Option (Policy F))) (of : ChainsState) (at_flip : List (Option Address))
+    → AreScansDone layout formats of at_flip
 scans_are_done layout formats of at_flip x z run y stands one = scan_done layout formats of at_flip x run y stands z one
 
-pub scans_are_ready : {F : Type 0} → ScansAreReady F
+-- each grey block can be scanned
+pub scans_are_ready : {F : Type 0}
+    → (layout : F → Layout) (t : TraceState F) (s : SegsState) (m : Moves) (at_flip : List (Option Address)) (run : RunningState)
+    (y : Collecting) → UnitStands layout t.formats t.chains at_flip (traced t s m) run y → CanScanGrey layout t s m
 scans_are_ready layout t s m at_flip run y stands n grey =
     let g = grey_at layout t.formats t.chains at_flip (traced t s m) run y stands n grey in
     let found = scanned_next layout t.formats t.chains at_flip (traced t s m) run y stands n grey g in

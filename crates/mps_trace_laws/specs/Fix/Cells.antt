@@ -40,19 +40,3 @@ pub record IsCellStep {F : Type 0} (layout : F → Layout) (formats : List (Opti
   pub same : IsSameGraph y.world after.world
   pub same_condemned : after.running.condemned ≡ y.running.condemned
 
--- a reference of an object that isn't white can be fixed, if what it refers to is live
-abbrev pub ACellCanBeFixed : (F : Type 0) → Type 0
-ACellCanBeFixed F =
-    (layout : F → Layout) (formats : List (Option (Policy F))) (of : ChainsState) (at_flip : List (Option Address)) (done : CellSet)
-    (x : Traced) (y : Collecting) (holder i : ℕ) (at : Addr) (o : Object) (target : Option Id) (tag : ℕ)
-    → AreShaped y.world.graph.objects (pool_layout y.world) → TracingStands layout formats of at_flip done x y
-    → HoldsReference y holder i at.0 o target tag → CanFixCellAt layout (pool_layout y.world o.pool) formats of x at i
-
--- and what the collector does with it is a step of the abstract collector
-abbrev pub ACellIsAStep : (F : Type 0) → Type 0
-ACellIsAStep F =
-    (layout : F → Layout) (formats : List (Option (Policy F))) (of : ChainsState) (at_flip : List (Option Address)) (done : CellSet)
-    (x z : Traced) (y : Collecting) (holder i : ℕ) (at : Addr) (o : Object) (target : Option Id) (tag : ℕ)
-    → AreShaped y.world.graph.objects (pool_layout y.world) → TracingStands layout formats of at_flip done x y
-    → HoldsReference y holder i at.0 o target tag → FixesCell layout (pool_layout y.world o.pool) formats of at i x z
-    → IsCellStep layout formats of at_flip done x z y target holder i

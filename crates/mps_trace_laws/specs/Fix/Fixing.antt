@@ -32,10 +32,3 @@ pub record FixedInWords (at_flip : List (Option Address)) (y : Collecting) (s s'
 abbrev pub AreLawful : (layout_of : ℕ → Layout) → Type 0
 AreLawful layout_of = (pool : ℕ) → IsLawful (layout_of pool)
 
--- an address that means a live automatic object can be fixed
-abbrev pub ATargetCanBeFixed : (F : Type 0) → Type 0
-ATargetCanBeFixed F =
-    (layout : F → Layout) (formats : List (Option (Policy F))) (of : ChainsState) (at_flip : List (Option Address)) (done : CellSet)
-    (x : Traced) (y : Collecting) (at : Addr) (t : Id) (now : Address) (o : Object)
-    → AreShaped y.world.graph.objects (pool_layout y.world) → TracingStands layout formats of at_flip done x y
-    → Target (setting_of x.segs at_flip y) y.world.addresses t at.0 now o → CanFixAt layout formats of x at.0

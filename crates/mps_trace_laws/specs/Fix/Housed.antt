@@ -40,14 +40,6 @@ AreHoused objects segments addresses =
 abbrev pub AreLive : List Id → World → Type 0
 AreLive ids w = (id : Id) → contains ids id ≡ true → is_live w id ≡ true
 
--- if live objects are fixed, each object lies in one segment then, if each did before
-abbrev pub FixesKeepHoused : (F : Type 0) → Type 0
-FixesKeepHoused F =
-    (layout : F → Layout) (formats : List (Option (Policy F))) (of : ChainsState) (at_flip : List (Option Address)) (done : CellSet) (x : Traced)
-    (y after : Collecting) (ids : List Id) (moves : List Move) → TracingStands layout formats of at_flip done x y
-    → AreHoused y.world.graph.objects x.segs.segments y.world.addresses → AreLive ids y.world → Fixes y ids moves after
-    → AreHoused after.world.graph.objects after.world.segments after.world.addresses
-
 -- ---- ranks
 
 -- no weak block is grey
@@ -62,24 +54,6 @@ AreAllExact segments = (t : Segment) → Contains segments t → t.rank ≡ Exac
 pub record IsStrong (s : SegsState) : Type 0 where
   pub exact : AreAllExact s.segments
   pub marks : HasNoWeakMark s
-
--- of a well-formed world in which each automatic pool moves blocks no segment is
-abbrev pub CopyingSegmentsAreExact : Type 0
-CopyingSegmentsAreExact =
-    (w : World) → IsWellFormed w → ((pool : ℕ) → pool_is is_automatic_kind w pool ≡ true → is_copying_pool w pool ≡ true)
-    → AreAllExact w.segments
-
--- a fix leaves none
-abbrev pub AFixKeepsRanks : (F : Type 0) → Type 0
-AFixKeepsRanks F =
-    (layout : F → Layout) (formats : List (Option (Policy F))) (of : ChainsState) (x z : Traced) (at answer : Addr)
-    → FixesTo layout formats of x at z answer → IsStrong x.segs → IsStrong z.segs
-
--- and so does a scan
-abbrev pub AScanKeepsRanks : (F : Type 0) → Type 0
-AScanKeepsRanks F =
-    (layout : F → Layout) (formats : List (Option (Policy F))) (of : ChainsState) (x z : Traced) → ScansOne layout formats of x z
-    → IsStrong x.segs → IsStrong z.segs
 
 -- ---- vectors: two segments of one grain, the second of which begins where the first ends
 

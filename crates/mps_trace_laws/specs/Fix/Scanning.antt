@@ -49,24 +49,6 @@ pub record IsScannedTo {F : Type 0} (layout : F → Layout) (formats : List (Opt
   pub same : IsSameGraph y.world after.world
   pub same_condemned : after.running.condemned ≡ y.running.condemned
 
--- while an object is scanned, each of its references can be fixed when its turn comes
-abbrev pub AScanIsReady : (F : Type 0) → Type 0
-AScanIsReady F =
-    (layout : F → Layout) (formats : List (Option (Policy F))) (of : ChainsState) (at_flip : List (Option Address)) (done : CellSet)
-    (x : Traced) (y : Collecting) (holder : Id) (at : Addr) (o : Object) → AreShaped y.world.graph.objects (pool_layout y.world)
-    → TracingStands layout formats of at_flip done x y → IsToBeScanned y holder at.0 o
-    → AreReady layout (pool_layout y.world o.pool) formats of (head_of_body o.body) at x
-
--- and the run up to a cell is one of steps of the abstract collector
-abbrev pub AScanIsOfSteps : (F : Type 0) → Type 0
-AScanIsOfSteps F =
-    (layout : F → Layout) (formats : List (Option (Policy F))) (of : ChainsState) (at_flip : List (Option Address)) (done : CellSet)
-    (x z : Traced) (y : Collecting) (holder : Id) (at : Addr) (o : Object) (before : ℕ)
-    → AreShaped y.world.graph.objects (pool_layout y.world) → TracingStands layout formats of at_flip done x y
-    → IsToBeScanned y holder at.0 o
-    → ScansTo layout (pool_layout y.world o.pool) formats of (head_of_body o.body) at x before z
-    → IsScannedTo layout formats of at_flip done x z y holder o before
-
 -- all references of an object were fixed, and it is grey no longer: what a unit of the abstract collector does that scans it
 pub record IsScan {F : Type 0} (layout : F → Layout) (formats : List (Option (Policy F))) (of : ChainsState) (at_flip : List (Option Address))
     (x z : Traced) (y : Collecting) (holder : Id)
@@ -86,9 +68,3 @@ AScanIsAScan F =
     → TracingStands layout formats of at_flip (black_cells y.running.condemned y.colours) x y → IsToBeScanned y holder at.0 o
     → Scanned layout formats of x at z → IsScan layout formats of at_flip x z y holder
 
--- a block of a live object that isn't white, if all that it refers to is live, can be scanned
-abbrev pub AnObjectCanBeScanned : (F : Type 0) → Type 0
-AnObjectCanBeScanned F =
-    (layout : F → Layout) (t : TraceState F) (s : SegsState) (m : Moves) (at_flip : List (Option Address)) (done : CellSet)
-    (y : Collecting) (holder : Id) (at : Addr) (o : Object) → AreShaped y.world.graph.objects (pool_layout y.world)
-    → TracingStands layout t.formats t.chains at_flip done (traced t s m) y → IsToBeScanned y holder at.0 o → CanScan layout t s m at

@@ -39,12 +39,6 @@ pub record IsFlipOfEverything (ts : List Segment) (w : World) : Type 0 where
   pub zones : zones_of ts ≡ condemned_zones w Everything
   pub move : Flip (record { 0 = zones_of ts }) max_chains 0 ≡ flip_of w Everything
 
--- if segments are those of a world, formats are of its automatic pools alone, and all of these move blocks
-abbrev pub AFlipIsTheModels : (F : Type 0) → Type 0
-AFlipIsTheModels F =
-    (formats : List (Option (Policy F))) (ts : List Segment) (w : World) → ts ≡ w.segments → AreFormatsOf formats (pool_is is_automatic_kind w)
-    → AllCopying (pool_is is_automatic_kind w) (is_copying_pool w) → IsFlipOfEverything (automatic_of formats ts) w
-
 -- ---- the segments after a flip
 
 -- segments begin with a grain for which there is a bit in a table of this many
@@ -62,11 +56,6 @@ pub record AreCondemnedToo (s after : SegsState) (bases : List Address) : Type 0
   -- if none was condemned before, exactly these are
   pub exactly : ((t : Segment) → Contains s.segments t → bit s.condemned (grain_of t.base) ≡ false) → (t : Segment)
       → Contains after.segments t → bit after.condemned (grain_of t.base) ≡ contains bases t.base
-
-abbrev pub AFlipCondemns : (F : Type 0) → Type 0
-AFlipCondemns F =
-    (formats : List (Option (Policy F))) (points : PointsState) (x : Traced) → BeginInTable x.segs.segments (length x.segs.condemned)
-    → AreCondemnedToo x.segs (at_flip formats points x).segs (bases_of (automatic_of formats x.segs.segments))
 
 -- ---- vectors: pool 1 alone is automatic
 

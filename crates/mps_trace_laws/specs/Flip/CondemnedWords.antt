@@ -30,11 +30,6 @@ pub record AreWordsCondemned {F : Type 0} (formats : List (Option (Policy F))) (
       → ((id k : ℕ) (o : Object) (n : Word) → Lies objects addresses id k o n → pool_over_word s n ≡ Some o.pool) → (id k : ℕ)
       (o : Object) (n : Word) → Lies objects addresses id k o n → is_condemned_word after n ≡ is_automatic formats o.pool
 
-abbrev pub AFlipCondemnsWords : (F : Type 0) → Type 0
-AFlipCondemnsWords F =
-    (formats : List (Option (Policy F))) (points : PointsState) (x : Traced) → AreReadyToCondemn x.segs
-    → AreWordsCondemned formats x.segs (at_flip formats points x).segs
-
 -- ---- vectors: one segment, of pool 1, which alone is automatic
 
 abbrev one_segment : SegsState

@@ -42,23 +42,6 @@ pub record AreCovered (s : SegsState) (extents reserved : List Run) : Type 0 whe
   pub reservations : s.reservations ≡ in_order reserved
   pub covered : s.covered ≡ in_order (extents ++ reserved)
 
-abbrev pub AFlipEndsReservations : (F : Type 0) → Type 0
-AFlipEndsReservations F =
-    (formats : List (Option (Policy F))) (points : PointsState) (x : Traced) (blocks : List Run)
-    → AreCovered x.segs blocks (open_runs points.flips points.points) → BeginApart blocks (open_runs points.flips points.points)
-    → AreCovered (at_flip formats points x).segs blocks []
-
--- if runs stand before a flip, what is covered ascends without overlap, and the reservations in words are those of points that no flip
--- ended, in whatever order these are, runs stand after it
-abbrev pub AFlipLeavesRuns : (F : Type 0) → Type 0
-AFlipLeavesRuns F =
-    (formats : List (Option (Policy F))) (points : PointsState) (x : Traced) (s : Setting) (addresses : List (Option Address))
-    (condemned : List Id) (is_condemned_over : Word → Bool) (high : ℕ) → RunsStand s (memory_in x.segs) addresses
-    → IsAscending 0 high x.segs.covered → x.segs.reservations ≡ in_order (open_runs points.flips points.points)
-    → RunsStand
-    (setting_flipped s addresses (map doomed s.points) (map without_buffer s.point_memories) condemned is_condemned_over)
-    (memory_in (at_flip formats points x).segs) addresses
-
 -- ---- vectors
 
 pub two_that_begin_together : (r : Run) → BeginApart (r ∷ []) (r ∷ []) → ⊥

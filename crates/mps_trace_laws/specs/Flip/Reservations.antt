@@ -16,11 +16,6 @@ pub record AreNoneLive (points : List (Option Point)) (memories : List PointMemo
   pub not_live : (point : ℕ) (r : Reservation) → live_reservation (entry_at points point) ≡ Some r → ⊥
   pub extents : reserved_extents points memories ≡ []
 
--- the points that the model's flip leaves
-abbrev pub NoReservationIsLive : Type 0
-NoReservationIsLive =
-    (points : List (Option Point)) (memories : List PointMemory) → AreNoneLive (map doomed points) (map without_buffer memories)
-
 -- words, blocks and marks are as before, and so are summaries and the size of the arena
 pub record IsNothingMoved (s after : SegsState) : Type 0 where
   pub words : after.words ≡ s.words
@@ -29,10 +24,6 @@ pub record IsNothingMoved (s after : SegsState) : Type 0 where
   pub grains : after.grains ≡ s.grains
   pub limit : after.limit ≡ s.limit
   pub summaries : after.summaries ≡ s.summaries
-
-abbrev pub AFlipMovesNothing : (F : Type 0) → Type 0
-AFlipMovesNothing F =
-    (formats : List (Option (Policy F))) (points : PointsState) (x : Traced) → IsNothingMoved x.segs (at_flip formats points x).segs
 
 -- ---- vectors: a point with an open reservation
 

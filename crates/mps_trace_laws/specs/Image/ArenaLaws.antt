@@ -13,12 +13,6 @@ use Rattle.mps_trace_laws.specs.Image.Memory.{Setting, Memory, Lies, memory_in, 
 use Rattle.mps_trace_laws.specs.Image.Image.{CellSet, ImageStands, Stands, no_colours}
 use Rattle.mps_trace_laws.specs.Image.Changes.{setting_with_points}
 
--- a new arena stands for no object
-abbrev pub ANewArenaStands : Type 0
-ANewArenaStands =
-    (grains limit : ℕ) (layout : ℕ → Layout)
-    → Stands (setting_at_rest (new_segments grains limit) [] [] [] layout) (memory_in (new_segments grains limit)) [] no_colours
-
 -- where blocks lie, and where blocks were that have moved, the same segments are held and condemned
 pub record AreSegmentsKept (s : Setting) (addresses : List (Option Address)) (pools : Word → Option ℕ) (condemned : Word → Bool) : Type 0
   where
@@ -33,24 +27,6 @@ pub record AreSegmentsKept (s : Setting) (addresses : List (Option Address)) (po
 -- the setting with these segments
 abbrev pub setting_with_segments : Setting → (pools : Word → Option ℕ) → (condemned : Word → Bool) → Setting
 setting_with_segments s pools condemned = record s { pool_over = pools; is_condemned_over = condemned }
-
--- segments are taken, or given back where nothing lies
-abbrev pub SegmentsChange : Type 0
-SegmentsChange =
-    (s : Setting) (m : Memory) (addresses : List (Option Address)) (k : Colours) (done : CellSet) (pools : Word → Option ℕ)
-    (condemned : Word → Bool) → ImageStands s m addresses k done → AreSegmentsKept s addresses pools condemned
-    → ImageStands (setting_with_segments s pools condemned) m addresses k done
-
--- points are made and dropped that have no live reservation: all live reservations were there
-abbrev pub PointsChange : Type 0
-PointsChange =
-    (s : Setting) (m : Memory) (addresses : List (Option Address)) (k : Colours) (done : CellSet) (points : List (Option Point))
-    (memories : List PointMemory) → ImageStands s m addresses k done
-    → ((i : ℕ) (r : Reservation) (memory : PointMemory) → live_reservation (entry_at points i) ≡ Some r → slice_get memories i ≡ Some memory
-    → (live_reservation (entry_at s.points i) ≡ Some r) × (slice_get s.point_memories i ≡ Some memory))
-    → ((i : ℕ) (r : Reservation) → live_reservation (entry_at points i) ≡ Some r → live_reservation (entry_at s.points i) ≡ Some r)
-    → reserved_extents points memories ≡ reserved_extents s.points s.point_memories
-    → ImageStands (setting_with_points s points memories) m addresses k done
 
 -- ---- vectors: a manual object at 0x1000, in a segment of pool 7
 

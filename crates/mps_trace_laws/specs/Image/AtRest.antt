@@ -32,21 +32,10 @@ pub record AreSelfContained (objects : List Object) (addresses : List (Option Ad
   pub within : (id i : ℕ) (o : Object) (n : Word) → Lies objects addresses id i o n → n < length words
   pub live : AreTargetsLive objects addresses
 
--- if no collection runs, the words of each live object are its image exactly if its cells' words refer to addresses of now
-abbrev pub RestingWordsAreImages : Type 0
-RestingWordsAreImages =
-    (w : World) (words : List ℕ) → AreSelfContained w.graph.objects w.addresses words
-    → CellsHold w.graph.objects w.addresses words ↔ HoldsImages w words
-
 -- the segments of an arena in which no collection runs represent a world
 abbrev pub StandsAtRest : SegsState → World → Type 0
 StandsAtRest s w =
     Stands (setting_at_rest s w.graph.objects w.graph.points w.point_memories (pool_layout w)) (memory_in s) w.addresses no_colours
-
--- so if no collection runs, the words of each live object are its image
-abbrev pub RestingArenaHoldsImages : Type 0
-RestingArenaHoldsImages =
-    (s : SegsState) (w : World) → StandsAtRest s w → AreTargetsLive w.graph.objects w.addresses → HoldsImages w s.words
 
 -- ---- vectors: object 0 at 0x1000 refers to itself, with the tag 3
 

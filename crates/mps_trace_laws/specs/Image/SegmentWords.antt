@@ -19,22 +19,6 @@ pub record AreSegmentsInOrder (ss : List Segment) : Type 0 where
   pub aligned : AllByRecursion (λ (t : Segment). t.base ≡ address_of_grain (grain_of t.base)) ss
   pub ascending : IsAscending 1 (max_grains + 1) (map grains_of_segment ss)
 
--- a run of words that a call of the segments found to be open is free, where no block was that has moved
-abbrev pub OpenWordsAreFree : Type 0
-OpenWordsAreFree =
-    (g : SegsState) (s : Setting) (addresses : List (Option Address)) (at : Address) (size : ℕ) → s.size ≡ words_of_arena g.grains
-    → RunsStand s (memory_in g) addresses → CanCover g (extent at size)
-    → ((k : ℕ) → k < size → IsOfNoMovedBlock s addresses (word_of at + k)) → AreFree s addresses at size
-
--- words of one held segment are home to its pool
-abbrev pub SegmentsAreHome : Type 0
-SegmentsAreHome =
-    (g : SegsState) (objects : List Object) (points : List (Option Point)) (memories : List PointMemory) (layout : ℕ → Layout)
-    (at_flip : List (Option Address)) (condemned : List Id) (is_read : Id → Bool) (t : Segment) (at : Address) (size : ℕ)
-    → AreSegmentsInOrder g.segments → Contains g.segments t → at % 8 ≡ 0 → 0 < size → word_of t.base ≤ word_of at
-    → word_of at + size ≤ word_of (end_of_segment t)
-    → AreHome (setting_in g objects points memories layout at_flip condemned is_read) at size t.pool
-
 -- ---- vectors
 
 abbrev first : Segment

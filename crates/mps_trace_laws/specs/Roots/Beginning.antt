@@ -32,31 +32,3 @@ pub record AreRootsFixed {F : Type 0} (layout : F → Layout) (formats : List (O
   pub messages : (i : ℕ) (target : Option Id) → slice_get (map Some ids) i ≡ Some target
       → IsWhere fixed.after (slice_index_or finals'.messages i 0) target
 
--- fixing all slots and then all messages is steps of the abstract collector
-abbrev pub RootsAreSteps : (F : Type 0) → Type 0
-RootsAreSteps F =
-    (layout : F → Layout) (formats : List (Option (Policy F))) (of : ChainsState) (at_flip : List (Option Address)) (done : CellSet)
-    (x between z : Traced) (y : Collecting) (rows : List (List (Option Id))) (ids : List Id) (roots roots' : RootsState)
-    (finals finals' : FinalsState)
-    → AreShaped y.world.graph.objects (pool_layout y.world) → TracingStands layout formats of at_flip done x y
-    → AreTablesHeld at_flip y roots rows → AreHeldAtFlip at_flip y finals.messages (map Some ids)
-    → FixesTables layout formats of roots x (length roots.order) roots' between
-    → FixesMessages layout formats of finals between (length finals.messages) finals' z
-    → AreRootsFixed layout formats of at_flip done x z y roots roots' finals' rows ids
-
--- and they can be fixed
-abbrev pub RootsAreReady : (F : Type 0) → Type 0
-RootsAreReady F =
-    (layout : F → Layout) (t : TraceState F) (at_flip : List (Option Address)) (done : CellSet) (x : Traced) (y : Collecting)
-    (rows : List (List (Option Id))) (ids : List Id) (roots : RootsState) (finals : FinalsState)
-    → AreShaped y.world.graph.objects (pool_layout y.world) → TracingStands layout t.formats t.chains at_flip done x y
-    → AreTablesHeld at_flip y roots rows → AreHeldAtFlip at_flip y finals.messages (map Some ids) → CanFixRoots layout t roots finals x
-
--- if the tables in order hold what slots of a world do, and messages are its messages, this is what a flip of that world fixes
-abbrev pub WhatIsHeldIsFixed : (F : Type 0) → Type 0
-WhatIsHeldIsFixed F =
-    (layout : F → Layout) (formats : List (Option (Policy F))) (of : ChainsState) (at_flip : List (Option Address)) (done : CellSet)
-    (x z : Traced) (y : Collecting) (rows : List (List (Option Id))) (ids : List Id) (roots roots' : RootsState) (finals' : FinalsState)
-    (w : World) (all : AreRootsFixed layout formats of at_flip done x z y roots roots' finals' rows ids)
-    → entries (flat_map (λ row. row) rows) ≡ ids_in_slots w.graph → ids ≡ w.graph.messages
-    → FixesHeld w y all.fixed.moves all.fixed.after

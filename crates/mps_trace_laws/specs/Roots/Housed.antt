@@ -21,14 +21,3 @@ pub record AreRootsHoused (z : Traced) (after : Collecting) : Type 0 where
   pub housed : AreHoused after.world.graph.objects z.segs.segments after.world.addresses
   pub strong : IsStrong z.segs
 
--- fixing all slots and then all messages keeps both
-abbrev pub RootsKeepHoused : (F : Type 0) → Type 0
-RootsKeepHoused F =
-    (layout : F → Layout) (formats : List (Option (Policy F))) (of : ChainsState) (at_flip : List (Option Address)) (done : CellSet)
-    (x between z : Traced) (y : Collecting) (rows : List (List (Option Id))) (ids : List Id) (roots roots' : RootsState)
-    (finals finals' : FinalsState)
-    → TracingStands layout formats of at_flip done x y → AreHoused y.world.graph.objects x.segs.segments y.world.addresses
-    → IsStrong x.segs → AreTablesHeld at_flip y roots rows → AreHeldAtFlip at_flip y finals.messages (map Some ids)
-    → FixesTables layout formats of roots x (length roots.order) roots' between
-    → FixesMessages layout formats of finals between (length finals.messages) finals' z
-    → (all : AreRootsFixed layout formats of at_flip done x z y roots roots' finals' rows ids) → AreRootsHoused z all.fixed.after

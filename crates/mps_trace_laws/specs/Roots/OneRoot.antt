@@ -57,17 +57,3 @@ pub record IsRootStep {F : Type 0} (layout : F → Layout) (formats : List (Opti
   pub fixed : AreFixed layout formats of at_flip done x z y (target ∷ [])
   pub answers : IsWhere fixed.after answer target
 
--- a slot can be fixed
-abbrev pub ARootCanBeFixed : (F : Type 0) → Type 0
-ARootCanBeFixed F =
-    (layout : F → Layout) (formats : List (Option (Policy F))) (of : ChainsState) (at_flip : List (Option Address)) (done : CellSet)
-    (x : Traced) (y : Collecting) (at : Address) (target : Option Id) → AreShaped y.world.graph.objects (pool_layout y.world)
-    → TracingStands layout formats of at_flip done x y → RefersTo at_flip y at target → CanFixRootAt layout formats of x at
-
--- and what the collector does with it is a step of the abstract collector
-abbrev pub ARootIsAStep : (F : Type 0) → Type 0
-ARootIsAStep F =
-    (layout : F → Layout) (formats : List (Option (Policy F))) (of : ChainsState) (at_flip : List (Option Address)) (done : CellSet)
-    (x z : Traced) (y : Collecting) (at answer : Address) (target : Option Id) → AreShaped y.world.graph.objects (pool_layout y.world)
-    → TracingStands layout formats of at_flip done x y → RefersTo at_flip y at target
-    → FixesRoot layout formats of x at z answer → IsRootStep layout formats of at_flip done x z y target answer

@@ -34,22 +34,3 @@ pub record AreTablesFixed {F : Type 0} (layout : F → Layout) (formats : List (
   pub rest : (n : ℕ) → before ≤ n → n < length roots.order
       → items_of roots'.tables (key_at roots n) ≡ items_of roots.tables (key_at roots n)
 
--- fixing tables is steps of the abstract collector
-abbrev pub TablesAreSteps : (F : Type 0) → Type 0
-TablesAreSteps F =
-    (layout : F → Layout) (formats : List (Option (Policy F))) (of : ChainsState) (at_flip : List (Option Address)) (done : CellSet)
-    (x z : Traced) (y : Collecting) (rows : List (List (Option Id))) (count : ℕ) (roots roots' : RootsState)
-    → AreShaped y.world.graph.objects (pool_layout y.world) → TracingStands layout formats of at_flip done x y
-    → AreTablesHeld at_flip y roots rows → count ≤ length roots.order → FixesTables layout formats of roots x count roots' z
-    → AreTablesFixed layout formats of at_flip done x z y roots roots' rows count
-
--- and each slot of a table can be fixed when its turn comes
-abbrev pub TablesAreReady : (F : Type 0) → Type 0
-TablesAreReady F =
-    (layout : F → Layout) (formats : List (Option (Policy F))) (of : ChainsState) (at_flip : List (Option Address)) (done : CellSet)
-    (x z z' : Traced) (y : Collecting) (rows : List (List (Option Id))) (count slots : ℕ) (roots roots' roots'' : RootsState)
-    → AreShaped y.world.graph.objects (pool_layout y.world) → TracingStands layout formats of at_flip done x y
-    → AreTablesHeld at_flip y roots rows → count < length roots.order → FixesTables layout formats of roots x count roots' z
-    → slots < length (items_of roots'.tables (key_at roots count))
-    → FixesSlots layout formats of (key_at roots count) roots' z slots roots'' z'
-    → CanFixRootAt layout formats of z' (slot_of roots'' (key_at roots count) slots)

@@ -43,27 +43,6 @@ pub record IsLastTracedUnitDone (x : Traced) (y : Collecting) (z : Traced) : Typ
   pub segments : HasSegmentsOf z.segs (world_after_moves y.world moves)
   pub trail : z.moves.moves ≡ x.moves.moves ++ moves
 
--- where nothing but weak blocks is grey the state stands in the last band
-abbrev pub TheLastBandIsEntered : (F : Type 0) → Type 0
-TheLastBandIsEntered F =
-    (layout : F → Layout) (formats : List (Option (Policy F))) (of : ChainsState) (at_flip : List (Option Address)) (x : Traced)
-    (run : RunningState) (y : Collecting) → UnitStands layout formats of at_flip x run y → IsDrained x.segs → StandsReclaiming x y
-
--- a reclaim after which others are left is a unit of the abstract collector
-abbrev pub AReclaimIsDone : (F : Type 0) → Type 0
-AReclaimIsDone F =
-    (layout : F → Layout) (formats : List (Option (Policy F))) (of : ChainsState) (at_flip : List (Option Address)) (x z : Traced)
-    (run : RunningState) (y : Collecting) (base left : Addr) → UnitStands layout formats of at_flip x run y
-    → ReclaimsNext layout formats x run base z → IsNextCondemned x.segs (base.0 + 1) left.0
-    → IsTracedUnitDone layout formats of at_flip x y z (reclaimed_at base run)
-
--- the last unit is the abstract collector's
-abbrev pub TheLastUnitIsDone : (F : Type 0) → Type 0
-TheLastUnitIsDone F =
-    (layout : F → Layout) (formats : List (Option (Policy F))) (of : ChainsState) (at_flip : List (Option Address)) (x z : Traced)
-    (run : RunningState) (y : Collecting) → UnitStands layout formats of at_flip x run y → LastUnitTo layout formats x run z
-    → IsLastTracedUnitDone x y z
-
 -- ---- rows of units
 
 -- each scan of a grey block is a unit of the abstract collector
@@ -90,54 +69,5 @@ pub record AreLastTracedUnitsDone (x : Traced) (y : Collecting) (count : ℕ) (z
   pub segments : HasSegmentsOf z.segs (world_after_moves y.world moves)
   pub trail : z.moves.moves ≡ x.moves.moves ++ moves
 
--- where scans are units of the abstract collector, rows of units are
-abbrev pub UnitsAreDone : (F : Type 0) → Type 0
-UnitsAreDone F =
-    (layout : F → Layout) (formats : List (Option (Policy F))) (of : ChainsState) (at_flip : List (Option Address)) (x z : Traced)
-    (run run' : RunningState) (y : Collecting) (count : ℕ) → AreScansDone layout formats of at_flip
-    → UnitStands layout formats of at_flip x run y → UnitsTo layout formats of x run count z run'
-    → AreTracedUnitsDone layout formats of at_flip x y count z run'
 
--- and where the collection ends the abstract one does
-abbrev pub TheEndIsDone : (F : Type 0) → Type 0
-TheEndIsDone F =
-    (layout : F → Layout) (formats : List (Option (Policy F))) (of : ChainsState) (at_flip : List (Option Address)) (x z : Traced)
-    (run : RunningState) (y : Collecting) (most : ℕ) → AreScansDone layout formats of at_flip
-    → UnitStands layout formats of at_flip x run y → (ends : EndsWithin layout formats of x run most z)
-    → AreLastTracedUnitsDone x y (suc ends.count) z
 
--- a collection doesn't go on after as many units as the abstract collector has left
-abbrev pub TracedUnitsRunOut : (F : Type 0) → Type 0
-TracedUnitsRunOut F =
-    (layout : F → Layout) (formats : List (Option (Policy F))) (of : ChainsState) (at_flip : List (Option Address)) (x z : Traced)
-    (run run' : RunningState) (y : Collecting) (count : ℕ) → AreScansDone layout formats of at_flip
-    → UnitStands layout formats of at_flip x run y → UnitsTo layout formats of x run count z run' → count < units_left y
-
--- ---- scans
-
--- each scan of a grey block is a unit of the abstract collector
-abbrev pub ScansAreDone : (F : Type 0) → Type 0
-ScansAreDone F =
-    (layout : F → Layout) (formats : List (Option (Policy F))) (of : ChainsState) (at_flip : List (Option Address))
-    → AreScansDone layout formats of at_flip
-
--- each grey block can be scanned
-abbrev pub ScansAreReady : (F : Type 0) → Type 0
-ScansAreReady F =
-    (layout : F → Layout) (t : TraceState F) (s : SegsState) (m : Moves) (at_flip : List (Option Address)) (run : RunningState)
-    (y : Collecting) → UnitStands layout t.formats t.chains at_flip (traced t s m) run y → CanScanGrey layout t s m
-
--- ---- what has to be known before a unit
-
--- while the state stands a unit can be done
-abbrev pub AUnitIsReady : (F : Type 0) → Type 0
-AUnitIsReady F =
-    (layout : F → Layout) (t : TraceState F) (s : SegsState) (m : Moves) (at_flip : List (Option Address)) (run : RunningState)
-    (y : Collecting) → UnitStands layout t.formats t.chains at_flip (traced t s m) run y → CanUnit layout t s m run
-
--- and where scans are units each of n units can be done when its turn comes
-abbrev pub UnitsAreReady : (F : Type 0) → Type 0
-UnitsAreReady F =
-    (layout : F → Layout) (t : TraceState F) (s : SegsState) (m : Moves) (at_flip : List (Option Address)) (run : RunningState)
-    (y : Collecting) (most : ℕ) → AreScansDone layout t.formats t.chains at_flip
-    → UnitStands layout t.formats t.chains at_flip (traced t s m) run y → AreUnitsReady layout t s m run most
