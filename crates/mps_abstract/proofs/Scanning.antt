@@ -1,5 +1,5 @@
 -- Objects are fixed, one after the other, and an object whose references were fixed is black.
-use Rattle.std.proofs.Common.{◌≡◌, ◌∙◌, ◌<◌, ◌≤◌, true, false, refl, sym, ap, List, ◌∷◌, ◌++◌, subst, append_assoc, inl, inr, arith}
+use Rattle.std.proofs.Common.{◌≡◌, ◌∙◌, ◌<◌, ◌≤◌, true, false, refl, sym, ap, List, subst, inl, inr, arith}
 use Rattle.std.proofs.lemmas.Bool.{false≢true, or_right, cases_Bool}
 use Rattle.mps_base.specs.Address.{Id}
 use Rattle.mps_base.specs.declared.moves.Move.{Move}
@@ -91,14 +91,6 @@ are_fixed {x} (keeps {y = z} {id} {ids} {these} {those} {c} white keep rest) run
         | inr later ↦ after.kept n later
       ];
     }
-
--- objects are fixed, and then others
-pub fixes_append : {x y z : Collecting} {ids more : List Id} {ms ns : List Move} → Fixes x ids ms y → Fixes y more ns z
-    → Fixes x (ids ++ more) (ms ++ ns) z
-fixes_append fixes_no_more then_more = then_more
-fixes_append (passes black rest) then_more = passes black (fixes_append rest then_more)
-fixes_append {x} {z = z} {more = more} {ns = ns} (keeps {id = id} {ids} {these} {those} white keep rest) then_more =
-    subst (λ ms. Fixes x (id ∷ (ids ++ more)) ms z) (sym (append_assoc these those ns)) (keeps white keep (fixes_append rest then_more))
 
 -- ---- an object is black then
 

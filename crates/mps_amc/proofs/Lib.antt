@@ -6,7 +6,6 @@ pub mod Padded
 pub mod Padding
 pub mod PartSeen
 pub mod Reclaimed
-pub mod Refused
 pub mod Reopening
 pub mod Tails
 pub mod Walked

@@ -72,10 +72,6 @@ module _ (low high : ℕ) (s : SegsState) (r : Run) (some : 0 < r.count)
         → length (lost_between low high s) ≡ suc (length (lost_between (end_of r) high (without_block r s)))
     lost_fewer lost = ap (λ (xs : List Run). length xs) (lost_first lost)
 
--- once no block is left to go
-pub none_lost : (low high : ℕ) (s : SegsState) → runs_within low high s.blocks ≡ [] → lost_between low high s ≡ []
-none_lost low high s none = ap (λ (xs : List Run). filter (is_lost s) xs) none
-
 -- ---- what stays
 
 pub span_without : (s : SegsState) (r : Run) (base end : Address) → IsSpan s base end → IsSpan (without_block r s) base end

@@ -1,5 +1,5 @@
 -- The words around the blocks of a segment become pads, from its first word on.
-use Rattle.std.proofs.Common.{ℕ, ◌+◌, ◌<◌, ◌≤◌, ◌≡◌, ◌⊎◌, true, false, List, [], ◌∷◌, length, refl, sym, ap, ◌∙◌, inl, inr, arith}
+use Rattle.std.proofs.Common.{ℕ, ◌+◌, ◌<◌, ◌≤◌, ◌≡◌, ◌⊎◌, true, false, List, [], ◌∷◌, length, sym, ap, ◌∙◌, inl, inr, arith}
 use Rattle.std.proofs.lemmas.Bool.{cases_lt, true≢false}
 use Rattle.std.specs.Prelude.{slice_index}
 use Rattle.mps_base.specs.Run.{Run, end_of, runs_within}
@@ -59,16 +59,6 @@ pub record ArePaddedBelow (f : Layout) (low high : ℕ) (blocks : List Run) (wor
       → LiesInOpenPad f low (runs_within low high blocks) words' i
   pub inside : (i : ℕ) → is_covered (runs_within low high blocks) i ≡ true → slice_index words' i ≡ slice_index words i
   pub outside : (i : ℕ) → (i < low) ⊎ (high ≤ i) → slice_index words' i ≡ slice_index words i
-
-pub none_padded : (f : Layout) (low high : ℕ) (blocks : List Run) (words : List ℕ) → ArePaddedBelow f low high blocks words words low
-none_padded f low high blocks words = record {
-  long = refl;
-  above = omega arith;
-  ahead = λ k from. refl;
-  pads = λ i from under below none. absurd (omega (arith, from, under));
-  inside = λ i covered. refl;
-  outside = λ i out. refl;
-}
 
 -- the words from one to another become pads, none of which is in a run
 module _ (f : Layout) (low high : ℕ) (blocks : List Run) (words words' words'' : List ℕ) (from to : ℕ)

@@ -26,9 +26,6 @@ block_is_stored runs all stored from n are held few within = omega (arith, are h
 
 -- ---- as the runs and the stored words change
 
-pub more_are_stored : (runs : List Run) (all stored more : ℕ) → stored ≤ more → AreStored runs all stored → AreStored runs all more
-more_are_stored runs all stored more grown are r there = omega (arith, are r there, grown)
-
 with_run_contains : (rs : List Run) (r x : Run) → Contains (with_run r rs) x → (r ≡ x) ⊎ Contains rs x
 with_run_contains [] r x there = contains_cases [] x r there
 with_run_contains (s ∷ rs) r x there =

@@ -33,12 +33,6 @@ bit_at_shr n s i = ap (λ (x : ℕ). x % 2) (shr-shr n s i)
 abbrev pub AreRunStarts : ℕ → ℕ → ℕ → Type 0
 AreRunStarts x y count = (i : ℕ) → (bit_at y i ≡ 1) ↔ ((k : ℕ) → k < count → bit_at x (i + k) ≡ 1)
 
-pub run_starts_one : (x : ℕ) → AreRunStarts x x 1
-run_starts_one x i = (
-  λ e k h. let same : i ≡ i + k = omega arith in subst (λ (j : ℕ). bit_at x j ≡ 1) same e,
-  λ f. let same : i + 0 ≡ i = omega arith in subst (λ (j : ℕ). bit_at x j ≡ 1) same (f 0 (omega arith)),
-)
-
 -- two runs that meet or overlap are one
 pub run_starts_more : (x y count step : ℕ) → step ≤ count → AreRunStarts x y count
     → AreRunStarts x (bit_and y (y / 2 ^ step)) (count + step)

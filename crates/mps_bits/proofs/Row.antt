@@ -89,10 +89,6 @@ pub sum_over-none : (f : ℕ → ℕ) (from : ℕ) → sum_over f from 0 ≡ 0
 unfolding sum_over
 sum_over-none f from = refl
 
-pub sum_over_more : (f : ℕ → ℕ) (from n : ℕ) → sum_over f from (suc n) ≡ f from + sum_over f (suc from) n
-unfolding sum_over
-sum_over_more f from n = refl
-
 pub sum_over-add : (f : ℕ → ℕ) (from m n : ℕ) → sum_over f from (m + n) ≡ sum_over f from m + sum_over f (from + m) n
 unfolding sum_over
 sum_over-add f from zero n =

@@ -1,8 +1,8 @@
 -- The runs that begin where a table has a bit.
 use Rattle.std.proofs.Common.{ℕ, zero, suc, ◌+◌, ◌<◌, ◌≡◌, Bool, true, false, List, [], ◌∷◌, length, get_or, set, Contains, refl, sym, ap, ◌∙◌, subst, inl, inr, arith}
 use Rattle.std.proofs.lemmas.Bool.{true≢false, false≢true}
-use Rattle.mps_base.specs.Run.{Run, IsAscending, with_run, without_run}
-use Rattle.mps_base.proofs.Runs.{with_run_first, with_run_later, without_run_first, without_run_later, contains_cases, contains_first, contains_later, IsAscending-lower}
+use Rattle.mps_base.specs.Run.{Run, with_run, without_run}
+use Rattle.mps_base.proofs.Runs.{with_run_first, with_run_later, without_run_first, without_run_later, contains_cases, contains_first, contains_later}
 use Rattle.mps_extents.specs.Inside.{runs_with}
 
 -- a run before all others
@@ -107,20 +107,3 @@ bit_of_run f at (true ∷ bits) r there =
           let shifted : suc at + later.0 ≡ at + suc later.0 = omega arith in
           (suc later.0, later.1, later.2 ∙ shifted, later.3 ∙ ap f shifted)
     ]
-
--- a part of ascending runs
-pub part_ascending : (f : ℕ → ℕ) (low high at : ℕ) (bits part : List Bool) → length part ≡ length bits
-    → ((i : ℕ) → get_or part i false ≡ true → get_or bits i false ≡ true)
-    → IsAscending low high (runs_with f at bits) → IsAscending low high (runs_with f at part)
-unfolding runs_with
-part_ascending f low high at [] [] size within ascending = ascending
-part_ascending f low high at [] (p ∷ part) size within ascending = absurd (omega arith)
-part_ascending f low high at (b ∷ bits) [] size within ascending = absurd (omega arith)
-part_ascending f low high at (false ∷ bits) (true ∷ part) size within ascending = absurd (false≢true (within 0 refl))
-part_ascending f low high at (false ∷ bits) (false ∷ part) size within ascending =
-    part_ascending f low high (suc at) bits part (omega arith) (λ i is. within (suc i) is) ascending
-part_ascending f low high at (true ∷ bits) (true ∷ part) size within ascending =
-    (ascending.0, ascending.1, part_ascending f (at + f at) high (suc at) bits part (omega arith) (λ i is. within (suc i) is) ascending.2)
-part_ascending f low high at (true ∷ bits) (false ∷ part) size within ascending =
-    IsAscending-lower (at + f at) low high (runs_with f (suc at) part) (omega (arith, ascending.0))
-    (part_ascending f (at + f at) high (suc at) bits part (omega arith) (λ i is. within (suc i) is) ascending.2)

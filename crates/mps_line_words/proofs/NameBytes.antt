@@ -1,5 +1,5 @@
 -- The bytes of a name, gathered as numbers of 64 bits, the first of them lowest.
-use Rattle.std.proofs.Common.{◌≡◌, ℕ, zero, suc, ◌+◌, ◌-◌, ◌*◌, ◌/◌, ◌%◌, ◌^◌, ◌<◌, ◌≤◌, List, [], ◌∷◌, ◌++◌, length, take, drop, replicate, get_or, refl, sym, ap, ◌∙◌, arith}
+use Rattle.std.proofs.Common.{◌≡◌, ℕ, zero, suc, ◌+◌, ◌-◌, ◌*◌, ◌/◌, ◌%◌, ◌^◌, ◌<◌, ◌≤◌, List, [], ◌∷◌, ◌++◌, length, drop, replicate, get_or, refl, sym, ap, ◌∙◌, arith}
 use Rattle.std.proofs.Math.Nat.{div-div-eq-div-mul, pow-succ'}
 use Rattle.std.proofs.lemmas.List.{append_assoc, drop-append-le, get_or-drop, length-drop}
 use Rattle.std.specs.Int.{byte_at, bytes_low_first}
@@ -80,16 +80,3 @@ one_before bytes left number byte some within is so_far =
     let there = one_at bytes (left - 1) (omega arith) in
     let rest : gathered (drop (suc (left - 1)) bytes) ≡ gathered (drop left bytes) = ap (λ (n : ℕ). gathered (drop n bytes)) up in
     omega (arith, there, rest, is, so_far)
-
--- the number of 8 bytes or more, by the numbers of the first 8 and of the others
-pub of_two_parts : (bytes : List ℕ) (low high : ℕ) → 8 ≤ length bytes → low ≡ gathered (take 8 bytes) → high ≡ gathered (drop 8 bytes)
-    → low + high * 18446744073709551616 ≡ gathered bytes
-of_two_parts [] low high least is_low is_high = absurd (omega arith)
-of_two_parts (a ∷ []) low high least is_low is_high = absurd (omega arith)
-of_two_parts (a ∷ b ∷ []) low high least is_low is_high = absurd (omega arith)
-of_two_parts (a ∷ b ∷ c ∷ []) low high least is_low is_high = absurd (omega arith)
-of_two_parts (a ∷ b ∷ c ∷ d ∷ []) low high least is_low is_high = absurd (omega arith)
-of_two_parts (a ∷ b ∷ c ∷ d ∷ e ∷ []) low high least is_low is_high = absurd (omega arith)
-of_two_parts (a ∷ b ∷ c ∷ d ∷ e ∷ f ∷ []) low high least is_low is_high = absurd (omega arith)
-of_two_parts (a ∷ b ∷ c ∷ d ∷ e ∷ f ∷ g ∷ []) low high least is_low is_high = absurd (omega arith)
-of_two_parts (a ∷ b ∷ c ∷ d ∷ e ∷ f ∷ g ∷ h ∷ others) low high least is_low is_high = omega (arith, is_low, is_high)

@@ -22,19 +22,6 @@ pub record AreRead (all rest : List (List ℕ)) (numbers : List ℕ) (count : �
   pub in_bounds : count ≤ 8
   pub room : length numbers ≡ 8
 
-nothing_before : (ns : Option (List ℕ)) → ns ≡ after_numbers [] ns
-nothing_before None = refl
-nothing_before (Some ns) = refl
-
-pub none_read : (all : List (List ℕ)) → AreRead all all (replicate 8 0) 0
-none_read all = record {
-  read = nothing_before (each (grains_from 0) all);
-  words = omega arith;
-  zeros = refl;
-  in_bounds = omega arith;
-  room = refl;
-}
-
 moved_on : (front : List ℕ) (n : ℕ) (ns : Option (List ℕ))
     → after_numbers front (with_first (Some n) ns) ≡ after_numbers (front ++ n ∷ []) ns
 moved_on front n None = refl

@@ -1,10 +1,8 @@
 -- The first segment that begins at an address or after it, by the table of entries.
-use Rattle.std.proofs.Common.{ℕ, zero, suc, ◌+◌, ◌<◌, ◌≤◌, ◌≡◌, List, [], ◌∷◌, length, get_or, drop, refl, sym, ap, ◌∙◌, arith, leb, Option, Some, option_map}
-use Rattle.std.proofs.Math.Seq.{drop-cons}
+use Rattle.std.proofs.Common.{ℕ, zero, suc, ◌+◌, ◌<◌, ◌≤◌, ◌≡◌, List, [], ◌∷◌, drop, refl, sym, ap, ◌∙◌, arith, leb, Option, Some, option_map}
 use Rattle.std.proofs.lemmas.Bool.{cond-true, cond-false, le-leb, lt-leb}
 use Rattle.mps_base.specs.Address.{address_of_grain}
 use Rattle.mps_base.specs.Segment.{Segment}
-use Rattle.mps_base.specs.declared.names.Rank.{Rank}
 use Rattle.mps_seg.specs.Segs.{base_address, segment_from}
 use Rattle.mps_seg.specs.Table.{segments_in, segments_of_entries, first_entry}
 use Rattle.mps_seg.specs.declared.entry.Entry.{Entry}
@@ -51,16 +49,3 @@ next_is table from start above below =
     (passed start 0 from table (omega (arith, below))
     ∙ ap (λ (a : ℕ). segment_from (segments_of_entries a (drop start table)) from) shifted)
     ∙ first_of_later start from (drop start table) above)
-
--- one entry further
-pub past_free : (table : List Entry) (grain : ℕ) → grain < length table → get_or table grain Free ≡ Free
-    → first_entry grain (drop grain table) ≡ first_entry (suc grain) (drop (suc grain) table)
-past_free table grain within is =
-    ap (λ (es : List Entry). first_entry grain es) (drop-cons table grain Free within)
-    ∙ ap (λ (e : Entry). first_entry grain (e ∷ drop (suc grain) table)) is
-
-pub at_first : (table : List Entry) (grain n p g : ℕ) (r : Rank) → grain < length table → get_or table grain Free ≡ First n p g r
-    → Some grain ≡ first_entry grain (drop grain table)
-at_first table grain n p g r within is =
-    sym (ap (λ (es : List Entry). first_entry grain es) (drop-cons table grain Free within)
-    ∙ ap (λ (e : Entry). first_entry grain (e ∷ drop (suc grain) table)) is)

@@ -1,9 +1,9 @@
 -- The collector knows of no pools at first, and of each that is added.
-use Rattle.std.proofs.Common.{ℕ, ◌≡◌, ◌<◌, ◌∙◌, Option, None, List, [], ◌∷◌, ◌++◌, length, replicate, get_or, refl, sym, ap, subst, arith}
+use Rattle.std.proofs.Common.{ℕ, ◌≡◌, ◌<◌, ◌∙◌, Option, None, List, [], ◌∷◌, ◌++◌, length, replicate, get_or, sym, ap, subst, arith}
 use Rattle.std.proofs.lemmas.List.{map-append, replicate-append-replicate, length-append, length-map, length-replicate, get_or-map, get_or-replicate}
 use Rattle.mps_amc.specs.Amc.{tails_of}
 use Rattle.mps_gen.specs.State.{ChainsState}
-use Rattle.mps_trace.specs.Trace.{TraceState, no_pools, with_pool}
+use Rattle.mps_trace.specs.Trace.{TraceState, with_pool}
 use Rattle.mps_trace.specs.PoolsCollecting.{IsTraceOf}
 use Rattle.mps_format.specs.Pools.{policy_of_pool}
 use Rattle.mps_format.specs.declared.pool.Pool.{Pool}
@@ -16,8 +16,6 @@ one_longer xs y a =
     replicate-append-replicate (length xs) 1 a ∙ ap (λ n. replicate n a) (sym (length-append xs (y ∷ [])))
 
 module _ {F : Type 0} where
-  pub none_is_sound : IsSoundTrace {F = F} [] no_pools
-  none_is_sound = record { formats = refl; chains = refl; rows = refl }
 
   -- a pool that the collector gets with its policy
   pub one_more_is_sound : (pools : List (Pool F)) (t : TraceState F) (p : Pool F) → IsSoundTrace pools t

@@ -12,7 +12,6 @@ pub mod Placed
 pub mod BlockRuns
 pub mod Runs
 pub mod Fixing
-pub mod Segments
 pub mod Scanning
 pub mod AtHand
 pub mod Bands

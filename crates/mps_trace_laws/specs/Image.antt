@@ -9,6 +9,5 @@ pub mod AtRest
 pub mod Changes
 pub mod Steps
 pub mod Laws
-pub mod ClientLaws
 pub mod SegmentWords
 pub mod ArenaLaws

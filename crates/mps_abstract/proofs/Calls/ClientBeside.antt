@@ -106,7 +106,6 @@ module _ (slots holds messages reservations : List Id) (id : Id) where
   held_so (in_messages h) = contains_left ((slots ++ holds) ++ messages) reservations id (contains_right (slots ++ holds) messages id h)
   held_so (in_reservations h) = contains_right ((slots ++ holds) ++ messages) reservations id h
 
-
 -- ---- entries that are found
 
 abbrev value_or : {A : Type 0} → Checked A → A → A

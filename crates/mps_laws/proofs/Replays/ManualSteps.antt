@@ -275,4 +275,3 @@ module _ (limit pools line : ℕ) (w : World) (laid : HasLayout limit w) where
       (alloc_replayed pool words ms (act_alloc w (world_after_moves w ms) pool words into)
       (alloc_case w (world_after_moves w ms) pool words into)
       (due ∙ ap (λ b. unless_refused b (moves_of_alloc w (pool_named w pool) words)) is))
-

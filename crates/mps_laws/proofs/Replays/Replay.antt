@@ -109,10 +109,6 @@ live_after w s live legal =
 
 -- ---- histories
 
-pub limit_after_steps : ℕ → History → ℕ
-limit_after_steps limit [] = limit
-limit_after_steps limit (s ∷ ss) = limit_after_steps (limit_after limit s.call) ss
-
 pub record IsReached (w w' : World) : Type 0 where
   pub limit : ℕ
   pub layout : HasLayout limit w'

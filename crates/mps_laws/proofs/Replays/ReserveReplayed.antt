@@ -10,7 +10,7 @@ use Rattle.mps_base.specs.declared.names.Name.{Name}
 use Rattle.mps_base.specs.declared.refusal.Refusal.TheVariants as refusal
 use Rattle.mps_model.specs.declared.call.Call.TheVariants as call
 use Rattle.mps_model.specs.Answer.{Answer, is_unsupported}
-use Rattle.mps_model.specs.Graph.{NamedThing, Point, Reservation, thing_in}
+use Rattle.mps_model.specs.Graph.{Point, Reservation, thing_in}
 use Rattle.mps_model.specs.Collection.{Collection}
 use Rattle.mps_model.specs.World.{World, Pool, id_at, is_copying_pool, object_is, pool_at}
 use Rattle.mps_model.specs.Graph.{is_automatic}
@@ -34,9 +34,6 @@ use Rattle.mps_laws.proofs.Acts.{point_named-is}
 use Rattle.mps_laws.proofs.Replays.Steps.{answered_step}
 
 -- ---- moves leave all names as they are
-
-names_after : World → List NamedThing
-names_after w = w.graph.names
 
 one_names : (w : World) (o : Option ℕ) (change : ℕ → World) → ((id : ℕ) → (change id).graph.names ≡ w.graph.names)
     → (where_one w o change).graph.names ≡ w.graph.names

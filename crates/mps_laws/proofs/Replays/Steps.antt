@@ -243,12 +243,6 @@ module _ (limit pools line : ℕ) (w : World) (point : Name) (laid : HasLayout l
             ∙ ap (λ x. Some (blocks_of x)) (sym is);
       }
 
-  not_accepted : (answer : Answer) → is_accepted answer ≡ false → (ms : List Move) → if_accepted answer ms ≡ []
-  not_accepted answer e ms = ap (λ b. if b then ms else []) e
-
-  was_accepted : (answer : Answer) → is_accepted answer ≡ true → (ms : List Move) → if_accepted answer ms ≡ ms
-  was_accepted answer e ms = ap (λ b. if b then ms else []) e
-
   kept_replayed : (v : World) → occupancy_of v ≡ occupancy_of w
       → IsReplayed limit w v (replay_from (blocks_of (occupancy_of w)) (records_of [] line))
   kept_replayed v e = record { layout = subst (IsLaidOut limit) (sym e) laid; blocks = ap (λ x. Some (blocks_of x)) (sym e) }

@@ -13,7 +13,6 @@ use Rattle.mps_model.specs.Graph.{Graph, Cell, HeadCell, NumberCell, ReferenceCe
 use Rattle.mps_model.specs.Checked.{Found, Numbered}
 use Rattle.mps_model.specs.Allocating.{with_block_place, with_reservation, with_slot}
 use Rattle.mps_model.specs.Accessing.{with_word}
-use Rattle.mps_model.specs.Effect.{doomed, doomed_graph, graph_posted}
 
 -- ---- lists
 
@@ -103,12 +102,6 @@ none_reserved : (r : Option Reservation)
     → option_map_or targets_of_reservation (option_map (λ (r : Reservation). record r { is_doomed = true }) r) [] ≡ []
 none_reserved None = refl
 none_reserved (Some r) = refl
-
-none_doomed : (test : ℕ → Bool) (ps : List (Option Point)) → All test (flat_map targets_of_point (map doomed ps))
-none_doomed test [] = refl
-none_doomed test (None ∷ ps) = none_doomed test ps
-none_doomed test (Some p ∷ ps) =
-    subst (λ ids. All test (ids ++ flat_map targets_of_point (map doomed ps))) (sym (none_reserved p.reservation)) (none_doomed test ps)
 
 -- ---- what a client holds
 
@@ -266,19 +259,6 @@ module _ (test : ℕ → Bool) (g : Graph) (a : AreHeld test g) where
     holds = a.holds;
     messages = a.messages;
     reservations = all-set test targets_of_point g.points number None a.reservations refl;
-  }
-
-  -- a flip ends all reservations
-  pub all_doomed : AreHeld test (doomed_graph g)
-  all_doomed = record { slots = a.slots; holds = a.holds; messages = a.messages; reservations = none_doomed test g.points }
-
-  -- an object that passes the test is posted
-  pub message_posted : (id : ℕ) → test id ≡ true → AreHeld test (graph_posted g id)
-  message_posted id passes = record {
-    slots = a.slots;
-    holds = a.holds;
-    messages = all-append test g.messages (id ∷ []) a.messages (and_both (test id) true passes refl);
-    reservations = a.reservations;
   }
 
   -- a weaker test is passed

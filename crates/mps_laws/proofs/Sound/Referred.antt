@@ -13,7 +13,7 @@ use Rattle.mps_model.specs.History.{is_held_rightly, has_units_left}
 use Rattle.mps_model.specs.Graph.{Body, Automatic, Manual, ids_in_blocks, ids_of_client, targets_of_body}
 use Rattle.mps_laws.proofs.Lookups.{slice_get-set_other}
 use Rattle.mps_laws.proofs.Entries.{slice_get-written}
-use Rattle.mps_laws.proofs.Sound.HeldIds.{All, AreHeld, all-append, all_parts, all-weaker, for_client, of_client}
+use Rattle.mps_laws.proofs.Sound.HeldIds.{All, AreHeld, all-append, all_parts, for_client, of_client}
 use Rattle.mps_laws.proofs.QuietSteps.{IsSound}
 
 -- each target of an object that is live passes a test
@@ -87,11 +87,6 @@ other_targets [] new zero other = absurd (other refl)
 other_targets [] new (suc id) other = refl
 other_targets (o ∷ os) new zero other = refl
 other_targets (o ∷ os) new (suc id) other = other_targets os new id (λ e. other (ap suc e))
-
--- fewer are live, or a weaker test is passed
-pub fewer_live : (live less test weaker : ℕ → Bool) (g : Graph) → ((id : ℕ) → less id ≡ true → live id ≡ true)
-    → ((id : ℕ) → test id ≡ true → weaker id ≡ true) → AreReferred live test g → AreReferred less weaker g
-fewer_live live less test weaker g implies weakens are = λ id l. all-weaker test weaker weakens (targets g id) (are id (implies id l))
 
 module _ (test : ℕ → Bool) (g : Graph) where
   -- what one object refers to, after it was written over

@@ -1,6 +1,6 @@
 -- Each legal step leaves a sound graph, so each world that a legal history reaches has one.
 use Rattle.std.proofs.Common.{◌≡◌, ◌∙◌, ◌⊎◌, ℕ, Bool, true, false, refl, sym, ap, List, [], ◌∷◌, ◌++◌, Option, Some, None, Ok, Err, subst, inl, inr}
-use Rattle.std.proofs.lemmas.Bool.{false≢true, true≢false, and_parts, cases_Bool}
+use Rattle.std.proofs.lemmas.Bool.{false≢true, and_parts, cases_Bool}
 use Rattle.std.specs.Prelude.{MatchBool, slice_get, option_and_then, not, ◌&&◌, if◌then◌else◌}
 use Rattle.std.specs.Option.{option_map_or}
 use Rattle.std.specs.List.{list_all}
@@ -237,9 +237,6 @@ module _ (limit line : ℕ) (w : World) (laid : Rattle.mps_laws.proofs.Positions
       finished (call.Reserve name head) ms answer supported
       (for_world IsSoundGraph v (Rattle.mps_model.specs.Allocating.act_reserve judged v name head)
       (reserve_sound judged name head v m.grown m.sound (asked_graph units u ∙ own.1)) m.sound)
-
-  not_finalize : (c : Call) (v : World) → is_finalize c ≡ false → is_finalize c ≡ true → All (is_live v) (ids_in_slots v.graph)
-  not_finalize c v e f = absurd (true≢false (sym f ∙ e))
 
   of_call : (c : Call) (ms : List Move) (answer : Answer) → is_unsupported answer ≡ false → IsAnsweredStep w (the_step c ms answer)
       → IsSoundGraph (world_after w (the_step c ms answer))

@@ -14,19 +14,19 @@ use Rattle.mps_laws.proofs.Same.{Same, fits, same_ok}
 use Rattle.mps_model.specs.Allocating as allocating
 use Rattle.mps_model.specs.Allocating.{words_at}
 use Rattle.mps_model.specs.Checked as model
-use Rattle.mps_model.specs.Checked.{Checked, Found, Numbered, ◌>>=◌}
+use Rattle.mps_model.specs.Checked.{Checked, Found, Numbered}
 use Rattle.mps_model.specs.Graph.{Object, size_of, size_of_body}
 use Rattle.mps_model.specs.Image.{image_of_cell}
 use Rattle.mps_model.specs.World.{World}
-use Rattle.mps_heap_spec.specs.Finding.{block_place_in, object_in}
+use Rattle.mps_heap_spec.specs.Finding.{block_place_in}
 use Rattle.mps_heap_spec.specs.declared.found.Block.{Block}
 use Rattle.mps_heap_spec.specs.declared.found.Entry.{Entry}
 use Rattle.mps_heap_spec.specs.Manual.{block_in, word_in_block}
 use Rattle.mps_heap_spec.specs.State.{HeapState}
 use Rattle.mps_refinement.specs.StandsFor.{AreParts, IsReached, Past}
-use Rattle.mps_refinement.proofs.Lookups.BlockRuns.{automatic_words, manual_words, run_is, run_there}
+use Rattle.mps_refinement.proofs.Lookups.BlockRuns.{manual_words, run_is, run_there}
 use Rattle.mps_refinement.proofs.Worlds.Known.{known}
-use Rattle.mps_refinement.proofs.Lookups.LiveObjects.{IsObject, object_same}
+use Rattle.mps_refinement.proofs.Lookups.LiveObjects.{IsObject}
 use Rattle.mps_refinement.proofs.Lookups.Lookups.{IsPlaceFound, place_same}
 use Rattle.mps_refinement.proofs.Lookups.ManualBlocks.{IsBlock, IsWordOf, block_same, block_words, lies, setting, word_same}
 use Rattle.mps_refinement.proofs.Worlds.Reached.{reached_sound}
@@ -127,24 +127,3 @@ module _ {F : Type 0} (layout : F → Layout) (h : HeapState F) (w : World) (pas
     pub one : (n : ℕ) → Contains h.segs.blocks (record { from = word_of b.at; count = n }) → n ≡ length is.cells
     -- the arena's words are those of its cells
     pub words : slice_range h.segs.words (word_of b.at) (word_of b.at + length is.cells) ≡ map (image_of_cell w b.head) is.cells
-
-  pub object_borrowed : (slot : Slot) (b : Block F) → object_in layout h slot ≡ Ok b → IsObjectBorrowed slot b
-  object_borrowed slot b found =
-      let own = known w reached in
-      let s = setting layout past h w parts own in
-      let o = fits_ours (IsObject layout h w) (object_in layout h slot)
-      (model.slot_in w slot >>= (λ (from : Found (Option ℕ)). model.object_in w from.value)) b (object_same layout past h w parts own slot)
-      found in
-      let size : size_of o.value.value ≡ length o.fit.cells = ap size_of_body o.fit.body in
-      record {
-        object = o.value;
-        is = o.fit;
-        run = subst (λ n. Contains h.segs.blocks (record { from = word_of b.at; count = n })) size
-            (run_there s w.addresses parts.image.placed h.segs parts.image.runs.blocks o.value.number b.at o.value.value o.fit.address
-            o.fit.object);
-        one = λ n there.
-            run_is s w.addresses parts.image.placed h.segs parts.image.runs.blocks o.value.number b.at o.value.value o.fit.address
-            o.fit.object n there ∙ size;
-        words = automatic_words h.segs w parts.image parts.at_rest (reached_sound w reached parts.at_rest) o.value.number b.at o.value.value
-            o.fit.address o.fit.object b.head o.fit.cells o.fit.is_weak o.fit.body;
-      }

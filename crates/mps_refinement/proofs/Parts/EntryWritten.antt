@@ -9,17 +9,8 @@ use Rattle.mps_model.specs.Graph.{entry_at}
 use Rattle.mps_heap_spec.specs.declared.found.Entry.{Entry}
 use Rattle.mps_refinement.specs.Numbering.{AreNumbered}
 use Rattle.mps_refinement.proofs.Lookups.Found.{IsEntry, AreMapped, some_there}
-use Rattle.mps_refinement.proofs.Parts.Numbering.{item_written, kept_other, kept_within, kept_written, numbered_written}
+use Rattle.mps_refinement.proofs.Parts.Numbering.{item_written, kept_other, numbered_written}
 use Rattle.mps_root.specs.State.{kept, with_item}
-
--- what is kept after a write under a key where something was
-pub kept-set_same : {A : Type 0} (rows : List (Option A)) (key : ℕ) (a : A) (new : Option A) → kept rows key ≡ Some a
-    → kept (slice_set rows key new) key ≡ new
-kept-set_same rows key a new there = kept_written rows key new (kept_within rows key a there)
-
-pub kept-set_other : {A : Type 0} (rows : List (Option A)) (key other : ℕ) (new : Option A) → other ≢ key
-    → kept (slice_set rows key new) other ≡ kept rows other
-kept-set_other = kept_other
 
 module _ {A : Type 0} (rows : List (Option (List A))) (key index : ℕ) (value : A) where
   other_kept : (other : ℕ) → other ≢ key → kept (with_item rows key index value) other ≡ kept rows other

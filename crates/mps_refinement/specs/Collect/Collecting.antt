@@ -9,7 +9,7 @@ use Rattle.mps_model.specs.Answer.{Replied}
 use Rattle.mps_model.specs.World.{World}
 use Rattle.mps_seg.specs.Table.{IsMarked}
 use Rattle.mps_trace.specs.Collect.{most_moves}
-use Rattle.mps_heap_spec.specs.Collecting.{CanCollectAll, IsCollected, can_collect}
+use Rattle.mps_heap_spec.specs.Collecting.{IsCollected, can_collect}
 use Rattle.mps_heap_spec.specs.State.{HeapState}
 use Rattle.mps_refinement.specs.RightMoving.{IsRightMoving, KeepsRoom}
 use Rattle.mps_refinement.specs.StandsFor.{StandsFor}

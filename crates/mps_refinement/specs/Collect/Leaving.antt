@@ -1,16 +1,12 @@
 -- What a whole collection leaves of the world, if nothing is registered and no object is weak.
-use Rattle.std.specs.Prelude.{◌≡◌, ℕ, false, IsTrue, Option, None, List, [], ◌++◌}
+use Rattle.std.specs.Prelude.{◌≡◌, false, IsTrue, Option, None, List, [], ◌++◌}
 use Rattle.mps_base.specs.Address.{Id, Address}
 use Rattle.mps_base.specs.Segment.{Segment}
-use Rattle.mps_base.specs.declared.moves.Move.{Move}
 use Rattle.mps_model.specs.Graph.{contains, ids_in_holds, ids_in_slots, is_automatic, is_weak_object}
 use Rattle.mps_model.specs.Collection.{Collection}
 use Rattle.mps_model.specs.World.{World, Tail, address_of, is_live, object_is, ids_of_area_words}
-use Rattle.mps_model.specs.Effect.{Everything, condemned_by, condemned_zones, world_flipped, world_after_moves}
-use Rattle.mps_model.specs.Flip.{flip_act, is_nothing}
+use Rattle.mps_model.specs.Effect.{Everything, condemned_zones, world_flipped}
 use Rattle.mps_abstract.specs.Collecting.{Collecting}
-use Rattle.mps_abstract.specs.Units.{Ends}
-use Rattle.mps_abstract.specs.FlipLaws.{IsAtRest, flipped, FixesHeld}
 
 -- a world is another one, but for where objects lie, in which segments, for buffers, tails and the collection
 pub record IsButMoved (before after : World) : Type 0 where
@@ -40,4 +36,3 @@ pub record AreInPlace (w : World) (acted : Collecting) (after : World) : Type 0 
   -- what slots and messages hold lies where the act left it, and is live
   pub held : (id : Id) → IsTrue (contains (ids_in_slots w.graph ++ w.graph.messages) id) → address_of after id ≡ address_of acted.world id
   pub held_live : (id : Id) → IsTrue (contains (ids_in_slots w.graph ++ w.graph.messages) id) → IsTrue (is_live after id)
-

@@ -203,22 +203,3 @@ module _ (F : Type 0) (layout : F → Layout) (formats : List (Option (Policy F)
       (each_step F layout formats of at_flip done x y shaped stands t (record { 0 = target_at f x at i }) (found t holds).object
       (now t holds)
       (target_there t holds) fixed))
-
--- a reference of an object that isn't white can be fixed, if what it refers to is live
-pub cell_can_be_fixed : {F : Type 0}
-    → (layout : F → Layout) (formats : List (Option (Policy F))) (of : ChainsState) (at_flip : List (Option Address)) (done : CellSet)
-    (x : Traced) (y : Collecting) (holder i : ℕ) (at : Addr) (o : Object) (target : Option Id) (tag : ℕ)
-    → AreShaped y.world.graph.objects (pool_layout y.world) → TracingStands layout formats of at_flip done x y
-    → HoldsReference y holder i at.0 o target tag → CanFixCellAt layout (pool_layout y.world o.pool) formats of x at i
-cell_can_be_fixed {F} layout formats of at_flip done x y holder i at o target tag shaped stands holds =
-    can_cell F layout formats of at_flip done x y shaped stands holder i at o tag target holds
-
--- and what the collector does with it is a step of the abstract collector
-pub cell_is_a_step : {F : Type 0}
-    → (layout : F → Layout) (formats : List (Option (Policy F))) (of : ChainsState) (at_flip : List (Option Address)) (done : CellSet)
-    (x z : Traced) (y : Collecting) (holder i : ℕ) (at : Addr) (o : Object) (target : Option Id) (tag : ℕ)
-    → AreShaped y.world.graph.objects (pool_layout y.world) → TracingStands layout formats of at_flip done x y
-    → HoldsReference y holder i at.0 o target tag → FixesCell layout (pool_layout y.world o.pool) formats of at i x z
-    → IsCellStep layout formats of at_flip done x z y target holder i
-cell_is_a_step {F} layout formats of at_flip done x z y holder i at o target tag shaped stands holds fixed =
-    cell_step F layout formats of at_flip done x y shaped stands holder i at o tag target holds fixed

@@ -167,12 +167,6 @@ module _ {F : Type 0} (layout : F → Layout) (formats : List (Option (Policy F)
         marks = λ n. still_clear is.before.segs.marks.weak (word_of at.0) n (now.marks n);
       })
 
--- a fix leaves none
-pub fix_keeps_ranks : {F : Type 0}
-    → (layout : F → Layout) (formats : List (Option (Policy F))) (of : ChainsState) (x z : Traced) (at answer : Addr)
-    → FixesTo layout formats of x at z answer → IsStrong x.segs → IsStrong z.segs
-fix_keeps_ranks layout formats of x z at answer fixed strong = fix_strong layout formats of fixed strong
-
 -- and so does a scan
 pub scan_keeps_ranks : {F : Type 0}
     → (layout : F → Layout) (formats : List (Option (Policy F))) (of : ChainsState) (x z : Traced) → ScansOne layout formats of x z

@@ -269,23 +269,3 @@ module _ (F : Type 0) (layout : F → Layout) (formats : List (Option (Policy F)
       let run = to_cell w from cell (run_to earlier) first in
       let r = reference cell first.reference in
       can_one w cell run (inside cell first.reference) r.target r.tag r.cell
-
--- while an object is scanned, each of its references can be fixed when its turn comes
-pub scan_is_ready : {F : Type 0}
-    → (layout : F → Layout) (formats : List (Option (Policy F))) (of : ChainsState) (at_flip : List (Option Address)) (done : CellSet)
-    (x : Traced) (y : Collecting) (holder : Id) (at : Addr) (o : Object) → AreShaped y.world.graph.objects (pool_layout y.world)
-    → TracingStands layout formats of at_flip done x y → IsToBeScanned y holder at.0 o
-    → AreReady layout (pool_layout y.world o.pool) formats of (head_of_body o.body) at x
-scan_is_ready {F} layout formats of at_flip done x y holder at o shaped stands scan =
-    ready F layout formats of at_flip done x y shaped stands holder at o scan
-
--- and the run up to a cell is one of steps of the abstract collector
-pub scan_is_of_steps : {F : Type 0}
-    → (layout : F → Layout) (formats : List (Option (Policy F))) (of : ChainsState) (at_flip : List (Option Address)) (done : CellSet)
-    (x z : Traced) (y : Collecting) (holder : Id) (at : Addr) (o : Object) (before : ℕ)
-    → AreShaped y.world.graph.objects (pool_layout y.world) → TracingStands layout formats of at_flip done x y
-    → IsToBeScanned y holder at.0 o
-    → ScansTo layout (pool_layout y.world o.pool) formats of (head_of_body o.body) at x before z
-    → IsScannedTo layout formats of at_flip done x z y holder o before
-scan_is_of_steps {F} layout formats of at_flip done x z y holder at o before shaped stands scan run =
-    run_to F layout formats of at_flip done x y shaped stands holder at o scan run

@@ -1,19 +1,18 @@
 -- The image where no collection runs, at a flip, and once blocks are freed.
 use Rattle.std.proofs.Common.{◌≡◌, ◌∙◌, ℕ, Bool, true, false, refl, sym, ap, List, [], length, Option, Some, slice_index, subst}
 use Rattle.std.proofs.lemmas.Bool.{true≢false, and_from}
-use Rattle.std.proofs.lemmas.Option.{none-some, same_Some}
+use Rattle.std.proofs.lemmas.Option.{none-some}
 use Rattle.std.specs.Prelude.{slice_get, not, IsTrue}
 use Rattle.mps_base.specs.Address.{Address, Id, Word, word_of}
 use Rattle.mps_format.specs.Layout.{Layout}
-use Rattle.mps_model.specs.Graph.{Cell, Object, Point, Reservation, entry_at, target_of_cell}
+use Rattle.mps_model.specs.Graph.{Cell, Object, Point, entry_at}
 use Rattle.mps_model.specs.Checked.{head_of_body}
 use Rattle.mps_model.specs.World.{PointMemory}
-use Rattle.mps_abstract.specs.Colours.{Colours, is_white, is_grey, is_black}
-use Rattle.mps_trace_laws.specs.Image.Memory.{Setting, Memory, Lies, all_cells, live_reservation}
+use Rattle.mps_abstract.specs.Colours.{Colours, is_white, is_grey}
+use Rattle.mps_trace_laws.specs.Image.Memory.{Setting, Memory, Lies, all_cells}
 use Rattle.mps_trace_laws.specs.Image.Image.{IsCellWord, IsFixedWord, CellSet, MarksStand, RunsStand, ImageStands, Stands, black_cells}
 use Rattle.mps_trace_laws.specs.Image.Bands.{setting_flipped, setting_freeing}
-use Rattle.mps_trace_laws.proofs.Image.Placed.{placed_otherwise, placed_unreserved, setting_otherwise}
-use Rattle.mps_trace_laws.proofs.Image.Written.{holds_still}
+use Rattle.mps_trace_laws.proofs.Image.Placed.{placed_otherwise}
 
 -- ---- at rest, and at a flip
 
@@ -27,40 +26,6 @@ module _ (s : Setting) (m m' : Memory) (addresses : List (Option Address)) (k k'
     (all_read : (id : Id) → IsTrue (s.is_read id)) (same : m'.words ≡ m.words) where
   abbrev after : Setting
   after = setting_flipped s addresses points memories condemned is_condemned_over
-
-  -- at a flip: the words are as they were, no reservation is live any more, and black objects refer to nothing white
-  pub flip_stands : ImageStands s m addresses k done
-      → ((id i : ℕ) (o : Object) (n : Word) (at : Address) → Lies s.objects addresses id i o n → entry_at addresses id ≡ Some at
-      → is_condemned_over n ≡ is_condemned_over (word_of at))
-      → ((id i : ℕ) (o : Object) (c : Cell) (t : Id) → IsTrue (is_black condemned k' id) → slice_get s.objects id ≡ Some o
-      → slice_get (all_cells o.body) i ≡ Some c → target_of_cell c ≡ Some t → is_white condemned k' t ≡ false)
-      → ((point : ℕ) (r : Reservation) → live_reservation (entry_at points point) ≡ Some r → ⊥)
-      → MarksStand after m'.kept m'.grey addresses k' → RunsStand after m' addresses → Stands after m' addresses k'
-  flip_stands st whole targets doomed marks runs = record {
-    placed =
-        placed_unreserved (setting_otherwise s s.layout addresses condemned (λ id. true) is_condemned_over) addresses
-        (placed_otherwise s addresses st.placed s.layout addresses condemned (λ id. true) is_condemned_over st.placed.address whole) points
-        memories doomed;
-    words = record {
-      long = ap length same ∙ st.words.long;
-      cells = λ id i o n c read l cell. holds_still addresses addresses (head_of_body o.body) c (slice_index m'.words n)
-          (word id i o n c l cell);
-      forwarded = λ id from to o was now x object. absurd (x (same_Some from to (sym was ∙ now)));
-    };
-    fixed = record {
-      cells = λ id i o n c d l cell.
-          record { holds = word id i o n c l cell; not_white = λ t x. targets id i o c t d l.object cell x };
-      reserved = λ point i r n c l cell. absurd (doomed point r l.reserved);
-    };
-    marks = marks;
-    runs = runs;
-  }
-    where
-      word : (id i : ℕ) (o : Object) (n : Word) (c : Cell) → Lies s.objects addresses id i o n → slice_get (all_cells o.body) i ≡ Some c
-          → IsCellWord addresses [] (head_of_body o.body) c (slice_index m'.words n)
-      word id i o n c l cell =
-          subst (λ ws. IsCellWord addresses [] (head_of_body o.body) c (slice_index ws n)) (sym same)
-          (holds_now s addresses (head_of_body o.body) c (slice_index m.words n) none (st.words.cells id i o n c (all_read id) l cell))
 
 -- ---- the last band
 

@@ -1,8 +1,6 @@
 -- What a client's call changes of what the words stand for: each cell is as it was, or is new and fixed.
 use Rattle.std.proofs.Common.{◌≡◌, ◌∙◌, ◌⊎◌, ℕ, ◌+◌, ◌<◌, refl, sym, ap, List, [], length, Option, Some, None, subst, inl, inr, slice_index}
-use Rattle.std.proofs.lemmas.Bool.{false≢true}
-use Rattle.std.proofs.lemmas.Option.{none-some, same_Some}
-use Rattle.std.specs.Prelude.{slice_get, drop, ◌≢◌, IsTrue, false}
+use Rattle.std.specs.Prelude.{slice_get, drop, ◌≢◌, IsTrue}
 use Rattle.mps_base.specs.Address.{Address, Id, Word, word_of}
 use Rattle.mps_format.specs.Blocks.{BeginsForwarded}
 use Rattle.mps_model.specs.Graph.{Cell, HeadCell, NumberCell, ReferenceCell, Object, Point, Reservation, entry_at, size_of, target_of_cell}
@@ -11,7 +9,7 @@ use Rattle.mps_model.specs.World.{PointMemory}
 use Rattle.mps_abstract.specs.Colours.{Colours}
 use Rattle.mps_trace_laws.specs.Image.Memory.{Setting, Lies, LiesReserved, all_cells}
 use Rattle.mps_trace_laws.specs.Image.Image.{IsCellWord, IsForwardedObject, WordsStand, IsFixedWord, CellSet, FixedCellsStand}
-use Rattle.mps_trace_laws.specs.Image.Changes.{setting_with, IsOfNoMovedBlock}
+use Rattle.mps_trace_laws.specs.Image.Changes.{setting_with}
 use Rattle.mps_trace_laws.proofs.Image.Forwarded.{forwarded_still}
 use Rattle.mps_trace_laws.proofs.Image.Written.{holds_still}
 
@@ -172,30 +170,3 @@ module _ (x : Change) (k : Colours) (done : CellSet) (changes : CallChanges x k 
       | inr y ↦ y
     ];
   }
-
--- ---- where blocks were that have moved
-
-module _ (s : Setting) (words : List ℕ) (addresses : List (Option Address)) (stand : WordsStand s words addresses) (n : Word) where
-  -- so it is outside condemned segments
-  pub clear_outside : s.is_condemned_over n ≡ false → IsOfNoMovedBlock s addresses n
-  clear_outside outside = record {
-    clear = λ id from to o q was now apart object lt e.
-        let f = stand.forwarded id from to o was now apart object in
-        false≢true (sym outside ∙ ap s.is_condemned_over e ∙ f.condemned q lt);
-  }
-
-  -- and in pools from which nothing has moved
-  pub clear_in_pool : (pool : ℕ) → s.pool_over n ≡ Some pool
-      → ((id : Id) (from to : Address) (o : Object) → entry_at s.at_flip id ≡ Some from → entry_at addresses id ≡ Some to → from ≢ to
-      → slice_get s.objects id ≡ Some o → o.pool ≢ pool) → IsOfNoMovedBlock s addresses n
-  clear_in_pool pool over none = record {
-    clear = λ id from to o q was now apart object lt e.
-        let f = stand.forwarded id from to o was now apart object in
-        none id from to o was now apart object (same_Some o.pool pool (sym (f.home q lt) ∙ ap s.pool_over (sym e) ∙ over));
-  }
-
--- where no addresses of a flip count, nothing has moved
-pub clear_at_rest : (s : Setting) (addresses : List (Option Address)) (n : Word) → s.at_flip ≡ [] → IsOfNoMovedBlock s addresses n
-clear_at_rest s addresses n none = record {
-  clear = λ id from to o q was now apart object lt e. none-some from (sym (ap (λ old. entry_at old id) none) ∙ was);
-}

@@ -8,7 +8,7 @@ use Rattle.mps_trace_laws.specs.Image.Image.{IsFixedWord, black_cells, with_cell
 use Rattle.mps_trace_laws.specs.Image.Changes.{setting_with_objects, memory_with_word, IsCellChanged, memory_without_block, setting_made, addresses_made, memory_allocated, AreFree, AreHome, IsAllocated, setting_with_points, memory_without_reservation, memory_with_reservation}
 use Rattle.mps_trace_laws.proofs.Image.Written.{cell_written}
 use Rattle.mps_trace_laws.proofs.Image.CellChanged.{graph_cell_changed, fewer_fixed}
-use Rattle.mps_trace_laws.proofs.Image.Reservations.{reservation_ended, reservation_written}
+use Rattle.mps_trace_laws.proofs.Image.Reservations.{reservation_written}
 use Rattle.mps_trace_laws.proofs.Image.Allocated as allocated
 use Rattle.mps_trace_laws.proofs.Image.Gone.{image_gone, manual_may_go, white_may_go}
 use Rattle.mps_base.specs.Address.{Address, Id, Word, word_of}
@@ -61,16 +61,6 @@ pub reservation_is_written : (s : Setting) (m : Memory) (addresses : List (Optio
     (memory_with_word m (word_of memory.reserved_at + l) word) addresses k
 reservation_is_written s m addresses k i p p' memory q l new word st point has live within live' fixed =
     reservation_written s m addresses k (black_cells s.condemned k) st i p memory point has q live p' l new word within live' fixed
-
--- a live reservation ends
-pub reservation_ends : (s : Setting) (m : Memory) (addresses : List (Option Address)) (k : Colours) (i : ℕ) (p : Option Point)
-    (p' : Point)
-    (memory : PointMemory) (q : Reservation) → Stands s m addresses k → slice_get s.points i ≡ Some p
-    → slice_get s.point_memories i ≡ Some memory → live_reservation p ≡ Some q → live_reservation (Some p') ≡ None
-    → Stands (setting_with_points s (slice_set s.points i (Some p')) s.point_memories) (memory_without_reservation m memory.reserved_at)
-    addresses k
-reservation_ends s m addresses k i p p' memory q st point has live none =
-    reservation_ended s m addresses k (black_cells s.condemned k) st i p memory point has q live p' none
 
 -- a live reservation is committed: it ends, and an object with its head and cells is where it was. No word changes
 pub block_is_committed : (s : Setting) (m : Memory) (addresses : List (Option Address)) (k : Colours) (i : ℕ) (p : Option Point)

@@ -13,9 +13,8 @@ use Rattle.mps_model.specs.Checked.{head_of_body}
 use Rattle.mps_abstract.specs.Colours.{Colours, is_white, is_grey}
 use Rattle.mps_trace_laws.specs.Image.Memory.{Setting, Memory, Lies, LiesReserved, all_cells}
 use Rattle.mps_trace_laws.specs.Image.Image.{IsCellWord, AreShaped, IsAddress, LieApart, CellSet, ImageStands, is_white_over}
-use Rattle.mps_trace_laws.specs.Image.Fixing.{AreAtHand, copies, FixWord, writes, IsFixedCell}
+use Rattle.mps_trace_laws.specs.Image.Fixing.{AreAtHand, copies, FixWord, writes}
 use Rattle.mps_amc.specs.Moving.{AreCopied}
-use Rattle.mps_trace_laws.proofs.Image.Fixing.{fix_keeps}
 
 abbrev one : Object
 one = record { pool = 0; body = Automatic 0x100000201 (HeadCell ∷ ReferenceCell (Some 1) 3 ∷ []) false }
@@ -137,12 +136,6 @@ side = of_lying (λ i k o n. ((i ≡ 0) × (n ≤ 2)) ⊎ ((i ≡ 1) × (3 ≤ n
 
 same_side : (i j n : ℕ) → ((i ≡ 0) × (n ≤ 2)) ⊎ ((i ≡ 1) × (3 ≤ n)) → ((j ≡ 0) × (n ≤ 2)) ⊎ ((j ≡ 1) × (3 ≤ n)) → i ≡ j
 same_side i j n a b = omega (arith, a, b)
-
-head_is_none : (t : Option ℕ) (tag : ℕ) → HeadCell ≡ ReferenceCell t tag → ⊥
-head_is_none t tag e = false≢true (ap is_reference_cell e)
-
-number_is_none : (number : ℕ) (t : Option ℕ) (tag : ℕ) → NumberCell number ≡ ReferenceCell t tag → ⊥
-number_is_none number t tag e = false≢true (ap is_reference_cell e)
 
 abbrev tag_of_cell : Cell → ℕ
 tag_of_cell HeadCell = 0
@@ -298,8 +291,3 @@ fixed = writes 40 (lit< tt) (copies 0 40 2 copied_words (λ n. false) (λ n. n =
     or_false : (b : Bool) → (b || false) ≡ b
     or_false true = refl
     or_false false = refl
-
--- so the words after it stand for the same objects, of which one has moved
-pub a_copy_meets_all : IsFixedCell setting after addresses colours none_done (Some 1) 0 1
-a_copy_meets_all = fix_keeps setting before addresses colours none_done shaped (λ id. refl) stands 0 1 one 2 3
-    (record { at = 8; address = refl; object = refl; within = lit< tt; is = refl }) 1 24 refl refl refl 24 after refl fixed

@@ -144,9 +144,6 @@ all_first : (P : Run → Type 0) (q : Option Point) (m : PointMemory)
 all_first P None m f = tt
 all_first P (Some p) m f = reserved_one p.reservation m P (λ q e live. f q (live_is p q e live))
 
-entry_first : (q : Option Point) (ps : List (Option Point)) → entry_at (q ∷ ps) zero ≡ q
-entry_first q ps = refl
-
 pub parted_points : (points : List (Option Point)) (memories : List PointMemory) (i : ℕ) (point : Option Point) (memory : PointMemory)
     → slice_get points i ≡ Some point → slice_get memories i ≡ Some memory → PartedPoints points memories i point memory
 parted_points [] memories i point memory e h = absurd (none-some point e)

@@ -1,7 +1,7 @@
 -- One fix keeps the image, whatever the code finds: of an address, and of the reference in a word.
-use Rattle.std.proofs.Common.{◌≡◌, ◌∙◌, ℕ, ◌+◌, ◌<◌, Bool, true, false, refl, sym, ap, List, Option, Some, None, subst, inl, arith, slice_index}
+use Rattle.std.proofs.Common.{◌≡◌, ◌∙◌, ℕ, ◌+◌, ◌<◌, Bool, true, false, sym, ap, List, Option, Some, subst, inl, arith, slice_index}
 use Rattle.std.proofs.lemmas.Bool.{false≢true, and_right, and_from}
-use Rattle.std.proofs.lemmas.Option.{none-some, same_Some}
+use Rattle.std.proofs.lemmas.Option.{same_Some}
 use Rattle.std.specs.Prelude.{slice_get, slice_set, not, IsTrue}
 use Rattle.mps_base.specs.Address.{Address, Id, Word, word_of}
 use Rattle.mps_model.specs.Graph.{ReferenceCell, Object, entry_at, size_of}
@@ -156,23 +156,6 @@ module _ (s : Setting) (m : Memory) (addresses : List (Option Address)) (k : Col
     (shaped : AreShaped s.objects s.layout)
     (all_read : (id : Id) → IsTrue (s.is_read id)) (st : ImageStands s m addresses k done) (holder i : ℕ) (o : Object) (n : Word) (tag : ℕ)
     (lies : Lies s.objects addresses holder i o n) where
-  -- a null reference
-  pub fix_null : (address : Address) (m' : Memory) → slice_get (all_cells o.body) i ≡ Some (ReferenceCell None tag)
-      → (s.layout o.pool).target (slice_index m.words n) ≡ address → FixWord s addresses (s.layout o.pool) m n address m'
-      → IsFixedCell s m' addresses k done None holder i
-  fix_null address m' cell read (null e) = record {
-    addresses_after = addresses;
-    colours_after = k;
-    step = nothing;
-    stands =
-        targets.passed s addresses k done holder i o n (ReferenceCell None tag) lies cell m (record {
-          holds = st.words.cells holder i o n (ReferenceCell None tag) (all_read holder) lies cell;
-          not_white = λ u e'. absurd (none-some u e');
-        }) st;
-  }
-  fix_null address m' cell read (writes answer lt f) =
-      absurd (let e = references.found_null s m.words addresses shaped st.placed st.words all_read holder i o n tag lies cell in
-      omega (arith, lt, e, read))
 
   module _ (t now : ℕ) (holder_kept : is_white s.condemned k holder ≡ false)
       (cell : slice_get (all_cells o.body) i ≡ Some (ReferenceCell (Some t) tag)) (there : entry_at addresses t ≡ Some now) where
@@ -216,17 +199,3 @@ module _ (s : Setting) (m : Memory) (addresses : List (Option Address)) (k : Col
         fix_object address found.object m' (subst (λ y. Target s addresses t y now found.object) e found.target)
         (subst (λ y. references.ReadsAddress (s.layout o.pool) (slice_index m.words n) y tag) e found.read)
         (subst (λ y. 0 < y) e found.not_null) f
-
--- a word is fixed, whatever it refers to
-pub fix_word : (s : Setting) (m : Memory) (addresses : List (Option Address)) (k : Colours) (done : CellSet) (holder i tag : ℕ) (o : Object)
-    (n : Word) (t : Option Id) → AreShaped s.objects s.layout → ((id : Id) → IsTrue (s.is_read id)) → ImageStands s m addresses k done
-    → Lies s.objects addresses holder i o n → is_white s.condemned k holder ≡ false
-    → slice_get (all_cells o.body) i ≡ Some (ReferenceCell t tag)
-    → ((u : Id) → t ≡ Some u → (now : Address) × (entry_at addresses u ≡ Some now)) → (address : Address) (m' : Memory)
-    → (s.layout o.pool).target (slice_index m.words n) ≡ address → FixWord s addresses (s.layout o.pool) m n address m'
-    → IsFixedCell s m' addresses k done t holder i
-fix_word s m addresses k done holder i tag o n None shaped all_read st lies not_white cell live address m' read f =
-    fix_null s m addresses k done shaped all_read st holder i o n tag lies address m' cell read f
-fix_word s m addresses k done holder i tag o n (Some t) shaped all_read st lies not_white cell live address m' read f =
-    let there = live t refl in
-    fix_keeps s m addresses k done shaped all_read st holder i o n tag lies t there.0 not_white cell there.1 address m' read f

@@ -1,22 +1,19 @@
 -- A whole scan: it begins with the cells of black objects fixed, fixes one cell after the other, and ends with one object more
 -- that is black.
-use Rattle.std.proofs.Common.{◌≡◌, ◌∙◌, ℕ, ◌+◌, ◌<◌, ◌≤◌, Bool, true, false, refl, sym, ap, List, [], ◌∷◌, length, Option, Some, None, subst, inl, inr, arith, slice_index, zero, suc}
-use Rattle.std.proofs.lemmas.Bool.{false≢true, true≢false, cases_eq, eq-eqb, ne_eqb, or_left, or_right, or_cases, and_parts}
-use Rattle.std.proofs.lemmas.Option.{none-some, same_Some}
+use Rattle.std.proofs.Common.{◌≡◌, ◌∙◌, ℕ, ◌+◌, ◌<◌, ◌≤◌, Bool, true, false, refl, sym, ap, List, [], ◌∷◌, length, Option, Some, subst, inl, inr, arith, zero, suc}
+use Rattle.std.proofs.lemmas.Bool.{false≢true, cases_eq, eq-eqb, ne_eqb, or_left, or_right, or_cases, and_parts}
+use Rattle.std.proofs.lemmas.Option.{same_Some}
 use Rattle.std.specs.Prelude.{slice_get, not, ◌&&◌, ◌||◌, ◌==◌, ◌≢◌, filter, map, if◌then◌else◌, IsTrue}
 use Rattle.mps_base.specs.Address.{Address, Id, Word, word_of}
-use Rattle.mps_model.specs.Graph.{Cell, HeadCell, NumberCell, ReferenceCell, Body, Automatic, Manual, Object, contains, entry_at, size_of, size_of_body, is_reference_cell}
-use Rattle.mps_model.specs.Checked.{head_of_body}
+use Rattle.mps_model.specs.Graph.{Cell, NumberCell, Body, Automatic, Manual, Object, contains, entry_at, size_of, size_of_body}
 use Rattle.mps_abstract.specs.Colours.{Colours, is_white, is_grey, is_black, keeping, blackened}
 use Rattle.mps_trace_laws.specs.Image.Memory.{Setting, Memory, Lies, BlockBegins, all_cells}
-use Rattle.mps_trace_laws.specs.Image.Image.{IsCellWord, AreShaped, IsFixedWord, CellSet, with_cell, black_cells, ImageStands, Stands}
-use Rattle.mps_trace_laws.specs.Image.Fixing.{IsMarkCleared, address_moved, FixWord, FixesOne, nothing, passed, kept, moved, IsFixedCell}
-use Rattle.mps_trace_laws.specs.Image.Scanning.{setting_with_pools, ScansFrom, ends, takes, skips, fixes, IsToScan, ScansBlock, LeavesOthers}
+use Rattle.mps_trace_laws.specs.Image.Image.{AreShaped, CellSet, with_cell, black_cells, ImageStands, Stands}
+use Rattle.mps_trace_laws.specs.Image.Fixing.{IsMarkCleared, address_moved, FixesOne, nothing, passed, kept, moved}
+use Rattle.mps_trace_laws.specs.Image.Scanning.{setting_with_pools, IsToScan, LeavesOthers}
 use Rattle.mps_trace_laws.proofs.Image.Entries.{entry_at-set_same, entry_at-set_other}
 use Rattle.mps_trace_laws.proofs.Image.Targets as targets
 use Rattle.mps_trace_laws.proofs.Image.Marked.{still_not_white, others_white, others_grey, grey_now, begins_apart}
-use Rattle.mps_trace_laws.proofs.Image.Segments.{image_more}
-use Rattle.mps_trace_laws.proofs.Image.Fixing.{fix_null, fix_keeps}
 
 -- ---- what a fix leaves of objects
 
@@ -84,16 +81,6 @@ pub record Scanned (s : Setting) (pools : Word → Option ℕ) (m' : Memory) (ad
     pub all : (l : ℕ) → i ≤ l → l < size → IsTrue (done_after id l)
     pub stands : ImageStands (setting_with_pools s pools) m' addresses_after colours_after done_after
 
-to_scan_still : (s : Setting) (addresses addresses' : List (Option Address)) (k k' : Colours) (id at : ℕ) (o : Object)
-    → LeavesOthers s.condemned addresses addresses' k k' → IsToScan s addresses k id at o → IsToScan s addresses' k' id at o
-to_scan_still s addresses addresses' k k' id at o l x = record {
-  there = l.there id at x.not_white x.there;
-  object = x.object;
-  automatic = x.automatic;
-  not_white = l.not_white id x.not_white;
-  live = λ i t tag e. let e' = x.live i t tag e in l.live t e'.0 e'.1;
-}
-
 now_done : (done : CellSet) (id i : ℕ) → with_cell done id i id i ≡ true
 now_done done id i = rw (eq-eqb id id refl, eq-eqb i i refl) refl
 
@@ -115,14 +102,6 @@ one_more s pools m' addresses addresses' k k' done id i size l x = record {
   stands = x.stands;
 }
 
--- what isn't a reference is fixed as it is
-fixed_number : (condemned : List Id) (addresses at_flip : List (Option Address)) (k : Colours) (head word : ℕ) (c : Cell)
-    → is_reference_cell c ≡ false → IsCellWord addresses at_flip head c word → IsFixedWord condemned addresses k head c word
-fixed_number condemned addresses at_flip k head word HeadCell e h = record { holds = h; not_white = λ t x. absurd (none-some t x) }
-fixed_number condemned addresses at_flip k head word (NumberCell number) e h =
-    record { holds = h; not_white = λ t x. absurd (none-some t x) }
-fixed_number condemned addresses at_flip k head word (ReferenceCell target tag) e h = absurd (true≢false e)
-
 -- each word of an object has a cell
 in_range : {X : Type 0} (xs : List X) (i : ℕ) → i < length xs → (x : X) × (slice_get xs i ≡ Some x)
 in_range [] i lt = absurd (omega (arith, lt))
@@ -141,65 +120,6 @@ module _ (s : Setting) (shaped : AreShaped s.objects s.layout) (all_read : (id :
   word_there : (addresses : List (Option Address)) (k : Colours) (i : ℕ) → IsToScan s addresses k id at o → i < size_of o
       → Lies s.objects addresses id i o (word_of at + i)
   word_there addresses k i x lt = record { at = at; address = x.there; object = x.object; within = lt; is = refl }
-
-  -- a reference is fixed, to null or to an object
-  fix_cell : (pools : Word → Option ℕ) (m next : Memory) (addresses : List (Option Address)) (k : Colours) (done : CellSet) (i address : ℕ)
-      (c : Cell) → IsToScan s addresses k id at o → ImageStands (setting_with_pools s pools) m addresses k done → i < size_of o
-      → is_reference_cell c ≡ true → slice_get (all_cells o.body) i ≡ Some c
-      → (s.layout o.pool).target (slice_index m.words (word_of at + i)) ≡ address
-      → FixWord (setting_with_pools s pools) addresses (s.layout o.pool) m (word_of at + i) address next
-      → (t : Option Id) × IsFixedCell (setting_with_pools s pools) next addresses k done t id i
-  fix_cell pools m next addresses k done i address HeadCell x st lt is cell read f = absurd (false≢true is)
-  fix_cell pools m next addresses k done i address (NumberCell number) x st lt is cell read f = absurd (false≢true is)
-  fix_cell pools m next addresses k done i address (ReferenceCell None tag) x st lt is cell read f =
-      let l = word_there addresses k i x lt in (
-        None,
-        fix_null (setting_with_pools s pools) m addresses k done shaped all_read st id i o (word_of at + i) tag l address next cell read f,
-      )
-  fix_cell pools m next addresses k done i address (ReferenceCell (Some t) tag) x st lt is cell read f =
-      let l = word_there addresses k i x lt in
-      let to = x.live i t tag cell in (
-        Some t,
-        fix_keeps (setting_with_pools s pools) m addresses k done shaped all_read st id i o
-            (word_of at + i) tag l t to.0 x.not_white cell to.1
-            address next read f,
-      )
-
-  -- a run keeps the image, and all cells that it went over are fixed
-  pub scan_keeps : {i : ℕ} {pools pools' : Word → Option ℕ} {m m' : Memory} {addresses : List (Option Address)} {k : Colours}
-      → ScansFrom s (s.layout o.pool) (head_of_body o.body) at (size_of o) i pools m addresses k pools' m' → (done : CellSet)
-      → IsToScan s addresses k id at o → ImageStands (setting_with_pools s pools) m addresses k done
-      → Scanned s pools' m' addresses k done id i (size_of o)
-  scan_keeps (ends {pools} {m} {addresses} {k}) done x st = record {
-    addresses_after = addresses;
-    colours_after = k;
-    done_after = done;
-    leaves = all_left s.condemned addresses k;
-    more = λ j l d. d;
-    all = λ j low high. absurd (omega (arith, low, high));
-    stands = st;
-  }
-  scan_keeps (takes {i} {pools} {pools'} {m} {m'} {addresses} {k} more held run) done x st =
-      scan_keeps run done x (image_more (setting_with_pools s pools) more held addresses m k done st)
-  scan_keeps (skips {i} {pools} {pools'} {m} {m'} {addresses} {k} lt isnt run) done x st =
-      let c = cell_there o.body i lt in
-      let l = word_there addresses k i x lt in
-      let number = shaped.kinds id i o c.0 x.object x.automatic c.1 ∙ isnt in
-      let fixed =
-      fixed_number s.condemned addresses s.at_flip k (head_of_body o.body) (slice_index m.words (word_of at + i)) c.0 number
-      (st.words.cells id i o (word_of at + i) c.0 (all_read id) l c.1)
-      in
-      one_more s pools' m' addresses addresses k k done id i (size_of o) (all_left s.condemned addresses k)
-      (scan_keeps run (with_cell done id i) x
-      (targets.passed (setting_with_pools s pools) addresses k done id i o (word_of at + i) c.0 l c.1 m fixed st))
-  scan_keeps (fixes {i} {pools} {pools'} {m} {m'} {addresses} {k} address next lt is read f rest) done x st =
-      let c = cell_there o.body i lt in
-      let reference = shaped.kinds id i o c.0 x.object x.automatic c.1 ∙ is in
-      let y = fix_cell pools m next addresses k done i address c.0 x st lt reference c.1 read f in
-      let left = fix_leaves s.condemned addresses y.1.addresses_after k y.1.colours_after y.0 y.1.step in
-      one_more s pools' m' addresses y.1.addresses_after k y.1.colours_after done id i (size_of o) left
-      (scan_keeps (rest y.0 y.1.addresses_after y.1.colours_after y.1.step) (with_cell done id i)
-      (to_scan_still s addresses y.1.addresses_after k y.1.colours_after id at o left x) y.1.stands)
 
 -- ---- the end of a scan
 
@@ -282,18 +202,3 @@ module _ (s : Setting) (m : Memory) (addresses : List (Option Address)) (k₀ k 
       };
       runs = record { blocks = st.runs.blocks; reservations = st.runs.reservations; covered = st.runs.covered };
     }
-
--- a scan of a block: before and after it the cells of black objects are fixed, and after it the block is black
-pub scan_blackens : (s : Setting) (pools : Word → Option ℕ) (m m' : Memory) (addresses : List (Option Address)) (k : Colours)
-    (grey' : Word → Bool) (id at : ℕ) (o : Object) → AreShaped s.objects s.layout → ((j : Id) → IsTrue (s.is_read j))
-    → Stands s m addresses k → IsToScan s addresses k id at o → ScansBlock s o at m addresses k pools m'
-    → IsMarkCleared m'.grey grey' (word_of at)
-    → (addresses' : List (Option Address)) × (k' : Colours) × LeavesOthers s.condemned addresses addresses' k k'
-    × Stands (setting_with_pools s pools) (record m' { grey = grey' }) addresses' (blackened k' id)
-scan_blackens s pools m m' addresses k grey' id at o shaped all_read st x run off =
-    let y = scan_keeps s shaped all_read id at o run (black_cells s.condemned k) x st in
-    let z =
-    scan_ends (setting_with_pools s pools) m' y.addresses_after k y.colours_after y.done_after id at o grey' y.stands
-    (y.leaves.there id at x.not_white x.there) x.object y.more (λ i lt. y.all i (omega arith) lt) y.leaves.black off
-    in
-    (y.addresses_after, y.colours_after, y.leaves, z)

@@ -4,19 +4,17 @@ use Rattle.std.proofs.lemmas.Bool.{le-leb, lt-ltb, le-ltb, and_from, and_right, 
 use Rattle.std.specs.Prelude.{nat_le, nat_lt, option_map, ◌%◌, Bool}
 use Rattle.std.specs.List.{AllByRecursion}
 use Rattle.mps_base.specs.Address.{Word, word_of, address_of_grain, address_of_word, grain_of, max_grains, Address, Id}
-use Rattle.mps_base.specs.Run.{Covers, IsAscending, end_of, with_run}
+use Rattle.mps_base.specs.Run.{Covers, IsAscending, end_of}
 use Rattle.mps_base.specs.Segment.{Segment, grains_of_segment, words_of_segment, end_of_segment, is_in_segment, segment_over}
 use Rattle.mps_base.proofs.Runs.{contains_first, contains_later, contained_bounds}
-use Rattle.mps_model.specs.World.{extent, PointMemory}
+use Rattle.mps_model.specs.World.{PointMemory}
 use Rattle.mps_seg.specs.Collecting.{bit_of}
-use Rattle.mps_trace_laws.specs.Image.Memory.{memory_in, setting_in, Setting, words_of_arena}
+use Rattle.mps_trace_laws.specs.Image.Memory.{setting_in}
 use Rattle.mps_trace_laws.specs.Image.SegmentWords.{AreSegmentsInOrder}
-use Rattle.mps_trace_laws.proofs.Image.OpenRuns.{open_is_free}
 use Rattle.mps_format.specs.Layout.{Layout}
-use Rattle.mps_seg.specs.Segs.{SegsState, CanCover}
+use Rattle.mps_seg.specs.Segs.{SegsState}
 use Rattle.mps_model.specs.Graph.{Object, Point}
-use Rattle.mps_trace_laws.specs.Image.Changes.{AreHome, IsOfNoMovedBlock, AreFree}
-use Rattle.mps_trace_laws.specs.Image.Image.{RunsStand}
+use Rattle.mps_trace_laws.specs.Image.Changes.{AreHome}
 
 contains_cases : (ss : List Segment) (t s : Segment) → Contains (s ∷ ss) t → (s ≡ t) ⊎ Contains ss t
 contains_cases ss t s (zero, within, is) = inl is
@@ -78,15 +76,6 @@ over_word low limit (s ∷ ss) t n aligned ascending there covers =
           cond-false (is_in_segment s (address_of_word n)) (Some s) (segment_over ss (address_of_word n)) (outside s n past)
           ∙ over_word (end_of (grains_of_segment s)) limit ss t n aligned.1 ascending.2 later covers
     ]
-
--- a run of words that a call of the segments found to be open is free, where no block was that has moved
-pub open_words_are_free : (g : SegsState) (s : Setting) (addresses : List (Option Address)) (at : Address) (size : ℕ)
-    → s.size ≡ words_of_arena g.grains
-    → RunsStand s (memory_in g) addresses → CanCover g (extent at size)
-    → ((k : ℕ) → k < size → IsOfNoMovedBlock s addresses (word_of at + k)) → AreFree s addresses at size
-open_words_are_free g s addresses at size same runs can unforwarded =
-    open_is_free s (memory_in g) addresses at size runs
-    (subst (λ n. IsAscending 0 n (with_run (extent at size) g.covered)) (sym same) can.free) unforwarded
 
 -- words of one held segment are home to its pool
 pub segments_are_home : (g : SegsState) (objects : List Object) (points : List (Option Point)) (memories : List PointMemory)

@@ -14,7 +14,7 @@ use Rattle.mps_abstract.specs.Collecting.{Collecting, is_white_in}
 use Rattle.mps_abstract.specs.Fixing.{passes, keeps, Keeps, marks, moves_to_place, moves_to_segment, stays, moved_to, stays_at, kept_by}
 use Rattle.mps_abstract.proofs.Addresses.{id_at-live}
 use Rattle.mps_trace_laws.specs.Image.Fixing.{address_moved, FixesOne, passed, kept, moved}
-use Rattle.mps_trace_laws.specs.Image.Steps.{MayKeep, may_mark, may_stay, may_move, may_move_into, IsStep, AFixIsAStep}
+use Rattle.mps_trace_laws.specs.Image.Steps.{MayKeep, may_mark, may_stay, may_move, may_move_into, IsStep}
 
 -- ---- the addresses after moves
 
@@ -111,6 +111,3 @@ module _ (x : Collecting) (t : Id) (different : AreDifferent x.world.addresses) 
   }
   step addresses' k' may (kept u w) = may_keep addresses' w (may w)
   step addresses' k' may (moved u from to w e) = may_keep addresses' w (may w)
-
-pub fix_is_step : AFixIsAStep
-fix_is_step x t addresses' k' different live may f = step x t different live addresses' k' may f

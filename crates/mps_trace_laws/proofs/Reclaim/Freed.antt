@@ -125,9 +125,3 @@ module _ (s : Setting) (g : SegsState) (addresses : List (Option Address)) (k : 
 
   pub white_freed : AreWhiteFreed s g addresses k t freed
   white_freed = record { ascending = freed_ascend; white = freed_white; all = white_is_lost; apart = freed_apart }
-
--- the blocks that the reclaim of a segment frees are those of the white objects in it
-pub lost_blocks_are_white : (s : Setting) (g : SegsState) (addresses : List (Option Address)) (k : Colours) (done : CellSet) (t : Segment)
-    → ImageStands s (memory_in g) addresses k done → IsCondemnedSegment s g t
-    → AreWhiteFreed s g addresses k t (addresses_of (lost_of g t))
-lost_blocks_are_white s g addresses k done t st c = white_freed s g addresses k done t st c

@@ -110,10 +110,3 @@ module _ (x : Collecting) (g : SegsState) (layout : ℕ → Layout) (base : Addr
     apart = λ b u at e differ h.
         shown.apart u at (held_there b u e) (λ same. differ (sym (base_there b u e) ∙ same)) h;
   }
-
--- the lowest condemned segment from the cursor on is the one that is reclaimed next, and what it frees are the white objects in it
-pub the_next_is_reclaimed : (x : Collecting) (g : SegsState) (layout : ℕ → Layout) (base : Address) → Running x
-    → AreAllScanned x.colours → AreAllExamined x
-    → FreesFor g x.world x.running x.colours layout → (next : IsNextCondemned g x.cursor base)
-    → IsReclaimedNext x next.segment (addresses_of (lost_of g next.segment))
-the_next_is_reclaimed x g layout base run scanned examined f next = next_reclaimed x g layout base run scanned examined f next

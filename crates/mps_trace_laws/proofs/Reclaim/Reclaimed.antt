@@ -266,16 +266,3 @@ module _ (g : SegsState) (objects : List Object) (points : List (Option Point)) 
       state ∙ ap (λ (x : Segment). record (freed_in g x) { words = g'.words }) (sym one)
       in
       subst (IsReclaimShown g objects points memories layout condemned k addresses t) (sym left_state) (swept_padded f g'.words pads)
-
--- after the reclaim of a condemned segment without a reservation, given back or padded, the image stands for the objects that are left
-pub a_reclaim_keeps_the_image : (f : Layout) (g : SegsState) (objects : List Object) (points : List (Option Point))
-    (memories : List PointMemory) (layout : ℕ → Layout)
-    (condemned : List Id) (k : Colours) (addresses : List (Option Address)) (t : Segment) (moves : Moves) (base : Addr) (g' : SegsState)
-    (moves' : Moves) → StandsFreeing g objects points memories layout condemned k addresses → AreAllScanned k → Contains g.segments t
-    → t.base ≡ base.0 → bit g.condemned (grain_of t.base) ≡ true → IsUnreserved points memories t
-    → IsReclaimed f g moves base g' moves'
-    → IsReclaimShown g objects points memories layout condemned k addresses t g'
-a_reclaim_keeps_the_image f g objects points memories layout condemned k addresses t moves base g' moves' swept scanned held is bits
-    unreserved reclaimed =
-    reclaimed_sweeps g objects points memories layout condemned k addresses t swept scanned held bits unreserved f moves base g' moves' is
-    reclaimed

@@ -72,20 +72,3 @@ module _ {F : Type 0} (layout : F → Layout) (formats : List (Option (Policy F)
         };
         answers = (step.there, step.not_white);
       }
-
--- a slot can be fixed
-pub root_can_be_fixed : {F : Type 0}
-    → (layout : F → Layout) (formats : List (Option (Policy F))) (of : ChainsState) (at_flip : List (Option Address)) (done : CellSet)
-    (x : Traced) (y : Collecting) (at : Address) (target : Option Id) → AreShaped y.world.graph.objects (pool_layout y.world)
-    → TracingStands layout formats of at_flip done x y → RefersTo at_flip y at target → CanFixRootAt layout formats of x at
-root_can_be_fixed {F} layout formats of at_flip done x y at target shaped stands refers =
-    can_root layout formats of at_flip done x y shaped stands at target refers
-
--- and what the collector does with it is a step of the abstract collector
-pub root_is_a_step : {F : Type 0}
-    → (layout : F → Layout) (formats : List (Option (Policy F))) (of : ChainsState) (at_flip : List (Option Address)) (done : CellSet)
-    (x z : Traced) (y : Collecting) (at answer : Address) (target : Option Id) → AreShaped y.world.graph.objects (pool_layout y.world)
-    → TracingStands layout formats of at_flip done x y → RefersTo at_flip y at target
-    → FixesRoot layout formats of x at z answer → IsRootStep layout formats of at_flip done x z y target answer
-root_is_a_step {F} layout formats of at_flip done x z y at answer target shaped stands refers fixed =
-    root_step layout formats of at_flip done x y shaped stands z at answer target refers fixed

@@ -1,5 +1,5 @@
 -- A row of slots is fixed, one after the other: steps of the abstract collector.
-use Rattle.std.proofs.Common.{◌≡◌, ◌∙◌, ℕ, zero, suc, ◌+◌, ◌<◌, ◌≤◌, false, refl, sym, ap, List, [], ◌∷◌, ◌++◌, length, map, Option, Some, None, subst, inl, inr, arith}
+use Rattle.std.proofs.Common.{◌≡◌, ◌∙◌, ℕ, zero, suc, ◌+◌, ◌<◌, ◌≤◌, false, refl, sym, ap, List, [], ◌∷◌, ◌++◌, length, Option, Some, None, subst, inl, inr, arith}
 use Rattle.std.proofs.Math.Seq.{get_or-set_same, get_or-set_other}
 use Rattle.std.proofs.lemmas.Bool.{cases_eq}
 use Rattle.std.proofs.lemmas.List.{append_assoc}
@@ -216,45 +216,3 @@ module _ {F : Type 0} (layout : F → Layout) (formats : List (Option (Policy F)
         → count < length finals.messages → CanFixRootAt layout formats of z (message_of finals' count)
     ready_messages count finals' z run within =
         can_next x y shaped stands finals.messages targets held z finals'.messages count (run_messages run (omega (arith, within))) within
-
--- fixing slots of a table is steps of the abstract collector
-pub slots_are_steps : {F : Type 0}
-    → (layout : F → Layout) (formats : List (Option (Policy F))) (of : ChainsState) (at_flip : List (Option Address)) (done : CellSet)
-    (x z : Traced) (y : Collecting) (targets : List (Option Id)) (key count : ℕ) (roots roots' : RootsState)
-    → AreShaped y.world.graph.objects (pool_layout y.world) → TracingStands layout formats of at_flip done x y
-    → AreHeldAtFlip at_flip y (items_of roots.tables key) targets → count ≤ length (items_of roots.tables key)
-    → FixesSlots layout formats of key roots x count roots' z
-    → AreFixedBefore layout formats of at_flip done x z y (items_of roots.tables key) (items_of roots'.tables key) targets count
-slots_are_steps {F} layout formats of at_flip done x z y targets key count roots roots' shaped stands held within run =
-    run_slots layout formats of at_flip done x y targets key roots shaped stands held run within
-
--- and each can be fixed when its turn comes
-pub slots_are_ready : {F : Type 0}
-    → (layout : F → Layout) (formats : List (Option (Policy F))) (of : ChainsState) (at_flip : List (Option Address)) (done : CellSet)
-    (x z : Traced) (y : Collecting) (targets : List (Option Id)) (key count : ℕ) (roots roots' : RootsState)
-    → AreShaped y.world.graph.objects (pool_layout y.world) → TracingStands layout formats of at_flip done x y
-    → AreHeldAtFlip at_flip y (items_of roots.tables key) targets → count < length (items_of roots.tables key)
-    → FixesSlots layout formats of key roots x count roots' z → CanFixRootAt layout formats of z (slot_of roots' key count)
-slots_are_ready {F} layout formats of at_flip done x z y targets key count roots roots' shaped stands held within run =
-    ready_slots layout formats of at_flip done x y targets key roots shaped stands held count roots' z run within
-
--- fixing messages is steps of the abstract collector
-pub messages_are_steps : {F : Type 0}
-    → (layout : F → Layout) (formats : List (Option (Policy F))) (of : ChainsState) (at_flip : List (Option Address)) (done : CellSet)
-    (x z : Traced) (y : Collecting) (ids : List Id) (count : ℕ) (finals finals' : FinalsState)
-    → AreShaped y.world.graph.objects (pool_layout y.world) → TracingStands layout formats of at_flip done x y
-    → AreHeldAtFlip at_flip y finals.messages (map Some ids) → count ≤ length finals.messages
-    → FixesMessages layout formats of finals x count finals' z
-    → AreFixedBefore layout formats of at_flip done x z y finals.messages finals'.messages (map Some ids) count
-messages_are_steps {F} layout formats of at_flip done x z y ids count finals finals' shaped stands held within run =
-    run_messages layout formats of at_flip done x y (map Some ids) finals shaped stands held run within
-
--- and each can be fixed when its turn comes
-pub messages_are_ready : {F : Type 0}
-    → (layout : F → Layout) (formats : List (Option (Policy F))) (of : ChainsState) (at_flip : List (Option Address)) (done : CellSet)
-    (x z : Traced) (y : Collecting) (ids : List Id) (count : ℕ) (finals finals' : FinalsState)
-    → AreShaped y.world.graph.objects (pool_layout y.world) → TracingStands layout formats of at_flip done x y
-    → AreHeldAtFlip at_flip y finals.messages (map Some ids) → count < length finals.messages
-    → FixesMessages layout formats of finals x count finals' z → CanFixRootAt layout formats of z (message_of finals' count)
-messages_are_ready {F} layout formats of at_flip done x z y ids count finals finals' shaped stands held within run =
-    ready_messages layout formats of at_flip done x y (map Some ids) finals shaped stands held count finals' z run within

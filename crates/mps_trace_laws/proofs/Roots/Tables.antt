@@ -194,26 +194,3 @@ module _ {F : Type 0} (layout : F → Layout) (formats : List (Option (Policy F)
         → CanFixRootAt layout formats of z' (slot_of roots'' (key_at roots count) slots)
     ready_tables count slots roots' roots'' z z' within tables below run =
         can_slot z roots' count (run_tables tables (omega (arith, within))) within slots roots'' z' run below
-
--- fixing tables is steps of the abstract collector
-pub tables_are_steps : {F : Type 0}
-    → (layout : F → Layout) (formats : List (Option (Policy F))) (of : ChainsState) (at_flip : List (Option Address)) (done : CellSet)
-    (x z : Traced) (y : Collecting) (rows : List (List (Option Id))) (count : ℕ) (roots roots' : RootsState)
-    → AreShaped y.world.graph.objects (pool_layout y.world) → TracingStands layout formats of at_flip done x y
-    → AreTablesHeld at_flip y roots rows → count ≤ length roots.order → FixesTables layout formats of roots x count roots' z
-    → AreTablesFixed layout formats of at_flip done x z y roots roots' rows count
-tables_are_steps {F} layout formats of at_flip done x z y rows count roots roots' shaped stands held within run =
-    run_tables layout formats of at_flip done x y rows roots shaped stands held run within
-
--- and each slot of a table can be fixed when its turn comes
-pub tables_are_ready : {F : Type 0}
-    → (layout : F → Layout) (formats : List (Option (Policy F))) (of : ChainsState) (at_flip : List (Option Address)) (done : CellSet)
-    (x z z' : Traced) (y : Collecting) (rows : List (List (Option Id))) (count slots : ℕ) (roots roots' roots'' : RootsState)
-    → AreShaped y.world.graph.objects (pool_layout y.world) → TracingStands layout formats of at_flip done x y
-    → AreTablesHeld at_flip y roots rows → count < length roots.order → FixesTables layout formats of roots x count roots' z
-    → slots < length (items_of roots'.tables (key_at roots count))
-    → FixesSlots layout formats of (key_at roots count) roots' z slots roots'' z'
-    → CanFixRootAt layout formats of z' (slot_of roots'' (key_at roots count) slots)
-tables_are_ready {F} layout formats of at_flip done x z z' y rows count slots roots roots' roots'' shaped stands held within tables below
-    run =
-    ready_tables layout formats of at_flip done x y rows roots shaped stands held count slots roots' roots'' z z' within tables below run

@@ -1,18 +1,16 @@
 -- What the collector does with the reference of one cell is to the abstract collector.
 use Rattle.std.specs.Prelude.{◌≡◌, ℕ, ◌<◌, false, Option, Some, List, [], ◌∷◌, ◌++◌, slice_get}
 use Rattle.mps_base.specs.Address.{Address, Id}
-use Rattle.mps_base.specs.declared.address.Addr.{Addr}
 use Rattle.mps_base.specs.declared.moves.Move.{Move}
 use Rattle.mps_format.specs.Layout.{Layout}
 use Rattle.mps_gen.specs.State.{ChainsState}
 use Rattle.mps_model.specs.Graph.{ReferenceCell, Object, entries, entry_at, size_of}
 use Rattle.mps_abstract.specs.Collecting.{Collecting, is_white_in}
 use Rattle.mps_abstract.specs.Fixing.{Fixes}
-use Rattle.mps_trace_laws.specs.Image.Memory.{all_cells, pool_layout}
-use Rattle.mps_trace_laws.specs.Image.Image.{CellSet, with_cell, AreShaped}
+use Rattle.mps_trace_laws.specs.Image.Memory.{all_cells}
+use Rattle.mps_trace_laws.specs.Image.Image.{CellSet, with_cell}
 use Rattle.mps_trace_laws.specs.Image.Fixing.{FixesOne}
 use Rattle.mps_trace.specs.Trace.{Traced}
-use Rattle.mps_trace.specs.Scan.{FixesCell, CanFixCellAt}
 use Rattle.mps_trace_laws.specs.Fix.Tracing.{TracingStands}
 use Rattle.mps_trace_laws.specs.Fix.Steps.{IsSameGraph}
 use Rattle.mps_format.specs.declared.pool.Policy.{Policy}
@@ -39,4 +37,3 @@ pub record IsCellStep {F : Type 0} (layout : F → Layout) (formats : List (Opti
   pub step : FixesOne y.running.condemned y.world.addresses y.colours target after.world.addresses after.colours
   pub same : IsSameGraph y.world after.world
   pub same_condemned : after.running.condemned ≡ y.running.condemned
-

@@ -3,23 +3,11 @@ use Rattle.std.proofs.Common.{ap, arith}
 use Rattle.std.specs.Prelude.{◌≡◌, ℕ, zero, suc, ◌+◌, ◌≤◌, true, false, Option, Some, List, [], ◌∷◌, slice_get, Contains, refl}
 use Rattle.mps_base.specs.Address.{Address, Id, Word, word_of}
 use Rattle.mps_base.specs.Segment.{Segment, end_of_segment}
-use Rattle.mps_base.specs.declared.address.Addr.{Addr}
-use Rattle.mps_base.specs.declared.moves.Move.{Move}
 use Rattle.mps_base.specs.declared.names.Rank.TheVariants.{Exact, Weak}
 use Rattle.mps_bits.specs.Table.{bit}
-use Rattle.mps_format.specs.Layout.{Layout}
 use Rattle.mps_seg.specs.Segs.{SegsState}
-use Rattle.mps_gen.specs.State.{ChainsState}
 use Rattle.mps_model.specs.Graph.{Object, contains, entry_at, size_of}
-use Rattle.mps_model.specs.WellFormed.{IsWellFormed}
-use Rattle.mps_model.specs.World.{World, is_automatic_kind, is_copying_pool, is_live, pool_is}
-use Rattle.mps_abstract.specs.Collecting.{Collecting}
-use Rattle.mps_abstract.specs.Fixing.{Fixes}
-use Rattle.mps_trace_laws.specs.Image.Image.{CellSet}
-use Rattle.mps_trace.specs.Scan.{ScansOne}
-use Rattle.mps_trace.specs.Trace.{Traced, FixesTo}
-use Rattle.mps_trace_laws.specs.Fix.Tracing.{TracingStands}
-use Rattle.mps_format.specs.declared.pool.Policy.{Policy}
+use Rattle.mps_model.specs.World.{World, is_live}
 
 -- ---- objects
 

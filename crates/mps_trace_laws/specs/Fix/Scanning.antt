@@ -5,7 +5,6 @@ use Rattle.mps_base.specs.declared.address.Addr.{Addr}
 use Rattle.mps_base.specs.declared.moves.Move.{Move}
 use Rattle.mps_format.specs.Layout.{Layout}
 use Rattle.mps_gen.specs.State.{ChainsState}
-use Rattle.mps_model.specs.Checked.{head_of_body}
 use Rattle.mps_model.specs.Graph.{ReferenceCell, Object, targets, targets_of_cells, entry_at, is_automatic}
 use Rattle.mps_abstract.specs.Collecting.{Collecting, is_white_in}
 use Rattle.mps_abstract.specs.Fixing.{Fixes}
@@ -14,10 +13,8 @@ use Rattle.mps_trace_laws.specs.Image.Image.{CellSet, black_cells, AreShaped}
 use Rattle.mps_abstract.specs.Colours.{blackened}
 use Rattle.mps_abstract.specs.Units.{scanned}
 use Rattle.mps_trace_laws.specs.Image.Scanning.{LeavesOthers}
-use Rattle.mps_trace.specs.Trace.{Traced, TraceState, traced}
-use Rattle.mps_trace.specs.Scan.{ScansTo, AreReady, Scanned, CanScan}
-use Rattle.mps_seg.specs.Segs.{SegsState}
-use Rattle.mps_base.specs.Trail.{Moves}
+use Rattle.mps_trace.specs.Trace.{Traced}
+use Rattle.mps_trace.specs.Scan.{Scanned}
 use Rattle.mps_trace_laws.specs.Fix.Tracing.{TracingStands}
 use Rattle.mps_trace_laws.specs.Fix.Steps.{IsSameGraph}
 use Rattle.mps_format.specs.declared.pool.Policy.{Policy}
@@ -67,4 +64,3 @@ AScanIsAScan F =
     (y : Collecting) (holder : Id) (at : Addr) (o : Object) → AreShaped y.world.graph.objects (pool_layout y.world)
     → TracingStands layout formats of at_flip (black_cells y.running.condemned y.colours) x y → IsToBeScanned y holder at.0 o
     → Scanned layout formats of x at z → IsScan layout formats of at_flip x z y holder
-

@@ -6,15 +6,13 @@ use Rattle.mps_base.specs.Segment.{Segment}
 use Rattle.mps_base.specs.declared.moves.Move.TheVariants.{Flip}
 use Rattle.mps_base.specs.declared.names.Rank.TheVariants.{Exact}
 use Rattle.mps_bits.specs.Table.{bit}
-use Rattle.mps_buffer.specs.Points.{PointsState}
 use Rattle.mps_gen.specs.State.{max_chains}
 use Rattle.mps_model.specs.Graph.{contains}
-use Rattle.mps_model.specs.World.{World, is_automatic_kind, is_copying_pool, pool_is}
+use Rattle.mps_model.specs.World.{World}
 use Rattle.mps_model.specs.Effect.{Everything, condemned_by, condemned_zones, collection_at_flip, world_flipped}
 use Rattle.mps_model.specs.Flip.{flip_of}
 use Rattle.mps_seg.specs.Segs.{SegsState}
-use Rattle.mps_trace.specs.Flip.{is_automatic, automatic_of, zones_of, at_flip}
-use Rattle.mps_trace.specs.Trace.{Traced}
+use Rattle.mps_trace.specs.Flip.{is_automatic, automatic_of, zones_of}
 use Rattle.mps_format.specs.declared.pool.Policy.{Policy}
 
 -- a collector has the format of a pool exactly if the pool is automatic

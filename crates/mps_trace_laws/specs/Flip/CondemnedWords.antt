@@ -4,14 +4,12 @@ use Rattle.std.proofs.Common.{lit<}
 use Rattle.mps_base.specs.Address.{Address, Word, grain_of}
 use Rattle.mps_base.specs.Segment.{Segment}
 use Rattle.mps_bits.specs.Table.{bit}
-use Rattle.mps_buffer.specs.Points.{PointsState}
 use Rattle.mps_trace_laws.specs.Image.Memory.{Lies, is_condemned_word, pool_over_word}
 use Rattle.mps_model.specs.Graph.{Object}
 use Rattle.mps_seg.specs.Segs.{SegsState, new_segments}
 use Rattle.mps_seg.specs.Collecting.{condemning}
 use Rattle.mps_trace.specs.Condemned.{AreAscending}
-use Rattle.mps_trace.specs.Flip.{is_automatic, at_flip}
-use Rattle.mps_trace.specs.Trace.{Traced}
+use Rattle.mps_trace.specs.Flip.{is_automatic}
 use Rattle.mps_trace_laws.specs.Flip.Condemned.{BeginInTable, known_formats, segment_at}
 use Rattle.mps_format.specs.declared.pool.Policy.{Policy}
 

@@ -1,20 +1,12 @@
 -- A flip ends all open reservations: what is covered then is blocks alone.
-use Rattle.std.specs.Prelude.{◌≡◌, ◌≢◌, ℕ, ◌==◌, Bool, if◌then◌else◌, Option, Some, None, List, [], ◌∷◌, ◌++◌, map, refl}
+use Rattle.std.specs.Prelude.{◌≡◌, ◌≢◌, ℕ, ◌==◌, if◌then◌else◌, Option, Some, None, List, [], ◌∷◌, ◌++◌, refl}
 use Rattle.std.specs.List.{AllByRecursion}
-use Rattle.mps_base.specs.Address.{Address, Id, Word}
-use Rattle.mps_base.specs.Run.{Run, IsAscending, in_order}
+use Rattle.mps_base.specs.Run.{Run, in_order}
 use Rattle.mps_buffer.specs.declared.point.Held.{Held}
 use Rattle.mps_buffer.specs.declared.point.Point.{Point}
-use Rattle.mps_buffer.specs.Points.{PointsState, run_of_held}
-use Rattle.mps_trace_laws.specs.Image.Bands.{setting_flipped}
-use Rattle.mps_trace_laws.specs.Image.Image.{RunsStand}
-use Rattle.mps_trace_laws.specs.Image.Memory.{Setting, memory_in}
-use Rattle.mps_model.specs.Effect.{doomed, without_buffer}
+use Rattle.mps_buffer.specs.Points.{run_of_held}
 use Rattle.mps_model.specs.World.{extents_of, reserved_extents}
 use Rattle.mps_seg.specs.Segs.{SegsState, new_segments}
-use Rattle.mps_trace.specs.Flip.{at_flip}
-use Rattle.mps_trace.specs.Trace.{Traced}
-use Rattle.mps_format.specs.declared.pool.Policy.{Policy}
 
 -- the run of a reservation that still covers its words
 abbrev pub open_run : (flips : ℕ) → Option Held → List Run

@@ -1,15 +1,10 @@
 -- What a flip does to reservations, and what it leaves as it is.
-use Rattle.std.specs.Prelude.{◌≡◌, ℕ, false, Option, Some, List, [], ◌∷◌, map, refl}
+use Rattle.std.specs.Prelude.{◌≡◌, ℕ, false, Option, Some, List, [], ◌∷◌, refl}
 use Rattle.mps_base.specs.declared.names.Rank.TheVariants.{Exact}
-use Rattle.mps_buffer.specs.Points.{PointsState}
 use Rattle.mps_trace_laws.specs.Image.Memory.{live_reservation}
 use Rattle.mps_model.specs.Graph.{HeadCell, Point, Reservation, entry_at}
 use Rattle.mps_model.specs.World.{PointMemory, reserved_extents, empty_run}
-use Rattle.mps_model.specs.Effect.{doomed, without_buffer}
 use Rattle.mps_seg.specs.Segs.{SegsState}
-use Rattle.mps_trace.specs.Flip.{at_flip}
-use Rattle.mps_trace.specs.Trace.{Traced}
-use Rattle.mps_format.specs.declared.pool.Policy.{Policy}
 
 -- no reservation of these points is live, so none covers words
 pub record AreNoneLive (points : List (Option Point)) (memories : List PointMemory) : Type 0 where

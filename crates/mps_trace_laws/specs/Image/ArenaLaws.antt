@@ -3,15 +3,10 @@ use Rattle.std.specs.Prelude.{◌≡◌, ◌≢◌, ℕ, ◌+◌, ◌<◌, Bool,
 use Rattle.std.proofs.Common.{lit<}
 use Rattle.std.proofs.lemmas.Option.{none-some}
 use Rattle.mps_base.specs.Address.{Address, Id, Word, word_of}
-use Rattle.mps_format.specs.Layout.{Layout}
 use Rattle.mps_format.specs.Any.{numbered_layout}
 use Rattle.mps_seg.specs.Segs.{new_segments}
-use Rattle.mps_model.specs.Graph.{Manual, Object, Point, Reservation, entry_at, size_of}
-use Rattle.mps_model.specs.World.{PointMemory, reserved_extents}
-use Rattle.mps_abstract.specs.Colours.{Colours}
-use Rattle.mps_trace_laws.specs.Image.Memory.{Setting, Memory, Lies, memory_in, setting_at_rest, live_reservation}
-use Rattle.mps_trace_laws.specs.Image.Image.{CellSet, ImageStands, Stands, no_colours}
-use Rattle.mps_trace_laws.specs.Image.Changes.{setting_with_points}
+use Rattle.mps_model.specs.Graph.{Manual, Object, entry_at, size_of}
+use Rattle.mps_trace_laws.specs.Image.Memory.{Setting, Lies, setting_at_rest}
 
 -- where blocks lie, and where blocks were that have moved, the same segments are held and condemned
 pub record AreSegmentsKept (s : Setting) (addresses : List (Option Address)) (pools : Word → Option ℕ) (condemned : Word → Bool) : Type 0

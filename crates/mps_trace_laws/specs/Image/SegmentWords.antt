@@ -1,18 +1,11 @@
 -- What the segments of an arena give of words: those that nothing covers are free, and those of a segment are home to its pool.
-use Rattle.std.specs.Prelude.{◌≡◌, ℕ, ◌+◌, ◌%◌, ◌<◌, ◌≤◌, Bool, Option, List, [], ◌∷◌, map, Contains, refl}
+use Rattle.std.specs.Prelude.{◌≡◌, ◌+◌, ◌<◌, ◌≤◌, List, [], ◌∷◌, map, refl}
 use Rattle.std.specs.List.{AllByRecursion}
 use Rattle.std.proofs.Common.{arith, lit≤, lit<}
-use Rattle.mps_base.specs.Address.{Address, Id, word_of, address_of_grain, grain_of, max_grains}
+use Rattle.mps_base.specs.Address.{address_of_grain, grain_of, max_grains}
 use Rattle.mps_base.specs.Run.{IsAscending}
-use Rattle.mps_base.specs.Segment.{Segment, grains_of_segment, end_of_segment}
+use Rattle.mps_base.specs.Segment.{Segment, grains_of_segment}
 use Rattle.mps_base.specs.declared.names.Rank.TheVariants as rank
-use Rattle.mps_format.specs.Layout.{Layout}
-use Rattle.mps_seg.specs.Segs.{SegsState, CanCover}
-use Rattle.mps_model.specs.Graph.{Object, Point}
-use Rattle.mps_model.specs.World.{PointMemory, extent}
-use Rattle.mps_trace_laws.specs.Image.Memory.{Setting, memory_in, setting_in, words_of_arena}
-use Rattle.mps_trace_laws.specs.Image.Image.{RunsStand}
-use Rattle.mps_trace_laws.specs.Image.Changes.{IsOfNoMovedBlock, AreFree, AreHome}
 
 -- segments begin at grains from 1 on, and ascend without overlap below a limit
 pub record AreSegmentsInOrder (ss : List Segment) : Type 0 where

@@ -1,24 +1,16 @@
 -- What fixing all slots and then all messages at a flip is to the abstract collector.
-use Rattle.std.specs.Prelude.{◌≡◌, ℕ, Option, Some, List, ◌++◌, map, length, slice_get, slice_index_or}
+use Rattle.std.specs.Prelude.{◌≡◌, ℕ, Option, Some, List, ◌++◌, map, slice_get, slice_index_or}
 use Rattle.std.specs.List.{flat_map}
 use Rattle.mps_base.specs.Address.{Address, Id}
 use Rattle.mps_final.specs.State.{FinalsState}
 use Rattle.mps_format.specs.Layout.{Layout}
 use Rattle.mps_gen.specs.State.{ChainsState}
 use Rattle.mps_root.specs.State.{RootsState}
-use Rattle.mps_model.specs.Graph.{entries, ids_in_slots}
-use Rattle.mps_model.specs.World.{World}
 use Rattle.mps_abstract.specs.Collecting.{Collecting}
-use Rattle.mps_abstract.specs.FlipLaws.{FixesHeld}
-use Rattle.mps_trace_laws.specs.Image.Memory.{pool_layout}
-use Rattle.mps_trace_laws.specs.Image.Image.{CellSet, AreShaped}
-use Rattle.mps_trace.specs.Begin.{CanFixRoots}
-use Rattle.mps_trace.specs.Trace.{Traced, TraceState}
-use Rattle.mps_trace.specs.Roots.{FixesMessages, FixesTables, key_at, slot_of}
-use Rattle.mps_trace_laws.specs.Fix.Tracing.{TracingStands}
+use Rattle.mps_trace_laws.specs.Image.Image.{CellSet}
+use Rattle.mps_trace.specs.Trace.{Traced}
+use Rattle.mps_trace.specs.Roots.{key_at, slot_of}
 use Rattle.mps_trace_laws.specs.Roots.OneRoot.{AreFixed, IsWhere}
-use Rattle.mps_trace_laws.specs.Roots.Rows.{AreHeldAtFlip}
-use Rattle.mps_trace_laws.specs.Roots.Tables.{AreTablesHeld}
 use Rattle.mps_format.specs.declared.pool.Policy.{Policy}
 
 -- all were fixed, slots before messages, and hold where their objects are then
@@ -31,4 +23,3 @@ pub record AreRootsFixed {F : Type 0} (layout : F → Layout) (formats : List (O
       → slice_get row i ≡ Some target → IsWhere fixed.after (slot_of roots' (key_at roots n) i) target
   pub messages : (i : ℕ) (target : Option Id) → slice_get (map Some ids) i ≡ Some target
       → IsWhere fixed.after (slice_index_or finals'.messages i 0) target
-

@@ -7,11 +7,9 @@ use Rattle.mps_gen.specs.State.{ChainsState}
 use Rattle.mps_model.specs.Graph.{Object, entries, entry_at, is_automatic}
 use Rattle.mps_abstract.specs.Collecting.{Collecting, is_white_in}
 use Rattle.mps_abstract.specs.Fixing.{Fixes}
-use Rattle.mps_trace_laws.specs.Image.Memory.{pool_layout}
-use Rattle.mps_trace_laws.specs.Image.Image.{CellSet, AreShaped, MeansAt}
+use Rattle.mps_trace_laws.specs.Image.Image.{CellSet, MeansAt}
 use Rattle.mps_trace_laws.specs.Image.Scanning.{LeavesOthers}
 use Rattle.mps_trace.specs.Trace.{Traced}
-use Rattle.mps_trace.specs.Roots.{FixesRoot, CanFixRootAt}
 use Rattle.mps_trace_laws.specs.Fix.Tracing.{TracingStands}
 use Rattle.mps_trace_laws.specs.Fix.Steps.{IsSameGraph}
 use Rattle.mps_format.specs.declared.pool.Policy.{Policy}
@@ -56,4 +54,3 @@ pub record IsRootStep {F : Type 0} (layout : F → Layout) (formats : List (Opti
     : Type 0 where
   pub fixed : AreFixed layout formats of at_flip done x z y (target ∷ [])
   pub answers : IsWhere fixed.after answer target
-

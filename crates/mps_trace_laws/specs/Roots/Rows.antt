@@ -1,17 +1,12 @@
 -- What the collector does with a sequence of slots, or with all messages, is to the abstract collector.
-use Rattle.std.specs.Prelude.{◌≡◌, ℕ, ◌<◌, ◌≤◌, IsTrue, Option, Some, None, List, take, map, length, slice_get, slice_index_or}
+use Rattle.std.specs.Prelude.{◌≡◌, ℕ, ◌<◌, ◌≤◌, IsTrue, Option, Some, None, List, take, length, slice_get, slice_index_or}
 use Rattle.mps_base.specs.Address.{Address, Id}
-use Rattle.mps_final.specs.State.{FinalsState}
 use Rattle.mps_format.specs.Layout.{Layout}
 use Rattle.mps_gen.specs.State.{ChainsState}
 use Rattle.mps_model.specs.Graph.{Object, entry_at, is_automatic}
-use Rattle.mps_root.specs.State.{RootsState, items_of}
 use Rattle.mps_abstract.specs.Collecting.{Collecting}
-use Rattle.mps_trace_laws.specs.Image.Memory.{pool_layout}
-use Rattle.mps_trace_laws.specs.Image.Image.{CellSet, AreShaped}
+use Rattle.mps_trace_laws.specs.Image.Image.{CellSet}
 use Rattle.mps_trace.specs.Trace.{Traced}
-use Rattle.mps_trace.specs.Roots.{FixesSlots, FixesMessages, CanFixRootAt, slot_of, message_of}
-use Rattle.mps_trace_laws.specs.Fix.Tracing.{TracingStands}
 use Rattle.mps_trace_laws.specs.Roots.OneRoot.{AreFixed, IsWhere}
 use Rattle.mps_format.specs.declared.pool.Policy.{Policy}
 
@@ -46,4 +41,3 @@ pub record AreFixedBefore {F : Type 0} (layout : F → Layout) (formats : List (
   pub answers : (i : ℕ) (target : Option Id) → i < before → slice_get targets i ≡ Some target
       → IsWhere fixed.after (slice_index_or slots' i 0) target
   pub rest : (i : ℕ) → before ≤ i → slice_index_or slots' i 0 ≡ slice_index_or slots i 0
-

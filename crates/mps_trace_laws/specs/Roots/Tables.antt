@@ -6,11 +6,9 @@ use Rattle.mps_format.specs.Layout.{Layout}
 use Rattle.mps_gen.specs.State.{ChainsState}
 use Rattle.mps_root.specs.State.{RootsState, items_of}
 use Rattle.mps_abstract.specs.Collecting.{Collecting}
-use Rattle.mps_trace_laws.specs.Image.Memory.{pool_layout}
-use Rattle.mps_trace_laws.specs.Image.Image.{CellSet, AreShaped}
+use Rattle.mps_trace_laws.specs.Image.Image.{CellSet}
 use Rattle.mps_trace.specs.Trace.{Traced}
-use Rattle.mps_trace.specs.Roots.{FixesSlots, FixesTables, CanFixRootAt, key_at, slot_of}
-use Rattle.mps_trace_laws.specs.Fix.Tracing.{TracingStands}
+use Rattle.mps_trace.specs.Roots.{key_at, slot_of}
 use Rattle.mps_trace_laws.specs.Roots.OneRoot.{AreFixed, IsWhere}
 use Rattle.mps_trace_laws.specs.Roots.Rows.{AreHeldAtFlip}
 use Rattle.mps_format.specs.declared.pool.Policy.{Policy}
@@ -33,4 +31,3 @@ pub record AreTablesFixed {F : Type 0} (layout : F → Layout) (formats : List (
       → slice_get row i ≡ Some target → IsWhere fixed.after (slot_of roots' (key_at roots n) i) target
   pub rest : (n : ℕ) → before ≤ n → n < length roots.order
       → items_of roots'.tables (key_at roots n) ≡ items_of roots.tables (key_at roots n)
-

@@ -1,24 +1,20 @@
 -- What is shown of the units of a collection, in words, each law a statement.
-use Rattle.std.specs.Prelude.{◌≡◌, ℕ, suc, ◌+◌, ◌<◌, ◌++◌, None, Option, List}
+use Rattle.std.specs.Prelude.{◌≡◌, ℕ, ◌+◌, ◌++◌, None, Option, List}
 use Rattle.mps_base.specs.Address.{Address}
-use Rattle.mps_base.specs.declared.address.Addr.{Addr}
 use Rattle.mps_base.specs.declared.moves.Move.{Move}
 use Rattle.mps_format.specs.Layout.{Layout}
-use Rattle.mps_base.specs.Trail.{Moves}
 use Rattle.mps_seg.specs.Segs.{SegsState}
 use Rattle.mps_gen.specs.State.{ChainsState}
 use Rattle.mps_model.specs.Effect.{world_after_moves}
 use Rattle.mps_model.specs.World.{World}
-use Rattle.mps_abstract.specs.Collecting.{Collecting, units_left}
+use Rattle.mps_abstract.specs.Collecting.{Collecting}
 use Rattle.mps_abstract.specs.Units.{IsUnit, IsLastUnit, GoesOn, Ends}
 use Rattle.mps_trace_laws.specs.Image.AtRest.{StandsAtRest}
-use Rattle.mps_trace.specs.Condemned.{IsNextCondemned}
-use Rattle.mps_trace.specs.Scan.{ScansOne, CanScanGrey, IsDrained}
-use Rattle.mps_trace.specs.Trace.{TraceState, Traced, traced}
-use Rattle.mps_trace.specs.Unit.{ReclaimsNext, LastUnitTo, UnitsTo, EndsWithin, CanUnit, AreUnitsReady, reclaimed_at}
+use Rattle.mps_trace.specs.Scan.{ScansOne}
+use Rattle.mps_trace.specs.Trace.{Traced}
 use Rattle.mps_trace.specs.declared.running.Running.{Running as RunningState}
 use Rattle.mps_trace_laws.specs.Fix.Tracing.{AreSegmentsOf}
-use Rattle.mps_trace_laws.specs.Units.Standing.{StandsReclaiming, UnitStands}
+use Rattle.mps_trace_laws.specs.Units.Standing.{UnitStands}
 use Rattle.mps_format.specs.declared.pool.Policy.{Policy}
 
 -- the segments are those of this world
@@ -68,6 +64,3 @@ pub record AreLastTracedUnitsDone (x : Traced) (y : Collecting) (count : ℕ) (z
   pub stands : StandsAtRest z.segs (world_after_moves y.world moves)
   pub segments : HasSegmentsOf z.segs (world_after_moves y.world moves)
   pub trail : z.moves.moves ≡ x.moves.moves ++ moves
-
-
-
