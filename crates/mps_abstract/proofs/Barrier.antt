@@ -16,7 +16,7 @@ use Rattle.mps_model.specs.Units.{Scans, scans_no_more, moves_target, moves_targ
 use Rattle.mps_model.proofs.Cutting.{world_after_moves-append}
 use Rattle.mps_abstract.specs.Colours.{is_grey}
 use Rattle.mps_abstract.specs.Collecting.{Collecting, is_tracing_band, is_white_in, units_left, Running}
-use Rattle.mps_abstract.specs.Units.{splats_by, scanned, is_grey_in, BarrierDone, barrier_done, barrier_scans, barrier_splats}
+use Rattle.mps_abstract.specs.Units.{splats_by, collecting_after_scan, is_grey_in, BarrierDone, barrier_done, barrier_scans, barrier_splats}
 use Rattle.mps_abstract.specs.Laws.{IsBarrierDone}
 use Rattle.mps_abstract.proofs.Addresses.{id_at-live}
 use Rattle.mps_abstract.proofs.Joining.{AreLegalAnywhere, no_moves_legal, legal_append, legal_alone}
@@ -113,7 +113,7 @@ barrier_shown s (barrier_scans id {x} {y} {z} {these} {those} tracing grey fixes
     let parts = and_parts (is_live_and (is_in_segment s) x.world id) (is_grey x.colours id) grey in
     let done = scanned_rightly x y id these run tracing parts.1 fixes in
     let left = done.fewer in
-    barrier_goes_on s x (scanned y id) z these those done.fixed.leads done.fixed.legal done.fixed.further.band (omega (arith, left))
+    barrier_goes_on s x (collecting_after_scan y id) z these those done.fixed.leads done.fixed.legal done.fixed.further.band (omega (arith, left))
     (λ t. fixes_scans (IsScannedByBarrier s) id x
     (is_scanned_by s x run id parts.0 (run.grey.grey_kept id parts.1) (run.grey.grey_automatic id parts.1)) fixes run tracing
     (targets_may_be_fixed x id run tracing parts.1) (no_further x) (λ n h. h))
@@ -126,7 +126,7 @@ barrier_shown s (barrier_splats id {x} {y} {z} {cells} {those} later grey done r
     let splatted = are_splatted done run later (grey_before_last x id run parts.1) parts.1 a (id_at-live x.world id run.different live) in
     let left = scanned_left y splatted.running id splatted.kept in
     let same = splatted.left in
-    barrier_goes_on s x (scanned y id) z (splats_by x id cells) those splatted.leads splatted.legal splatted.band
+    barrier_goes_on s x (collecting_after_scan y id) z (splats_by x id cells) those splatted.leads splatted.legal splatted.band
     (omega (arith, left, same))
     (λ tracing. absurd (true≢false (sym tracing ∙ later)))
     (λ h. all_in s a cells (in_segment_at (is_in_segment s) x.world id parts.0))

@@ -18,7 +18,7 @@ use Rattle.mps_model.proofs.Cutting.{world_after_moves-append}
 use Rattle.mps_abstract.specs.Colours.{keeping, Survives, AreColoured, AreSettled, AreSurvivors}
 use Rattle.mps_abstract.specs.Collecting.{Final, Collecting, is_tracing_band, is_white_in, AreExamined, units_left, Running}
 use Rattle.mps_abstract.specs.Fixing.{Keeps, kept_by}
-use Rattle.mps_abstract.specs.Units.{IsExaminedNext, posted}
+use Rattle.mps_abstract.specs.Units.{IsExaminedNext, collecting_after_post}
 use Rattle.mps_abstract.proofs.Lists.{contains_here, contains_later, contains_cases, contains_append, contains_left, contains_right}
 use Rattle.mps_abstract.proofs.Keeping.{it_is_kept, kept_before}
 use Rattle.mps_abstract.proofs.Kept.{IsKept, keeps_leaves}
@@ -201,9 +201,9 @@ module _ (x : Collecting) (run : Running x) (id : Id) (due : IsExaminedNext x id
     units = let less = fewer in let before = run.units in omega (arith, less, before);
   }
 
-  same_posted : posted (record x { world = w'; running = c'; colours = keeping x.colours id }) id ≡ posted_state
+  same_posted : collecting_after_post (record x { world = w'; running = c'; colours = keeping x.colours id }) id ≡ posted_state
   same_posted =
-      ap (λ y. posted y id) (same_state x run tracing id live white w' c' r)
+      ap (λ y. collecting_after_post y id) (same_state x run tracing id live white w' c' r)
       ∙ ap (λ (o : Option ℕ). record before_post {
         world = record before_post.world {
           graph = graph_posted x.world.graph id;
@@ -215,7 +215,7 @@ module _ (x : Collecting) (run : Running x) (id : Id) (due : IsExaminedNext x id
 
 pub posts_shown : (x : Collecting) (id : Id) (ms : List Move) (c : Collection) → Running x → IsExaminedNext x id → is_white_in x id ≡ true
     → Keeps x.world x.running id ms c
-    → IsUnitShown x (ms ++ moves.Post (at_address (address_or_null (world_after_moves x.world ms) id)) ∷ []) (posted (kept_by x id ms c) id)
+    → IsUnitShown x (ms ++ moves.Post (at_address (address_or_null (world_after_moves x.world ms) id)) ∷ []) (collecting_after_post (kept_by x id ms c) id)
 posts_shown x id ms c run due white keep =
     let is_live = legal.live x run id due white in
     let w = world_after_moves x.world ms in

@@ -21,7 +21,7 @@ use Rattle.mps_model.proofs.Cutting.{world_after_moves-append}
 use Rattle.mps_model.proofs.Reaching.{list_all-contains}
 use Rattle.mps_abstract.specs.Colours.{AllReferredLive}
 use Rattle.mps_abstract.specs.Collecting.{Reclaim, Collecting, is_white_in, units_left, Running}
-use Rattle.mps_abstract.specs.Units.{IsReclaimedNext, reclaim_by, reclaimed}
+use Rattle.mps_abstract.specs.Units.{IsReclaimedNext, reclaim_by, collecting_after_reclaim}
 use Rattle.mps_abstract.proofs.Lists.{contains_here, contains_later, contains-filter, all_members, list_all-members}
 use Rattle.mps_abstract.proofs.Addresses.{address_of-live}
 use Rattle.mps_abstract.proofs.Joining.{AreLegalAnywhere, one_legal, legal_append, for_some}
@@ -163,15 +163,15 @@ module _ (x : Collecting) (run : Running x) (s : Segment) (freed : List Address)
 
   pub reclaims_shown : (c : Collection) → is_last_condemned x.running s.base ≡ false
       → (world_after_moves x.world (reclaim_by x s.base freed)).collection ≡ Some c
-      → IsUnitShown x (reclaim_by x s.base freed) (reclaimed x s.base freed c)
+      → IsUnitShown x (reclaim_by x s.base freed) (collecting_after_reclaim x s.base freed c)
   reclaims_shown c not_last runs =
       let leads = goes_on_leads not_last in
       let same : final_collection x run s freed next ≡ c =
       same_Some (final_collection x run s freed next) c (sym (ap (λ (v : World). v.collection) leads) ∙ runs) in
-      let state : final_state x run s freed next ≡ reclaimed x s.base freed c =
+      let state : final_state x run s freed next ≡ collecting_after_reclaim x s.base freed c =
       ap (λ (v : World). record x { world = v; running = final_collection x run s freed next; band = Reclaim; cursor = suc s.base })
       (sym leads)
-      ∙ ap (λ (d : Collection). reclaimed x s.base freed d) same in
+      ∙ ap (λ (d : Collection). collecting_after_reclaim x s.base freed d) same in
       record {
         running = subst (λ y. Running y) state (final_running not_last);
         leads = refl;

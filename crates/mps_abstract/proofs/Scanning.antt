@@ -11,7 +11,7 @@ use Rattle.mps_model.proofs.Cutting.{world_after_moves-append}
 use Rattle.mps_abstract.specs.Colours.{is_grey, is_to_scan, blackened, Survives}
 use Rattle.mps_abstract.specs.Collecting.{Collecting, is_tracing_band, is_white_in, units_left, Running}
 use Rattle.mps_abstract.specs.Fixing.{Keeps, Fixes, fixes_no_more, passes, keeps, kept_by}
-use Rattle.mps_abstract.specs.Units.{scanned, AreTargetsKept}
+use Rattle.mps_abstract.specs.Units.{collecting_after_scan, AreTargetsKept}
 use Rattle.mps_abstract.proofs.Counted.{examined_again, survivors_again}
 use Rattle.mps_abstract.proofs.Lists.{count_by-le, count_by-lt, contains_here, contains_later, contains_cases}
 use Rattle.mps_abstract.proofs.Addresses.{live_is_listed}
@@ -95,14 +95,14 @@ are_fixed {x} (keeps {y = z} {id} {ids} {these} {those} {c} white keep rest) run
 -- ---- an object is black then
 
 module _ (x : Collecting) (run : Running x) (id : Id) (fixed : AreTargetsKept x id) where
-  pub scanned_left : units_left (scanned x id) ≤ units_left x
+  pub scanned_left : units_left (collecting_after_scan x id) ≤ units_left x
   scanned_left =
       let fewer = count_by-le (is_to_scan x.running.condemned (blackened x.colours id)) (is_to_scan x.running.condemned x.colours)
       (live_ids x.world)
       (to_scan_still x.running.condemned x.colours id) in
       omega (arith, fewer)
 
-  pub scanned_running : Running (scanned x id)
+  pub scanned_running : Running (collecting_after_scan x id)
   scanned_running = record {
     runs = run.runs;
     different = run.different;
@@ -153,7 +153,7 @@ module _ (x : Collecting) (run : Running x) (id : Id) (fixed : AreTargetsKept x 
       ]
 
   -- where it was grey, a unit less is left
-  pub scanned_fewer : is_grey x.colours id ≡ true → units_left (scanned x id) < units_left x
+  pub scanned_fewer : is_grey x.colours id ≡ true → units_left (collecting_after_scan x id) < units_left x
   scanned_fewer grey =
       let fewer = count_by-lt (is_to_scan x.running.condemned (blackened x.colours id)) (is_to_scan x.running.condemned x.colours)
       (live_ids x.world) id

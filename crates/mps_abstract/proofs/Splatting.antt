@@ -16,7 +16,7 @@ use Rattle.mps_model.specs.LegalMove.{ForOne, IsLegalMove, IsLegalSplat, IsGone,
 use Rattle.mps_model.specs.Units.{splats_of, splats}
 use Rattle.mps_abstract.specs.Colours.{is_grey}
 use Rattle.mps_abstract.specs.Collecting.{Weak, Collecting, is_tracing_band, is_reclaiming_band, IsDrainedIn, AreAllExamined, is_white_in, units_left, Running}
-use Rattle.mps_abstract.specs.Units.{Splats, splats_no_more, splats_cell, splatted, AreTargetsKept, splats_by, scanned}
+use Rattle.mps_abstract.specs.Units.{Splats, splats_no_more, splats_cell, collecting_after_splat, AreTargetsKept, splats_by, collecting_after_scan}
 use Rattle.mps_abstract.proofs.Counted.{examined_again}
 use Rattle.mps_model.specs.Collection.{Splatting}
 use Rattle.mps_abstract.proofs.Addresses.{id_at-live}
@@ -51,7 +51,7 @@ module _ (x : Collecting) (run : Running x) (later : is_tracing_band x.band ≡ 
     running = splatting x.running;
   }
 
-  same_state : splatted x holder cell ≡ splat_state
+  same_state : collecting_after_splat x holder cell ≡ splat_state
   same_state = ap (λ (o : Option Collection). record splat_state
       { world = record splat_state.world { collection = option_map splatting o } }) run.runs
 
@@ -187,10 +187,10 @@ are_splatted {x = x} (splats_no_more kept) run later before_last grey a there = 
 }
 are_splatted {holder = holder} {x = x} {y = z}
     (splats_cell {cell = cell} {target} {cells} refers white rest) run later before_last grey a there =
-    let running : Running (splatted x holder cell) =
+    let running : Running (collecting_after_splat x holder cell) =
     subst (λ y. Running y) (sym (same_state x run later before_last holder grey cell))
     (splat_running x run later before_last holder grey cell) in
-    splatted_first x holder a cell cells (splatted x holder cell) z
+    splatted_first x holder a cell cells (collecting_after_splat x holder cell) z
     (splat_leads x run later before_last holder grey cell a there target refers white)
     (one_legal x.world (moves.Splat (at_address a) cell)
     (splat_is_legal x run later before_last holder grey cell a there target refers white))
@@ -233,12 +233,12 @@ grey_before_last x id run grey = elim (cases_Bool (is_reclaiming_band x.band)) [
 
 pub splats_shown : (x y : Collecting) (id : Id) (cells : List ℕ) → Running x → IsDrainedIn x → AreAllExamined x
     → is_grey x.colours id ≡ true
-    → Splats id (record x { band = Weak }) cells y → IsUnitShown x (splats_by x id cells) (scanned y id)
+    → Splats id (record x { band = Weak }) cells y → IsUnitShown x (splats_by x id cells) (collecting_after_scan y id)
 splats_shown x y id cells run drained examined grey done =
     let a = address_or_null x.world id in
     let begun = in_weak_band x run drained examined (grey_before_last x id run grey) in
     let s = are_splatted done begun refl refl grey a (id_at-live x.world id run.different (run.grey.grey_live id grey)) in
-    let fewer : units_left (scanned y id) < units_left y =
+    let fewer : units_left (collecting_after_scan y id) < units_left y =
     scanned_fewer y s.running id s.kept (ap (λ k. is_grey k id) s.colours ∙ grey) in
     record {
       running = scanned_running y s.running id s.kept;

@@ -10,7 +10,7 @@ use Rattle.mps_model.specs.Units.{IsUnitPiece}
 use Rattle.mps_abstract.specs.Colours.{is_grey}
 use Rattle.mps_abstract.specs.Collecting.{Collecting, is_tracing_band, is_white_in, units_left, Running}
 use Rattle.mps_abstract.specs.Fixing.{Fixes}
-use Rattle.mps_abstract.specs.Units.{scanned}
+use Rattle.mps_abstract.specs.Units.{collecting_after_scan}
 use Rattle.mps_abstract.proofs.Joining.{AreLegalAnywhere}
 use Rattle.mps_abstract.proofs.KeptRunning.{not_reclaiming}
 use Rattle.mps_abstract.proofs.Scanning.{MayBeFixed, AreFixed, are_fixed, scanned_running, scanned_fewer}
@@ -47,8 +47,8 @@ targets_may_be_fixed x id run tracing grey t refers =
 -- a grey object is scanned
 pub record IsScannedRightly (x : Collecting) (id : Id) (ms : List Move) (y : Collecting) : Type 0 where
   pub fixed : AreFixed x (targets x.world.graph id) ms y
-  pub running : Running (scanned y id)
-  pub fewer : units_left (scanned y id) < units_left x
+  pub running : Running (collecting_after_scan y id)
+  pub fewer : units_left (collecting_after_scan y id) < units_left x
 
 pub scanned_rightly : (x y : Collecting) (id : Id) (ms : List Move) → Running x → is_tracing_band x.band ≡ true
     → is_grey x.colours id ≡ true
@@ -66,7 +66,7 @@ scanned_rightly x y id ms run tracing grey fixes =
     }
 
 pub scans_shown : (x y : Collecting) (id : Id) (ms : List Move) → Running x → is_grey x.colours id ≡ true
-    → object_is is_weak_object x.world id ≡ false → Fixes x (targets x.world.graph id) ms y → IsUnitShown x ms (scanned y id)
+    → object_is is_weak_object x.world id ≡ false → Fixes x (targets x.world.graph id) ms y → IsUnitShown x ms (collecting_after_scan y id)
 scans_shown x y id ms run grey strong fixes =
     let tracing = strong_is_tracing x id run grey strong in
     let s = scanned_rightly x y id ms run tracing grey fixes in

@@ -15,7 +15,7 @@ use Rattle.mps_model.specs.LegalMove.{has_no_room}
 use Rattle.mps_model.specs.Flip.{at_address}
 use Rattle.mps_abstract.specs.Collecting.{Exact, Collecting, is_white_in, IsDrainedIn, units_left}
 use Rattle.mps_abstract.specs.Fixing.{Keeps, marks, stays, Fixes, fixes_no_more, passes, keeps, kept_by}
-use Rattle.mps_abstract.specs.Units.{splatted, IsExaminedNext, posted, IsReclaimedNext, reclaim_by, reclaimed, IsUnit, scans, is_grey_in}
+use Rattle.mps_abstract.specs.Units.{collecting_after_splat, IsExaminedNext, collecting_after_post, IsReclaimedNext, reclaim_by, collecting_after_reclaim, IsUnit, scans, is_grey_in}
 
 -- ---- a pool that doesn't move: object 0 refers to 1, and 2, which is weak, refers to 1 and 3. 0 and 2 are held
 
@@ -108,7 +108,7 @@ abbrev drained : Collecting
 drained = record begun { colours = record { kept = 1 ∷ 0 ∷ 2 ∷ []; grey = 2 ∷ [] } }
 
 -- the reference to 3 is splatted, the one to 1 isn't
-pub a_white_target_is_splatted : targets (splatted drained 2 2).world.graph 2 ≡ 1 ∷ []
+pub a_white_target_is_splatted : targets (collecting_after_splat drained 2 2).world.graph 2 ≡ 1 ∷ []
 a_white_target_is_splatted = refl
 
 pub its_target_is_white : is_white_in drained 3 ≡ true
@@ -130,10 +130,10 @@ registered = record drained {
 }
 
 -- once the collection is drained, the white object of a registration is kept and posted
-pub a_post_keeps_first : is_white_in (posted (kept_by registered 3 [] registered.running) 3) 3 ≡ false
+pub a_post_keeps_first : is_white_in (collecting_after_post (kept_by registered 3 [] registered.running) 3) 3 ≡ false
 a_post_keeps_first = refl
 
-pub a_post_is_a_message : (posted (kept_by registered 3 [] registered.running) 3).world.graph.messages ≡ 3 ∷ []
+pub a_post_is_a_message : (collecting_after_post (kept_by registered 3 [] registered.running) 3).world.graph.messages ≡ 3 ∷ []
 a_post_is_a_message = refl
 
 pub none_is_examined_while_a_strong_object_is_grey :
@@ -152,7 +152,7 @@ all_scanned = record drained { colours = record { kept = 1 ∷ 0 ∷ 2 ∷ []; g
 pub it_is_freed : reclaim_by all_scanned 0x1000 (0x1020 ∷ []) ≡ moves.Free (at_address 0x1020) ∷ []
 it_is_freed = refl
 
-pub one_unit_is_left : units_left (reclaimed all_scanned 0x1000 (0x1020 ∷ []) all_scanned.running) ≡ 1
+pub one_unit_is_left : units_left (collecting_after_reclaim all_scanned 0x1000 (0x1020 ∷ []) all_scanned.running) ≡ 1
 one_unit_is_left = refl
 
 pub no_reclaim_while_an_object_is_grey : (freed : List Address) → IsReclaimedNext drained exact_segment freed → ⊥

@@ -29,8 +29,8 @@ IsNumbered what = condemnation_of (chain_of what) (oldest_of what) ≡ what
 
 -- the state right after the record of a flip, where these other objects are still to be scanned: what is pinned is kept, and
 -- is to be scanned too
-abbrev pub flipped : World → Condemnation → (others : List Id) → Collecting
-flipped w what others = record {
+abbrev pub collecting_after_flip : World → Condemnation → (others : List Id) → Collecting
+collecting_after_flip w what others = record {
   world = after_flip w (condemned_zones w what) what;
   running = collection_at_flip (world_flipped w (condemned_zones w what)) what;
   colours = record {
@@ -73,8 +73,8 @@ pub record IsFlipEnded (w : World) (what : Condemnation) : Type 0 where
 abbrev pub AFlipBeginsRunning : Type 0
 AFlipBeginsRunning =
     ((w : World) (what : Condemnation) (others : List Id) (ms : List Move) (y : Collecting) → IsAtRest w → IsNumbered what
-    → is_nothing (condemned_by w what) ≡ false → AreRemembered (flipped w what others) others
-    → FixesHeld w (flipped w what others) ms y → IsFlipDone w what ms y)
+    → is_nothing (condemned_by w what) ≡ false → AreRemembered (collecting_after_flip w what others) others
+    → FixesHeld w (collecting_after_flip w what others) ms y → IsFlipDone w what ms y)
     × ((w : World) (what : Condemnation) → IsAtRest w → IsNumbered what → IsTrue (is_nothing (condemned_by w what)) → IsFlipEnded w what)
 
 -- ---- vectors

@@ -20,14 +20,14 @@ use Rattle.mps_abstract.specs.Fixing.{Keeps, Fixes, kept_by}
 -- ---- scanning
 
 -- an object was scanned
-abbrev pub scanned : Collecting → (id : Id) → Collecting
-scanned x id = record x { colours = blackened x.colours id }
+abbrev pub collecting_after_scan : Collecting → (id : Id) → Collecting
+collecting_after_scan x id = record x { colours = blackened x.colours id }
 
 -- ---- splatting
 
 -- a weak reference of an object was splatted
-abbrev pub splatted : Collecting → (holder cell : ℕ) → Collecting
-splatted x holder cell = record x { world = after_splat x.world holder cell; running = splatting x.running }
+abbrev pub collecting_after_splat : Collecting → (holder cell : ℕ) → Collecting
+collecting_after_splat x holder cell = record x { world = after_splat x.world holder cell; running = splatting x.running }
 
 -- nothing that an object refers to is white
 abbrev pub AreTargetsKept : Collecting → (id : Id) → Type 0
@@ -37,7 +37,7 @@ AreTargetsKept x id = (target : Id) → IsTrue (contains (targets x.world.graph 
 pub data Splats (holder : Id) : Collecting → (cells : List ℕ) → Collecting → Type 0 where
   splats_no_more : {x : Collecting} → AreTargetsKept x holder → Splats holder x [] x
   splats_cell : {x y : Collecting} {cell target : ℕ} {cells : List ℕ} → target_in_cell x.world holder cell ≡ Some target
-      → IsTrue (is_white_in x target) → Splats holder (splatted x holder cell) cells y → Splats holder x (cell ∷ cells) y
+      → IsTrue (is_white_in x target) → Splats holder (collecting_after_splat x holder cell) cells y → Splats holder x (cell ∷ cells) y
 
 -- the moves of these splats
 abbrev pub splats_by : Collecting → (holder : Id) → (cells : List ℕ) → List Move
@@ -52,8 +52,8 @@ pub record IsExaminedNext (x : Collecting) (id : Id) : Type 0 where
   pub registered : slice_get x.world.graph.registered x.next ≡ Some id
 
 -- an object was posted, after it was kept
-abbrev pub posted : Collecting → (id : Id) → Collecting
-posted x id = record x { world = after_post x.world id; running = posting id x.next x.running; band = Final }
+abbrev pub collecting_after_post : Collecting → (id : Id) → Collecting
+collecting_after_post x id = record x { world = after_post x.world id; running = posting id x.next x.running; band = Final }
 
 -- ---- reclaiming
 
@@ -88,8 +88,8 @@ abbrev pub reclaim_by : Collecting → (base : Address) → (freed : List Addres
 reclaim_by x base freed = reclaim_of x.world x.running base freed
 
 -- the state after a reclaim after which the collection goes on
-abbrev pub reclaimed : Collecting → (base : Address) → (freed : List Address) → Collection → Collecting
-reclaimed x base freed c = record x {
+abbrev pub collecting_after_reclaim : Collecting → (base : Address) → (freed : List Address) → Collection → Collecting
+collecting_after_reclaim x base freed c = record x {
   world = world_after_moves x.world (reclaim_by x base freed);
   running = c;
   band = Reclaim;
@@ -102,19 +102,19 @@ reclaimed x base freed c = record x {
 pub data IsUnit (x : Collecting) : List Move → Collecting → Type 0 where
   -- an object that isn't weak is scanned
   scans : (id : Id) {y : Collecting} {ms : List Move} → IsTrue (is_grey x.colours id) → object_is is_weak_object x.world id ≡ false
-      → Fixes x (targets x.world.graph id) ms y → IsUnit x ms (scanned y id)
+      → Fixes x (targets x.world.graph id) ms y → IsUnit x ms (collecting_after_scan y id)
   -- a registration is examined, of an object that isn't white
   examines : (id : Id) → IsExaminedNext x id → is_white_in x id ≡ false → IsUnit x [] (record x { band = Final; next = suc x.next })
   -- or of a white one, which is kept and posted
   posts : (id : Id) {ms : List Move} {c : Collection} → IsExaminedNext x id → IsTrue (is_white_in x id) → Keeps x.world x.running id ms c
-      → IsUnit x (ms ++ moves.Post (at_address (address_or_null (world_after_moves x.world ms) id)) ∷ []) (posted (kept_by x id ms c) id)
+      → IsUnit x (ms ++ moves.Post (at_address (address_or_null (world_after_moves x.world ms) id)) ∷ []) (collecting_after_post (kept_by x id ms c) id)
   -- a weak object is scanned
   splats : (id : Id) {y : Collecting} {cells : List ℕ} → IsDrainedIn x → AreAllExamined x → IsTrue (is_grey x.colours id)
-      → Splats id (record x { band = Weak }) cells y → IsUnit x (splats_by x id cells) (scanned y id)
+      → Splats id (record x { band = Weak }) cells y → IsUnit x (splats_by x id cells) (collecting_after_scan y id)
   -- a segment is reclaimed, and others are left
   reclaims : {s : Segment} {freed : List Address} {c : Collection} → IsReclaimedNext x s freed
       → is_last_condemned x.running s.base ≡ false → (world_after_moves x.world (reclaim_by x s.base freed)).collection ≡ Some c
-      → IsUnit x (reclaim_by x s.base freed) (reclaimed x s.base freed c)
+      → IsUnit x (reclaim_by x s.base freed) (collecting_after_reclaim x s.base freed c)
 
 -- the unit in which the collection ends: the last segment is reclaimed
 pub data IsLastUnit (x : Collecting) : List Move → Type 0 where
@@ -151,7 +151,7 @@ is_grey_in s x id = is_live_and (is_in_segment s) x.world id && is_grey x.colour
 pub data BarrierDone (s : Segment) : Collecting → List Move → Collecting → Type 0 where
   barrier_done : {x : Collecting} → ((id : Id) → is_grey_in s x id ≡ false) → BarrierDone s x [] x
   barrier_scans : (id : Id) {x y z : Collecting} {these those : List Move} → IsTrue (is_tracing_band x.band) → IsTrue (is_grey_in s x id)
-      → Fixes x (targets x.world.graph id) these y → BarrierDone s (scanned y id) those z → BarrierDone s x (these ++ those) z
+      → Fixes x (targets x.world.graph id) these y → BarrierDone s (collecting_after_scan y id) those z → BarrierDone s x (these ++ those) z
   barrier_splats : (id : Id) {x y z : Collecting} {cells : List ℕ} {those : List Move} → is_tracing_band x.band ≡ false
-      → IsTrue (is_grey_in s x id) → Splats id x cells y → BarrierDone s (scanned y id) those z
+      → IsTrue (is_grey_in s x id) → Splats id x cells y → BarrierDone s (collecting_after_scan y id) those z
       → BarrierDone s x (splats_by x id cells ++ those) z

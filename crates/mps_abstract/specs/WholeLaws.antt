@@ -17,27 +17,27 @@ use Rattle.mps_model.specs.declared.reply.Reply.TheVariants as reply
 use Rattle.mps_abstract.specs.Colours.{Colours, is_grey}
 use Rattle.mps_abstract.specs.Collecting.{Collecting, Running, is_white_in}
 use Rattle.mps_abstract.specs.Units.{Ends}
-use Rattle.mps_abstract.specs.FlipLaws.{IsAtRest, flipped, FixesHeld}
+use Rattle.mps_abstract.specs.FlipLaws.{IsAtRest, collecting_after_flip, FixesHeld}
 
 -- ---- what such a collection keeps besides the invariant
 
 -- where wide reachability begins, with the objects posted so far
 abbrev pub roots_of : World → (posted : List Id) → List Id
-roots_of flipped posted = ids_of_client flipped.graph ++ (ids_of_area_words flipped ++ posted)
+roots_of collecting_after_flip posted = ids_of_client collecting_after_flip.graph ++ (ids_of_area_words collecting_after_flip ++ posted)
 
 -- nothing is kept that isn't reached, and nothing else is grey
-pub record AreReached (flipped : World) (posted : List Id) (k : Colours) : Type 0 where
-  pub kept : (id : Id) → IsTrue (contains k.kept id) → IsWidelyReachableWith flipped posted id
+pub record AreReached (collecting_after_flip : World) (posted : List Id) (k : Colours) : Type 0 where
+  pub kept : (id : Id) → IsTrue (contains k.kept id) → IsWidelyReachableWith collecting_after_flip posted id
   pub grey : (id : Id) → IsTrue (is_grey k id) → IsTrue (contains k.kept id)
 
 -- and the roots are kept: what was held, what is pinned, and what was posted
-pub record AreRootsKept (flipped : World) (posted : List Id) (x : Collecting) : Type 0 where
-  pub live : (id : Id) → IsTrue (contains (roots_of flipped posted) id) → IsTrue (is_live x.world id)
-  pub kept : (id : Id) → IsTrue (contains (roots_of flipped posted) id) → is_white_in x id ≡ false
+pub record AreRootsKept (collecting_after_flip : World) (posted : List Id) (x : Collecting) : Type 0 where
+  pub live : (id : Id) → IsTrue (contains (roots_of collecting_after_flip posted) id) → IsTrue (is_live x.world id)
+  pub kept : (id : Id) → IsTrue (contains (roots_of collecting_after_flip posted) id) → is_white_in x id ≡ false
 
 -- the strong references are those of the flip
-abbrev pub IsAlike : (flipped g : Graph) → Type 0
-IsAlike flipped g = (id : Id) → strong_targets g id ≡ strong_targets flipped id
+abbrev pub IsAlike : (collecting_after_flip g : Graph) → Type 0
+IsAlike collecting_after_flip g = (id : Id) → strong_targets g id ≡ strong_targets collecting_after_flip id
 
 -- the registrations: those that were examined and are left, and those that are still to be examined
 pub record AreInTurn (x : Collecting) (passed remaining : List Id) : Type 0 where
@@ -47,22 +47,22 @@ pub record AreInTurn (x : Collecting) (passed remaining : List Id) : Type 0 wher
   pub condemned : (id : Id) → IsTrue (contains x.world.graph.registered id) → IsTrue (is_condemned x.running id)
 
 -- a whole collection so far, whose flip left this world: these were posted, the last one first, and in order
-pub record IsWholeSoFar (flipped : World) (x : Collecting) : Type 0 where
+pub record IsWholeSoFar (collecting_after_flip : World) (x : Collecting) : Type 0 where
   pub posted : List Id
   pub posts : List Id
   pub same : (id : Id) → contains posted id ≡ contains posts id
-  pub messages : x.world.graph.messages ≡ flipped.graph.messages ++ posts
+  pub messages : x.world.graph.messages ≡ collecting_after_flip.graph.messages ++ posts
   pub passed : List Id
   pub remaining : List Id
   pub in_turn : AreInTurn x passed remaining
   -- if the posts of those that remain are exact, all are
-  pub so_far : (later : List Id) → ArePostsExact flipped posted remaining later
-      → ArePostsExact flipped [] flipped.graph.registered (posts ++ later)
-  pub alike : IsAlike flipped.graph x.world.graph
-  pub reached : AreReached flipped posted x.colours
-  pub roots : AreRootsKept flipped posted x
+  pub so_far : (later : List Id) → ArePostsExact collecting_after_flip posted remaining later
+      → ArePostsExact collecting_after_flip [] collecting_after_flip.graph.registered (posts ++ later)
+  pub alike : IsAlike collecting_after_flip.graph x.world.graph
+  pub reached : AreReached collecting_after_flip posted x.colours
+  pub roots : AreRootsKept collecting_after_flip posted x
   -- the flip condemned everything
-  pub condemned : (id : Id) → IsTrue (contains (live_automatic_ids flipped) id) → IsTrue (is_condemned x.running id)
+  pub condemned : (id : Id) → IsTrue (contains (live_automatic_ids collecting_after_flip) id) → IsTrue (is_condemned x.running id)
 
 -- ---- the law
 
@@ -82,7 +82,7 @@ pub record IsCollectDone (w : World) (moves : List Move) : Type 0 where
 abbrev pub AWholeCollectionIsExact : Type 0
 AWholeCollectionIsExact =
     ((w : World) (first later : List Move) (y : Collecting) (count : ℕ) → IsAtRest w → is_nothing (condemned_by w Everything) ≡ false
-    → FixesHeld w (flipped w Everything []) first y → Ends y count later → IsWholeDone w (flip_act w Everything ++ later))
+    → FixesHeld w (collecting_after_flip w Everything []) first y → Ends y count later → IsWholeDone w (flip_act w Everything ++ later))
     × ((w : World) → IsAtRest w → IsTrue (is_nothing (condemned_by w Everything)) → IsWholeDone w (flip_act w Everything))
     × ((w : World) (full : List Move) → w.collection ≡ None → IsWholeDone w full → IsCollectDone w full)
     × ((x : Collecting) (earlier full : List Move) (count : ℕ) → Running x → Ends x count earlier

@@ -30,12 +30,12 @@ abbrev pub with_pool : AmcState → (generations : ℕ) → AmcState
 with_pool amc generations = record { tails = amc.tails ++ replicate generations empty_buffer ∷ [] }
 
 -- as many tails, all empty
-abbrev pub emptied_row : List Buffer → List Buffer
-emptied_row row = replicate (length row) empty_buffer
+abbrev pub row_after_flip : List Buffer → List Buffer
+row_after_flip row = replicate (length row) empty_buffer
 
 -- the tails after a flip
-abbrev pub flipped : AmcState → AmcState
-flipped amc = record { tails = map emptied_row amc.tails }
+abbrev pub tails_after_flip : AmcState → AmcState
+tails_after_flip amc = record { tails = map row_after_flip amc.tails }
 
 -- the tails of a pool
 abbrev pub tails_of : AmcState → (pool : ℕ) → List Buffer
@@ -146,7 +146,7 @@ the_rest_of_a_new_segment = refl
 pub where_none_was_found_tails_are_as_before : tails_after amc 0 0 9 (OverLimit 2 1 2) ≡ amc
 where_none_was_found_tails_are_as_before = refl
 
-pub nothing_at_hand_after_a_flip : (flipped amc).tails ≡ (empty_buffer ∷ empty_buffer ∷ []) ∷ []
+pub nothing_at_hand_after_a_flip : (tails_after_flip amc).tails ≡ (empty_buffer ∷ empty_buffer ∷ []) ∷ []
 nothing_at_hand_after_a_flip = refl
 
 pub a_block_that_stays : answer_of_fix (Err (NoRun 3 2)) (record { 0 = 0x1000 }) ≡ record { 0 = 0x1000 }

@@ -6,7 +6,7 @@ ghost use Rattle.mps_base.specs.Address.{word_of, bytes_of_word, words_of_grain}
 ghost use Rattle.mps_base.specs.Segment.{Segment, segment_over};
 ghost use Rattle.mps_seg.specs.Buffer.{IsAtHand};
 ghost use Rattle.mps_amc.specs.Moving.{BlockStands, IsBlockOf, IsForwarded, IsUnforwarded, size_at, nailed};
-ghost use Rattle.mps_amc.specs.Amc.{no_pools, with_pool, emptied_row, flipped, HasTail, tail_of, with_tail, IsFixed, FixesAt};
+ghost use Rattle.mps_amc.specs.Amc.{no_pools, with_pool, row_after_flip, tails_after_flip, HasTail, tail_of, with_tail, IsFixed, FixesAt};
 
 use crate::moving::{keep_in_place, move_block};
 use mps_base::{Addr, Move, Rank, Trail};
@@ -52,7 +52,7 @@ impl Amc {
 
     /// All tails are empty: what a collection moves after a flip goes to segments that it takes.
     pub fn flip(&mut self)
-        ensures { self.new ≡ flipped self.old }
+        ensures { self.new ≡ tails_after_flip self.old }
     {
         empty_rows(&mut self.tails);
     }
@@ -183,7 +183,7 @@ fn pool_at(segs: &Segs, at: Addr) -> u32
 
 /// Empties these rows of tails.
 fn empty_rows(rows: &mut [Vec<Buffer>])
-    ensures { map (λ row. row.items) rows.new ≡ map emptied_row (map (λ row. row.items) rows.old) }
+    ensures { map (λ row. row.items) rows.new ≡ map row_after_flip (map (λ row. row.items) rows.old) }
 {
     for i in 0..rows.len() {
         rows[i].fill(Buffer { from: 0, count: 0 });

@@ -3,7 +3,7 @@ use Rattle.std.proofs.Common.{◌≡◌, ◌∙◌, ℕ, zero, suc, ◌+◌, ref
 use Rattle.std.proofs.lemmas.Option.{none-some, same_Some}
 use Rattle.std.specs.Prelude.{get_or, replicate, option_map}
 use Rattle.mps_buffer.specs.declared.point.Point.{Point}
-use Rattle.mps_buffer.specs.Points.{PointsState, WereMadeBefore, max_points, no_points, point_at, emptied, flipped}
+use Rattle.mps_buffer.specs.Points.{PointsState, WereMadeBefore, max_points, no_points, point_at, without_free_words, points_after_flip}
 
 -- ---- new points
 
@@ -29,21 +29,21 @@ get_or-mapped f [] key = refl
 get_or-mapped f (x ∷ xs) zero = refl
 get_or-mapped f (x ∷ xs) (suc key) = get_or-mapped f xs key
 
-pub point_at-flipped : (s : PointsState) (key : ℕ) → point_at (flipped s) key ≡ option_map emptied (point_at s key)
-point_at-flipped s key = get_or-mapped emptied s.points key
+pub point_at-flipped : (s : PointsState) (key : ℕ) → point_at (points_after_flip s) key ≡ option_map without_free_words (point_at s key)
+point_at-flipped s key = get_or-mapped without_free_words s.points key
 
 -- a point that there is after a flip is one that there was
-pub was_point : (s : PointsState) (key : ℕ) (p : Point) → point_at (flipped s) key ≡ Some p
-    → (q : Point) × (point_at s key ≡ Some q) × (emptied q ≡ p)
+pub was_point : (s : PointsState) (key : ℕ) (p : Point) → point_at (points_after_flip s) key ≡ Some p
+    → (q : Point) × (point_at s key ≡ Some q) × (without_free_words q ≡ p)
 was_point s key p e = of_point (point_at s key) refl (sym (point_at-flipped s key) ∙ e)
   where
-    of_point : (o : Option Point) → point_at s key ≡ o → option_map emptied o ≡ Some p
-        → (q : Point) × (point_at s key ≡ Some q) × (emptied q ≡ p)
+    of_point : (o : Option Point) → point_at s key ≡ o → option_map without_free_words o ≡ Some p
+        → (q : Point) × (point_at s key ≡ Some q) × (without_free_words q ≡ p)
     of_point None there f = absurd (none-some p f)
-    of_point (Some q) there f = (q, there, same_Some (emptied q) p f)
+    of_point (Some q) there f = (q, there, same_Some (without_free_words q) p f)
 
 -- so it is after one more flip
-pub made_before_then : (flips : ℕ) (s : PointsState) → WereMadeBefore flips s → WereMadeBefore (flips + 1) (flipped s)
+pub made_before_then : (flips : ℕ) (s : PointsState) → WereMadeBefore flips s → WereMadeBefore (flips + 1) (points_after_flip s)
 made_before_then flips s made = record {
   before = λ key p held e reserved.
       let was = was_point s key p e in

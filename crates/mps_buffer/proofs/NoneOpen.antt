@@ -10,7 +10,7 @@ use Rattle.mps_seg.specs.declared.buffer.Buffer.{Buffer}
 use Rattle.mps_seg.specs.Segs.{SegsState}
 use Rattle.mps_buffer.specs.declared.point.Held.{Held}
 use Rattle.mps_buffer.specs.declared.point.Point.{Point}
-use Rattle.mps_buffer.specs.Points.{PointsState, point_at, with_point, with_block, new_point, IsMade, opened, closed, emptied, ended_at, IsReservedAt, AreReserved}
+use Rattle.mps_buffer.specs.Points.{PointsState, point_at, with_point, with_block, new_point, IsMade, after_open, after_close, without_free_words, after_end_at, IsReservedAt, AreReserved}
 use Rattle.mps_seg.specs.Buffer.{IsAtHand}
 use Rattle.mps_buffer.specs.Tokens.{NoneIsOpen, IsReady, HasOpen}
 use Rattle.mps_buffer.proofs.TokenLists.{token_emptied}
@@ -28,7 +28,7 @@ none_open_with [] key p none is = none
 none_open_with (q ∷ ps) zero p none is = (is, none.1)
 none_open_with (q ∷ ps) (suc key) p none is = (none.0, none_open_with ps key p none.1 is)
 
-pub none_open_emptied : (ps : List (Option Point)) → NoneIsOpen ps → NoneIsOpen (map (option_map emptied) ps)
+pub none_open_emptied : (ps : List (Option Point)) → NoneIsOpen ps → NoneIsOpen (map (option_map without_free_words) ps)
 unfolding NoneIsOpen
 none_open_emptied [] none = tt
 none_open_emptied (p ∷ ps) none = (token_emptied 0 p ∙ none.0, none_open_emptied ps none.1)
@@ -44,29 +44,29 @@ is_reserved flips (Some p) s none = go p.reservation refl none
 pub none_are_reserved : (flips : ℕ) (ps : List (Option Point)) (s : SegsState) → NoneIsOpen ps → AreReserved flips ps s
 unfolding NoneIsOpen
 none_are_reserved flips [] s none = tt
-none_are_reserved flips (p ∷ ps) s none = (is_reserved flips p s none.0, none_are_reserved flips ps (ended_at flips p s) none.1)
+none_are_reserved flips (p ∷ ps) s none = (is_reserved flips p s none.0, none_are_reserved flips ps (after_end_at flips p s) none.1)
 
 -- words were reserved at a point, and then the reservation became a block or was ended
 module _ (s s1 : PointsState) (segs : SegsState) (key : ℕ) (ready : IsReady s segs key) (h : Held) (placement : Placement)
-    (reserved : s1 ≡ with_point s key (Some (opened ready.point placement h))) where
-  pub is_open : HasOpen s1 key (opened ready.point placement h) h
+    (reserved : s1 ≡ with_point s key (Some (after_open ready.point placement h))) where
+  pub is_open : HasOpen s1 key (after_open ready.point placement h) h
   is_open = record {
     there =
         ap (λ (x : PointsState). point_at x key) reserved
-        ∙ get_or-set_same s.points key (Some (opened ready.point placement h)) None (some_within s.points key ready.point
+        ∙ get_or-set_same s.points key (Some (after_open ready.point placement h)) None (some_within s.points key ready.point
         ready.there.there);
     reserved = refl;
   }
 
-  pub ready_again : (s2 : PointsState) (segs2 : SegsState) → IsAtHand segs2 (opened ready.point placement h).buffer
-      → s2 ≡ with_point s1 key (Some (closed (opened ready.point placement h))) → IsReady s2 segs2 key
+  pub ready_again : (s2 : PointsState) (segs2 : SegsState) → IsAtHand segs2 (after_open ready.point placement h).buffer
+      → s2 ≡ with_point s1 key (Some (after_close (after_open ready.point placement h))) → IsReady s2 segs2 key
   ready_again s2 segs2 at_hand is =
-      let p = closed (opened ready.point placement h) in
+      let p = after_close (after_open ready.point placement h) in
       let within = some_within s.points key ready.point ready.there.there in
       let all : s2 ≡ with_point s key (Some p) =
       is ∙ ap (λ (x : PointsState). with_point x key (Some p)) reserved
       ∙ ap (λ (ps : List (Option Point)). record s { points = ps })
-      (set-set s.points key (Some (opened ready.point placement h)) (Some p)) in
+      (set-set s.points key (Some (after_open ready.point placement h)) (Some p)) in
       let P : PointsState → Type 0 = λ x. IsReady x segs2 key in
       subst P (sym all)
       (record {

@@ -9,7 +9,7 @@ use Rattle.mps_seg.specs.Segs.{SegsState}
 use Rattle.mps_buffer.specs.declared.point.Held.{Held}
 use Rattle.mps_buffer.specs.declared.point.Point.{Point}
 use Rattle.mps_buffer.specs.declared.point.Reserved.{Reserved}
-use Rattle.mps_buffer.specs.Points.{PointsState, point_at, with_point, closed, ended, ended_at, IsOpenAt, IsReserved, IsReservedAt, IsMade, AllTaken}
+use Rattle.mps_buffer.specs.Points.{PointsState, point_at, with_point, after_close, after_end, after_end_at, IsOpenAt, IsReserved, IsReservedAt, IsMade, AllTaken}
 use Rattle.mps_buffer.specs.Tokens.{token_of, tokens_from}
 use Rattle.mps_buffer.proofs.TokenLists.{length_of_tokens, token_at, token_set}
 
@@ -53,34 +53,34 @@ is_token_of key (Some p) t is = go p.reservation refl is
 abbrev pub HasNoToken : ℕ → Option Point → Type 0
 HasNoToken key o = token_of key o ≡ None
 
-pub closed_same : (key : ℕ) (o : Option Point) → HasNoToken key o → option_map closed o ≡ o
+pub closed_same : (key : ℕ) (o : Option Point) → HasNoToken key o → option_map after_close o ≡ o
 closed_same key None is = refl
 closed_same key (Some p) is = go p.reservation refl is
   where
     go : (r : Option Held) → p.reservation ≡ r → option_map (token_with key) r ≡ None
-        → option_map closed (Some p) ≡ Some p
+        → option_map after_close (Some p) ≡ Some p
     go None reserved is = ap (λ (x : Option Held). Some (record p { reservation = x })) (sym reserved)
     go (Some h) reserved is = let never : Some (token_with key h) ≡ None = is in cc
 
-pub ended_same : (key flips : ℕ) (o : Option Point) (s : SegsState) → HasNoToken key o → s ≡ ended_at flips o s
+pub ended_same : (key flips : ℕ) (o : Option Point) (s : SegsState) → HasNoToken key o → s ≡ after_end_at flips o s
 ended_same key flips None s is = refl
 ended_same key flips (Some p) s is = go p.reservation refl is
   where
     go : (r : Option Held) → p.reservation ≡ r → option_map (token_with key) r ≡ None
-        → s ≡ ended_at flips (Some p) s
+        → s ≡ after_end_at flips (Some p) s
     go None reserved is = rw reserved refl
     go (Some h) reserved is = let never : Some (token_with key h) ≡ None = is in cc
 
 -- the state where the reservation under a key ends
 abbrev pub closing : PointsState → ℕ → PointsState
-closing s key = with_point s key (option_map closed (point_at s key))
+closing s key = with_point s key (option_map after_close (point_at s key))
 
 pub closing_none : (s : PointsState) (key : ℕ) → HasNoToken key (point_at s key) → s ≡ closing s key
 closing_none s key none =
     ap (λ (ps : List (Option Point)). record s { points = ps }) (sym (set-get_or s.points key None))
     ∙ ap (λ (o : Option Point). with_point s key o) (sym (closed_same key (point_at s key) none))
 
-token_closed : (key : ℕ) (o : Option Point) → token_of key (option_map closed o) ≡ None
+token_closed : (key : ℕ) (o : Option Point) → token_of key (option_map after_close o) ≡ None
 token_closed key None = refl
 token_closed key (Some p) = refl
 
@@ -120,7 +120,7 @@ module _ (s : PointsState) (ts : List (Option Reserved)) (are : ts ≡ tokens_fr
   pub tokens_closed : slice_set ts key None ≡ tokens_from 0 (closing s key).points
   tokens_closed =
       ap (λ (t : Option Reserved). slice_set ts key t) (sym (token_closed key (point_at s key)))
-      ∙ tokens_with (option_map closed (point_at s key))
+      ∙ tokens_with (option_map after_close (point_at s key))
 
 -- ---- the reservation of a token
 
@@ -129,7 +129,7 @@ pub has_token : (key : ℕ) (o : Option Point) (p : Point) (h : Held) → o ≡ 
 has_token key o p h there reserved = ap (token_of key) there ∙ ap (option_map (token_with key)) reserved
 
 pub no_token : (key : ℕ) (o : Option Point) (p : Point) → o ≡ Some p → p.reservation ≡ None → HasNoToken key o
-no_token key o p there closed = ap (token_of key) there ∙ ap (option_map (token_with key)) closed
+no_token key o p there after_close = ap (token_of key) there ∙ ap (option_map (token_with key)) after_close
 
 module _ (s : PointsState) (key : ℕ) (t : Reserved) (of : IsTokenOf key (point_at s key) t) where
   pub open_at : key < length s.points → IsOpenAt s t.point t.held
@@ -153,15 +153,15 @@ module _ (s : PointsState) (key : ℕ) (t : Reserved) (of : IsTokenOf key (point
       let Q : Option Held → Type 0 = λ r. IsReserved s.flips r segs in
       subst Q of.reserved (subst P of.there are)
 
-  pub ended_of : (segs : SegsState) → ended s.flips (Some t.held) segs ≡ ended_at s.flips (point_at s key) segs
+  pub ended_of : (segs : SegsState) → after_end s.flips (Some t.held) segs ≡ after_end_at s.flips (point_at s key) segs
   ended_of segs =
-      ap (λ (r : Option Held). ended s.flips r segs) (sym of.reserved)
-      ∙ ap (λ (o : Option Point). ended_at s.flips o segs) (sym of.there)
+      ap (λ (r : Option Held). after_end s.flips r segs) (sym of.reserved)
+      ∙ ap (λ (o : Option Point). after_end_at s.flips o segs) (sym of.there)
 
-  pub closed_of : (s' : PointsState) → s' ≡ with_point s t.point (Some (closed of.point)) → s' ≡ closing s key
+  pub closed_of : (s' : PointsState) → s' ≡ with_point s t.point (Some (after_close of.point)) → s' ≡ closing s key
   closed_of s' is =
-      is ∙ ap (λ (k : ℕ). with_point s k (Some (closed of.point))) of.at_key
-      ∙ ap (λ (o : Option Point). with_point s key (option_map closed o)) (sym of.there)
+      is ∙ ap (λ (k : ℕ). with_point s k (Some (after_close of.point))) of.at_key
+      ∙ ap (λ (o : Option Point). with_point s key (option_map after_close o)) (sym of.there)
 
 -- ---- a point more
 
@@ -175,13 +175,13 @@ tokens_after_add s s' ts are (Err why) p none made refused = are ∙ sym (ap (λ
 
 -- ---- all of them
 
-pub all_closed : (key : ℕ) (ps : List (Option Point)) → All (λ t. t ≡ None) (tokens_from key (map (option_map closed) ps))
+pub all_closed : (key : ℕ) (ps : List (Option Point)) → All (λ t. t ≡ None) (tokens_from key (map (option_map after_close) ps))
 unfolding tokens_from
 all_closed key [] = λ k d within. absurd (omega arith)
 all_closed key (p ∷ ps) = go (all_closed (suc key) ps)
   where
-    go : All (λ t. t ≡ None) (tokens_from (suc key) (map (option_map closed) ps))
-        → All (λ t. t ≡ None) (token_of key (option_map closed p) ∷ tokens_from (suc key) (map (option_map closed) ps))
+    go : All (λ t. t ≡ None) (tokens_from (suc key) (map (option_map after_close) ps))
+        → All (λ t. t ≡ None) (token_of key (option_map after_close p) ∷ tokens_from (suc key) (map (option_map after_close) ps))
     go rest zero d within = token_closed key p
     go rest (suc k) d within = rest k d (omega arith)
 

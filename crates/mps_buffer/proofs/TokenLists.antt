@@ -3,7 +3,7 @@ use Rattle.std.proofs.Common.{ℕ, suc, zero, ◌+◌, ◌≡◌, Option, Some, 
 use Rattle.std.specs.Prelude.{slice_set}
 use Rattle.mps_buffer.specs.declared.point.Point.{Point}
 use Rattle.mps_buffer.specs.declared.point.Reserved.{Reserved}
-use Rattle.mps_buffer.specs.Points.{emptied}
+use Rattle.mps_buffer.specs.Points.{without_free_words}
 use Rattle.mps_buffer.specs.Tokens.{token_of, tokens_from}
 
 pub length_of_tokens : (key : ℕ) (ps : List (Option Point)) → length (tokens_from key ps) ≡ length ps
@@ -27,15 +27,15 @@ token_set key (suc i) (q ∷ ps) p =
     ap (λ (ts : List (Option Reserved)). token_of key q ∷ ts)
     (token_set (suc key) i ps p ∙ ap (λ (k : ℕ). slice_set (tokens_from (suc key) ps) i (token_of k p)) (omega arith))
 
-pub token_emptied : (key : ℕ) (p : Option Point) → token_of key (option_map emptied p) ≡ token_of key p
+pub token_emptied : (key : ℕ) (p : Option Point) → token_of key (option_map without_free_words p) ≡ token_of key p
 token_emptied key None = refl
 token_emptied key (Some p) = refl
 
-pub tokens_emptied : (key : ℕ) (ps : List (Option Point)) → tokens_from key (map (option_map emptied) ps) ≡ tokens_from key ps
+pub tokens_emptied : (key : ℕ) (ps : List (Option Point)) → tokens_from key (map (option_map without_free_words) ps) ≡ tokens_from key ps
 unfolding tokens_from
 tokens_emptied key [] = refl
 tokens_emptied key (p ∷ ps) =
-    ap (λ (t : Option Reserved). t ∷ tokens_from (suc key) (map (option_map emptied) ps)) (token_emptied key p)
+    ap (λ (t : Option Reserved). t ∷ tokens_from (suc key) (map (option_map without_free_words) ps)) (token_emptied key p)
     ∙ ap (λ (ts : List (Option Reserved)). token_of key p ∷ ts) (tokens_emptied (suc key) ps)
 
 pub no_tokens : (key n : ℕ) → tokens_from key (replicate n None) ≡ replicate n None

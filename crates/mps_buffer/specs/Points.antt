@@ -106,12 +106,12 @@ without_reservation s h = record s {
 }
 
 -- a point without its reservation
-abbrev pub closed : Point → Point
-closed p = record p { reservation = None }
+abbrev pub after_close : Point → Point
+after_close p = record p { reservation = None }
 
 -- a point after a reservation of n words was placed
-abbrev pub opened : Point → Placement → Held → Point
-opened p placement h = record p { buffer = buffer_after p placement h.words; reservation = Some h }
+abbrev pub after_open : Point → Placement → Held → Point
+after_open p placement h = record p { buffer = buffer_after p placement h.words; reservation = Some h }
 
 -- the point under a key has this open reservation
 pub record IsOpenAt (s : PointsState) (key : ℕ) (h : Held) : Type 0 where
@@ -123,18 +123,18 @@ pub record IsOpenAt (s : PointsState) (key : ℕ) (h : Held) : Type 0 where
 -- ---- a flip
 
 -- the segments where a reservation is ended that still covers its words
-abbrev pub ended : (flips : ℕ) → Option Held → SegsState → SegsState
-ended flips None s = s
-ended flips (Some h) s = if h.flips == flips then without_reservation s h else s
+abbrev pub after_end : (flips : ℕ) → Option Held → SegsState → SegsState
+after_end flips None s = s
+after_end flips (Some h) s = if h.flips == flips then without_reservation s h else s
 
-abbrev pub ended_at : (flips : ℕ) → Option Point → SegsState → SegsState
-ended_at flips None s = s
-ended_at flips (Some p) s = ended flips p.reservation s
+abbrev pub after_end_at : (flips : ℕ) → Option Point → SegsState → SegsState
+after_end_at flips None s = s
+after_end_at flips (Some p) s = after_end flips p.reservation s
 
 -- the segments where all reservations are ended, one after the other
-abbrev pub all_ended : (flips : ℕ) → List (Option Point) → SegsState → SegsState
-all_ended flips [] s = s
-all_ended flips (p ∷ ps) s = all_ended flips ps (ended_at flips p s)
+abbrev pub after_all_end : (flips : ℕ) → List (Option Point) → SegsState → SegsState
+after_all_end flips [] s = s
+after_all_end flips (p ∷ ps) s = after_all_end flips ps (after_end_at flips p s)
 
 -- a reservation that still covers its words is one of the segments
 abbrev pub IsReserved : (flips : ℕ) → Option Held → SegsState → Type 0
@@ -148,15 +148,15 @@ IsReservedAt flips (Some p) s = IsReserved flips p.reservation s
 -- each of the reservations is one of the segments when it is its turn to be ended
 abbrev pub AreReserved : (flips : ℕ) → List (Option Point) → SegsState → Type 0
 AreReserved flips [] s = Unit {0}
-AreReserved flips (p ∷ ps) s = IsReservedAt flips p s × AreReserved flips ps (ended_at flips p s)
+AreReserved flips (p ∷ ps) s = IsReservedAt flips p s × AreReserved flips ps (after_end_at flips p s)
 
 -- a point with an empty buffer
-abbrev pub emptied : Point → Point
-emptied p = record p { buffer = empty_buffer }
+abbrev pub without_free_words : Point → Point
+without_free_words p = record p { buffer = empty_buffer }
 
 -- the points after a flip
-abbrev pub flipped : PointsState → PointsState
-flipped s = record { points = map (option_map emptied) s.points; flips = s.flips + 1 }
+abbrev pub points_after_flip : PointsState → PointsState
+points_after_flip s = record { points = map (option_map without_free_words) s.points; flips = s.flips + 1 }
 
 -- no reservation was made after more flips than these
 pub record WereMadeBefore (flips : ℕ) (s : PointsState) : Type 0 where

@@ -11,7 +11,7 @@ ghost use Rattle.mps_base.specs.Run.{Run};
 ghost use Rattle.mps_seg.specs.Segs.{CanCover, moves_after};
 ghost use Rattle.mps_buffer.specs.declared.point.Point.{Point};
 ghost use Rattle.mps_buffer.specs.declared.point.Held.{Held};
-ghost use Rattle.mps_buffer.specs.Points.{no_points, point_at, with_point, placement_at, buffer_after, AreApart, with_place, with_reservation, with_block, closed, opened, all_ended, AreReserved, flipped, ended_at, IsReserved, IsReservedAt, new_point, IsMade, AllTaken, WereMadeBefore};
+ghost use Rattle.mps_buffer.specs.Points.{no_points, point_at, with_point, placement_at, buffer_after, AreApart, with_place, with_reservation, with_block, after_close, after_open, after_all_end, AreReserved, points_after_flip, after_end_at, IsReserved, IsReservedAt, new_point, IsMade, AllTaken, WereMadeBefore};
 ghost use Rattle.mps_seg.specs.Buffer.{IsAtHand};
 ghost use Rattle.mps_buffer.specs.Tokens.{HasOpen, IsClosedAt};
 
@@ -117,7 +117,7 @@ impl OpenPoints {
         ensures points { (p : Point) → point_at self.old key ≡ Some p
             → MatchResult result
             (λ at. self.new
-            ≡ with_point self.old key (Some (opened p (placement_at p segs.old words)
+            ≡ with_point self.old key (Some (after_open p (placement_at p segs.old words)
             (record { at = at; head = head; words = words; flips = self.old.flips }))))
             (λ _. self.new ≡ self.old) }
         ensures moves { (p : Point) → point_at self.old key ≡ Some p
@@ -143,7 +143,7 @@ impl OpenPoints {
         ensures sound { (p : Point) → (h : Held) → HasOpen self.old key p h
             → IfOk result (λ at. (at ≡ h.at) × (h.flips ≡ self.old.flips)) }
         ensures flipped { (p : Point) → (h : Held) → HasOpen self.old key p h → IfErr result (λ _. h.flips ≢ self.old.flips) }
-        ensures points { (p : Point) → point_at self.old key ≡ Some p → self.new ≡ with_point self.old key (Some (closed p)) }
+        ensures points { (p : Point) → point_at self.old key ≡ Some p → self.new ≡ with_point self.old key (Some (after_close p)) }
         ensures state { (p : Point) → (h : Held) → HasOpen self.old key p h
             → MatchResult result (λ _. segs.new ≡ with_block segs.old h) (λ _. segs.new ≡ segs.old) }
         ensures moves { (p : Point) → (h : Held) → HasOpen self.old key p h
@@ -160,8 +160,8 @@ impl OpenPoints {
     pub fn abandon(&mut self, segs: &mut Segs, key: u32)
         requires within { key < length self.old.points }
         requires reserved { IsReservedAt self.old.flips (point_at self.old key) segs.old }
-        ensures points { self.new ≡ with_point self.old key (option_map closed (point_at self.old key)) }
-        ensures state { segs.new ≡ ended_at self.old.flips (point_at self.old key) segs.old }
+        ensures points { self.new ≡ with_point self.old key (option_map after_close (point_at self.old key)) }
+        ensures state { segs.new ≡ after_end_at self.old.flips (point_at self.old key) segs.old }
     {
         self.abandon_at(segs, key as usize);
     }
@@ -170,8 +170,8 @@ impl OpenPoints {
     pub fn flip(&mut self, segs: &mut Segs)
         requires fits { self.old.flips < 2 ^ 63 }
         requires reserved { AreReserved self.old.flips self.old.points segs.old }
-        ensures points { self.new ≡ flipped self.old }
-        ensures state { segs.new ≡ all_ended self.old.flips self.old.points segs.old }
+        ensures points { self.new ≡ points_after_flip self.old }
+        ensures state { segs.new ≡ after_all_end self.old.flips self.old.points segs.old }
     {
         self.points.flip(segs);
     }
@@ -179,7 +179,7 @@ impl OpenPoints {
     /// Gives up each open reservation, and lets the points go.
     pub fn finish(self, segs: &mut Segs)
         requires { AreReserved self.flips self.points segs.old }
-        ensures { segs.new ≡ all_ended self.flips self.points segs.old }
+        ensures { segs.new ≡ after_all_end self.flips self.points segs.old }
     {
         let mut all = self;
         all.abandon_all(segs);
@@ -190,8 +190,8 @@ impl OpenPoints {
     /// Gives up each open reservation.
     fn abandon_all(&mut self, segs: &mut Segs)
         requires { AreReserved self.old.flips self.old.points segs.old }
-        ensures points { self.new ≡ record self.old { points = map (option_map closed) self.old.points } }
-        ensures state { segs.new ≡ all_ended self.old.flips self.old.points segs.old }
+        ensures points { self.new ≡ record self.old { points = map (option_map after_close) self.old.points } }
+        ensures state { segs.new ≡ after_all_end self.old.flips self.old.points segs.old }
     {
         for key in 0..self.count() {
             self.abandon_at(segs, key);
@@ -202,8 +202,8 @@ impl OpenPoints {
     fn abandon_at(&mut self, segs: &mut Segs, key: usize)
         requires within { key < length self.old.points }
         requires reserved { IsReservedAt self.old.flips (point_at self.old key) segs.old }
-        ensures points { self.new ≡ with_point self.old key (option_map closed (point_at self.old key)) }
-        ensures state { segs.new ≡ ended_at self.old.flips (point_at self.old key) segs.old }
+        ensures points { self.new ≡ with_point self.old key (option_map after_close (point_at self.old key)) }
+        ensures state { segs.new ≡ after_end_at self.old.flips (point_at self.old key) segs.old }
     {
         if let Some(token) = self.tokens[key].take() {
             self.points.abandon(segs, token);

@@ -11,7 +11,7 @@ ghost use Rattle.mps_base.specs.Run.{Run};
 ghost use Rattle.mps_seg.specs.Segs.{SegsState, CanCover, moves_after};
 ghost use Rattle.mps_buffer.specs.declared.point.Point.{Point};
 ghost use Rattle.mps_buffer.specs.declared.point.Held.{Held};
-ghost use Rattle.mps_buffer.specs.Points.{no_points, point_at, with_point, placement_at, buffer_after, AreApart, with_place, with_reservation, with_block, without_reservation, run_of_held, closed, opened, IsOpenAt, all_ended, AreReserved, emptied, flipped, ended_at, IsReservedAt, new_point, IsMade, AllTaken, is_place, WereMadeBefore};
+ghost use Rattle.mps_buffer.specs.Points.{no_points, point_at, with_point, placement_at, buffer_after, AreApart, with_place, with_reservation, with_block, without_reservation, run_of_held, after_close, after_open, IsOpenAt, after_all_end, AreReserved, without_free_words, points_after_flip, after_end_at, IsReservedAt, new_point, IsMade, AllTaken, is_place, WereMadeBefore};
 ghost use Rattle.mps_seg.specs.Buffer.{IsAtHand};
 
 use crate::place::place;
@@ -144,7 +144,7 @@ impl Points {
             (λ _. segs.new ≡ segs.old) }
         ensures points { (p : Point) → point_at self.old point ≡ Some p
             → MatchResult result
-            (λ token. self.new ≡ with_point self.old point (Some (opened p (placement_at p segs.old words) token.held)))
+            (λ token. self.new ≡ with_point self.old point (Some (after_open p (placement_at p segs.old words) token.held)))
             (λ _. self.new ≡ self.old) }
         ensures moves { (p : Point) → point_at self.old point ≡ Some p
             → MatchResult result (λ _. trail.new ≡ moves_after (placement_at p segs.old words) p.pool 0 trail.old)
@@ -191,7 +191,7 @@ impl Points {
         ensures points { (p : Point) → point_at self.old point ≡ Some p
             → MatchResult result
             (λ token. self.new
-            ≡ with_point self.old point (Some (opened p (placement_at p segs.old ((F.layout format.now).size head)) token.held)))
+            ≡ with_point self.old point (Some (after_open p (placement_at p segs.old ((F.layout format.now).size head)) token.held)))
             (λ _. self.new ≡ self.old) }
         ensures moves { (p : Point) → point_at self.old point ≡ Some p
             → MatchResult result
@@ -222,7 +222,7 @@ impl Points {
         ensures sound { IfOk result (λ at. (at ≡ token.held.at) × (token.held.flips ≡ self.old.flips)) }
         ensures flipped { IfErr result (λ _. token.held.flips ≢ self.old.flips) }
         ensures points { (p : Point) → point_at self.old token.point ≡ Some p
-            → self.new ≡ with_point self.old token.point (Some (closed p)) }
+            → self.new ≡ with_point self.old token.point (Some (after_close p)) }
         ensures state { MatchResult result (λ _. segs.new ≡ with_block segs.old token.held) (λ _. segs.new ≡ segs.old) }
         ensures moves { (p : Point) → point_at self.old token.point ≡ Some p
             → MatchResult result (λ at. trail.new ≡ with_move trail.old (Commit at token.held.words p.pool)) (λ _. trail.new ≡ trail.old) }
@@ -246,7 +246,7 @@ impl Points {
         requires open { IsOpenAt self.old token.point token.held }
         requires reserved { token.held.flips ≡ self.old.flips → Contains segs.old.reservations (run_of_held token.held) }
         ensures points { (p : Point) → point_at self.old token.point ≡ Some p
-            → self.new ≡ with_point self.old token.point (Some (closed p)) }
+            → self.new ≡ with_point self.old token.point (Some (after_close p)) }
         ensures state { segs.new ≡ (if token.held.flips == self.old.flips then without_reservation segs.old token.held else segs.old) }
     {
         let (point, held) = token.spend();
@@ -260,8 +260,8 @@ impl Points {
     pub fn flip(&mut self, segs: &mut Segs)
         requires fits { self.old.flips < 2 ^ 63 }
         requires reserved { AreReserved self.old.flips self.old.points segs.old }
-        ensures points { self.new ≡ flipped self.old }
-        ensures state { segs.new ≡ all_ended self.old.flips self.old.points segs.old }
+        ensures points { self.new ≡ points_after_flip self.old }
+        ensures state { segs.new ≡ after_all_end self.old.flips self.old.points segs.old }
     {
         end_all(&self.points, self.flips, segs);
         empty_all(&mut self.points);
@@ -298,7 +298,7 @@ fn free_key(points: &[Option<Point>]) -> Option<u32>
 #[inline(always)]
 fn close(place: &mut Option<Point>) -> u32
     requires { (p : Point) × (place.old ≡ Some p) }
-    ensures point { (p : Point) → place.old ≡ Some p → place.new ≡ Some (closed p) }
+    ensures point { (p : Point) → place.old ≡ Some p → place.new ≡ Some (after_close p) }
     ensures pool { (p : Point) → place.old ≡ Some p → result ≡ p.pool }
 {
     let Some(p) = place else { unreachable!() };
@@ -326,7 +326,7 @@ fn reserve_at(
     ensures state { MatchResult result
         (λ held. segs.new ≡ with_reservation (with_place segs.old p.old (placement_at p.old segs.old words)) held)
         (λ _. segs.new ≡ segs.old) }
-    ensures point { MatchResult result (λ held. p.new ≡ opened p.old (placement_at p.old segs.old words) held) (λ _. p.new ≡ p.old) }
+    ensures point { MatchResult result (λ held. p.new ≡ after_open p.old (placement_at p.old segs.old words) held) (λ _. p.new ≡ p.old) }
     ensures moves { MatchResult result (λ _. trail.new ≡ moves_after (placement_at p.old segs.old words) p.old.pool 0 trail.old)
         (λ _. trail.new ≡ trail.old) }
     ensures at_hand { p.old.is_copying ≡ true
@@ -353,7 +353,7 @@ fn reserve_at(
 /// Ends the reservations of these points that no flip has ended.
 fn end_all(points: &[Option<Point>], flips: u64, segs: &mut Segs)
     requires { AreReserved flips points.now segs.old }
-    ensures { segs.new ≡ all_ended flips points.now segs.old }
+    ensures { segs.new ≡ after_all_end flips points.now segs.old }
 {
     for p in points {
         end_at(*p, flips, segs);
@@ -363,7 +363,7 @@ fn end_all(points: &[Option<Point>], flips: u64, segs: &mut Segs)
 /// Ends the reservation of a point, if it has one that no flip has ended.
 fn end_at(p: Option<Point>, flips: u64, segs: &mut Segs)
     requires { IsReservedAt flips p segs.old }
-    ensures { segs.new ≡ ended_at flips p segs.old }
+    ensures { segs.new ≡ after_end_at flips p segs.old }
 {
     if let Some(p) = p {
         if let Some(held) = p.reservation {
@@ -376,7 +376,7 @@ fn end_at(p: Option<Point>, flips: u64, segs: &mut Segs)
 
 /// Empties the buffers of these points.
 fn empty_all(points: &mut [Option<Point>])
-    ensures { points.new ≡ map (option_map emptied) points.old }
+    ensures { points.new ≡ map (option_map without_free_words) points.old }
 {
     for i in 0..points.len() {
         points[i] = emptied_point(points[i]);
@@ -385,7 +385,7 @@ fn empty_all(points: &mut [Option<Point>])
 
 /// A point with an empty buffer.
 fn emptied_point(p: Option<Point>) -> Option<Point>
-    ensures { result ≡ option_map emptied p }
+    ensures { result ≡ option_map without_free_words p }
 {
     let p = p?;
     Some(Point {

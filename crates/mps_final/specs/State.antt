@@ -34,8 +34,8 @@ abbrev pub without_registration : FinalsState → (position : ℕ) → FinalsSta
 without_registration f position = record f { registered = remove f.registered position }
 
 -- the registration at a position becomes the last message
-abbrev pub posted : FinalsState → (position : ℕ) → FinalsState
-posted f position = record {
+abbrev pub finals_after_post : FinalsState → (position : ℕ) → FinalsState
+finals_after_post f position = record {
   registered = remove f.registered position;
   messages = f.messages ++ slice_index_or f.registered position 0 ∷ [];
 }
@@ -48,7 +48,7 @@ position_of (r ∷ rs) at = if r == at then Some 0 else option_map (λ position.
 abbrev example : FinalsState
 example = record { registered = 8 ∷ 16 ∷ 8 ∷ 24 ∷ []; messages = 32 ∷ [] }
 
-pub the_second_is_posted : posted example 1 ≡ record { registered = 8 ∷ 8 ∷ 24 ∷ []; messages = 32 ∷ 16 ∷ [] }
+pub the_second_is_posted : finals_after_post example 1 ≡ record { registered = 8 ∷ 8 ∷ 24 ∷ []; messages = 32 ∷ 16 ∷ [] }
 the_second_is_posted = refl
 
 pub the_first_of_an_address : position_of example.registered 8 ≡ Some 0

@@ -3,7 +3,7 @@
 
 ghost use Rattle.std.specs.Prelude.{◌≡◌, ◌<◌, ◌≤◌, [], length, slice_get, slice_index_or, slice_set, drop, IfOk, IfErr, OnOk, IsOk, MatchResult};
 ghost use Rattle.std.specs.Option.{option_map, MatchOption};
-ghost use Rattle.mps_final.specs.State.{FinalsState, no_finals, max_finals, finals_count, with_registration, with_registered_at, without_registration, posted, position_of};
+ghost use Rattle.mps_final.specs.State.{FinalsState, no_finals, max_finals, finals_count, with_registration, with_registered_at, without_registration, finals_after_post, position_of};
 
 use crate::row::Row;
 use mps_base::{Addr, Refusal};
@@ -120,7 +120,7 @@ impl Finals {
     /// The registration at a position becomes a message, the last of all.
     pub fn post(&mut self, position: usize)
         requires { position < length self.old.registered }
-        ensures { self.new ≡ posted self.old position }
+        ensures { self.new ≡ finals_after_post self.old position }
     {
         let at = self.registered.remove(position);
         let Ok(()) = self.messages.push_back(at) else {

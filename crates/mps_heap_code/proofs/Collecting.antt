@@ -2,7 +2,7 @@
 use Rattle.std.proofs.Common.{ℕ, ◌≡◌, ◌==◌, ◌∙◌, Option, List, [], ◌∷◌, length, map, refl, sym, ap, subst}
 use Rattle.std.proofs.Math.Dec.{eqb-suc-zero}
 use Rattle.mps_base.specs.Trail.{Moves}
-use Rattle.mps_buffer.specs.Points.{flipped}
+use Rattle.mps_buffer.specs.Points.{points_after_flip}
 use Rattle.mps_format.specs.Layout.{Layout}
 use Rattle.mps_ld.specs.State as ld
 use Rattle.mps_trace.specs.Collect.{most_moves}
@@ -34,8 +34,8 @@ module _ {F : Type 0} (layout : F → Layout) (h : HeapState F) (m : Moves) wher
     segs = h'.segs;
     roots = h'.roots;
     finals = h'.finals;
-    points = flipped seen.points;
-    epochs = ld.flipped seen.epochs (zones_of (automatic_of formats seen.segs.segments));
+    points = points_after_flip seen.points;
+    epochs = ld.epochs_after_flip seen.epochs (zones_of (automatic_of formats seen.segs.segments));
     arena = arena.Parked;
   }
 

@@ -5,7 +5,7 @@ use Rattle.mps_base.specs.declared.names.Rank.{Rank}
 use Rattle.mps_base.specs.declared.refusal.Refusal.{Refusal}
 use Rattle.mps_model.specs.Checked.{Checked}
 use Rattle.mps_heap_spec.specs.State.{HeapState}
-use Rattle.mps_heap_spec.specs.Making.{IsUntouched, IsMaking, Refused, OutOfMemory, Made, MakesPoint, MakesPointIn, check_point, passed}
+use Rattle.mps_heap_spec.specs.Making.{IsUntouched, IsMaking, Refused, OutOfMemory, Made, MakesPoint, MakesPointIn, check_point, without_answer}
 use Rattle.mps_heap_spec.specs.declared.found.Kept.{Kept}
 use Rattle.mps_format.specs.declared.pool.Pool.{Pool}
 use Rattle.mps_heap_code.specs.Made.{IsMade}
@@ -31,14 +31,14 @@ module _ {F : Type 0} where
   module _ (h : HeapState F) (name pool : Name) (at_rank : Rank) where
     -- a point is refused
     pub no_point : {why : Refusal} → Err why ≡ check_point h name pool at_rank
-        → IsMaking h (passed (check_point h name pool at_rank)) (MakesPointIn h name pool at_rank) (Err why) h
-    no_point fails = is_refused (ap passed fails)
+        → IsMaking h (without_answer (check_point h name pool at_rank)) (MakesPointIn h name pool at_rank) (Err why) h
+    no_point fails = is_refused (ap without_answer fails)
 
     -- a point is made in the pool that was found
     pub point_in : (of : Kept (Pool F)) (result : Result ℕ Refusal) (after : HeapState F) → Ok of ≡ check_point h name pool at_rank
         → IsMade h (MakesPoint h name of at_rank) result after
-        → IsMaking h (passed (check_point h name pool at_rank)) (MakesPointIn h name pool at_rank) result after
-    point_in of result after found made = is_made result after (ap passed found) (inside result made)
+        → IsMaking h (without_answer (check_point h name pool at_rank)) (MakesPointIn h name pool at_rank) result after
+    point_in of result after found made = is_made result after (ap without_answer found) (inside result made)
       where
         inside : (r : Result ℕ Refusal) → IsMade h (MakesPoint h name of at_rank) r after
             → IsMade h (MakesPointIn h name pool at_rank) r after

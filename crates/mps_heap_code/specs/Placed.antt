@@ -4,7 +4,7 @@ use Rattle.mps_base.specs.Address.{Address}
 use Rattle.mps_base.specs.Segment.{segment_over}
 use Rattle.mps_base.specs.Trail.{Moves}
 use Rattle.mps_base.specs.declared.refusal.Refusal.TheVariants as refusal
-use Rattle.mps_manual.specs.Manual.{has_blocks_of, answer_of_alloc, allocated, moves_allocated, freed, moves_freed}
+use Rattle.mps_manual.specs.Manual.{has_blocks_of, answer_of_alloc, segs_after_alloc, moves_allocated, segs_after_free, moves_freed}
 use Rattle.mps_model.specs.Checked.{Checked, ◌>>=◌, ◌>>◌, required, refuse_when}
 use Rattle.mps_heap_spec.specs.Coming.{Moved}
 use Rattle.mps_heap_spec.specs.Manual.{with_block_place}
@@ -21,7 +21,7 @@ module _ {F : Type 0} (h : HeapState F) (trail : Moves) where
     at ← answer_of_alloc size h.segs pool words
     Ok (record {
       answer = tt;
-      state = with_block_place (record h { segs = allocated h.segs pool words at }) into at.0;
+      state = with_block_place (record h { segs = segs_after_alloc h.segs pool words at }) into at.0;
       trail = moves_allocated h.segs trail pool words at;
     })
 
@@ -32,6 +32,6 @@ module _ {F : Type 0} (h : HeapState F) (trail : Moves) where
     size ← required (slice_get h.sizes s.pool) refusal.NotABlock
     Ok (record {
       answer = tt;
-      state = with_block_place (record h { segs = freed size h.segs at }) from 0;
+      state = with_block_place (record h { segs = segs_after_free size h.segs at }) from 0;
       trail = moves_freed size h.segs trail (record { 0 = at });
     })

@@ -9,7 +9,7 @@ use Rattle.mps_base.specs.declared.names.Slot.{Slot}
 use Rattle.mps_base.specs.declared.refusal.Refusal.TheVariants as refusal
 use Rattle.mps_buffer.specs.declared.point.Held.{Held}
 use Rattle.mps_buffer.specs.declared.point.Point.{Point}
-use Rattle.mps_buffer.specs.Points.{with_point, placement_at, with_place, with_reservation, with_block, opened, closed}
+use Rattle.mps_buffer.specs.Points.{with_point, placement_at, with_place, with_reservation, with_block, after_open, after_close}
 use Rattle.mps_format.specs.Layout.{Layout}
 use Rattle.mps_model.specs.Checked.{Checked, ◌>>=◌, ◌>>◌, required, refuse_when}
 use Rattle.mps_model.specs.Graph.{has_references}
@@ -48,11 +48,11 @@ module _ {F : Type 0} (layout : F → Layout) where
   abbrev pub with_reserved : HeapState F → Kept Point → Held → HeapState F
   with_reserved h point held = record h {
     segs = with_reservation (with_place h.segs point.value (placement_at point.value h.segs held.words)) held;
-    points = with_point h.points point.key (Some (opened point.value (placement_at point.value h.segs held.words) held));
+    points = with_point h.points point.key (Some (after_open point.value (placement_at point.value h.segs held.words) held));
   }
 
-  abbrev pub reserved : HeapState F → Moves → Name → (head : ℕ) → Checked (Moved F (Unit {0}))
-  reserved h trail name head = do
+  abbrev pub after_reserve : HeapState F → Moves → Name → (head : ℕ) → Checked (Moved F (Unit {0}))
+  after_reserve h trail name head = do
     r ← check_reserve h name head
     at ← answer_of_placement (placement_at r.point.value h.segs r.words)
     Ok (record {
@@ -96,10 +96,10 @@ module _ {F : Type 0} (layout : F → Layout) where
 module _ {F : Type 0} where
   -- the state where the point has no reservation any more
   abbrev pub with_closed : HeapState F → Kept Point → HeapState F
-  with_closed h point = record h { points = with_point h.points point.key (Some (closed point.value)) }
+  with_closed h point = record h { points = with_point h.points point.key (Some (after_close point.value)) }
 
-  abbrev pub committed : HeapState F → Moves → Name → Slot → Checked (Moved F Committed)
-  committed h trail name target = do
+  abbrev pub after_commit : HeapState F → Moves → Name → Slot → Checked (Moved F Committed)
+  after_commit h trail name target = do
     point ← point_named h name
     slot ← slot_in h target
     held ← required point.value.reservation refusal.NotOpen

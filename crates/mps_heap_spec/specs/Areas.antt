@@ -43,16 +43,16 @@ module _ {F : Type 0} where
   with_area_word h at word = record h { roots = record h.roots { areas = with_item h.roots.areas at.key at.index word } }
 
   -- true if the word holds an object from then on
-  abbrev pub poked : HeapState F → (place : Slot) → (word : ℕ) → Checked (Outcome F Bool)
-  poked h place word = do
+  abbrev pub after_poke : HeapState F → (place : Slot) → (word : ℕ) → Checked (Outcome F Bool)
+  after_poke h place word = do
     at ← word_in h place
     Ok (record {
       answer = is_hold h word (block_over h.segs word);
       state = with_area_word h at (record { word = word; holds = is_hold h word (block_over h.segs word) });
     })
 
-  abbrev pub peeked : HeapState F → (place : Slot) → Checked ℕ
-  peeked h place = do
+  abbrev pub answer_of_peek : HeapState F → (place : Slot) → Checked ℕ
+  answer_of_peek h place = do
     at ← word_in h place
     Ok at.value.word
 
@@ -62,16 +62,16 @@ module _ {F : Type 0} where
     refuse_when (not word.holds) refusal.NotARef
     required (block_over h.segs word.word) refusal.NotARef
 
-  abbrev pub taken : HeapState F → (slot place : Slot) → Checked (Outcome F (Unit {0}))
-  taken h slot place = do
+  abbrev pub after_take : HeapState F → (slot place : Slot) → Checked (Outcome F (Unit {0}))
+  after_take h slot place = do
     into ← slot_in h slot
     at ← word_in h place
     object ← held_by h at.value
     done (with_slot h into object)
 
 module _ {F : Type 0} (layout : F → Layout) where
-  abbrev pub pinned : HeapState F → (place slot : Slot) → Checked (Outcome F (Unit {0}))
-  pinned h place slot = do
+  abbrev pub after_pin : HeapState F → (place slot : Slot) → Checked (Outcome F (Unit {0}))
+  after_pin h place slot = do
     at ← word_in h place
     object ← object_in layout h slot
     done (with_area_word h at (record { word = object.at; holds = true }))

@@ -2,7 +2,7 @@
 use Rattle.std.specs.Prelude.{ℕ, ◌≡◌, ◌^◌, Bool, true, false, ◌&&◌, nat_lt, List, [], ◌∷◌}
 use Rattle.std.specs.List.{list_all}
 use Rattle.mps_base.specs.Trail.{Moves}
-use Rattle.mps_buffer.specs.Points.{flipped}
+use Rattle.mps_buffer.specs.Points.{points_after_flip}
 use Rattle.mps_format.specs.Layout.{Layout}
 use Rattle.mps_ld.specs.State as ld
 use Rattle.mps_trace.specs.Trace.{TraceState, traced}
@@ -43,7 +43,7 @@ module _ {F : Type 0} where
       segs = h'.segs;
       roots = h'.roots;
       finals = h'.finals;
-      points = flipped h.points;
-      epochs = ld.flipped h.epochs (zones_of (automatic_of before.formats h.segs.segments));
+      points = points_after_flip h.points;
+      epochs = ld.epochs_after_flip h.epochs (zones_of (automatic_of before.formats h.segs.segments));
       arena = arena.Parked;
     }

@@ -4,7 +4,7 @@ use Rattle.mps_base.specs.Staleness.{is_stale}
 use Rattle.mps_base.specs.declared.names.Name.{Name}
 use Rattle.mps_base.specs.declared.names.Slot.{Slot}
 use Rattle.mps_format.specs.Layout.{Layout}
-use Rattle.mps_ld.specs.State.{LdState, reset_at, with_address, merged}
+use Rattle.mps_ld.specs.State.{LdState, reset_at, with_address, after_merge}
 use Rattle.mps_model.specs.Checked.{Checked, ◌>>=◌}
 use Rattle.mps_heap_spec.specs.State.{HeapState}
 use Rattle.mps_heap_spec.specs.Coming.{Outcome, done}
@@ -23,7 +23,7 @@ module _ {F : Type 0} where
   dependency_merged h name source = do
     d ← dependency_named h name
     e ← dependency_named h source
-    done (with_dependency h d.key (merged d.value e.value))
+    done (with_dependency h d.key (after_merge d.value e.value))
 
   -- whether a dependency is stale after these flips
   abbrev pub is_dependency_stale : (flips : List ℕ) → HeapState F → Name → Checked Bool

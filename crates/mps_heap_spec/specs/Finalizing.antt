@@ -28,14 +28,14 @@ module _ {F : Type 0} where
     Ok (message_into h into h.finals.messages)
 
 module _ {F : Type 0} (layout : F → Layout) where
-  abbrev pub registered : HeapState F → Slot → Checked (Outcome F (Unit {0}))
-  registered h slot = do
+  abbrev pub after_finalize : HeapState F → Slot → Checked (Outcome F (Unit {0}))
+  after_finalize h slot = do
     object ← object_in layout h slot
     refuse_when (nat_le max_finals (finals_count h.finals)) (refusal.TooMany max_finals)
     done (with_finals h (with_registration h.finals object.at))
 
-  abbrev pub unregistered : HeapState F → Slot → Checked (Outcome F (Unit {0}))
-  unregistered h slot = do
+  abbrev pub after_definalize : HeapState F → Slot → Checked (Outcome F (Unit {0}))
+  after_definalize h slot = do
     object ← object_in layout h slot
     position ← required (position_of h.finals.registered object.at) refusal.NotRegistered
     done (with_finals h (without_registration h.finals position))

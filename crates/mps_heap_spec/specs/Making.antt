@@ -21,9 +21,9 @@ use Rattle.mps_heap_spec.specs.Finding.{pool_named, point_named}
 use Rattle.mps_heap_spec.specs.declared.found.Kept.{Kept}
 
 -- whether checks were passed, or which of them refused
-abbrev pub passed : {A : Type 0} → Checked A → Checked (Unit {0})
-passed (Ok value) = Ok tt
-passed (Err why) = Err why
+abbrev pub without_answer : {A : Type 0} → Checked A → Checked (Unit {0})
+without_answer (Ok value) = Ok tt
+without_answer (Err why) = Err why
 
 module _ {F : Type 0} where
   -- ---- the names of a heap

@@ -7,7 +7,7 @@ use Rattle.mps_base.specs.Trail.{Moves}
 use Rattle.mps_base.specs.declared.names.Name.{Name}
 use Rattle.mps_base.specs.declared.names.Slot.{Slot}
 use Rattle.mps_base.specs.declared.refusal.Refusal.TheVariants as refusal
-use Rattle.mps_manual.specs.Manual.{has_blocks_of, answer_of_alloc, allocated, moves_allocated, freed, moves_freed}
+use Rattle.mps_manual.specs.Manual.{has_blocks_of, answer_of_alloc, segs_after_alloc, moves_allocated, segs_after_free, moves_freed}
 use Rattle.mps_model.specs.Checked.{Checked, ◌>>=◌, ◌>>◌, required, refuse_when}
 use Rattle.mps_root.specs.State.{with_place}
 use Rattle.mps_seg.specs.Segs.{SegsState}
@@ -39,7 +39,7 @@ module _ {F : Type 0} where
     at ← answer_of_alloc size h.segs from.key words
     Ok (record {
       answer = tt;
-      state = with_block_place (record h { segs = allocated h.segs from.key words at }) into at.0;
+      state = with_block_place (record h { segs = segs_after_alloc h.segs from.key words at }) into at.0;
       trail = moves_allocated h.segs trail from.key words at;
     })
 
@@ -58,7 +58,7 @@ module _ {F : Type 0} where
     size ← required (slice_get h.sizes s.pool) refusal.NotABlock
     Ok (record {
       answer = tt;
-      state = with_block_place (record h { segs = freed size h.segs at }) from 0;
+      state = with_block_place (record h { segs = segs_after_free size h.segs at }) from 0;
       trail = moves_freed size h.segs trail (record { 0 = at });
     })
 

@@ -19,14 +19,14 @@ module _ {F : Type 0} where
   abbrev pub with_word : HeapState F → (word value : ℕ) → HeapState F
   with_word h word value = with_words h (slice_set h.segs.words word value)
 
-  abbrev pub copied : HeapState F → (target source : Slot) → Checked (Outcome F (Unit {0}))
-  copied h target source = do
+  abbrev pub after_copy : HeapState F → (target source : Slot) → Checked (Outcome F (Unit {0}))
+  after_copy h target source = do
     into ← slot_in h target
     from ← slot_in h source
     done (with_slot h into from.value)
 
-  abbrev pub cleared : HeapState F → Slot → Checked (Outcome F (Unit {0}))
-  cleared h slot = do
+  abbrev pub after_clear : HeapState F → Slot → Checked (Outcome F (Unit {0}))
+  after_clear h slot = do
     into ← slot_in h slot
     done (with_slot h into 0)
 

@@ -12,7 +12,7 @@ use Rattle.std.proofs.Math.ListN.{drop_of_length-le}
 use Rattle.std.proofs.Math.Seq.{drop-length}
 use Rattle.mps_base.specs.Staleness.{is_stale, flips_that_count}
 use Rattle.mps_base.specs.Zones.{zones_meet}
-use Rattle.mps_ld.specs.State.{EpochsState, flipped}
+use Rattle.mps_ld.specs.State.{EpochsState, epochs_after_flip}
 use Rattle.mps_ld.specs.Flips.{AreFlips, all_zones, last_four}
 
 and_over_or : (z a b : ℕ) → bit_and z (bit_or a b) ≡ bit_or (bit_and z a) (bit_and z b)
@@ -37,7 +37,7 @@ either_nonzero (suc x) y = grind (arith, common_steps, or_add_and (suc x) y, and
 meets_either : (z a b : ℕ) → zones_meet z (bit_or a b) ≡ (zones_meet z a || zones_meet z b)
 meets_either z a b = ap (λ (n : ℕ). not (n == 0)) (and_over_or z a b) ∙ either_nonzero (bit_and z a) (bit_and z b)
 
-pub any_meets : (z : ℕ) (flips : List ℕ) → zones_meet z (all_zones flips) ≡ list_any (λ flipped. zones_meet z flipped) flips
+pub any_meets : (z : ℕ) (flips : List ℕ) → zones_meet z (all_zones flips) ≡ list_any (λ epochs_after_flip. zones_meet z epochs_after_flip) flips
 any_meets z [] = ap (λ (n : ℕ). not (n == 0)) (and_zero_r z)
 any_meets z (f ∷ fs) = meets_either z f (all_zones fs) ∙ ap (λ (b : Bool). zones_meet z f || b) (any_meets z fs)
 
@@ -85,7 +85,7 @@ one_shifted (a ∷ b ∷ []) z four = absurd (omega (arith, four))
 one_shifted (a ∷ []) z four = absurd (omega (arith, four))
 one_shifted [] z four = absurd (omega (arith, four))
 
-pub flips_after : (e : EpochsState) (flips : List ℕ) (z : ℕ) → AreFlips e flips → AreFlips (flipped e z) (flips ++ z ∷ [])
+pub flips_after : (e : EpochsState) (flips : List ℕ) (z : ℕ) → AreFlips e flips → AreFlips (epochs_after_flip e z) (flips ++ z ∷ [])
 flips_after e flips z are = record {
   count = omega (arith, are.count, length-append flips (z ∷ []));
   recent = ap (λ (r : List ℕ). drop 1 r ++ z ∷ []) are.recent ∙ sym (last_after flips z);
@@ -93,10 +93,10 @@ flips_after e flips z are = record {
 }
 
 pub stale_recent : (e : EpochsState) (flips : List ℕ) (epoch z : ℕ) → AreFlips e flips → e.count - epoch ≤ 4
-    → list_any (λ flipped. zones_meet z flipped) (drop (4 - (e.count - epoch)) e.recent)
-    ≡ list_any (λ flipped. zones_meet z flipped) (flips_that_count flips epoch)
+    → list_any (λ epochs_after_flip. zones_meet z epochs_after_flip) (drop (4 - (e.count - epoch)) e.recent)
+    ≡ list_any (λ epochs_after_flip. zones_meet z epochs_after_flip) (flips_that_count flips epoch)
 stale_recent e flips epoch z are few =
-    let meets : ℕ → Bool = λ flipped. zones_meet z flipped in
+    let meets : ℕ → Bool = λ epochs_after_flip. zones_meet z epochs_after_flip in
     let n = length flips in
     let within : n - epoch ≤ 4 = omega (arith, are.count, few) in
     ap (λ (k : ℕ). list_any meets (drop (4 - (k - epoch)) e.recent)) are.count
@@ -105,9 +105,9 @@ stale_recent e flips epoch z are few =
     ∙ ap (λ (b : Bool). list_any meets (if b then drop epoch flips else flips)) (sym (le-leb (n - epoch) 4 within))
 
 pub stale_all : (e : EpochsState) (flips : List ℕ) (epoch z : ℕ) → AreFlips e flips → 4 < e.count - epoch
-    → zones_meet z e.all ≡ list_any (λ flipped. zones_meet z flipped) (flips_that_count flips epoch)
+    → zones_meet z e.all ≡ list_any (λ epochs_after_flip. zones_meet z epochs_after_flip) (flips_that_count flips epoch)
 stale_all e flips epoch z are many =
-    let meets : ℕ → Bool = λ flipped. zones_meet z flipped in
+    let meets : ℕ → Bool = λ epochs_after_flip. zones_meet z epochs_after_flip in
     let over : nat_le (length flips - epoch) 4 ≡ false = grind (arith, common_steps, are.count, many) in
     ap (λ (n : ℕ). zones_meet z n) are.all ∙ any_meets z flips
     ∙ ap (λ (b : Bool). list_any meets (if b then drop epoch flips else flips)) (sym over)

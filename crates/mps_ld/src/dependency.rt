@@ -3,7 +3,7 @@
 
 ghost use Rattle.std.specs.Prelude.{◌≡◌, List, ℕ};
 ghost use Rattle.mps_base.specs.Staleness.{is_stale};
-ghost use Rattle.mps_ld.specs.State.{LdState, reset_at, with_address, merged};
+ghost use Rattle.mps_ld.specs.State.{LdState, reset_at, with_address, after_merge};
 ghost use Rattle.mps_ld.specs.Flips.{AreFlips};
 
 use crate::epochs::Epochs;
@@ -56,7 +56,7 @@ impl Ld {
 
     /// It depends on what another depends on, too.
     pub fn merge(&mut self, from: &Ld)
-        ensures { self.new ≡ merged self.old from.now }
+        ensures { self.new ≡ after_merge self.old from.now }
     {
         self.epoch = self.epoch.min(from.epoch);
         self.zones |= from.zones;

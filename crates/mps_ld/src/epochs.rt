@@ -5,7 +5,7 @@ ghost use Rattle.std.specs.Prelude.{◌≡◌, ◌<◌, ◌^◌, ◌++◌, ◌�
 ghost use Rattle.std.specs.List.{list_any};
 ghost use Rattle.mps_base.specs.Staleness.{flips_that_count};
 ghost use Rattle.mps_base.specs.Zones.{zones_meet};
-ghost use Rattle.mps_ld.specs.State.{EpochsState, flipped, no_flips};
+ghost use Rattle.mps_ld.specs.State.{EpochsState, epochs_after_flip, no_flips};
 ghost use Rattle.mps_ld.specs.Flips.{AreFlips};
 
 use mps_base::ZoneSet;
@@ -53,7 +53,7 @@ impl Epochs {
     /// A flip comes, which may move what lies in these zones.
     pub fn flip(&mut self, zones: ZoneSet)
         requires { self.old.count < 2 ^ 63 }
-        ensures state { self.new ≡ flipped self.old zones.0 }
+        ensures state { self.new ≡ epochs_after_flip self.old zones.0 }
         ensures flips { (flips : List ℕ) → AreFlips self.old flips → AreFlips self.new (flips ++ zones.0 ∷ []) }
     {
         let [_, second, third, fourth] = self.recent;
@@ -66,7 +66,7 @@ impl Epochs {
     /// at most; else all.
     pub(crate) fn meets_since(&self, epoch: u64, zones: u64) -> bool
         ensures { (flips : List ℕ) → AreFlips self.now flips
-            → result ≡ list_any (λ flipped. zones_meet zones flipped) (flips_that_count flips epoch) }
+            → result ≡ list_any (λ epochs_after_flip. zones_meet zones epochs_after_flip) (flips_that_count flips epoch) }
     {
         let since = self.count.saturating_sub(epoch);
         if since > 4 {
@@ -78,7 +78,7 @@ impl Epochs {
 
 // Whether a set of zones has a zone in common with one of these.
 fn meets_any(zones: u64, flips: &[u64]) -> bool
-    ensures { result ≡ list_any (λ flipped. zones_meet zones flipped) flips.now }
+    ensures { result ≡ list_any (λ epochs_after_flip. zones_meet zones epochs_after_flip) flips.now }
 {
     flips.iter().any(|flipped| zones & *flipped != 0)
 }

@@ -29,8 +29,8 @@ answer_of_alloc size s pool words =
     if has_blocks_of size words then answer_of_placement (placement_in_gaps s pool Exact words) else Err BadSize
 
 -- the segments with a block at an address, which the placement gave; its words are 0
-abbrev pub allocated : SegsState → (pool words : ℕ) → Addr → SegsState
-allocated s pool words at = record s {
+abbrev pub segs_after_alloc : SegsState → (pool words : ℕ) → Addr → SegsState
+segs_after_alloc s pool words at = record s {
   segments = segments_after (placement_in_gaps s pool Exact words) pool 0 Exact s.segments;
   condemned = noted_for (placement_in_gaps s pool Exact words) false s.condemned;
   summaries = noted_for (placement_in_gaps s pool Exact words) 0 s.summaries;
@@ -71,8 +71,8 @@ moves_given_back covered (Some t) moves =
     if is_unused covered t then with_move moves (Unseg (record { 0 = t.base })) else moves
 
 -- a block is freed; a segment of a pool of any sizes is given back if nothing is left in it
-abbrev pub freed : (size : ℕ) → SegsState → Address → SegsState
-freed size s at =
+abbrev pub segs_after_free : (size : ℕ) → SegsState → Address → SegsState
+segs_after_free size s at =
     if size == any_size then given_back (block_removed s at) (segment_over s.segments at)
     else block_removed s at
 

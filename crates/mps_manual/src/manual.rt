@@ -9,7 +9,7 @@ ghost use Rattle.mps_base.specs.Trail.{with_move};
 ghost use Rattle.mps_base.specs.declared.names.Rank.TheVariants.{Exact};
 ghost use Rattle.mps_seg.specs.Lending.{LendsSegmentWords};
 ghost use Rattle.mps_seg.specs.Placing.{placement_in_gaps};
-ghost use Rattle.mps_manual.specs.Manual.{has_blocks_of, answer_of_alloc, allocated, moves_allocated, freed, moves_freed, given_back, moves_given_back};
+ghost use Rattle.mps_manual.specs.Manual.{has_blocks_of, answer_of_alloc, segs_after_alloc, moves_allocated, segs_after_free, moves_freed, given_back, moves_given_back};
 
 use mps_base::{Addr, Move, Rank, Refusal, Trail};
 use mps_seg::Segs;
@@ -92,7 +92,7 @@ impl Manual {
         requires listed { pool < length self.now }
         requires fits { 1 < trail.old.spare }
         ensures value { result ≡ answer_of_alloc (slice_index self.now pool) segs.old pool words }
-        ensures state { MatchResult result (λ at. segs.new ≡ allocated segs.old pool words at) (λ _. segs.new ≡ segs.old) }
+        ensures state { MatchResult result (λ at. segs.new ≡ segs_after_alloc segs.old pool words at) (λ _. segs.new ≡ segs.old) }
         ensures moves { MatchResult result (λ at. trail.new ≡ moves_allocated segs.old trail.old pool words at)
             (λ _. trail.new ≡ trail.old) }
     {
@@ -135,7 +135,7 @@ impl Manual {
         requires listed { pool < length self.now }
         requires block { (words : ℕ) × Contains segs.old.blocks (record { from = word_of at.0; count = words }) }
         requires fits { 1 < trail.old.spare }
-        ensures state { segs.new ≡ freed (slice_index self.now pool) segs.old at.0 }
+        ensures state { segs.new ≡ segs_after_free (slice_index self.now pool) segs.old at.0 }
         ensures moves { trail.new ≡ moves_freed (slice_index self.now pool) segs.old trail.old at }
     {
         let words = segs.block_words(at);

@@ -3,7 +3,7 @@ use Rattle.std.proofs.Common.{ℕ, zero, suc, ◌≡◌, ◌||◌, Bool, true, f
 use Rattle.mps_base.specs.declared.names.Rank.{Rank}
 use Rattle.mps_base.specs.declared.names.Rank.TheVariants.{Exact, Weak}
 use Rattle.mps_bits.specs.Table.{bit}
-use Rattle.mps_marks.specs.Marks.{MarkTables, with_grey, blackened, either, grey}
+use Rattle.mps_marks.specs.Marks.{MarkTables, with_grey, after_blacken, either, grey}
 
 pub length-either : (xs ys : List Bool) → length xs ≡ length ys → length (either xs ys) ≡ length xs
 length-either [] ys same = refl
@@ -50,7 +50,7 @@ pub grey-with_grey : (rank : Rank) (word : ℕ) (m : MarkTables) → length m.ex
 grey-with_grey Exact word m same = set_left m.exact m.weak word same
 grey-with_grey Weak word m same = set_right m.exact m.weak word same
 
-pub grey-blackened : (word : ℕ) (m : MarkTables) → grey (blackened word m) ≡ set (grey m) word false
+pub grey-blackened : (word : ℕ) (m : MarkTables) → grey (after_blacken word m) ≡ set (grey m) word false
 grey-blackened word m = set_both m.exact m.weak word
 
 pub none_grey : (n : ℕ) → either (replicate n false) (replicate n false) ≡ replicate n false

@@ -35,12 +35,12 @@ with_grey Exact word m = record m { exact = slice_set m.exact word true }
 with_grey Weak word m = record m { weak = slice_set m.weak word true }
 
 -- a block that isn't grey any longer
-abbrev pub blackened : Word → MarkTables → MarkTables
-blackened word m = record m { exact = slice_set m.exact word false; weak = slice_set m.weak word false }
+abbrev pub after_blacken : Word → MarkTables → MarkTables
+after_blacken word m = record m { exact = slice_set m.exact word false; weak = slice_set m.weak word false }
 
 -- a block that has no mark any longer
 abbrev pub without_marks : Word → MarkTables → MarkTables
-without_marks word m = blackened word (record m { kept = slice_set m.kept word false })
+without_marks word m = after_blacken word (record m { kept = slice_set m.kept word false })
 
 -- three words; the blocks at 0 and 2 are kept, that at 2 is grey
 abbrev example : MarkTables
@@ -59,7 +59,7 @@ none_more_of_the_other = refl
 pub grey_of_either_rank : grey (with_grey Exact 1 example) ≡ false ∷ true ∷ true ∷ []
 grey_of_either_rank = refl
 
-pub a_black_block_is_kept : blackened 2 example ≡ record example { weak = replicate 3 false }
+pub a_black_block_is_kept : after_blacken 2 example ≡ record example { weak = replicate 3 false }
 a_black_block_is_kept = refl
 
 pub no_mark_is_left : without_marks 2 example ≡ record (no_marks 3) { kept = true ∷ false ∷ false ∷ [] }

@@ -4,7 +4,7 @@
 ghost use Rattle.std.specs.Prelude.{◌≡◌, ℕ, true, false, ◌*◌, ◌^◌, ◌<◌, ◌≤◌, ◌||◌, length, replicate, slice_set, count_by, IfOk, IfSome, IfNone};
 ghost use Rattle.mps_base.specs.Address.{words_of_grain};
 ghost use Rattle.mps_bits.specs.Table.{bit, next_set_below};
-ghost use Rattle.mps_marks.specs.Marks.{MarkTables, no_marks, grey_of, with_grey, blackened, without_marks};
+ghost use Rattle.mps_marks.specs.Marks.{MarkTables, no_marks, grey_of, with_grey, after_blacken, without_marks};
 
 use crate::grey_blocks::GreyBlocks;
 use mps_base::{Rank, WORDS_OF_GRAIN};
@@ -96,7 +96,7 @@ impl Marks {
     /// The block that begins at a word is no longer grey.
     pub fn blacken(&mut self, word: usize)
         requires { word < length self.old.kept }
-        ensures { self.new ≡ blackened word self.old }
+        ensures { self.new ≡ after_blacken word self.old }
     {
         self.exact.clear(word);
         self.weak.clear(word);

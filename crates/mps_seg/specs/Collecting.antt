@@ -8,7 +8,7 @@ use Rattle.mps_base.specs.declared.address.Addr.{Addr}
 use Rattle.mps_base.specs.declared.names.Rank.{Rank}
 use Rattle.mps_base.specs.declared.names.Rank.TheVariants.{Exact, Weak}
 use Rattle.mps_bits.specs.Table.{bit, next_set_below, lowest_from}
-use Rattle.mps_marks.specs.Marks.{MarkTables, no_marks, grey_of, with_grey, blackened}
+use Rattle.mps_marks.specs.Marks.{MarkTables, no_marks, grey_of, with_grey, after_blacken}
 use Rattle.mps_seg.specs.Segs.{SegsState, new_segments, at_word}
 use Rattle.mps_seg.specs.declared.segment_info.SegmentInfo.{SegmentInfo}
 
@@ -93,7 +93,7 @@ greying_all s t = record s {
 
 -- a block that is grey no longer
 abbrev pub blackening : SegsState → Address → SegsState
-blackening s at = record s { marks = blackened (word_of at) s.marks }
+blackening s at = record s { marks = after_blacken (word_of at) s.marks }
 
 -- the summary of the segment that begins at an address
 abbrev pub summary_at : SegsState → (base : Address) → ℕ

@@ -4,7 +4,7 @@ use Rattle.mps_base.specs.Address.{words_of_grain}
 use Rattle.mps_base.specs.Run.{Run, IsAscending}
 use Rattle.mps_base.specs.Segment.{Segment}
 use Rattle.mps_base.specs.Trail.{Moves}
-use Rattle.mps_buffer.specs.Points.{PointsState, all_ended}
+use Rattle.mps_buffer.specs.Points.{PointsState, after_all_end}
 use Rattle.mps_final.specs.State.{FinalsState}
 use Rattle.mps_format.specs.Layout.{Layout}
 use Rattle.mps_root.specs.State.{RootsState}
@@ -34,7 +34,7 @@ ascending_still s s' same ascending =
 pub flip_same : {F : Type 0} (formats : List (Option (Policy F))) (points : PointsState) (x y : Traced) → y ≡ at_flip formats points x
     → AreBlocksSame x.segs y.segs
 flip_same formats points x y is =
-    let s = all_ended points.flips points.points x.segs in
+    let s = after_all_end points.flips points.points x.segs in
     let first = blocks_stay points.flips points.points x.segs in
     let rest = condemned_same (automatic_of formats s.segments) s in
     record {

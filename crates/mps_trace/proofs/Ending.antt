@@ -4,13 +4,13 @@ use Rattle.std.proofs.lemmas.Bool.{cases_Bool, cond-true, cond-false}
 use Rattle.mps_base.specs.Segment.{Segment}
 use Rattle.mps_buffer.specs.declared.point.Held.{Held}
 use Rattle.mps_buffer.specs.declared.point.Point.{Point}
-use Rattle.mps_buffer.specs.Points.{ended, ended_at, all_ended, without_reservation}
+use Rattle.mps_buffer.specs.Points.{after_end, after_end_at, after_all_end, without_reservation}
 use Rattle.mps_seg.specs.Segs.{SegsState}
 use Rattle.mps_trace.specs.Condemned.{AreAscending, AreInOrder}
 use Rattle.mps_trace.proofs.Nailing.{AreBlocksSame}
 
 module _ (flips : ℕ) where
-  one_ended : (o : Option Held) (s : SegsState) → (ended flips o s).segments ≡ s.segments
+  one_ended : (o : Option Held) (s : SegsState) → (after_end flips o s).segments ≡ s.segments
   one_ended None s = refl
   one_ended (Some h) s =
       let same : Bool = h.flips == flips in
@@ -19,15 +19,15 @@ module _ (flips : ℕ) where
         | inr is ↦ ap (λ (x : SegsState). x.segments) (cond-false same (without_reservation s h) s is)
       ]
 
-  ended_there : (o : Option Point) (s : SegsState) → (ended_at flips o s).segments ≡ s.segments
+  ended_there : (o : Option Point) (s : SegsState) → (after_end_at flips o s).segments ≡ s.segments
   ended_there None s = refl
   ended_there (Some p) s = one_ended p.reservation s
 
-  pub segments_stay : (ps : List (Option Point)) (s : SegsState) → (all_ended flips ps s).segments ≡ s.segments
+  pub segments_stay : (ps : List (Option Point)) (s : SegsState) → (after_all_end flips ps s).segments ≡ s.segments
   segments_stay [] s = refl
-  segments_stay (p ∷ ps) s = segments_stay ps (ended_at flips p s) ∙ ended_there p s
+  segments_stay (p ∷ ps) s = segments_stay ps (after_end_at flips p s) ∙ ended_there p s
 
-  blocks_one : (o : Option Held) (s : SegsState) → AreBlocksSame s (ended flips o s)
+  blocks_one : (o : Option Held) (s : SegsState) → AreBlocksSame s (after_end flips o s)
   blocks_one None s = record { blocks = refl; grains = refl }
   blocks_one (Some h) s =
       let same : Bool = h.flips == flips in
@@ -40,15 +40,15 @@ module _ (flips : ℕ) where
             record { blocks = ap (λ (x : SegsState). x.blocks) now; grains = ap (λ (x : SegsState). x.grains) now }
       ]
 
-  blocks_there : (o : Option Point) (s : SegsState) → AreBlocksSame s (ended_at flips o s)
+  blocks_there : (o : Option Point) (s : SegsState) → AreBlocksSame s (after_end_at flips o s)
   blocks_there None s = record { blocks = refl; grains = refl }
   blocks_there (Some p) s = blocks_one p.reservation s
 
-  pub blocks_stay : (ps : List (Option Point)) (s : SegsState) → AreBlocksSame s (all_ended flips ps s)
+  pub blocks_stay : (ps : List (Option Point)) (s : SegsState) → AreBlocksSame s (after_all_end flips ps s)
   blocks_stay [] s = record { blocks = refl; grains = refl }
   blocks_stay (p ∷ ps) s =
       let first = blocks_there p s in
-      let rest = blocks_stay ps (ended_at flips p s) in
+      let rest = blocks_stay ps (after_end_at flips p s) in
       record { blocks = rest.blocks ∙ first.blocks; grains = rest.grains ∙ first.grains }
 
 pub in_order_still : (s s' : SegsState) → s'.segments ≡ s.segments → AreInOrder s → AreInOrder s'

@@ -35,7 +35,7 @@ module _ {F : Type 0} (layout : F → Layout) (seen value : PoolsState F) (is : 
   are_collected roots' finals' t' s' m' collects = record { before = t; after = t'; of_pools = known; collects = collects }
 
   -- the zones of the segments of automatic pools are flipped
-  pub are_flipped : (epochs epochs' : EpochsState) → epochs' ≡ ld.flipped epochs (zones_of (automatic_of t.formats s.segments))
-      → epochs' ≡ ld.flipped epochs (zones_of (automatic_of (map policy_of_pool value.pools) s.segments))
+  pub are_flipped : (epochs epochs' : EpochsState) → epochs' ≡ ld.epochs_after_flip epochs (zones_of (automatic_of t.formats s.segments))
+      → epochs' ≡ ld.epochs_after_flip epochs (zones_of (automatic_of (map policy_of_pool value.pools) s.segments))
   are_flipped epochs epochs' is =
-      is ∙ ap (λ (formats : List (Option (Policy F))). ld.flipped epochs (zones_of (automatic_of formats s.segments))) known.formats
+      is ∙ ap (λ (formats : List (Option (Policy F))). ld.epochs_after_flip epochs (zones_of (automatic_of formats s.segments))) known.formats

@@ -14,7 +14,7 @@ use Rattle.mps_format.specs.Layout.{Layout}
 use Rattle.mps_gen.specs.State.{ChainsState}
 use Rattle.mps_root.specs.State.{RootsState}
 use Rattle.mps_seg.specs.Segs.{SegsState}
-use Rattle.mps_amc.specs.Amc.{AmcState, FixesAt, forwards, is_kept, keeps, emptied_row, tails_of, with_tail}
+use Rattle.mps_amc.specs.Amc.{AmcState, FixesAt, forwards, is_kept, keeps, row_after_flip, tails_of, with_tail}
 use Rattle.mps_trace.specs.Trace.{Traced, FixesTo, passes, fixes, marks}
 use Rattle.mps_trace.specs.Scan as scan
 use Rattle.mps_trace.specs.Roots as roots
@@ -29,10 +29,10 @@ tail_written amc pool generation tail =
     map-set_same length amc.tails pool (slice_set (tails_of amc pool) generation tail) []
     (length-set (tails_of amc pool) generation tail)
 
-emptied : (rows : List (List Buffer)) → map length (map emptied_row rows) ≡ map length rows
+emptied : (rows : List (List Buffer)) → map length (map row_after_flip rows) ≡ map length rows
 emptied [] = refl
 emptied (row ∷ rows) =
-    ap (λ n. n ∷ map length (map emptied_row rows)) (length-replicate (length row) empty_buffer)
+    ap (λ n. n ∷ map length (map row_after_flip rows)) (length-replicate (length row) empty_buffer)
     ∙ ap (λ ns. length row ∷ ns) (emptied rows)
 
 fixed_at : {f : Layout} {amc amc' : AmcState} {s s' : SegsState} {m m' : Moves} {at answer : Addr} {generation : ℕ}

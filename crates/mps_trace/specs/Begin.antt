@@ -10,7 +10,7 @@ use Rattle.mps_seg.specs.Segs.{SegsState, new_segments}
 use Rattle.mps_trace.specs.Flip.{automatic_of, at_flip, nailed_by_all}
 use Rattle.mps_trace.specs.Roots.{FixesTables, FixesMessages, AreTablesReady, AreMessagesReady}
 use Rattle.mps_trace.specs.Trace.{TraceState, Traced}
-use Rattle.mps_trace.specs.Unit.{ended}
+use Rattle.mps_trace.specs.Unit.{traced_after_end}
 use Rattle.mps_trace.specs.declared.running.Running.{Running}
 use Rattle.mps_trace.specs.declared.running.Band.TheVariants.{Exact}
 use Rattle.mps_format.specs.declared.pool.Policy.{Policy}
@@ -47,7 +47,7 @@ pub record EndsAtOnce {F : Type 0} (formats : List (Option (Policy F))) (points 
   pub none : length (automatic_of formats x.segs.segments) ≡ 0
   pub roots_are : roots' ≡ roots
   pub finals_are : finals' ≡ finals
-  pub over : z ≡ ended (at_flip formats points x)
+  pub over : z ≡ traced_after_end (at_flip formats points x)
 
 -- slots can be fixed after a flip, and messages after them
 pub record CanFixRoots {F : Type 0} (layout : F → Layout) (t : TraceState F) (roots : RootsState) (finals : FinalsState) (x : Traced)

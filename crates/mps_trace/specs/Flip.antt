@@ -8,7 +8,7 @@ use Rattle.mps_base.specs.declared.moves.Move.TheVariants.{Flip}
 use Rattle.mps_base.specs.declared.names.Rank.TheVariants.{Exact}
 use Rattle.mps_amc.specs.Amc as amc
 use Rattle.mps_amc.specs.Moving.{nailed}
-use Rattle.mps_buffer.specs.Points.{PointsState, all_ended}
+use Rattle.mps_buffer.specs.Points.{PointsState, after_all_end}
 use Rattle.mps_extents.specs.Extents.{run_over}
 use Rattle.mps_gen.specs.State.{max_chains}
 use Rattle.mps_root.specs.declared.roots.Stored.{Stored}
@@ -45,8 +45,8 @@ all_condemned formats s = condemning_all (automatic_of formats s.segments) s
 -- what a full flip leaves: reservations are ended, tails are empty, what is condemned is so, and the flip is logged
 abbrev pub at_flip : {F : Type 0} → (formats : List (Option (Policy F))) → PointsState → Traced → Traced
 at_flip formats points x = record {
-  amc = amc.flipped x.amc;
-  segs = all_condemned formats (all_ended points.flips points.points x.segs);
+  amc = amc.tails_after_flip x.amc;
+  segs = all_condemned formats (after_all_end points.flips points.points x.segs);
   moves = with_move x.moves (Flip (record { 0 = zones_of (automatic_of formats x.segs.segments) }) max_chains 0);
 }
 

@@ -23,8 +23,8 @@ abbrev pub target_at : Layout → Traced → (at : Addr) → (cell : ℕ) → Ad
 target_at f x at cell = f.target (word_at x at cell)
 
 -- the reference of a cell leads to an address, where it led elsewhere. The summary of the segment of its block has the zone
-abbrev pub redirected : Layout → (word : ℕ) → (at : Addr) → (cell : ℕ) → (to : Addr) → Traced → Traced
-redirected f word at cell to x = record x {
+abbrev pub after_redirect : Layout → (word : ℕ) → (at : Addr) → (cell : ℕ) → (to : Addr) → Traced → Traced
+after_redirect f word at cell to x = record x {
   segs = noting (record x.segs { words = slice_set x.segs.words (word_of at.0 + cell) (f.retarget word to.0) }) at.0 to.0;
 }
 
@@ -35,7 +35,7 @@ pub data FixesCell {F : Type 0} (layout : F → Layout) (f : Layout) (formats : 
     is_null : target_at f x at cell ≡ 0 → FixesCell layout f formats chains at cell x x
     leads : {y z : Traced} (to : Addr) → 0 < target_at f x at cell
         → FixesTo layout formats chains x (record { 0 = target_at f x at cell }) y to
-        → z ≡ redirected f (word_at x at cell) at cell to y
+        → z ≡ after_redirect f (word_at x at cell) at cell to y
         → FixesCell layout f formats chains at cell x z
 
 -- the reference of a cell is null, or leads to what can be fixed
@@ -119,6 +119,6 @@ two_words = record {
 pub a_tag_is_no_part_of_a_target : target_at front_layout two_words (record { 0 = 0 }) 1 ≡ 0x2000
 a_tag_is_no_part_of_a_target = refl
 
-pub a_tag_stays : (redirected front_layout 0x2005 (record { 0 = 0 }) 1 (record { 0 = 0x3008 }) two_words).segs.words
+pub a_tag_stays : (after_redirect front_layout 0x2005 (record { 0 = 0 }) 1 (record { 0 = 0x3008 }) two_words).segs.words
     ≡ 0x201 ∷ 0x300d ∷ []
 a_tag_stays = refl

@@ -24,8 +24,8 @@ abbrev pub reclaimed_at : (base : Addr) → Running → Running
 reclaimed_at base run = record run { band = Reclaim; cursor = record { 0 = base.0 + 1 } }
 
 -- a collection is over: nothing is condemned, kept or grey, and its end is logged
-abbrev pub ended : Traced → Traced
-ended x = record x { segs = collected x.segs; moves = with_move x.moves End }
+abbrev pub traced_after_end : Traced → Traced
+traced_after_end x = record x { segs = collected x.segs; moves = with_move x.moves End }
 
 -- nothing but weak blocks is grey, and the lowest condemned segment from the cursor on is reclaimed
 pub record ReclaimsNext {F : Type 0} (layout : F → Layout) (formats : List (Option (Policy F))) (x : Traced) (run : Running) (base : Addr)
@@ -52,7 +52,7 @@ pub record LastUnitTo {F : Type 0} (layout : F → Layout) (formats : List (Opti
   pub before : Traced
   pub reclaimed : ReclaimsNext layout formats x run base before
   pub last : NoneLeft x.segs (base.0 + 1)
-  pub over : z ≡ ended before
+  pub over : z ≡ traced_after_end before
 
 -- n units, after each of which the collection goes on
 pub data UnitsTo {F : Type 0} (layout : F → Layout) (formats : List (Option (Policy F))) (chains : ChainsState) (x : Traced) (run : Running)
@@ -101,7 +101,7 @@ AreUnitsReady layout t s m run most = (count : ℕ) (y : Traced) (run' : Running
 abbrev at_rest : Traced
 at_rest = record { amc = no_pools; segs = new_segments 1 1; moves = record { moves = []; spare = 2 } }
 
-pub the_end_is_told : (ended at_rest).moves ≡ record { moves = End ∷ []; spare = 1 }
+pub the_end_is_told : (traced_after_end at_rest).moves ≡ record { moves = End ∷ []; spare = 1 }
 the_end_is_told = refl
 
 pub the_next_segment_lies_above : (reclaimed_at (record { 0 = 0x1000 }) (record { band = Exact; cursor = record { 0 = 0 } })).cursor.0

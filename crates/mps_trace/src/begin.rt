@@ -50,8 +50,8 @@ impl<F: Format> Trace<F> {
         ensures ended { IfNone result (EndsAtOnce self.old.formats points.old roots.old finals.old
             (traced self.old segs.old trail.old) roots.new finals.new (traced self.new segs.new trail.new)) }
         ensures unchanged { self.new ≡ record self.old { amc = self.new.amc } }
-        ensures points { points.new ≡ buffer.flipped points.old }
-        ensures epochs { epochs.new ≡ ld.flipped epochs.old (zones_of (automatic_of self.old.formats segs.old.segments)) }
+        ensures points { points.new ≡ buffer.points_after_flip points.old }
+        ensures epochs { epochs.new ≡ ld.epochs_after_flip epochs.old (zones_of (automatic_of self.old.formats segs.old.segments)) }
     {
         let condemned = self.flip(segs, trail, points, epochs);
         if condemned == 0 {

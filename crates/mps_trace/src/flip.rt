@@ -47,8 +47,8 @@ impl<F: Format> Trace<F> {
         ensures count { result ≡ length (automatic_of self.old.formats segs.old.segments) }
         ensures flipped { traced self.new segs.new trail.new ≡ at_flip self.old.formats points.old (traced self.old segs.old trail.old) }
         ensures unchanged { self.new ≡ record self.old { amc = self.new.amc } }
-        ensures points { points.new ≡ buffer.flipped points.old }
-        ensures epochs { epochs.new ≡ ld.flipped epochs.old (zones_of (automatic_of self.old.formats segs.old.segments)) }
+        ensures points { points.new ≡ buffer.points_after_flip points.old }
+        ensures epochs { epochs.new ≡ ld.epochs_after_flip epochs.old (zones_of (automatic_of self.old.formats segs.old.segments)) }
     {
         points.flip(segs);
         let condemned = self.condemn(segs);

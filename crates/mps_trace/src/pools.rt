@@ -120,9 +120,9 @@ impl<F: Format> Pools<F> {
         ensures unchanged { self.new ≡ self.old }
         ensures collected { ArePoolsCollected F.layout self.old.pools points.old roots.old finals.old segs.old trail.old most
             roots.new finals.new segs.new trail.new }
-        ensures points { points.new ≡ buffer.flipped points.old }
+        ensures points { points.new ≡ buffer.points_after_flip points.old }
         ensures epochs { epochs.new
-            ≡ ld.flipped epochs.old (zones_of (automatic_of (map policy_of_pool self.old.pools) segs.old.segments)) }
+            ≡ ld.epochs_after_flip epochs.old (zones_of (automatic_of (map policy_of_pool self.old.pools) segs.old.segments)) }
     {
         self.trace
             .collect(segs, trail, roots, points, finals, epochs, most);

@@ -6,7 +6,7 @@ ghost use Rattle.mps_base.specs.Address.{word_of, bytes_of_word, words_of_grain}
 ghost use Rattle.mps_base.specs.Segment.{Segment, segment_over};
 ghost use Rattle.mps_seg.specs.Collecting.{is_condemned_at};
 ghost use Rattle.mps_gen.specs.State.{max_pools};
-ghost use Rattle.mps_amc.specs.Amc.{flipped};
+ghost use Rattle.mps_amc.specs.Amc.{tails_after_flip};
 ghost use Rattle.mps_amc.specs.Moving.{nailed};
 ghost use Rattle.mps_trace.specs.Flip.{is_automatic};
 ghost use Rattle.mps_trace.specs.Trace.{traced, FixesTo, CanFix, no_pools, with_pool};
@@ -71,7 +71,7 @@ impl<F: Format> Trace<F> {
 
     /// All tails are empty, as a flip leaves them.
     pub(crate) fn drop_tails(&mut self)
-        ensures { self.new ≡ record self.old { amc = flipped self.old.amc } }
+        ensures { self.new ≡ record self.old { amc = tails_after_flip self.old.amc } }
     {
         self.amc.flip();
     }

@@ -18,7 +18,7 @@ use Rattle.mps_model.specs.LegalMove.{ForOne, IsLegalMove, IsLegalEnd, AreLegalM
 use Rattle.mps_model.specs.Flip.{moves_to, fix, fix_all, flip_of, end_where, is_nothing, world_at_flip, flip_act}
 use Rattle.mps_abstract.specs.Colours.{AllReferredLive}
 use Rattle.mps_abstract.specs.Collecting.{Collecting, Running, is_white_in}
-use Rattle.mps_abstract.specs.FlipLaws.{IsAtRest, IsNumbered, flipped, AreRemembered, FixesHeld, IsFlipDone, IsFlipEnded, AFlipBeginsRunning}
+use Rattle.mps_abstract.specs.FlipLaws.{IsAtRest, IsNumbered, collecting_after_flip, AreRemembered, FixesHeld, IsFlipDone, IsFlipEnded, AFlipBeginsRunning}
 use Rattle.mps_abstract.proofs.Lists.{contains_append, contains_left, contains_right, contains_filtered}
 use Rattle.mps_abstract.proofs.Keeping.{not_white_if_kept, not_white_outside}
 use Rattle.mps_abstract.proofs.Joining.{legal_alone}
@@ -112,10 +112,10 @@ at_flip w what numbered = ap (after_flip w (condemned_zones w what)) numbered
 
 module _ (w : World) (what : Condemnation) (others : List Id) (ms : List Move) (y : Collecting) (rest : IsAtRest w)
     (numbered : IsNumbered what) (some : is_nothing (condemned_by w what) ≡ false)
-    (remembered : AreRemembered (flipped w what others) others)
-    (fixed : FixesHeld w (flipped w what others) ms y) where
+    (remembered : AreRemembered (collecting_after_flip w what others) others)
+    (fixed : FixesHeld w (collecting_after_flip w what others) ms y) where
   abbrev x : Collecting
-  x = flipped w what others
+  x = collecting_after_flip w what others
 
   begun : IsFlipping x
   begun = record {
@@ -187,7 +187,7 @@ none_pass (x ∷ xs) = none_pass xs
 module _ (w : World) (what : Condemnation) (rest : IsAtRest w) (numbered : IsNumbered what)
     (nothing : is_nothing (condemned_by w what) ≡ true) where
   abbrev empty : Collecting
-  empty = flipped w what []
+  empty = collecting_after_flip w what []
 
   abbrev flipped_world : World
   flipped_world = world_flipped w (condemned_zones w what)

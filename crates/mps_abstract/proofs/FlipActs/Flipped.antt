@@ -20,7 +20,7 @@ use Rattle.mps_model.specs.WellFormed.{is_live_automatic}
 use Rattle.mps_model.proofs.Reaching.{list_all-contains}
 use Rattle.mps_abstract.specs.Colours.{is_white, is_grey, is_to_scan, Survives}
 use Rattle.mps_abstract.specs.Collecting.{Collecting, Running, segments_left}
-use Rattle.mps_abstract.specs.FlipLaws.{IsAtRest, flipped, AreRemembered}
+use Rattle.mps_abstract.specs.FlipLaws.{IsAtRest, collecting_after_flip, AreRemembered}
 use Rattle.mps_abstract.proofs.Lists.{contains_append, contains_left, contains_right, contains-filter, contains_filtered, index_below}
 use Rattle.mps_abstract.proofs.Addresses.{automatic_is_live, is_listed_automatic}
 use Rattle.mps_abstract.proofs.Keeping.{is_condemned_if_white, not_white_outside, kept_if_not_white, not_white_if_kept}
@@ -99,9 +99,9 @@ condemned_automatic w (Generations chain generation) s chains h =
     chains chain s.pool (and_parts (is_on_chain w chain s.pool) (nat_le s.generation generation) h).0
 
 module _ (w : World) (what : Condemnation) (others : List Id) (rest : IsAtRest w) (some : is_nothing (condemned_by w what) ≡ false)
-    (remembered : AreRemembered (flipped w what others) others) where
+    (remembered : AreRemembered (collecting_after_flip w what others) others) where
   abbrev x : Collecting
-  x = flipped w what others
+  x = collecting_after_flip w what others
 
   abbrev passes : Segment → Bool
   passes s = is_condemned_by (world_flipped w (condemned_zones w what)) what s

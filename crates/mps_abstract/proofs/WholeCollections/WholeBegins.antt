@@ -18,7 +18,7 @@ use Rattle.mps_model.specs.Flip.{is_nothing}
 use Rattle.mps_model.proofs.Reaching.{list_all-contains}
 use Rattle.mps_abstract.specs.Collecting.{Collecting, Running}
 use Rattle.mps_abstract.specs.Fixing.{Fixes, fixes_no_more, passes, keeps}
-use Rattle.mps_abstract.specs.FlipLaws.{IsAtRest, flipped, AreRemembered, FixesHeld}
+use Rattle.mps_abstract.specs.FlipLaws.{IsAtRest, collecting_after_flip, AreRemembered, FixesHeld}
 use Rattle.mps_abstract.specs.WholeLaws.{roots_of, IsWholeSoFar}
 use Rattle.mps_abstract.proofs.Lists.{contains_append, contains_left, contains_right, contains-filter, contains_filtered}
 use Rattle.mps_abstract.proofs.Addresses.{automatic_is_live, is_listed_automatic, address_of-live}
@@ -55,7 +55,7 @@ any_of test s (t ∷ ts) (inr later) e = or_right (test t) (list_any test ts) (a
 
 module _ (w : World) (rest : IsAtRest w) where
   abbrev x : Collecting
-  x = flipped w Everything []
+  x = collecting_after_flip w Everything []
 
   pub everything : (id : Id) → contains (live_automatic_ids w) id ≡ true → is_condemned x.running id ≡ true
   everything id h = of_object (object_at w.graph id) refl (contains-filter (object_is is_automatic w) (live_ids w) id h).1
@@ -106,9 +106,9 @@ fixed_next (passes black rest) = fixed_next rest
 fixed_next (keeps white keep rest) = fixed_next rest
 
 module _ (w : World) (first : List Move) (y : Collecting) (rest : IsAtRest w) (some : is_nothing (condemned_by w Everything) ≡ false)
-    (fixed : FixesHeld w (flipped w Everything []) first y) where
+    (fixed : FixesHeld w (collecting_after_flip w Everything []) first y) where
   abbrev begun : Collecting
-  begun = flipped w Everything []
+  begun = collecting_after_flip w Everything []
 
   abbrev after : AreFixed begun (ids_in_slots w.graph ++ w.graph.messages) first y
   after = all w Everything [] first y rest refl some (nothing_remembered w rest) fixed

@@ -19,7 +19,7 @@ use Rattle.mps_model.proofs.Cutting.{world_after_moves-append}
 use Rattle.mps_model.proofs.Reaching.{list_all-contains}
 use Rattle.mps_abstract.specs.Collecting.{Collecting, Running, IsDrainedIn}
 use Rattle.mps_abstract.specs.Units.{IsReclaimedNext, reclaim_by, IsLastUnit, reclaims_last, Ends, by_last}
-use Rattle.mps_abstract.specs.FlipLaws.{IsAtRest, flipped, FixesHeld}
+use Rattle.mps_abstract.specs.FlipLaws.{IsAtRest, collecting_after_flip, FixesHeld}
 use Rattle.mps_abstract.specs.WholeLaws.{IsWholeSoFar, IsWholeDone, IsCollectDone, AWholeCollectionIsExact}
 use Rattle.mps_abstract.proofs.Lists.{all_members, contains_here}
 use Rattle.mps_abstract.proofs.Addresses.{is_listed_automatic}
@@ -92,9 +92,9 @@ last_whole before flipped_world sent x run p (reclaims_last {s = s} {freed} next
 -- ---- the whole collection
 
 module _ (w : World) (first : List Move) (y : Collecting) (rest : IsAtRest w) (some : is_nothing (condemned_by w Everything) ≡ false)
-    (fixed : FixesHeld w (flipped w Everything []) first y) where
+    (fixed : FixesHeld w (collecting_after_flip w Everything []) first y) where
   abbrev begun : Collecting
-  begun = flipped w Everything []
+  begun = collecting_after_flip w Everything []
 
   abbrev act : List Move
   act = flip_act w Everything

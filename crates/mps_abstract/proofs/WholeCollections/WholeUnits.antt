@@ -18,7 +18,7 @@ use Rattle.mps_model.specs.Units.{is_last_condemned}
 use Rattle.mps_abstract.specs.Colours.{is_white, is_grey, keeping}
 use Rattle.mps_abstract.specs.Collecting.{Final, Weak, Collecting, Running, is_white_in}
 use Rattle.mps_abstract.specs.Fixing.{Keeps, Fixes, kept_by}
-use Rattle.mps_abstract.specs.Units.{scanned, splatted, Splats, splats_no_more, splats_cell, IsExaminedNext, posted, IsReclaimedNext, reclaim_by, reclaimed, IsUnit, scans, examines, posts, splats, reclaims, GoesOn, begun, by_one_more}
+use Rattle.mps_abstract.specs.Units.{collecting_after_scan, collecting_after_splat, Splats, splats_no_more, splats_cell, IsExaminedNext, collecting_after_post, IsReclaimedNext, reclaim_by, collecting_after_reclaim, IsUnit, scans, examines, posts, splats, reclaims, GoesOn, begun, by_one_more}
 use Rattle.mps_abstract.specs.WholeLaws.{AreInTurn, IsWholeSoFar}
 use Rattle.mps_abstract.proofs.Lists.{contains_here, contains_later, contains_cases, contains_right, contains_at}
 use Rattle.mps_abstract.proofs.Kept.{keeps_leaves}
@@ -96,7 +96,7 @@ module _ (flipped : World) where
   -- ---- a scan
 
   pub scan_whole : (x y : Collecting) (id : Id) (ms : List Move) → Running x → IsWholeSoFar flipped x → is_grey x.colours id ≡ true
-      → object_is is_weak_object x.world id ≡ false → Fixes x (targets x.world.graph id) ms y → IsWholeSoFar flipped (scanned y id)
+      → object_is is_weak_object x.world id ≡ false → Fixes x (targets x.world.graph id) ms y → IsWholeSoFar flipped (collecting_after_scan y id)
   scan_whole x y id ms run p grey strong fixes =
       let s = scanned_rightly x y id ms run (strong_is_tracing x id run grey strong) grey fixes in
       let f = s.fixed.further in
@@ -203,7 +203,7 @@ module _ (flipped : World) where
   ]
 
   pub posted_whole : (x : Collecting) (id : Id) (ms : List Move) (c : Collection) → Running x → IsWholeSoFar flipped x → IsExaminedNext x id
-      → is_white_in x id ≡ true → Keeps x.world x.running id ms c → IsWholeSoFar flipped (posted (kept_by x id ms c) id)
+      → is_white_in x id ≡ true → Keeps x.world x.running id ms c → IsWholeSoFar flipped (collecting_after_post (kept_by x id ms c) id)
   posted_whole x id ms c run p due white keep =
       let f = first_remains x p id due.registered in
       let t = f.in_turn in
@@ -264,7 +264,7 @@ module _ (flipped : World) where
   -- ---- splats
 
   one_splatted : (x : Collecting) (holder cell : ℕ) → object_is is_weak_object x.world holder ≡ true → IsWholeSoFar flipped x
-      → IsWholeSoFar flipped (splatted x holder cell)
+      → IsWholeSoFar flipped (collecting_after_splat x holder cell)
   one_splatted x holder cell weak p = record {
     posted = p.posted;
     posts = p.posts;
@@ -281,7 +281,7 @@ module _ (flipped : World) where
   }
 
   weak_still : (x : Collecting) (holder cell : ℕ) → object_is is_weak_object x.world holder ≡ true
-      → object_is is_weak_object (splatted x holder cell).world holder ≡ true
+      → object_is is_weak_object (collecting_after_splat x holder cell).world holder ≡ true
   weak_still x holder cell weak =
       for_object-with_cells x.world.graph holder holder (λ cells. with_target_cell cells cell None) is_weak_object false
       (λ o. of_body o.body) ∙ weak
@@ -297,7 +297,7 @@ module _ (flipped : World) where
   all_splatted {holder} {x} (splats_cell {cell = cell} is white rest) weak p =
       all_splatted rest (weak_still x holder cell weak) (one_splatted x holder cell weak p)
 
-  scanned_whole : (y : Collecting) (id : Id) → IsWholeSoFar flipped y → IsWholeSoFar flipped (scanned y id)
+  scanned_whole : (y : Collecting) (id : Id) → IsWholeSoFar flipped y → IsWholeSoFar flipped (collecting_after_scan y id)
   scanned_whole y id p = record {
     posted = p.posted;
     posts = p.posts;
@@ -333,7 +333,7 @@ module _ (flipped : World) where
 
   reclaimed_whole : (x : Collecting) (s : Segment) (freed : List Address) (c : Collection) → (run : Running x) → IsWholeSoFar flipped x
       → (next : IsReclaimedNext x s freed) → is_last_condemned x.running s.base ≡ false
-      → (world_after_moves x.world (reclaim_by x s.base freed)).collection ≡ Some c → IsWholeSoFar flipped (reclaimed x s.base freed c)
+      → (world_after_moves x.world (reclaim_by x s.base freed)).collection ≡ Some c → IsWholeSoFar flipped (collecting_after_reclaim x s.base freed c)
   reclaimed_whole x s freed c run p next not_last runs =
       let leads = goes_on_leads x run s freed next not_last in
       let same : final_collection x run s freed next ≡ c =

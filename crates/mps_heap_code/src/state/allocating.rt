@@ -4,7 +4,7 @@ ghost use Rattle.mps_base.specs.Address.{max_block_words};
 ghost use Rattle.mps_buffer.specs.Tokens.{IsClosedAt};
 ghost use Rattle.mps_heap_spec.specs.State.{IsReady};
 ghost use Rattle.mps_heap_spec.specs.Coming.{Comes, ComesMoving};
-ghost use Rattle.mps_heap_spec.specs.Allocating.{check_reserve, reserved, block_held, with_reserved_word, number_initialised, reference_initialised, committed};
+ghost use Rattle.mps_heap_spec.specs.Allocating.{check_reserve, after_reserve, block_held, with_reserved_word, number_initialised, reference_initialised, after_commit};
 
 use super::State;
 use mps_base::{Name, Refusal, Slot, Trail};
@@ -47,7 +47,7 @@ impl<F: Format> State<F> {
     pub fn reserve(&mut self, trail: &mut Trail, name: Name, head: u64) -> Result<(), Refusal>
         requires ready { IsReady self.old }
         requires fits { 0 < trail.old.spare }
-        ensures { ComesMoving self.old trail.old (reserved F.layout self.old trail.old name head) result self.new trail.new }
+        ensures { ComesMoving self.old trail.old (after_reserve F.layout self.old trail.old name head) result self.new trail.new }
     {
         let r = self.check_reserve(name, head)?;
         self.points
@@ -122,7 +122,7 @@ impl<F: Format> State<F> {
     ) -> Result<Committed, Refusal>
         requires ready { IsReady self.old }
         requires fits { 0 < trail.old.spare }
-        ensures { ComesMoving self.old trail.old (committed self.old trail.old name target) result self.new trail.new }
+        ensures { ComesMoving self.old trail.old (after_commit self.old trail.old name target) result self.new trail.new }
     {
         let point = self.point_named(name)?;
         let slot = self.slot_in(target)?;

@@ -2,7 +2,7 @@
 ghost use Rattle.std.specs.Prelude.{◌≡◌};
 ghost use Rattle.mps_root.specs.State.{HasItem};
 ghost use Rattle.mps_heap_spec.specs.Coming.{Comes};
-ghost use Rattle.mps_heap_spec.specs.Areas.{block_over, lies_in_object, is_of_pool, is_hold, with_area_word, poked, peeked, held_by, taken, pinned};
+ghost use Rattle.mps_heap_spec.specs.Areas.{block_over, lies_in_object, is_of_pool, is_hold, with_area_word, after_poke, answer_of_peek, held_by, after_take, after_pin};
 
 use super::State;
 use mps_base::{Addr, Refusal, Slot};
@@ -41,7 +41,7 @@ impl<F: Format> State<F> {
 
     /// Stores a word in an area, and answers whether it holds an object from now on.
     pub fn poke(&mut self, place: Slot, word: u64) -> Result<bool, Refusal>
-        ensures { Comes self.old (poked self.old place word) result self.new }
+        ensures { Comes self.old (after_poke self.old place word) result self.new }
     {
         let at = self.word_in(place)?;
         let block = block_over(&self.segs, word);
@@ -52,7 +52,7 @@ impl<F: Format> State<F> {
 
     /// The word at a place of an area.
     pub fn peek(&self, place: Slot) -> Result<u64, Refusal>
-        ensures { result ≡ peeked self.now place }
+        ensures { result ≡ answer_of_peek self.now place }
     {
         let at = self.word_in(place)?;
         Ok(at.value.word)
@@ -60,7 +60,7 @@ impl<F: Format> State<F> {
 
     /// Stores the address of the object in a slot in an area, where it holds the object from now on.
     pub fn pin(&mut self, place: Slot, slot: Slot) -> Result<(), Refusal>
-        ensures { Comes self.old (pinned F.layout self.old place slot) result self.new }
+        ensures { Comes self.old (after_pin F.layout self.old place slot) result self.new }
     {
         let at = self.word_in(place)?;
         let object = self.object_in(slot)?;
@@ -87,7 +87,7 @@ impl<F: Format> State<F> {
 
     /// A slot becomes the object that a word of an area holds. Refuses `NotARef` if it holds none.
     pub fn take(&mut self, slot: Slot, place: Slot) -> Result<(), Refusal>
-        ensures { Comes self.old (taken self.old slot place) result self.new }
+        ensures { Comes self.old (after_take self.old slot place) result self.new }
     {
         let into = self.slot_in(slot)?;
         let at = self.word_in(place)?;

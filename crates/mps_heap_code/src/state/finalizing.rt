@@ -1,6 +1,6 @@
 // The calls on registrations and messages.
 ghost use Rattle.mps_heap_spec.specs.Coming.{Comes};
-ghost use Rattle.mps_heap_spec.specs.Finalizing.{message_taken, registered, unregistered};
+ghost use Rattle.mps_heap_spec.specs.Finalizing.{message_taken, after_finalize, after_definalize};
 
 use super::State;
 use mps_base::{Addr, Refusal, Slot};
@@ -9,7 +9,7 @@ use mps_format::Format;
 impl<F: Format> State<F> {
     /// Registers the object in a slot once more. Refuses `TooMany` if there are 65,536 registrations and messages.
     pub fn finalize(&mut self, slot: Slot) -> Result<(), Refusal>
-        ensures { Comes self.old (registered F.layout self.old slot) result self.new }
+        ensures { Comes self.old (after_finalize F.layout self.old slot) result self.new }
     {
         let object = self.object_in(slot)?;
         self.finals.register(Addr(object.at))
@@ -17,7 +17,7 @@ impl<F: Format> State<F> {
 
     /// Takes away the first registration of the object in a slot. Refuses `NotRegistered` if it has none.
     pub fn definalize(&mut self, slot: Slot) -> Result<(), Refusal>
-        ensures { Comes self.old (unregistered F.layout self.old slot) result self.new }
+        ensures { Comes self.old (after_definalize F.layout self.old slot) result self.new }
     {
         let object = self.object_in(slot)?;
         self.finals.unregister(Addr(object.at))

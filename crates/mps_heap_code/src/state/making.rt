@@ -4,7 +4,7 @@ ghost use Rattle.std.specs.Option.{option_map_or};
 ghost use Rattle.mps_names.specs.State.{thing_named, Updates};
 ghost use Rattle.mps_names.specs.declared.names.Thing.TheVariants as thing;
 ghost use Rattle.mps_format.specs.declared.pool.Pool.TheVariants as kind_of_pool;
-ghost use Rattle.mps_heap_spec.specs.Making.{IsUntouched, IsMaking, IsDropping, check_root, with_root, MakesTable, MakesArea, MakesBlocks, roots_without, root_dropped, point_dropped, passed, check_point, MakesPoint, MakesPointIn, check_pool, check_pool_of_size, MakesPool, check_dependency, MakesDependency};
+ghost use Rattle.mps_heap_spec.specs.Making.{IsUntouched, IsMaking, IsDropping, check_root, with_root, MakesTable, MakesArea, MakesBlocks, roots_without, root_dropped, point_dropped, without_answer, check_point, MakesPoint, MakesPointIn, check_pool, check_pool_of_size, MakesPool, check_dependency, MakesDependency};
 ghost use Rattle.mps_heap_code.specs.Made.{IsMade};
 
 use super::State;
@@ -201,7 +201,7 @@ impl<F: Format> State<F> {
 
     /// Makes a point of a pool. Refuses `WrongPool` if the pool is manual, or can't have weak blocks and the rank is weak.
     pub fn point(&mut self, name: Name, pool: Name, rank: Rank) -> Result<usize, Refusal>
-        ensures { IsMaking self.old (passed (check_point self.old name pool rank)) (MakesPointIn self.old name pool rank)
+        ensures { IsMaking self.old (without_answer (check_point self.old name pool rank)) (MakesPointIn self.old name pool rank)
             result self.new }
     {
         let of = self.check_point(name, pool, rank)?;

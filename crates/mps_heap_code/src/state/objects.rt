@@ -2,7 +2,7 @@
 ghost use Rattle.std.specs.Prelude.{◌≡◌};
 ghost use Rattle.mps_root.specs.State.{HasItem};
 ghost use Rattle.mps_heap_spec.specs.Coming.{Comes};
-ghost use Rattle.mps_heap_spec.specs.Objects.{with_slot, copied, cleared, are_same, is_null, head_in, address_in, number_in, number_set, reference_got, reference_put};
+ghost use Rattle.mps_heap_spec.specs.Objects.{with_slot, after_copy, after_clear, are_same, is_null, head_in, address_in, number_in, number_set, reference_got, reference_put};
 
 use super::State;
 use mps_base::{Refusal, Slot};
@@ -20,7 +20,7 @@ impl<F: Format> State<F> {
 
     /// A slot becomes another. Refuses `BadName` and `BadIndex` of the one, and then of the other.
     pub fn copy(&mut self, target: Slot, source: Slot) -> Result<(), Refusal>
-        ensures { Comes self.old (copied self.old target source) result self.new }
+        ensures { Comes self.old (after_copy self.old target source) result self.new }
     {
         let into = self.slot_in(target)?;
         let from = self.slot_in(source)?;
@@ -30,7 +30,7 @@ impl<F: Format> State<F> {
 
     /// A slot becomes null.
     pub fn clear(&mut self, slot: Slot) -> Result<(), Refusal>
-        ensures { Comes self.old (cleared self.old slot) result self.new }
+        ensures { Comes self.old (after_clear self.old slot) result self.new }
     {
         let into = self.slot_in(slot)?;
         self.set_slot(into, 0);

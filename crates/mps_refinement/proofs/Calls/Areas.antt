@@ -16,7 +16,7 @@ use Rattle.mps_model.specs.Checked.{Checked, Found, required}
 use Rattle.mps_model.specs.Graph.{AreaWord, Hold, PlainWord, entry_at}
 use Rattle.mps_model.specs.World.{World, block_of_word, lies_in, shown_word}
 use Rattle.mps_model.specs.WellFormed.{are_right_words, is_right_word}
-use Rattle.mps_heap_spec.specs.Areas.{block_over, held_by, is_hold, peeked, pinned, poked, taken, with_area_word}
+use Rattle.mps_heap_spec.specs.Areas.{block_over, held_by, is_hold, answer_of_peek, after_pin, after_poke, after_take, with_area_word}
 use Rattle.mps_heap_spec.specs.Coming.{Comes, Outcome}
 use Rattle.mps_heap_spec.specs.declared.found.Entry.{Entry}
 use Rattle.mps_heap_spec.specs.State.{HeapState}
@@ -83,15 +83,15 @@ module _ {F : Type 0} (layout : F → Layout) (h : HeapState F) where
   shown_is w (PlainWord number) = refl
   shown_is w (Hold id offset) = refl
 
-  pub peeked_right : (place : Slot) (result : Checked ℕ) → result ≡ peeked h place
+  pub peeked_right : (place : Slot) (result : Checked ℕ) → result ≡ answer_of_peek h place
       → IsRight layout h (call.Peek place) [] (answer_to says_word result) h
   peeked_right place result =
-      reading_is_right layout says_word h (call.Peek place) refl refl (λ a. refl) (peeked h place) result
+      reading_is_right layout says_word h (call.Peek place) refl refl (λ a. refl) (answer_of_peek h place) result
       (λ w past parts reached.
       same_then (word_same layout past h w parts place) (λ entry found is.
       fits (ap (λ n. act_reading w (says_word n)) (sym (ap (λ (s : Stored). s.word) is.fit.value ∙ shown_is w found.value)))))
 
-  pinned_same : (place slot : Slot) → ComesToTheSame layout says_ok h (call.Pin place slot) (pinned layout h place slot)
+  pinned_same : (place slot : Slot) → ComesToTheSame layout says_ok h (call.Pin place slot) (after_pin layout h place slot)
   pinned_same place slot w past parts reached =
       same_then (word_same layout past h w parts place) (λ entry found is.
       object_then layout past h w parts (known w reached) slot (λ b n object.
@@ -105,13 +105,13 @@ module _ {F : Type 0} (layout : F → Layout) (h : HeapState F) where
       })))
 
   pub pinned_right : (place slot : Slot) (result : Checked (Unit {0})) (after : HeapState F)
-      → Comes h (pinned layout h place slot) result after
+      → Comes h (after_pin layout h place slot) result after
       → IsRight layout h (call.Pin place slot) [] (answer_to says_ok result) after
   pinned_right place slot result after =
-      quiet_is_right layout says_ok h (call.Pin place slot) refl refl (λ a. refl) (pinned layout h place slot) result after
+      quiet_is_right layout says_ok h (call.Pin place slot) refl refl (λ a. refl) (after_pin layout h place slot) result after
       (pinned_same place slot)
 
-  taken_same : (slot place : Slot) → ComesToTheSame layout says_ok h (call.Take slot place) (taken h slot place)
+  taken_same : (slot place : Slot) → ComesToTheSame layout says_ok h (call.Take slot place) (after_take h slot place)
   taken_same slot place w past parts reached =
       let of = known w reached in
       same_then (slot_same layout past h w parts slot) (λ into found is.
@@ -127,10 +127,10 @@ module _ {F : Type 0} (layout : F → Layout) (h : HeapState F) where
         };
       }))))
 
-  pub taken_right : (slot place : Slot) (result : Checked (Unit {0})) (after : HeapState F) → Comes h (taken h slot place) result after
+  pub taken_right : (slot place : Slot) (result : Checked (Unit {0})) (after : HeapState F) → Comes h (after_take h slot place) result after
       → IsRight layout h (call.Take slot place) [] (answer_to says_ok result) after
   taken_right slot place result after =
-      quiet_is_right layout says_ok h (call.Take slot place) refl refl (λ a. refl) (taken h slot place) result after (taken_same slot place)
+      quiet_is_right layout says_ok h (call.Take slot place) refl refl (λ a. refl) (after_take h slot place) result after (taken_same slot place)
 
   -- ---- poke
 
@@ -166,17 +166,17 @@ module _ {F : Type 0} (layout : F → Layout) (h : HeapState F) where
           };
         }))
 
-  poked_same : (place : Slot) (word : ℕ) → ComesToTheSame layout says_block h (call.Poke place word) (poked h place word)
+  poked_same : (place : Slot) (word : ℕ) → ComesToTheSame layout says_block h (call.Poke place word) (after_poke h place word)
   poked_same place word w past parts reached =
       let of = known w reached in
       same_then (word_same layout past h w parts place) (λ entry found is.
       poke_leads w past parts of place.index entry found is.fit word (is_hold h word (block_over h.segs word)) (block_of_word w word)
       (word_in_object layout past h w parts of word))
 
-  pub poked_right : (place : Slot) (word : ℕ) (result : Checked Bool) (after : HeapState F) → Comes h (poked h place word) result after
+  pub poked_right : (place : Slot) (word : ℕ) (result : Checked Bool) (after : HeapState F) → Comes h (after_poke h place word) result after
       → IsRight layout h (call.Poke place word) [] (answer_to says_block result) after
   poked_right place word result after =
-      quiet_is_right layout says_block h (call.Poke place word) refl refl supported (poked h place word) result after
+      quiet_is_right layout says_block h (call.Poke place word) refl refl supported (after_poke h place word) result after
       (poked_same place word)
     where
       supported : (b : Bool) → is_unsupported (says_block b) ≡ false

@@ -8,7 +8,7 @@ use Rattle.mps_base.specs.Address.{Address}
 use Rattle.mps_base.specs.declared.names.Slot.{Slot}
 use Rattle.mps_buffer.specs.declared.point.Held.{Held}
 use Rattle.mps_buffer.specs.declared.point.Point.{Point}
-use Rattle.mps_buffer.specs.Points.{closed, point_at, with_point}
+use Rattle.mps_buffer.specs.Points.{after_close, point_at, with_point}
 use Rattle.mps_format.specs.Layout.{Layout}
 use Rattle.mps_trace_laws.proofs.Image.ArenaLaws.{points_change}
 use Rattle.mps_trace_laws.specs.Image.AtRest.{StandsAtRest}
@@ -91,7 +91,7 @@ module _ {F : Type 0} (layout : F → Layout) (past : Past) (h : HeapState F) (w
       (λ i x m e has. (was_live i x e, has)) was_live
       (extents_closed w.graph.points w.point_memories n.number n.value found.has (no_extent doomed))
 
-  fit_closed : IsPoint (length w.flips) (is_copying_pool w) w.point_memories (past.point_number k.key) (closed k.value)
+  fit_closed : IsPoint (length w.flips) (is_copying_pool w) w.point_memories (past.point_number k.key) (after_close k.value)
       (record n.value { reservation = None })
   fit_closed = record {
     pool = found.fit.pool;
@@ -105,7 +105,7 @@ module _ {F : Type 0} (layout : F → Layout) (past : Past) (h : HeapState F) (w
 
   pub closed_parts : r.is_doomed ≡ true → AreParts layout past (with_closed h k) (with_graph w (model.with_reservation w.graph n None))
   closed_parts doomed =
-      points_anew layout past h w parts h.segs (with_point h.points k.key (Some (closed k.value))) points_closed w.segments
+      points_anew layout past h w parts h.segs (with_point h.points k.key (Some (after_close k.value))) points_closed w.segments
       w.point_memories
       (record {
         grains = refl;
@@ -114,27 +114,27 @@ module _ {F : Type 0} (layout : F → Layout) (past : Past) (h : HeapState F) (w
         image = image_closed doomed;
         resting =
             resting_points h.segs.grains h.segs.condemned h.segs.marks.kept h.points
-            (with_point h.points k.key (Some (closed k.value))) parts.resting (λ key x other e f.
+            (with_point h.points k.key (Some (after_close k.value))) parts.resting (λ key x other e f.
             elim (cases_eq key k.key) [
               | inl here ↦
-                  let own : closed k.value ≡ x =
-                  same_Some (closed k.value) x (sym (ap (point_at (with_point h.points k.key (Some (closed k.value)))) here
-                  ∙ written_point h.points k.key k.value (Some (closed k.value)) found.kept) ∙ e) in
+                  let own : after_close k.value ≡ x =
+                  same_Some (after_close k.value) x (sym (ap (point_at (with_point h.points k.key (Some (after_close k.value)))) here
+                  ∙ written_point h.points k.key k.value (Some (after_close k.value)) found.kept) ∙ e) in
                   absurd (none-some other (ap (λ (y : Point). y.reservation) own ∙ f))
-              | inr apart ↦ sym (other_point h.points k.key key (Some (closed k.value)) apart) ∙ e
+              | inr apart ↦ sym (other_point h.points k.key key (Some (after_close k.value)) apart) ∙ e
             ]);
         are = subst (λ j. Rattle.mps_refinement.specs.Numbering.AreNumbered
             (IsPoint (length w.flips) (is_copying_pool w) w.point_memories) past.point_number
-            (point_at (with_point h.points k.key (Some (closed k.value))))
+            (point_at (with_point h.points k.key (Some (after_close k.value))))
             (slice_set w.graph.points j (Some (record n.value { reservation = None })))) (sym found.number)
             (numbered_written (IsPoint (length w.flips) (is_copying_pool w) w.point_memories) past.point_number (point_at h.points)
-            (point_at (with_point h.points k.key (Some (closed k.value)))) w.graph.points parts.points k.key
-            (λ other apart. other_point h.points k.key other (Some (closed k.value)) apart) k.value (closed k.value)
+            (point_at (with_point h.points k.key (Some (after_close k.value)))) w.graph.points parts.points k.key
+            (λ other apart. other_point h.points k.key other (Some (after_close k.value)) apart) k.value (after_close k.value)
             (record n.value { reservation = None }) found.kept
-            (written_point h.points k.key k.value (Some (closed k.value)) found.kept) fit_closed);
+            (written_point h.points k.key k.value (Some (after_close k.value)) found.kept) fit_closed);
         counted = reservation_written_points w.graph n None found.has;
         flips = refl;
-        there = points_there h.points k.key k.value (closed k.value) found.kept;
+        there = points_there h.points k.key k.value (after_close k.value) found.kept;
       })
 
   -- ---- it becomes a block

@@ -10,7 +10,7 @@ use Rattle.mps_format.specs.Layout.{Layout}
 use Rattle.mps_laws.proofs.Lookups.{map-slice_set, map-with_last}
 use Rattle.mps_laws.proofs.Same.{Same, fits, same_next, same_refuse_when, same_then}
 use Rattle.mps_ld.specs.Flips.{AreFlips}
-use Rattle.mps_ld.specs.State.{LdState, merged, reset_at}
+use Rattle.mps_ld.specs.State.{LdState, after_merge, reset_at}
 use Rattle.mps_model.specs.declared.call.Call.TheVariants as call
 use Rattle.mps_model.specs.Answer.{Answer, Replied}
 use Rattle.mps_model.specs.Checked.{Checked, Numbered, ◌>>◌, done, tells}
@@ -147,8 +147,8 @@ module _ {F : Type 0} (layout : F → Layout) (h : HeapState F) (w : World) (pas
       same_then (dependency_same layout past h w parts source) (λ x y other.
       fits (record {
         answer = refl;
-        has = dependency_written d e found (merged d.value x.value) (model_dependency.merged e.value y.value)
-            (ap (λ z. merged z x.value) found.fit ∙ ap (merged (kept_of e.value)) other.fit);
+        has = dependency_written d e found (after_merge d.value x.value) (model_dependency.merged e.value y.value)
+            (ap (λ z. after_merge z x.value) found.fit ∙ ap (after_merge (kept_of e.value)) other.fit);
       })))
 
   stale_same : (name : Name)

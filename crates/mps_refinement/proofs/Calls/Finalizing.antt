@@ -25,7 +25,7 @@ use Rattle.mps_model.specs.WellFormed.{is_live_automatic}
 use Rattle.mps_model.proofs.AtRest.{with_collection-none}
 use Rattle.mps_heap_spec.specs.Coming.{Comes}
 use Rattle.mps_heap_spec.specs.declared.found.Entry.{Entry}
-use Rattle.mps_heap_spec.specs.Finalizing.{message_into, message_taken, registered, unregistered, with_finals}
+use Rattle.mps_heap_spec.specs.Finalizing.{message_into, message_taken, after_finalize, after_definalize, with_finals}
 use Rattle.mps_heap_spec.specs.State.{HeapState}
 use Rattle.mps_refinement.specs.RightStep.{IsRight}
 use Rattle.mps_refinement.specs.StandsFor.{AreParts, IsReached, Past, address_of_id}
@@ -77,7 +77,7 @@ positions f test id one (m ∷ ms) all =
 -- ---- the calls
 
 module _ {F : Type 0} (layout : F → Layout) (h : HeapState F) where
-  registered_same : (slot : Slot) → ComesToTheSame layout says_ok h (call.Finalize slot) (registered layout h slot)
+  registered_same : (slot : Slot) → ComesToTheSame layout says_ok h (call.Finalize slot) (after_finalize layout h slot)
   registered_same slot w past parts reached =
       object_then layout past h w parts (known w reached) slot (λ b n is.
       same_next
@@ -99,10 +99,10 @@ module _ {F : Type 0} (layout : F → Layout) (h : HeapState F) where
         };
       })))
 
-  pub registered_right : (slot : Slot) (result : Checked (Unit {0})) (after : HeapState F) → Comes h (registered layout h slot) result after
+  pub registered_right : (slot : Slot) (result : Checked (Unit {0})) (after : HeapState F) → Comes h (after_finalize layout h slot) result after
       → IsRight layout h (call.Finalize slot) [] (answer_to says_ok result) after
   registered_right slot result after =
-      quiet_is_right layout says_ok h (call.Finalize slot) refl refl (λ a. refl) (registered layout h slot) result after
+      quiet_is_right layout says_ok h (call.Finalize slot) refl refl (λ a. refl) (after_finalize layout h slot) result after
       (registered_same slot)
 
   module _ (w : World) (past : Past) (parts : AreParts layout past h w) where
@@ -128,7 +128,7 @@ module _ {F : Type 0} (layout : F → Layout) (h : HeapState F) where
         of_position None f = neither
         of_position (Some position) f = both (refl, f)
 
-  unregistered_same : (slot : Slot) → ComesToTheSame layout says_ok h (call.Definalize slot) (unregistered layout h slot)
+  unregistered_same : (slot : Slot) → ComesToTheSame layout says_ok h (call.Definalize slot) (after_definalize layout h slot)
   unregistered_same slot w past parts reached =
       object_then layout past h w parts (known w reached) slot (λ b n is.
       same_then (same_required refusal.NotRegistered
@@ -152,10 +152,10 @@ module _ {F : Type 0} (layout : F → Layout) (h : HeapState F) where
       })))
 
   pub unregistered_right : (slot : Slot) (result : Checked (Unit {0})) (after : HeapState F)
-      → Comes h (unregistered layout h slot) result after
+      → Comes h (after_definalize layout h slot) result after
       → IsRight layout h (call.Definalize slot) [] (answer_to says_ok result) after
   unregistered_right slot result after =
-      quiet_is_right layout says_ok h (call.Definalize slot) refl refl (λ a. refl) (unregistered layout h slot) result after
+      quiet_is_right layout says_ok h (call.Definalize slot) refl refl (λ a. refl) (after_definalize layout h slot) result after
       (unregistered_same slot)
 
   -- the first message is taken, where these wait

@@ -17,7 +17,7 @@ use Rattle.mps_laws.proofs.Same as same
 use Rattle.mps_laws.proofs.Same.{Same, fits}
 use Rattle.mps_laws.proofs.Positions.Segments.{among_aligned, found_among}
 use Rattle.mps_base.specs.Segment.{is_in_segment}
-use Rattle.mps_manual.specs.Manual.{any_size, block_removed, freed, is_unused, moves_freed, moves_given_back}
+use Rattle.mps_manual.specs.Manual.{any_size, block_removed, segs_after_free, is_unused, moves_freed, moves_given_back}
 use Rattle.mps_model.specs.Allocating as model
 use Rattle.mps_model.specs.declared.call.Call.TheVariants as call
 use Rattle.mps_model.specs.Checked as checked
@@ -95,7 +95,7 @@ module _ {F : Type 0} (layout : F → Layout) (h : HeapState F) (trail : Moves) 
         required (segment_over h.segs.segments at) refusal.NotABlock >>= (λ (s : Segment).
         required (slice_get h.sizes s.pool) refusal.NotABlock >>= (λ size. Ok (record {
           answer = tt;
-          state = with_block_place (record h { segs = freed size h.segs at }) entry 0;
+          state = with_block_place (record h { segs = segs_after_free size h.segs at }) entry 0;
           trail = moves_freed size h.segs trail (record { 0 = at });
         })))
 
@@ -151,19 +151,19 @@ module _ {F : Type 0} (layout : F → Layout) (h : HeapState F) (trail : Moves) 
 
         outcome_is : from_block entry at ≡ Ok (record {
           answer = tt;
-          state = with_block_place (record h { segs = freed size h.segs at }) entry 0;
+          state = with_block_place (record h { segs = segs_after_free size h.segs at }) entry 0;
           trail = moves_freed size h.segs trail (record { 0 = at });
         })
         outcome_is =
             ap (λ o. required o refusal.NotABlock >>= (λ (s : Segment).
             required (slice_get h.sizes s.pool) refusal.NotABlock >>= (λ size. Ok (record {
               answer = tt;
-              state = with_block_place (record h { segs = freed size h.segs at }) entry 0;
+              state = with_block_place (record h { segs = segs_after_free size h.segs at }) entry 0;
               trail = moves_freed size h.segs trail (record { 0 = at });
             })))) live.over
             ∙ ap (λ o. required o refusal.NotABlock >>= (λ size. Ok (record {
               answer = tt;
-              state = with_block_place (record h { segs = freed size h.segs at }) entry 0;
+              state = with_block_place (record h { segs = segs_after_free size h.segs at }) entry 0;
               trail = moves_freed size h.segs trail (record { 0 = at });
             }))) size_is
 
@@ -180,7 +180,7 @@ module _ {F : Type 0} (layout : F → Layout) (h : HeapState F) (trail : Moves) 
             subst (IsRightFree w line) (sym outcome_is)
             (subst (λ ns. IsRightIn layout w
             (step_of line (call.Free place) ns (Replied reply.Ok))
-            (with_block_place (record h { segs = freed size h.segs at }) entry 0)) (sym (moves_are size h.segs trail at t none live.over))
+            (with_block_place (record h { segs = segs_after_free size h.segs at }) entry 0)) (sym (moves_are size h.segs trail at t none live.over))
             (subst (λ segs. IsRightIn layout w
             (step_of line (call.Free place) ms (Replied reply.Ok))
             (with_block_place (record h { segs = segs }) entry 0)) (sym (freed_is size h.segs at t live.over))

@@ -32,7 +32,7 @@ use Rattle.mps_names.specs.declared.names.Thing.TheVariants as thing
 use Rattle.mps_root.specs.State.{kept}
 use Rattle.mps_heap_spec.specs.Finding.{as_point, point_named, pool_named, under}
 use Rattle.mps_heap_spec.specs.declared.found.Kept.{Kept}
-use Rattle.mps_heap_spec.specs.Making.{IsDropping, IsMaking, MakesPoint, MakesPointIn, check_point, may_have_point, passed, point_dropped, refuse_taken}
+use Rattle.mps_heap_spec.specs.Making.{IsDropping, IsMaking, MakesPoint, MakesPointIn, check_point, may_have_point, without_answer, point_dropped, refuse_taken}
 use Rattle.mps_heap_spec.specs.State.{HeapState}
 use Rattle.mps_format.specs.Pools.{is_copying_pool}
 use Rattle.mps_format.specs.declared.pool.Pool.{Pool}
@@ -230,7 +230,7 @@ module _ {F : Type 0} (layout : F → Layout) (h : HeapState F) (w : World) (pas
     comes_of : (t : Checked (Unit {0})) (y : Checked (Numbered world.Pool))
         → (t >> (y >>= (λ of. refuse_when (not (model.may_have_point of.value.kind at_rank)) refusal.WrongPool
         >> (refuse_at_limit (live_points w.graph) most_points >> done (model.with_point w name of.number at_rank)))))
-        ≡ (passed (t >> (y >>= (λ of. refuse_when (not (model.may_have_point of.value.kind at_rank)) refusal.WrongPool
+        ≡ (without_answer (t >> (y >>= (λ of. refuse_when (not (model.may_have_point of.value.kind at_rank)) refusal.WrongPool
         >> (refuse_at_limit (live_points w.graph) most_points >> Ok of))))
         >> done (made_of (t >> (y >>= (λ of. refuse_when (not (model.may_have_point of.value.kind at_rank)) refusal.WrongPool
         >> (refuse_at_limit (live_points w.graph) most_points >> Ok of))))))
@@ -242,20 +242,20 @@ module _ {F : Type 0} (layout : F → Layout) (h : HeapState F) (w : World) (pas
       where
         both : (a b : Checked (Unit {0}))
             → (a >> (b >> done (model.with_point w name of.number at_rank)))
-            ≡ (passed (a >> (b >> Ok of)) >> done (made_of (a >> (b >> Ok of))))
+            ≡ (without_answer (a >> (b >> Ok of)) >> done (made_of (a >> (b >> Ok of))))
         both (Ok x) (Ok y) = refl
         both (Ok x) (Err why) = refl
         both (Err why) b = refl
 
     same_passed : (x : Checked (Kept (Pool F))) (y : Checked (Numbered world.Pool)) → Same (IsPoolFound layout h w) x y
-        → Alike (passed x) (passed y)
+        → Alike (without_answer x) (without_answer y)
     same_passed x y (fits fit) = fits tt
     same_passed x y Rattle.mps_laws.proofs.Same.refused = Rattle.mps_laws.proofs.Same.refused
 
-    point_alike : MakesAlike layout h w (call.Point name pool at_rank) (passed (check_point h name pool at_rank))
+    point_alike : MakesAlike layout h w (call.Point name pool at_rank) (without_answer (check_point h name pool at_rank))
         (MakesPointIn h name pool at_rank)
     point_alike = record {
-      models = passed model_check;
+      models = without_answer model_check;
       made = made_of model_check;
       comes = comes_of (model.refuse_taken w name) (models.pool_named w pool);
       alike = same_passed (check_point h name pool at_rank) model_check check_same;
@@ -385,10 +385,10 @@ module _ {F : Type 0} (layout : F → Layout) (h : HeapState F) (w : World) (pas
 
 pub point_is_right : {F : Type 0} (layout : F → Layout) (h : HeapState F) (name pool : Name) (at_rank : Rank) (result : Result ℕ Refusal)
     (after : HeapState F)
-    → IsMaking h (passed (check_point h name pool at_rank)) (MakesPointIn h name pool at_rank) result after
+    → IsMaking h (without_answer (check_point h name pool at_rank)) (MakesPointIn h name pool at_rank) result after
     → IsRightMaking layout h (call.Point name pool at_rank) result after
 point_is_right layout h name pool at_rank result after making =
-    making_is_right layout h (call.Point name pool at_rank) (passed (check_point h name pool at_rank)) (MakesPointIn h name pool at_rank)
+    making_is_right layout h (call.Point name pool at_rank) (without_answer (check_point h name pool at_rank)) (MakesPointIn h name pool at_rank)
     refl refl (λ w past parts reached. point_alike layout h w past parts reached name pool at_rank) result after making
 
 pub droppoint_is_right : {F : Type 0} (layout : F → Layout) (h : HeapState F) (name : Name) (result : Result (Unit {0}) Refusal)

@@ -27,7 +27,7 @@ use Rattle.mps_model.specs.Graph as graph
 use Rattle.mps_model.specs.Graph.{Reservation, with_last}
 use Rattle.mps_model.specs.History.{if_accepted, moves_of_commit, commit_of}
 use Rattle.mps_model.specs.World.{World, PointMemory}
-use Rattle.mps_heap_spec.specs.Allocating.{committed, with_closed}
+use Rattle.mps_heap_spec.specs.Allocating.{after_commit, with_closed}
 use Rattle.mps_heap_spec.specs.Coming.{ComesMoving, Moved, answer_moved, state_moved, trail_moved}
 use Rattle.mps_heap_spec.specs.declared.found.Committed.TheVariants.{AsBlock, AsFlipped}
 use Rattle.mps_heap_spec.specs.declared.found.Committed.{Committed}
@@ -148,7 +148,7 @@ module _ {F : Type 0} (layout : F → Layout) (past : Past) (h : HeapState F) (w
             let gone : r.is_doomed ≡ true = doomed ∙ ap not e in
             subst (λ (b : Bool). SameAt b r.is_doomed) (sym e) (subst (λ (b : Bool). SameAt false b) (sym gone) (fits (flipped_leads gone)))
 
-  commit_same : Same CommitLeads (committed h trail name target) (act_commit w name target)
+  commit_same : Same CommitLeads (after_commit h trail name target) (act_commit w name target)
   commit_same =
       same_then (same_found (point_same layout past h w parts name)) (λ k n point.
       same_then (slot_same layout past h w parts target) (λ entry slot slot_is.
@@ -196,20 +196,20 @@ module _ {F : Type 0} (layout : F → Layout) (past : Past) (h : HeapState F) (w
         has = record { past = past; parts = parts };
       }))
 
-  pub committed_outcome : IsRightOutcome (committed h trail name target)
-  committed_outcome = of_both (committed h trail name target) (act_commit w name target) refl commit_same
+  pub committed_outcome : IsRightOutcome (after_commit h trail name target)
+  committed_outcome = of_both (after_commit h trail name target) (act_commit w name target) refl commit_same
 
 -- `commit` is right, where the trail has no moves before it
 pub commit_is_right : {F : Type 0} (layout : F → Layout) (h : HeapState F) (trail : Moves) (name : Name) (target : Slot)
     (result : Checked Committed) (after : HeapState F) (trail_after : Moves) → trail.moves ≡ []
-    → ComesMoving h trail (committed h trail name target) result after trail_after
+    → ComesMoving h trail (after_commit h trail name target) result after trail_after
     → IsRight layout h (call.Commit name target) trail_after.moves (answer_to says_committed result) after
 commit_is_right layout h trail name target result after trail_after none comes = λ w line st.
     subst (λ s. IsRightIn layout w (step_of line (call.Commit name target) trail_after.moves (answer_to says_committed result)) s)
     (sym comes.state)
     (subst (λ r. IsRightIn layout w (step_of line (call.Commit name target) trail_after.moves (answer_to says_committed r))
-    (state_moved h (committed h trail name target))) (sym comes.answer)
+    (state_moved h (after_commit h trail name target))) (sym comes.answer)
     (subst (λ (t : Moves). IsRightIn layout w (step_of line (call.Commit name target) t.moves
-    (answer_to says_committed (answer_moved (committed h trail name target))))
-    (state_moved h (committed h trail name target))) (sym comes.moves)
+    (answer_to says_committed (answer_moved (after_commit h trail name target))))
+    (state_moved h (after_commit h trail name target))) (sym comes.moves)
     (committed_outcome layout st.past h w st.parts st.reached trail none line name target)))

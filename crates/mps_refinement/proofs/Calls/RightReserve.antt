@@ -15,7 +15,7 @@ use Rattle.mps_base.specs.declared.names.Rank.{Rank}
 use Rattle.mps_base.specs.declared.refusal.Refusal.{Refusal}
 use Rattle.mps_base.specs.declared.refusal.Refusal.TheVariants as refusal
 use Rattle.mps_buffer.specs.declared.point.Point.{Point}
-use Rattle.mps_buffer.specs.Points.{buffer_after, opened, placement_at, with_place, with_point, with_reservation}
+use Rattle.mps_buffer.specs.Points.{buffer_after, after_open, placement_at, with_place, with_point, with_reservation}
 use Rattle.mps_seg.specs.Buffer.{rest_at_hand, run_of}
 use Rattle.mps_format.specs.Layout.{Layout}
 use Rattle.mps_laws.proofs.Sound.HeldIds.{new_cells_written}
@@ -37,7 +37,7 @@ use Rattle.mps_model.specs.LegalMove.{IsPlaceAt}
 use Rattle.mps_model.specs.Placement.{ForReserve, placement_of, placement_at_front, placement_at_point, new_segment_for, buffer_of}
 use Rattle.mps_model.specs.World.{World, PointMemory, is_copying_pool}
 use Rattle.mps_model.specs.History.{rank_of_point}
-use Rattle.mps_heap_spec.specs.Allocating.{check_reserve, held_at, reserved}
+use Rattle.mps_heap_spec.specs.Allocating.{check_reserve, held_at, after_reserve}
 use Rattle.mps_heap_spec.specs.Coming.{ComesMoving, Moved, answer_moved, state_moved, trail_moved}
 use Rattle.mps_heap_spec.specs.declared.found.Kept.{Kept}
 use Rattle.mps_heap_spec.specs.declared.found.Reserving.{Reserving}
@@ -98,7 +98,7 @@ module _ {F : Type 0} (layout : F → Layout) (past : Past) (h : HeapState F) (w
           answer = tt;
           state = record h {
             segs = with_reservation (with_place h.segs k.value q) (held_at layout h at head words);
-            points = with_point h.points k.key (Some (opened k.value q (held_at layout h at head words)));
+            points = with_point h.points k.key (Some (after_open k.value q (held_at layout h at head words)));
           };
           trail = moves_after q k.value.pool 0 trail;
         }))
@@ -257,12 +257,12 @@ module _ {F : Type 0} (layout : F → Layout) (past : Past) (h : HeapState F) (w
       }))
 
   of_fit : (a : Reserving) (b : model.Reserving) → check_reserve layout h name head ≡ Ok a → model.check_reserve w name head ≡ Ok b
-      → IsReserving layout past h w parts (reached_graph w reached) name head a b → IsRightOutcome (reserved layout h trail name head)
+      → IsReserving layout past h w parts (reached_graph w reached) name head a b → IsRightOutcome (after_reserve layout h trail name head)
   of_fit a b ours theirs is =
       let q = placement_of w (ForReserve is.point.number (length (new_cells is.format head))) in
       let check = theirs ∙ ap Ok is.is in
       let named = reserving_point check in
-      let now : reserved layout h trail name head ≡ outcome_at a.point is.point is.found is.closed is.format check named
+      let now : after_reserve layout h trail name head ≡ outcome_at a.point is.point is.found is.closed is.format check named
       (length (new_cells is.format head)) q =
       ap (λ x. x >>= after_checks) ours
       ∙ ap (λ words. after_checks (record { point = a.point; words = words })) is.words
@@ -277,12 +277,12 @@ module _ {F : Type 0} (layout : F → Layout) (past : Past) (h : HeapState F) (w
   of_both : (x : Checked Reserving) (y : Checked model.Reserving) → check_reserve layout h name head ≡ x
       → model.check_reserve w name head ≡ y
       → Same (IsReserving layout past h w parts (reached_graph w reached) name head) x y → IsRightOutcome
-      (reserved layout h trail name head)
+      (after_reserve layout h trail name head)
   of_both x y ours theirs (fits {a} {b} is) = of_fit a b ours theirs is
   of_both x y ours theirs (same.refused {why}) =
       subst IsRightOutcome (sym (ap (λ z. z >>= after_checks) ours)) (refused_outcome why theirs)
 
-  pub reserved_outcome : IsRightOutcome (reserved layout h trail name head)
+  pub reserved_outcome : IsRightOutcome (after_reserve layout h trail name head)
   reserved_outcome =
       of_both (check_reserve layout h name head) (model.check_reserve w name head) refl refl
       (reserve_checked layout past h w parts (reached_graph w reached) name head)
@@ -290,13 +290,13 @@ module _ {F : Type 0} (layout : F → Layout) (past : Past) (h : HeapState F) (w
 -- `reserve` is right, where the trail has no moves before it
 pub reserve_is_right : {F : Type 0} (layout : F → Layout) (h : HeapState F) (trail : Moves) (name : Name) (head : ℕ)
     (result : Checked (Unit {0})) (after : HeapState F) (trail_after : Moves) → trail.moves ≡ []
-    → ComesMoving h trail (reserved layout h trail name head) result after trail_after
+    → ComesMoving h trail (after_reserve layout h trail name head) result after trail_after
     → IsRight layout h (call.Reserve name head) trail_after.moves (answer_to says_ok result) after
 reserve_is_right layout h trail name head result after trail_after none comes = λ w line st.
     subst (λ s. IsRightIn layout w (step_of line (call.Reserve name head) trail_after.moves (answer_to says_ok result)) s) (sym comes.state)
     (subst (λ r. IsRightIn layout w (step_of line (call.Reserve name head) trail_after.moves (answer_to says_ok r))
-    (state_moved h (reserved layout h trail name head))) (sym comes.answer)
+    (state_moved h (after_reserve layout h trail name head))) (sym comes.answer)
     (subst (λ (t : Moves). IsRightIn layout w (step_of line (call.Reserve name head) t.moves
-    (answer_to says_ok (answer_moved (reserved layout h trail name head))))
-    (state_moved h (reserved layout h trail name head))) (sym comes.moves)
+    (answer_to says_ok (answer_moved (after_reserve layout h trail name head))))
+    (state_moved h (after_reserve layout h trail name head))) (sym comes.moves)
     (reserved_outcome layout st.past h w st.parts st.reached trail none line name head)))

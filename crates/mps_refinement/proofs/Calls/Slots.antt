@@ -13,7 +13,7 @@ use Rattle.mps_model.specs.Checked.{Checked}
 use Rattle.mps_model.specs.Graph.{entry_at}
 use Rattle.mps_model.specs.World.{World}
 use Rattle.mps_heap_spec.specs.Coming.{Comes}
-use Rattle.mps_heap_spec.specs.Objects.{copied, cleared, are_same, is_null}
+use Rattle.mps_heap_spec.specs.Objects.{after_copy, after_clear, are_same, is_null}
 use Rattle.mps_heap_spec.specs.State.{HeapState}
 use Rattle.mps_refinement.specs.RightStep.{IsRight}
 use Rattle.mps_refinement.specs.StandsFor.{AreParts, Past, address_of_target}
@@ -73,7 +73,7 @@ module _ {F : Type 0} (layout : F → Layout) (past : Past) (h : HeapState F) (w
 -- ---- the calls
 
 module _ {F : Type 0} (layout : F → Layout) (h : HeapState F) where
-  copied_same : (target source : Slot) → ComesToTheSame layout says_ok h (call.Copy target source) (copied h target source)
+  copied_same : (target source : Slot) → ComesToTheSame layout says_ok h (call.Copy target source) (after_copy h target source)
   copied_same target source w past parts reached =
       same_then (slot_same layout past h w parts target) (λ into found is.
       same_then (slot_same layout past h w parts source) (λ from given has.
@@ -86,13 +86,13 @@ module _ {F : Type 0} (layout : F → Layout) (h : HeapState F) where
       })))
 
   pub copied_right : (target source : Slot) (result : Checked (Unit {0})) (after : HeapState F)
-      → Comes h (copied h target source) result after
+      → Comes h (after_copy h target source) result after
       → IsRight layout h (call.Copy target source) [] (answer_to says_ok result) after
   copied_right target source result after =
-      quiet_is_right layout says_ok h (call.Copy target source) refl refl (λ a. refl) (copied h target source) result after
+      quiet_is_right layout says_ok h (call.Copy target source) refl refl (λ a. refl) (after_copy h target source) result after
       (copied_same target source)
 
-  cleared_same : (slot : Slot) → ComesToTheSame layout says_ok h (call.Clear slot) (cleared h slot)
+  cleared_same : (slot : Slot) → ComesToTheSame layout says_ok h (call.Clear slot) (after_clear h slot)
   cleared_same slot w past parts reached =
       same_then (slot_same layout past h w parts slot) (λ into found is.
       fits (record {
@@ -100,10 +100,10 @@ module _ {F : Type 0} (layout : F → Layout) (h : HeapState F) where
         has = record { past = past; parts = slot_written layout past h w parts slot.index into found 0 None is.fit refl };
       }))
 
-  pub cleared_right : (slot : Slot) (result : Checked (Unit {0})) (after : HeapState F) → Comes h (cleared h slot) result after
+  pub cleared_right : (slot : Slot) (result : Checked (Unit {0})) (after : HeapState F) → Comes h (after_clear h slot) result after
       → IsRight layout h (call.Clear slot) [] (answer_to says_ok result) after
   cleared_right slot result after =
-      quiet_is_right layout says_ok h (call.Clear slot) refl refl (λ a. refl) (cleared h slot) result after (cleared_same slot)
+      quiet_is_right layout says_ok h (call.Clear slot) refl refl (λ a. refl) (after_clear h slot) result after (cleared_same slot)
 
   pub are_same_right : (slot other : Slot) (result : Checked Bool) → result ≡ are_same h slot other
       → IsRight layout h (call.Same slot other) [] (answer_to says_bool result) h

@@ -12,7 +12,7 @@ use Rattle.mps_model.specs.World.{World}
 use Rattle.mps_root.specs.State.{RootsState, kept, items_of}
 use Rattle.mps_abstract.specs.Colours.{AreDifferent}
 use Rattle.mps_abstract.specs.Collecting.{Collecting}
-use Rattle.mps_abstract.specs.FlipLaws.{IsAtRest, flipped}
+use Rattle.mps_abstract.specs.FlipLaws.{IsAtRest, collecting_after_flip}
 use Rattle.mps_abstract.proofs.FlipActs.FlipBegins.{client_of_fixed}
 use Rattle.mps_abstract.proofs.Lists.{contains_here, contains_later, contains_left}
 use Rattle.mps_abstract.proofs.OwnAddresses.{well_formed_different}
@@ -119,7 +119,7 @@ pub record IsInOrder (roots : RootsState) (key : ℕ) : Type 0 where
 module _ (w : World) (rest : IsAtRest w) (positive : (id : Id) (at : Address) → entry_at w.addresses id ≡ Some at → 0 < at)
     (number : ℕ → ℕ) (before after : RootsState)
     (are : AreNumbered (AreSlots w.addresses) number (kept before.tables) w.graph.tables) (rows : List Slots)
-    (held : AreTablesHeld w.addresses (flipped w Everything []) before rows)
+    (held : AreTablesHeld w.addresses (collecting_after_flip w Everything []) before rows)
     (ordered : (key : ℕ) → IsSome (kept before.tables key) → IsInOrder before key) (same : AreRootsAfter before after)
     (acted : Collecting)
     (hold : (n : ℕ) (row : Slots) → slice_get rows n ≡ Some row → (i : ℕ) (t : Option Id) → slice_get row i ≡ Some t
@@ -140,13 +140,13 @@ module _ (w : World) (rest : IsAtRest w) (positive : (id : Id) (at : Address) �
         let long = held.long in
         let within = place.within in
         let row = something rows place.place (omega (arith, long, within)) in
-        let holds : AreHeldAtFlip w.addresses (flipped w Everything []) was.0 row.0 =
-        subst (λ (o : Option (List Address)). AreHeldAtFlip w.addresses (flipped w Everything [])
+        let holds : AreHeldAtFlip w.addresses (collecting_after_flip w Everything []) was.0 row.0 =
+        subst (λ (o : Option (List Address)). AreHeldAtFlip w.addresses (collecting_after_flip w Everything [])
         (option_map_or (λ items. items) o []) row.0) was.1
-        (subst (λ k. AreHeldAtFlip w.addresses (flipped w Everything []) (items_of before.tables k) row.0) place.is
+        (subst (λ k. AreHeldAtFlip w.addresses (collecting_after_flip w Everything []) (items_of before.tables k) row.0) place.is
         (held.each place.place row.0 row.1)) in
         let row_is : row.0 ≡ is.0 =
-        same_row w.addresses (flipped w Everything []) (well_formed_different w rest.well_formed) positive was.0 row.0 is.0 holds is.2
+        same_row w.addresses (collecting_after_flip w Everything []) (well_formed_different w rest.well_formed) positive was.0 row.0 is.0 holds is.2
         (live_in (number key) is.0 is.1) in
         let many = length-map is.0 (address_of_target w.addresses) in
         let all = ap (λ (xs : List Address). length xs) is.2 in (

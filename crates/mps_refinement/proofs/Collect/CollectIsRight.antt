@@ -31,7 +31,7 @@ use Rattle.mps_format.specs.declared.pool.Pool.TheVariants as pool
 use Rattle.mps_abstract.specs.Colours.{AllReferredLive}
 use Rattle.mps_abstract.specs.Collecting.{Collecting}
 use Rattle.mps_abstract.specs.Units.{Ends}
-use Rattle.mps_abstract.specs.FlipLaws.{IsAtRest, flipped, FixesHeld}
+use Rattle.mps_abstract.specs.FlipLaws.{IsAtRest, collecting_after_flip, FixesHeld}
 use Rattle.mps_abstract.specs.WholeLaws.{IsCollectDone}
 use Rattle.mps_abstract.proofs.Addresses.{listed_is_live, live_is_listed}
 use Rattle.mps_abstract.proofs.Lists.{contains_cases, contains_here, contains_later, contains_left, contains_right, list_all-members}
@@ -191,7 +191,7 @@ module _ {F : Type 0} (layout : F → Layout) where
   -- ---- where something is condemned
 
   ends_collection : (w : World) (first later : List Move) (y : Collecting) (count : ℕ) → IsAtRest w
-      → is_nothing (condemned_by w Everything) ≡ false → FixesHeld w (flipped w Everything []) first y → Ends y count later → IsPlain w
+      → is_nothing (condemned_by w Everything) ≡ false → FixesHeld w (collecting_after_flip w Everything []) first y → Ends y count later → IsPlain w
       → IsCollection w y (flip_act w Everything ++ later)
   ends_collection w first later y count rest some fixed ends plain =
       let act_leads = (flip_done w Everything [] first y rest refl some (nothing_remembered w rest) fixed).leads in
@@ -211,7 +211,7 @@ module _ {F : Type 0} (layout : F → Layout) where
   -- a `collect` of a heap at rest, where something is condemned
   pub collect_is_right : (h after : HeapState F) (w : World) (line : ℕ) (first later : List Move) (y : Collecting) (count : ℕ)
       → (st : StandsFor layout h w) → IsPlain w → WereMadeBefore (length w.flips) h.points
-      → is_nothing (condemned_by w Everything) ≡ false → FixesHeld w (flipped w Everything []) first y → Ends y count later
+      → is_nothing (condemned_by w Everything) ≡ false → FixesHeld w (collecting_after_flip w Everything []) first y → Ends y count later
       → IsCollectedHeap st.past w h after y.world.addresses (world_collected w (flip_act w Everything ++ later))
       → IsRightIn layout w (step_of line call.Collect (flip_act w Everything ++ later) (Replied reply.Ok)) after
   collect_is_right h after w line first later y count st plain made some fixed ends heap =
@@ -222,13 +222,13 @@ module _ {F : Type 0} (layout : F → Layout) where
   -- ---- where nothing is condemned
 
   nothing_collection : (w : World) → IsAtRest w → is_nothing (condemned_by w Everything) ≡ true
-      → IsCollection w (flipped w Everything []) (flip_act w Everything)
+      → IsCollection w (collecting_after_flip w Everything []) (flip_act w Everything)
   nothing_collection w rest nothing =
       let ended = flip_ended w Everything rest refl nothing in
       record {
         moves_done = a_whole_collection.2 w (flip_act w Everything) rest.none_runs (a_whole_collection.1 w rest nothing);
         leaves = a_collection_moves_objects.2 w rest nothing;
-        places = subst (λ ms. AreInPlace w (flipped w Everything []) (world_after_moves w ms)) (sym ended.act) (record {
+        places = subst (λ ms. AreInPlace w (collecting_after_flip w Everything []) (world_after_moves w ms)) (sym ended.act) (record {
           manual = λ id there. refl;
           pinned = λ id there. refl;
           holds = λ id there. refl;
@@ -245,5 +245,5 @@ module _ {F : Type 0} (layout : F → Layout) where
       → IsCollectedHeap st.past w h after w.addresses (world_collected w (flip_act w Everything))
       → IsRightIn layout w (step_of line call.Collect (flip_act w Everything) (Replied reply.Ok)) after
   collect_of_nothing_is_right h after w line st plain made nothing heap =
-      collection_is_right st.past h after w st.parts st.reached plain made (flipped w Everything []) (flip_act w Everything)
+      collection_is_right st.past h after w st.parts st.reached plain made (collecting_after_flip w Everything []) (flip_act w Everything)
       (nothing_collection w (may_begin st.past h w st.parts st.reached) nothing) heap line

@@ -72,7 +72,7 @@ module _ {F : Type 0} (layout : F → Layout) (past : Past) (h : HeapState F) (w
         messages = left.messages;
         registered = left.registered ∙ (parts.registered ∙ ap (map (address_of_id w.addresses)) plain.none_registered);
         points = ap (λ (x : HeapState F). x.points) collected.state;
-        epochs = ap (λ (x : HeapState F). x.epochs) collected.state ∙ ap (ld.flipped h.epochs) same_zones;
+        epochs = ap (λ (x : HeapState F). x.epochs) collected.state ∙ ap (ld.epochs_after_flip h.epochs) same_zones;
         parked = ap (λ (x : HeapState F). x.arena) collected.state;
         areas = left.roots.areas;
         blocks = left.roots.blocks;

@@ -5,7 +5,7 @@ use Rattle.std.specs.Prelude.{Bool, option_map, not}
 use Rattle.std.specs.Option.{option_map_or}
 use Rattle.mps_base.specs.Address.{Id, Address, max_grains, word_of}
 use Rattle.mps_base.specs.Segment.{Segment}
-use Rattle.mps_buffer.specs.Points.{PointsState, WereMadeBefore, point_at, emptied}
+use Rattle.mps_buffer.specs.Points.{PointsState, WereMadeBefore, point_at, without_free_words}
 use Rattle.mps_buffer.proofs.MadeBefore.{point_at-flipped, was_point}
 use Rattle.mps_buffer.specs.declared.point.Point.{Point}
 use Rattle.mps_format.specs.Layout.{Layout}
@@ -55,7 +55,7 @@ module _ {F : Type 0} (layout : F → Layout) (past : Past) (h after : HeapState
         of_point : (o : Option Point) → point_at h.points key ≡ o → IsSome o → IsSome (point_at after.points key)
         of_point None e some = absurd (false≢true some)
         of_point (Some p) e some =
-            ap is_some (ap (λ s. point_at s key) heap.points ∙ point_at-flipped h.points key ∙ ap (option_map emptied) e)
+            ap is_some (ap (λ s. point_at s key) heap.points ∙ point_at-flipped h.points key ∙ ap (option_map without_free_words) e)
 
     stay : ThingsStay h after
     stay = record {

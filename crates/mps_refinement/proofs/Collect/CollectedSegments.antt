@@ -4,7 +4,7 @@ use Rattle.std.specs.Prelude.{replicate}
 use Rattle.mps_base.specs.Address.{Grain, Word}
 use Rattle.mps_base.specs.Segment.{Segment}
 use Rattle.mps_bits.specs.Table.{bit}
-use Rattle.mps_buffer.specs.Points.{PointsState, all_ended}
+use Rattle.mps_buffer.specs.Points.{PointsState, after_all_end}
 use Rattle.mps_model.specs.Effect.{Everything, condemned_by, world_flipped, world_after_moves}
 use Rattle.mps_model.specs.Flip.{flip_act, is_nothing}
 use Rattle.mps_model.specs.World.{World}
@@ -14,7 +14,7 @@ use Rattle.mps_seg.specs.Collecting.{condemning}
 use Rattle.mps_seg.specs.Segs.{SegsState}
 use Rattle.mps_trace.specs.Flip.{automatic_of, at_flip, condemning_all}
 use Rattle.mps_trace.specs.Trace.{Traced}
-use Rattle.mps_trace.specs.Unit.{ended}
+use Rattle.mps_trace.specs.Unit.{traced_after_end}
 use Rattle.mps_trace.proofs.Ending.{segments_stay}
 use Rattle.mps_trace_laws.proofs.Flip.Reservations.{flip_moves_nothing}
 use Rattle.mps_trace_laws.specs.Units.Laws.{HasSegmentsOf}
@@ -30,12 +30,12 @@ no_bit (suc n) zero = refl
 no_bit (suc n) (suc grain) = no_bit n grain
 
 -- once it is over no segment is condemned
-pub none_condemned : (x z : Traced) → z ≡ ended x → (grain : Grain) → bit z.segs.condemned grain ≡ false
+pub none_condemned : (x z : Traced) → z ≡ traced_after_end x → (grain : Grain) → bit z.segs.condemned grain ≡ false
 none_condemned x z over grain =
     ap (λ (v : Traced). bit v.segs.condemned grain) over ∙ no_bit (length x.segs.condemned) grain
 
 -- and no block is kept
-pub none_kept : (x z : Traced) → z ≡ ended x → (n : Word) → bit z.segs.marks.kept n ≡ false
+pub none_kept : (x z : Traced) → z ≡ traced_after_end x → (n : Word) → bit z.segs.marks.kept n ≡ false
 none_kept x z over n = ap (λ (v : Traced). bit v.segs.marks.kept n) over ∙ no_bit (length x.segs.marks.kept) n
 
 -- ---- a collection that is over at once
@@ -45,11 +45,11 @@ condemning_stays [] s = refl
 condemning_stays (t ∷ ts) s = condemning_stays ts (condemning s t.base)
 
 pub segments_at_once : {F : Type 0} (formats : List (Option (Policy F))) (points : PointsState) (x z : Traced) (w : World)
-    → HasSegmentsOf x.segs w → IsAtRest w → is_nothing (condemned_by w Everything) ≡ true → z ≡ ended (at_flip formats points x)
+    → HasSegmentsOf x.segs w → IsAtRest w → is_nothing (condemned_by w Everything) ≡ true → z ≡ traced_after_end (at_flip formats points x)
     → HasSegmentsOf z.segs (world_after_moves w (flip_act w Everything))
 segments_at_once formats points x z w has rest nothing over =
     let same = flip_moves_nothing formats points x in
-    let e : SegsState = all_ended points.flips points.points x.segs in
+    let e : SegsState = after_all_end points.flips points.points x.segs in
     let segments : (at_flip formats points x).segs.segments ≡ x.segs.segments =
     condemning_stays (automatic_of formats e.segments) e ∙ segments_stay points.flips points.points x.segs
     in

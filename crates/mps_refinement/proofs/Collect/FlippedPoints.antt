@@ -6,7 +6,7 @@ use Rattle.std.proofs.lemmas.List.Sums.{sum_by-cons}
 use Rattle.std.proofs.lemmas.Option.{none-some, slice_get-map}
 use Rattle.std.specs.Prelude.{cond, not, option_map, count_by}
 use Rattle.mps_buffer.specs.declared.point.Held.{Held}
-use Rattle.mps_buffer.specs.Points.{PointsState, WereMadeBefore, point_at, emptied, flipped}
+use Rattle.mps_buffer.specs.Points.{PointsState, WereMadeBefore, point_at, without_free_words, points_after_flip}
 use Rattle.mps_buffer.proofs.MadeBefore.{point_at-flipped, was_point}
 use Rattle.mps_model.specs.Graph as graph
 use Rattle.mps_model.specs.Graph.{Reservation, entry_at}
@@ -69,7 +69,7 @@ held_then flips at o x most NoneHeld = NoneHeld
 module _ (flips : ℕ) (copying : ℕ → Bool) (memories : List PointMemory) (number : ℕ → ℕ) (s : PointsState)
     (points : List (Option graph.Point)) (made : WereMadeBefore flips s)
     (are : AreNumbered (IsPoint flips copying memories) number (point_at s) points) where
-  pub points_flipped : AreNumbered (IsPoint (flips + 1) copying (map without_buffer memories)) number (point_at (flipped s))
+  pub points_flipped : AreNumbered (IsPoint (flips + 1) copying (map without_buffer memories)) number (point_at (points_after_flip s))
       (map doomed points)
   points_flipped = record {
     there = λ key p e.
@@ -98,8 +98,8 @@ module _ (flips : ℕ) (copying : ℕ → Bool) (memories : List PointMemory) (n
         let found = are.complete n was.0 was.1 in
         record {
           key = found.key;
-          value = emptied found.value;
-          there = point_at-flipped s found.key ∙ ap (option_map emptied) found.there;
+          value = without_free_words found.value;
+          there = point_at-flipped s found.key ∙ ap (option_map without_free_words) found.there;
           numbered = found.numbered;
         };
   }

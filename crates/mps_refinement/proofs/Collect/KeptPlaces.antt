@@ -12,7 +12,7 @@ use Rattle.mps_model.proofs.Cutting.{world_after_moves-append}
 use Rattle.mps_abstract.specs.Colours.{is_white, keeping, AreDifferent}
 use Rattle.mps_abstract.specs.Collecting.{Collecting, Running, is_white_in}
 use Rattle.mps_abstract.specs.Fixing.{Keeps, Fixes, fixes_no_more, passes, keeps, kept_by}
-use Rattle.mps_abstract.specs.Units.{Splats, splats_no_more, splats_cell, IsReclaimedNext, reclaim_by, reclaimed, IsUnit, scans, examines, posts, splats, reclaims, IsLastUnit, reclaims_last, GoesOn, begun, by_one_more, Ends, by_last}
+use Rattle.mps_abstract.specs.Units.{Splats, splats_no_more, splats_cell, IsReclaimedNext, reclaim_by, collecting_after_reclaim, IsUnit, scans, examines, posts, splats, reclaims, IsLastUnit, reclaims_last, GoesOn, begun, by_one_more, Ends, by_last}
 use Rattle.mps_abstract.proofs.Lists.{contains_here, contains_later, contains_at}
 use Rattle.mps_abstract.proofs.Kept.{IsKept, keeps_leaves}
 use Rattle.mps_abstract.proofs.Keeping.{still_kept, differ_by_colour}
@@ -97,7 +97,7 @@ module _ (x : Collecting) (run : Running x) (s : Segment) (freed : List Address)
       of_now None (Some at) e g = (frees x run s freed next).left n at g (not_freed x run s freed next n at black g) ∙ sym g
 
   pub reclaim_stays : (c : Collection) → is_last_condemned x.running s.base ≡ false
-      → (world_after_moves x.world (reclaim_by x s.base freed)).collection ≡ Some c → StaysInPlace x (reclaimed x s.base freed c)
+      → (world_after_moves x.world (reclaim_by x s.base freed)).collection ≡ Some c → StaysInPlace x (collecting_after_reclaim x s.base freed c)
   reclaim_stays c not_last runs =
       let leads = goes_on_leads x run s freed next not_last in
       let same : final_collection x run s freed next ≡ c =

@@ -13,7 +13,7 @@ use Rattle.mps_model.proofs.Cutting.{world_after_moves-append}
 use Rattle.mps_abstract.specs.Collecting.{Collecting, Running, is_white_in}
 use Rattle.mps_abstract.specs.Fixing.{Fixes, fixes_no_more, passes, keeps}
 use Rattle.mps_abstract.specs.Units.{IsUnit, scans, examines, posts, splats, reclaims, IsLastUnit, reclaims_last, GoesOn, begun, by_one_more, Ends, by_last}
-use Rattle.mps_abstract.specs.FlipLaws.{IsAtRest, flipped, FixesHeld}
+use Rattle.mps_abstract.specs.FlipLaws.{IsAtRest, collecting_after_flip, FixesHeld}
 use Rattle.mps_abstract.proofs.Lists.{contains_here, contains_later, contains_at, contains_left, contains-filter, contains_filtered}
 use Rattle.mps_abstract.proofs.Keeping.{not_white_if_kept, not_white_outside}
 use Rattle.mps_abstract.proofs.UnitScans.{targets_may_be_fixed, strong_is_tracing}
@@ -131,9 +131,9 @@ ends_move {x} run plain (by_last {y = y} {done = done} {piece} row last) =
 -- ---- the whole collection
 
 module _ (w : World) (first : List Move) (y : Collecting) (rest : IsAtRest w) (some : is_nothing (condemned_by w Everything) ≡ false)
-    (fixed : FixesHeld w (flipped w Everything []) first y) where
+    (fixed : FixesHeld w (collecting_after_flip w Everything []) first y) where
   abbrev begins : Collecting
-  begins = flipped w Everything []
+  begins = collecting_after_flip w Everything []
 
   running : Running y
   running = begun_running w first y rest some fixed
@@ -245,10 +245,10 @@ nothing_collected w rest nothing =
 -- if something is condemned, and if nothing is
 pub a_collection_moves_objects : ((w : World) (first later : List Move) (y : Collecting) (count : ℕ) → IsAtRest w → is_nothing
     (condemned_by w Everything) ≡ false
-    → FixesHeld w (flipped w Everything []) first y → Ends y count later → IsPlain w
+    → FixesHeld w (collecting_after_flip w Everything []) first y → Ends y count later → IsPlain w
     → IsCollected w (world_after_moves w (flip_act w Everything ++ later)))
     × ((w : World) (first later : List Move) (y : Collecting) (count : ℕ) → IsAtRest w → is_nothing (condemned_by w Everything) ≡ false
-    → FixesHeld w (flipped w Everything []) first y → Ends y count later
+    → FixesHeld w (collecting_after_flip w Everything []) first y → Ends y count later
     → AreInPlace w y (world_after_moves w (flip_act w Everything ++ later)))
     × ((w : World) → IsAtRest w → IsTrue (is_nothing (condemned_by w Everything))
     → IsCollected w (world_after_moves w (flip_act w Everything)))

@@ -12,7 +12,7 @@ use Rattle.mps_model.specs.Flip.{is_nothing}
 use Rattle.mps_model.specs.Graph.{Object, Slots, contains, is_automatic}
 use Rattle.mps_model.specs.World.{World}
 use Rattle.mps_root.specs.State.{RootsState, items_of, with_item}
-use Rattle.mps_abstract.specs.FlipLaws.{IsAtRest, flipped}
+use Rattle.mps_abstract.specs.FlipLaws.{IsAtRest, collecting_after_flip}
 use Rattle.mps_abstract.proofs.Addresses.{is_listed_automatic}
 use Rattle.mps_abstract.proofs.FlipActs.FlipBegins.{none_condemned}
 use Rattle.mps_abstract.proofs.WholeCollections.WholeBegins.{everything}
@@ -49,7 +49,7 @@ written_null (row ∷ rows) (suc key) index (suc k) i null = written_null rows k
 -- ---- no object
 
 module _ (w : World) (rest : IsAtRest w) (nothing : is_nothing (condemned_by w Everything) ≡ true) where
-  none_was : (at : Address) (t : Id) → WasAt w.addresses (flipped w Everything []) at t → ⊥
+  none_was : (at : Address) (t : Id) → WasAt w.addresses (collecting_after_flip w Everything []) at t → ⊥
   none_was at t was =
       let listed =
       is_listed_automatic w t (ap is_some was.there) (ap (λ (o : Option Object). option_map_or is_automatic o false) was.has
@@ -57,12 +57,12 @@ module _ (w : World) (rest : IsAtRest w) (nothing : is_nothing (condemned_by w E
       in
       false≢true (sym (ap (λ ids. contains ids t) (none_condemned w Everything rest refl nothing)) ∙ everything w rest t listed)
 
-  is_zero : (at : Address) (target : Option Id) → HoldsAtFlip w.addresses (flipped w Everything []) at target → at ≡ 0
+  is_zero : (at : Address) (target : Option Id) → HoldsAtFlip w.addresses (collecting_after_flip w Everything []) at target → at ≡ 0
   is_zero at None null = null
   is_zero at (Some t) was = absurd (none_was at t was)
 
   -- each slot of a row is null
-  row_null : (slots : List Address) (row : Slots) → AreHeldAtFlip w.addresses (flipped w Everything []) slots row → (i : ℕ)
+  row_null : (slots : List Address) (row : Slots) → AreHeldAtFlip w.addresses (collecting_after_flip w Everything []) slots row → (i : ℕ)
       → slice_index_or slots i 0 ≡ 0
   row_null slots row held i =
       elim (cases_lt i (length slots)) [
@@ -75,7 +75,7 @@ module _ (w : World) (rest : IsAtRest w) (nothing : is_nothing (condemned_by w E
 
   -- and there is no message
   no_message : (messages : List Address) (ids : List Id)
-      → AreHeldAtFlip w.addresses (flipped w Everything []) messages (map Some ids) → (count : ℕ) → count < length messages → ⊥
+      → AreHeldAtFlip w.addresses (collecting_after_flip w Everything []) messages (map Some ids) → (count : ℕ) → count < length messages → ⊥
   no_message messages [] held count less = let long = held.long in omega (arith, long, less)
   no_message messages (id ∷ ids) held count less = none_was (slice_index_or messages 0 0) id (held.each 0 (Some id) refl)
 

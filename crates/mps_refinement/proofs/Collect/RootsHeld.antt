@@ -17,7 +17,7 @@ use Rattle.mps_root.specs.State.{items_of, kept}
 use Rattle.mps_root.specs.declared.roots.Stored.{Stored}
 use Rattle.mps_abstract.proofs.Lists.{contains_append, contains_left, contains_right}
 use Rattle.mps_abstract.specs.Collecting.{Collecting}
-use Rattle.mps_abstract.specs.FlipLaws.{flipped}
+use Rattle.mps_abstract.specs.FlipLaws.{collecting_after_flip}
 use Rattle.mps_laws.proofs.Sound.HeldIds.{All}
 use Rattle.mps_laws.proofs.Lookups.{entry_is_there}
 use Rattle.mps_laws.proofs.Sound.SoundGraph.{IsSoundGraph, PassesOrNull, all-at, auto, entry-passes}
@@ -153,7 +153,7 @@ both_ways false false there back = refl
 module _ {F : Type 0} (layout : F → Layout) (past : Past) (h : HeapState F) (w : World) (parts : AreParts layout past h w)
     (reached : IsReached w) where
   abbrev y : Collecting
-  y = flipped w Everything []
+  y = collecting_after_flip w Everything []
 
   sound : IsSoundGraph w
   sound = reached_graph w reached

@@ -11,7 +11,7 @@ use Rattle.mps_base.specs.Segment.{Segment, grains_of_segment}
 use Rattle.mps_extents.proofs.ContainedRuns.{taken_and_put}
 use Rattle.mps_buffer.specs.declared.point.Held.{Held}
 use Rattle.mps_buffer.specs.declared.point.Point.{Point}
-use Rattle.mps_buffer.specs.Points.{point_at, with_point, with_block, closed, run_of_held}
+use Rattle.mps_buffer.specs.Points.{point_at, with_point, with_block, after_close, run_of_held}
 use Rattle.mps_format.specs.Layout.{Layout}
 use Rattle.mps_trace_laws.specs.Image.AtRest.{StandsAtRest}
 use Rattle.mps_trace_laws.specs.Image.Changes.{AreHome, IsAllocated, memory_allocated, memory_without_reservation, setting_with_points}
@@ -93,7 +93,7 @@ module _ {F : Type 0} (layout : F → Layout) (past : Past) (h : HeapState F) (w
   }
 
   abbrev pub heap_made : HeapState F
-  heap_made = record h { segs = with_block h.segs held; points = with_point h.points key (Some (closed p)) }
+  heap_made = record h { segs = with_block h.segs held; points = with_point h.points key (Some (after_close p)) }
 
   run_is : extent at size ≡ run_of_held held
   run_is = ap (λ (a : Address). extent a size) (sym is.at) ∙ ap (λ (k : ℕ). extent held.at.0 k) (sym is.words)
@@ -196,20 +196,20 @@ module _ {F : Type 0} (layout : F → Layout) (past : Past) (h : HeapState F) (w
 
   -- ---- the parts
 
-  resting_made : IsArenaAtRest h.segs.grains h.segs.condemned h.segs.marks.kept (with_point h.points key (Some (closed p)))
+  resting_made : IsArenaAtRest h.segs.grains h.segs.condemned h.segs.marks.kept (with_point h.points key (Some (after_close p)))
   resting_made =
-      resting_points h.segs.grains h.segs.condemned h.segs.marks.kept h.points (with_point h.points key (Some (closed p)))
+      resting_points h.segs.grains h.segs.condemned h.segs.marks.kept h.points (with_point h.points key (Some (after_close p)))
       parts.resting (λ k x other e f.
       elim (cases_eq k key) [
         | inl same ↦
-            let own : closed p ≡ x =
-            same_Some (closed p) x (sym (ap (point_at (with_point h.points key (Some (closed p)))) same
-            ∙ written_point h.points key p (Some (closed p)) at_key) ∙ e) in
+            let own : after_close p ≡ x =
+            same_Some (after_close p) x (sym (ap (point_at (with_point h.points key (Some (after_close p)))) same
+            ∙ written_point h.points key p (Some (after_close p)) at_key) ∙ e) in
             absurd (none-some other (ap (λ (y : Point). y.reservation) own ∙ f))
-        | inr apart ↦ sym (other_point h.points key k (Some (closed p)) apart) ∙ e
+        | inr apart ↦ sym (other_point h.points key k (Some (after_close p)) apart) ∙ e
       ])
 
-  fit_closed : IsPoint (length w.flips) (is_copying_pool w) w.point_memories (past.point_number key) (closed p) entry_closed
+  fit_closed : IsPoint (length w.flips) (is_copying_pool w) w.point_memories (past.point_number key) (after_close p) entry_closed
   fit_closed =
       reservation_fits (length w.flips) (is_copying_pool w) w.point_memories n.number (past.point_number key) p n.value None None fit number
       NoneHeld
@@ -225,14 +225,14 @@ module _ {F : Type 0} (layout : F → Layout) (past : Past) (h : HeapState F) (w
           both).0) ids all
 
   points_made : AreNumbered (IsPoint (length w.flips) (is_copying_pool w) w.point_memories) past.point_number
-      (point_at (with_point h.points key (Some (closed p)))) points_closed
+      (point_at (with_point h.points key (Some (after_close p)))) points_closed
   points_made =
       subst (λ j. AreNumbered (IsPoint (length w.flips) (is_copying_pool w) w.point_memories) past.point_number
-      (point_at (with_point h.points key (Some (closed p)))) (slice_set w.graph.points j (Some entry_closed))) (sym number)
+      (point_at (with_point h.points key (Some (after_close p)))) (slice_set w.graph.points j (Some entry_closed))) (sym number)
       (numbered_written (IsPoint (length w.flips) (is_copying_pool w) w.point_memories) past.point_number (point_at h.points)
-      (point_at (with_point h.points key (Some (closed p)))) w.graph.points parts.points key
-      (λ other apart. other_point h.points key other (Some (closed p)) apart) p (closed p) entry_closed at_key
-      (written_point h.points key p (Some (closed p)) at_key) fit_closed)
+      (point_at (with_point h.points key (Some (after_close p)))) w.graph.points parts.points key
+      (λ other apart. other_point h.points key other (Some (after_close p)) apart) p (after_close p) entry_closed at_key
+      (written_point h.points key p (Some (after_close p)) at_key) fit_closed)
 
   pub made_parts : AreParts layout past heap_made world_made
   made_parts =
@@ -250,5 +250,5 @@ module _ {F : Type 0} (layout : F → Layout) (past : Past) (h : HeapState F) (w
       )
       parts.dependencies (pools_of parts)
       (named_alike h heap_made past w.graph.names parts.names (λ name. refl) (points_stay layout past h w parts (with_block h.segs held)
-      (with_point h.points key (Some (closed p))) (points_there h.points key p (closed p) at_key)))
+      (with_point h.points key (Some (after_close p))) (points_there h.points key p (after_close p) at_key)))
       (states_of parts)

@@ -22,7 +22,7 @@ use Rattle.mps_laws.proofs.Lookups.{entry_at-set_other}
 use Rattle.mps_laws.proofs.Positions.Occupancy.{OfBlock, occupancy_of, shape_of}
 use Rattle.mps_laws.proofs.Positions.Segments.{IsAligned, IsAmong, among_without, found_segment}
 use Rattle.mps_laws.proofs.Sound.SoundGraph.{IsSoundGraph, auto}
-use Rattle.mps_manual.specs.Manual.{any_size, block_removed, freed, given_back, is_none, is_unused}
+use Rattle.mps_manual.specs.Manual.{any_size, block_removed, segs_after_free, given_back, is_none, is_unused}
 use Rattle.mps_model.specs.Graph.{Object, entry_at, is_automatic, is_automatic_body}
 use Rattle.mps_model.specs.World as world
 use Rattle.mps_model.specs.World.{World, Collected, OneSize, AnySize, begins_in, is_any_size_kind, is_automatic_kind, object_is}
@@ -104,7 +104,7 @@ segments_freed s at t given =
     if given then record (block_removed s at) { segments = without_segment s.segments t.base } else block_removed s at
 
 pub freed_is : (size : ℕ) (s : SegsState) (at : Address) (t : Segment) → segment_over s.segments at ≡ Some t
-    → freed size s at ≡ segments_freed s at t (size == any_size && is_unused (block_removed s at).covered t)
+    → segs_after_free size s at ≡ segments_freed s at t (size == any_size && is_unused (block_removed s at).covered t)
 freed_is size s at t over =
     elim (size == any_size) as (λ b. (if b then given_back (block_removed s at) (segment_over s.segments at) else block_removed s at)
     ≡ segments_freed s at t (b && is_unused (block_removed s at).covered t)) [

@@ -15,7 +15,7 @@ use Rattle.mps_base.specs.declared.names.Name.{Name}
 use Rattle.mps_base.specs.declared.names.Rank.TheVariants as rank
 use Rattle.mps_base.specs.declared.names.Slot.{Slot}
 use Rattle.mps_base.specs.declared.refusal.Refusal.TheVariants as refusal
-use Rattle.mps_manual.specs.Manual.{allocated, answer_of_alloc, any_size, block_removed, has_blocks_of, is_unused, moves_freed, moves_given_back}
+use Rattle.mps_manual.specs.Manual.{segs_after_alloc, answer_of_alloc, any_size, block_removed, has_blocks_of, is_unused, moves_freed, moves_given_back}
 use Rattle.mps_buffer.specs.Points.{placement_at}
 use Rattle.mps_format.specs.Layout.{Layout}
 use Rattle.mps_model.specs.declared.call.Call.{Call}
@@ -24,7 +24,7 @@ use Rattle.mps_model.specs.Answer.{Answer}
 use Rattle.mps_model.specs.Checked.{Checked, ◌>>=◌, ◌>>◌, refuse_when, required}
 use Rattle.mps_seg.specs.Placing.{placement_in_gaps}
 use Rattle.mps_seg.specs.Segs.{SegsState, moves_after}
-use Rattle.mps_heap_spec.specs.Allocating.{reserved, committed, check_reserve}
+use Rattle.mps_heap_spec.specs.Allocating.{after_reserve, after_commit, check_reserve}
 use Rattle.mps_heap_spec.specs.Coming.{Moved, ComesMoving}
 use Rattle.mps_heap_spec.specs.Finding.{block_place_in, point_named, pool_named, slot_in}
 use Rattle.mps_heap_spec.specs.Manual.{block_allocated, block_freed, block_in, with_block_place}
@@ -57,7 +57,7 @@ moves_after-appends : (p : Placement) (pool generation : ℕ) (trail : Moves)
     → moves_after p pool generation trail ≡ after_moves trail.moves (moves_after p pool generation (fresh trail))
 moves_after-appends (NewSegment grain grains) pool generation trail = refl
 moves_after-appends (Place word) pool generation trail = unmoved trail
-moves_after-appends (OverLimit committed need limit) pool generation trail = unmoved trail
+moves_after-appends (OverLimit after_commit need limit) pool generation trail = unmoved trail
 moves_after-appends (NoFreeRun need longest) pool generation trail = unmoved trail
 
 move_appends : (ms : List Move) (t u : Moves) (m : Move) → t ≡ after_moves ms u → with_move t m ≡ after_moves ms (with_move u m)
@@ -149,21 +149,21 @@ module _ {F A : Type 0} where
 
 module _ {F : Type 0} (layout : F → Layout) (h : HeapState F) (trail : Moves) where
   reserve_appends : (name : Name) (head : ℕ)
-      → Appends trail (reserved layout h trail name head) (reserved layout h (fresh trail) name head)
+      → Appends trail (after_reserve layout h trail name head) (after_reserve layout h (fresh trail) name head)
   reserve_appends name head =
       after_check trail (check_reserve layout h name head) _ _ (λ r.
       after_check trail (answer_of_placement _) _ _ (λ at.
       ok_appends trail tt _ _ _ (moves_after-appends (placement_at r.point.value h.segs r.words) r.point.value.pool 0 trail)))
 
   pub reserve_is_right_after : (name : Name) (head : ℕ) (result : Checked (Unit {0})) (after : HeapState F) (trail_after : Moves)
-      → ComesMoving h trail (reserved layout h trail name head) result after trail_after
+      → ComesMoving h trail (after_reserve layout h trail name head) result after trail_after
       → IsRightMoving layout h (call.Reserve name head) trail.moves trail_after.moves (answer_to says_ok result) after
   reserve_is_right_after name head =
-      appended_right layout h (call.Reserve name head) trail says_ok (reserved layout h trail name head)
-      (reserved layout h (fresh trail) name head) (reserve_appends name head)
+      appended_right layout h (call.Reserve name head) trail says_ok (after_reserve layout h trail name head)
+      (after_reserve layout h (fresh trail) name head) (reserve_appends name head)
       (λ result after trail_after. reserve_is_right layout h (fresh trail) name head result after trail_after refl)
 
-  commit_appends : (name : Name) (target : Slot) → Appends trail (committed h trail name target) (committed h (fresh trail) name target)
+  commit_appends : (name : Name) (target : Slot) → Appends trail (after_commit h trail name target) (after_commit h (fresh trail) name target)
   commit_appends name target =
       after_check trail (point_named h name) _ _ (λ point.
       after_check trail (slot_in h target) _ _ (λ slot.
@@ -180,11 +180,11 @@ module _ {F : Type 0} (layout : F → Layout) (h : HeapState F) (trail : Moves) 
       of_flip false x y m = ok_appends trail AsFlipped y trail (fresh trail) (unmoved trail)
 
   pub commit_is_right_after : (name : Name) (target : Slot) (result : Checked Committed) (after : HeapState F) (trail_after : Moves)
-      → ComesMoving h trail (committed h trail name target) result after trail_after
+      → ComesMoving h trail (after_commit h trail name target) result after trail_after
       → IsRightMoving layout h (call.Commit name target) trail.moves trail_after.moves (answer_to says_committed result) after
   commit_is_right_after name target =
-      appended_right layout h (call.Commit name target) trail says_committed (committed h trail name target)
-      (committed h (fresh trail) name target) (commit_appends name target)
+      appended_right layout h (call.Commit name target) trail says_committed (after_commit h trail name target)
+      (after_commit h (fresh trail) name target) (commit_appends name target)
       (λ result after trail_after. commit_is_right layout h (fresh trail) name target result after trail_after refl)
 
   alloc_appends : (pool : Name) (words : ℕ) (place : Slot)
@@ -197,7 +197,7 @@ module _ {F : Type 0} (layout : F → Layout) (h : HeapState F) (trail : Moves) 
       after_refusal trail (refuse_when (not (has_blocks_of size words)) refusal.BadSize) _ _ (
       after_refusal trail (refuse_when (not (into.value == 0)) refusal.NameTaken) _ _ (
       after_check trail (answer_of_alloc size h.segs from.key words) _ _ (λ at.
-      ok_appends trail tt (with_block_place (record h { segs = allocated h.segs from.key words at }) into at.0) _ _
+      ok_appends trail tt (with_block_place (record h { segs = segs_after_alloc h.segs from.key words at }) into at.0) _ _
       (move_appends trail.moves _ _ (moves.Alloc at words from.key)
       (moves_after-appends (placement_in_gaps h.segs from.key rank.Exact words) from.key 0 trail)))))))))
 

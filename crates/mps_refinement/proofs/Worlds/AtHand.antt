@@ -12,7 +12,7 @@ use Rattle.mps_base.proofs.Runs.{contains_first, contains_later}
 use Rattle.mps_extents.proofs.ContainedRuns.{contains_still}
 use Rattle.mps_buffer.specs.declared.point.Held.{Held}
 use Rattle.mps_buffer.specs.declared.point.Point.{Point}
-use Rattle.mps_buffer.specs.Points.{AreReserved, IsReservedAt, IsReserved, ended_at, ended, run_of_held}
+use Rattle.mps_buffer.specs.Points.{AreReserved, IsReservedAt, IsReserved, after_end_at, after_end, run_of_held}
 use Rattle.mps_model.specs.Graph as graph
 use Rattle.mps_model.specs.Graph.{Reservation, entry_at}
 use Rattle.mps_model.specs.World.{World, PointMemory, covered, extent, reserved_extents, extent_of_reservation}
@@ -126,7 +126,7 @@ pub are_reserved : (flips : ℕ) (points : List (Option Point)) (s : SegsState)
 are_reserved flips [] s each different = tt
 are_reserved flips (p ∷ ps) s each different = (
   first p refl,
-  are_reserved flips ps (ended_at flips p s) (all_still p refl)
+  are_reserved flips ps (after_end_at flips p s) (all_still p refl)
       (λ key other held theirs l k same. one_less key other (different (suc key) (suc other) held theirs (later key held l)
       (later other theirs k) same)),
 )
@@ -145,7 +145,7 @@ are_reserved flips (p ∷ ps) s each different = (
 
     -- what is left once the first is ended
     still : (o : Option Held) (q : Point) → p ≡ Some q → q.reservation ≡ o → (key : ℕ) (theirs : Held) → IsLive flips ps key theirs
-        → Contains (ended flips o s).reservations (run_of_held theirs)
+        → Contains (after_end flips o s).reservations (run_of_held theirs)
     still None q here is key theirs l = each (suc key) theirs (later key theirs l)
     still (Some held) q here is key theirs l =
         elim (held.flips == flips) as (λ b. (held.flips == flips) ≡ b
@@ -166,7 +166,7 @@ are_reserved flips (p ∷ ps) s each different = (
         other_key k e = omega (arith, e)
 
     all_still : (o : Option Point) → p ≡ o → (key : ℕ) (theirs : Held) → IsLive flips ps key theirs
-        → Contains (ended_at flips o s).reservations (run_of_held theirs)
+        → Contains (after_end_at flips o s).reservations (run_of_held theirs)
     all_still None here key theirs l = each (suc key) theirs (later key theirs l)
     all_still (Some q) here key theirs l = still q.reservation q here refl key theirs l
 

@@ -19,7 +19,7 @@ use Rattle.mps_format.specs.Layout.{Layout}
 use Rattle.mps_model.specs.Checked.{Checked, ◌>>=◌, ◌>>◌, refuse_when, required}
 use Rattle.mps_seg.specs.Placing.{placement_in_gaps}
 use Rattle.mps_seg.specs.Segs.{SegsState, moves_after}
-use Rattle.mps_heap_spec.specs.Allocating.{reserved, committed, check_reserve}
+use Rattle.mps_heap_spec.specs.Allocating.{after_reserve, after_commit, check_reserve}
 use Rattle.mps_heap_spec.specs.Coming.{Moved, ComesMoving, trail_moved}
 use Rattle.mps_heap_spec.specs.Finding.{block_place_in, point_named, pool_named, slot_in}
 use Rattle.mps_heap_spec.specs.Manual.{block_allocated, block_freed, block_in}
@@ -46,7 +46,7 @@ record AfterPlacement (t u : Moves) : Type 0 where
 placement_keeps : (p : Placement) (pool generation : ℕ) (t : Moves) → 0 < t.spare → AfterPlacement t (moves_after p pool generation t)
 placement_keeps (NewSegment grain grains) pool generation t some = record { room = move_keeps t _ some; spare = omega (arith, some) }
 placement_keeps (Place word) pool generation t some = record { room = refl; spare = omega (arith) }
-placement_keeps (OverLimit committed need limit) pool generation t some = record { room = refl; spare = omega (arith) }
+placement_keeps (OverLimit after_commit need limit) pool generation t some = record { room = refl; spare = omega (arith) }
 placement_keeps (NoFreeRun need longest) pool generation t some = record { room = refl; spare = omega (arith) }
 
 alloc_keeps : (s : SegsState) (t : Moves) (pool words : ℕ) (at : Addr) → 1 < t.spare → KeepsRoom t (moves_allocated s t pool words at)
@@ -104,13 +104,13 @@ module _ {F A : Type 0} (trail : Moves) where
 -- ---- the calls
 
 module _ {F : Type 0} (layout : F → Layout) (h : HeapState F) (trail : Moves) where
-  pub reserve_keeps_room : (name : Name) (head : ℕ) → 0 < trail.spare → Keeps trail (reserved layout h trail name head)
+  pub reserve_keeps_room : (name : Name) (head : ℕ) → 0 < trail.spare → Keeps trail (after_reserve layout h trail name head)
   reserve_keeps_room name head some =
       after_check trail (check_reserve layout h name head) _ (λ r.
       after_check trail (answer_of_placement (placement_at r.point.value h.segs r.words)) _ (λ at.
       (placement_keeps (placement_at r.point.value h.segs r.words) r.point.value.pool 0 trail some).room))
 
-  pub commit_keeps_room : (name : Name) (target : Slot) → 0 < trail.spare → Keeps trail (committed h trail name target)
+  pub commit_keeps_room : (name : Name) (target : Slot) → 0 < trail.spare → Keeps trail (after_commit h trail name target)
   commit_keeps_room name target some =
       after_check trail (point_named h name) _ (λ point.
       after_check trail (slot_in h target) _ (λ slot.

@@ -3,7 +3,7 @@ use Rattle.std.specs.Prelude.{◌≡◌, ℕ, false, IsSome, List, [], map, Opti
 use Rattle.mps_base.specs.Address.{Address}
 use Rattle.mps_base.specs.declared.moves.Move.{Move}
 use Rattle.mps_bits.specs.Table.{bit}
-use Rattle.mps_buffer.specs.Points.{flipped}
+use Rattle.mps_buffer.specs.Points.{points_after_flip}
 use Rattle.mps_trace_laws.specs.Image.AtRest.{StandsAtRest}
 use Rattle.mps_ld.specs.State as ld
 use Rattle.mps_model.specs.World.{World, Parked}
@@ -36,8 +36,8 @@ pub record IsCollectedHeap {F : Type 0} (past : Past) (w : World) (h after : Hea
   pub messages : after.finals.messages ≡ map (address_of_id acted) w.graph.messages
   pub registered : after.finals.registered ≡ []
   -- a flip came for points and dependencies
-  pub points : after.points ≡ flipped h.points
-  pub epochs : after.epochs ≡ ld.flipped h.epochs (condemned_zones w Everything)
+  pub points : after.points ≡ points_after_flip h.points
+  pub epochs : after.epochs ≡ ld.epochs_after_flip h.epochs (condemned_zones w Everything)
   pub parked : after.arena ≡ arena.Parked
   -- and nothing else changed
   pub areas : after.roots.areas ≡ h.roots.areas

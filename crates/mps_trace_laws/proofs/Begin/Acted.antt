@@ -21,7 +21,7 @@ use Rattle.mps_model.specs.World.{World, Pool, area_words, is_automatic_kind, is
 use Rattle.mps_abstract.specs.Colours.{is_black}
 use Rattle.mps_abstract.specs.Collecting.{Collecting, is_tracing_band}
 use Rattle.mps_abstract.specs.Fixing.{Fixes, fixes_no_more, passes, keeps}
-use Rattle.mps_abstract.specs.FlipLaws.{flipped, FixesHeld}
+use Rattle.mps_abstract.specs.FlipLaws.{collecting_after_flip, FixesHeld}
 use Rattle.mps_abstract.proofs.WholeCollections.WholeBegins.{begun_running}
 use Rattle.mps_abstract.proofs.WholeCollections.WholePaths.{fixed_same}
 use Rattle.mps_trace_laws.specs.Image.Image.{CellSet, black_cells}
@@ -94,7 +94,7 @@ module _ {F : Type 0} (flip_stands : AFlipStands F) (layout : F → Layout) (t :
     (words : AreWordsShown (words_of_areas roots.areas) (area_words w)) (held : AreRootsHeld w roots finals rows)
     (begins : Begins layout t.formats t.chains points roots finals (traced t s m) roots' finals' z run) where
   abbrev y : Collecting
-  y = flipped w Everything []
+  y = collecting_after_flip w Everything []
 
   abbrev x : Traced
   x = nailed_at_flip t.formats points roots (traced t s m)

@@ -8,14 +8,14 @@ use Rattle.mps_model.specs.Effect.{Everything, condemned_by, lies_in_one}
 use Rattle.mps_model.specs.Graph.{Object, contains, entry_at, is_automatic}
 use Rattle.mps_model.specs.World.{World, live_automatic_ids, live_ids, object_is}
 use Rattle.mps_abstract.specs.Collecting.{Collecting}
-use Rattle.mps_abstract.specs.FlipLaws.{IsAtRest, flipped}
+use Rattle.mps_abstract.specs.FlipLaws.{IsAtRest, collecting_after_flip}
 use Rattle.mps_abstract.proofs.Addresses.{is_listed_automatic}
 use Rattle.mps_abstract.proofs.Lists.{contains-filter}
 use Rattle.mps_abstract.proofs.WholeCollections.WholeBegins.{everything}
 
 module _ (w : World) (rest : IsAtRest w) where
   abbrev x : Collecting
-  x = flipped w Everything []
+  x = collecting_after_flip w Everything []
 
   pub condemned_automatic : (id : Id) → contains x.running.condemned id ≡ true → object_is is_automatic w id ≡ true
   condemned_automatic id there =

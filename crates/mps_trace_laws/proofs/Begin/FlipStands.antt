@@ -20,7 +20,7 @@ use Rattle.mps_model.specs.Effect.{Everything, doomed, is_condemned_by, without_
 use Rattle.mps_model.specs.World.{World, area_words, extents_of, is_copying_pool, live_ids}
 use Rattle.mps_abstract.specs.Colours.{Colours, is_white}
 use Rattle.mps_abstract.specs.Collecting.{Collecting}
-use Rattle.mps_abstract.specs.FlipLaws.{flipped}
+use Rattle.mps_abstract.specs.FlipLaws.{collecting_after_flip}
 use Rattle.mps_trace_laws.specs.Image.Image.{ImageStands, Stands, black_cells}
 use Rattle.mps_trace_laws.specs.Image.Memory.{Setting, is_condemned_word, memory_in, words_of_arena}
 use Rattle.mps_trace_laws.specs.Fix.Tracing.{AreSegmentsOf, AreHeld, HasTables, AreCondemnedAt, AreCoveredInOrder, StateStands, moves_left, setting_of}
@@ -58,7 +58,7 @@ no_more_pass p ts =
 module _ {F : Type 0} (layout : F → Layout) (t : TraceState F) (s : SegsState) (m : Moves) (points : PointsState) (roots : RootsState)
     (w : World) (b : StandsBefore layout t s m points w) (shown : AreWordsShown (words_of_areas roots.areas) (area_words w)) where
   abbrev y : Collecting
-  y = flipped w Everything []
+  y = collecting_after_flip w Everything []
 
   abbrev g : SegsState
   g = segments_flipped layout t s m points w b

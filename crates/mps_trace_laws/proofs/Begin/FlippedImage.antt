@@ -17,7 +17,7 @@ use Rattle.mps_model.specs.Effect.{Everything, condemned_zones, doomed, without_
 use Rattle.mps_model.specs.Graph.{Body, Automatic, Manual, Cell, NumberCell, Object, Point, contains, is_automatic, is_automatic_body, target_of_cell}
 use Rattle.mps_model.specs.World.{World, PointMemory, area_words, is_automatic_kind, is_copying_pool, pool_is}
 use Rattle.mps_model.specs.WellFormed.{is_right_object}
-use Rattle.mps_abstract.specs.FlipLaws.{flipped}
+use Rattle.mps_abstract.specs.FlipLaws.{collecting_after_flip}
 use Rattle.mps_abstract.proofs.Calls.ClientThings.{list_all-at}
 use Rattle.mps_abstract.proofs.RightObjects.{pool_kind}
 use Rattle.mps_trace_laws.specs.Image.Image.{Stands, black_cells, no_colours}
@@ -56,7 +56,7 @@ module _ {F : Type 0} (layout : F → Layout) (t : TraceState F) (s : SegsState)
   g = segments_flipped layout t s m points w b
 
   abbrev condemned : List Id
-  condemned = (flipped w Everything []).running.condemned
+  condemned = (collecting_after_flip w Everything []).running.condemned
 
   abbrev points_after : List (Option Point)
   points_after = map doomed w.graph.points
@@ -117,7 +117,7 @@ module _ {F : Type 0} (layout : F → Layout) (t : TraceState F) (s : SegsState)
 
   module _ (areas : List (Option (List Stored))) (shown : AreWordsShown (words_of_areas areas) (area_words w)) where
     abbrev pinned : List Id
-    pinned = (flipped w Everything []).running.pinned
+    pinned = (collecting_after_flip w Everything []).running.pinned
 
     pins : ArePinned w.graph.objects w.addresses condemned pinned (words_of_areas areas)
     pins =

@@ -19,7 +19,7 @@ use Rattle.mps_model.specs.Effect.{Everything}
 use Rattle.mps_model.specs.Graph.{contains}
 use Rattle.mps_model.specs.World.{World}
 use Rattle.mps_abstract.specs.Collecting.{Collecting}
-use Rattle.mps_abstract.specs.FlipLaws.{flipped}
+use Rattle.mps_abstract.specs.FlipLaws.{collecting_after_flip}
 use Rattle.mps_trace_laws.specs.Image.Memory.{is_condemned_word, pool_over_word, words_of_arena}
 use Rattle.mps_trace_laws.specs.Flip.Condemned.{IsFlipOfEverything, AreCondemnedToo, bases_of}
 use Rattle.mps_trace_laws.specs.Flip.CondemnedWords.{AreWordsCondemned}
@@ -41,7 +41,7 @@ module _ {F : Type 0} (layout : F → Layout) (t : TraceState F) (s : SegsState)
   g = segments_flipped
 
   abbrev y : Collecting
-  y = flipped w Everything []
+  y = collecting_after_flip w Everything []
 
   none_condemned : (u : Segment) → Contains s.segments u → bit s.condemned (grain_of u.base) ≡ false
   none_condemned u there = b.segments.not_condemned (grain_of u.base)

@@ -10,7 +10,7 @@ use Rattle.mps_base.specs.Run.{end_of}
 use Rattle.mps_base.specs.Segment.{Segment}
 use Rattle.mps_seg.specs.declared.buffer.Buffer.{Buffer}
 use Rattle.mps_seg.specs.Buffer.{empty_buffer, run_of}
-use Rattle.mps_amc.specs.Amc.{AmcState, HasTail, emptied_row, flipped}
+use Rattle.mps_amc.specs.Amc.{AmcState, HasTail, row_after_flip, tails_after_flip}
 use Rattle.mps_gen.specs.State.{ChainsState}
 use Rattle.mps_gen.specs.State as chains
 use Rattle.mps_model.specs.World.{empty_run}
@@ -26,25 +26,25 @@ none_in_row (suc n) zero = refl
 none_in_row (suc n) (suc generation) = none_in_row n generation
 
 none_in_rows : (rows : List (List Buffer)) (pool generation : ℕ)
-    → get_or (get_or (map emptied_row rows) pool []) generation empty_buffer ≡ empty_buffer
+    → get_or (get_or (map row_after_flip rows) pool []) generation empty_buffer ≡ empty_buffer
 none_in_rows [] pool generation = refl
 none_in_rows (row ∷ rows) zero generation = none_in_row (length row) generation
 none_in_rows (row ∷ rows) (suc pool) generation = none_in_rows rows pool generation
 
-as_long : (rows : List (List Buffer)) (pool : ℕ) → length (get_or (map emptied_row rows) pool []) ≡ length (get_or rows pool [])
+as_long : (rows : List (List Buffer)) (pool : ℕ) → length (get_or (map row_after_flip rows) pool []) ≡ length (get_or rows pool [])
 as_long [] pool = refl
 as_long (row ∷ rows) zero = length-replicate (length row) empty_buffer
 as_long (row ∷ rows) (suc pool) = as_long rows pool
 
-tail_still : (amc : AmcState) (pool generation : ℕ) → HasTail amc pool generation → HasTail (flipped amc) pool generation
+tail_still : (amc : AmcState) (pool generation : ℕ) → HasTail amc pool generation → HasTail (tails_after_flip amc) pool generation
 tail_still amc pool generation has = record {
-  pool_listed = subst (λ n. pool < n) (sym (length-map amc.tails emptied_row)) has.pool_listed;
+  pool_listed = subst (λ n. pool < n) (sym (length-map amc.tails row_after_flip)) has.pool_listed;
   generation_listed = subst (λ n. generation < n) (sym (as_long amc.tails pool)) has.generation_listed;
 }
 
 pub tails_are_empty : (of : ChainsState) (amc : AmcState) (is_copying : ℕ → Bool)
     → ((pool generation : ℕ) → IsTrue (is_copying pool) → HasTail amc pool (target_generation (chains.generations_of of pool) generation))
-    → AreTails of (flipped amc) is_copying (λ pool generation. empty_run)
+    → AreTails of (tails_after_flip amc) is_copying (λ pool generation. empty_run)
 tails_are_empty of amc is_copying has = record {
   has = λ pool generation copies.
       tail_still amc pool (target_generation (chains.generations_of of pool) generation) (has pool generation copies);

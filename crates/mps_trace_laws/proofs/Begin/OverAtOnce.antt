@@ -10,7 +10,7 @@ use Rattle.mps_base.specs.declared.moves.Move.{Move}
 use Rattle.mps_base.specs.declared.moves.Move.TheVariants.{End}
 use Rattle.mps_buffer.specs.declared.point.Held.{Held}
 use Rattle.mps_buffer.specs.declared.point.Point as buffer
-use Rattle.mps_buffer.specs.Points.{PointsState, ended, ended_at, all_ended, without_reservation}
+use Rattle.mps_buffer.specs.Points.{PointsState, after_end, after_end_at, after_all_end, without_reservation}
 use Rattle.mps_final.specs.State.{FinalsState}
 use Rattle.mps_format.specs.Layout.{Layout}
 use Rattle.mps_root.specs.State.{RootsState}
@@ -48,7 +48,7 @@ with_covered s covered reservations = record s { covered = covered; reservations
 
 module _ (flips : ℕ) (covered reservations : List Run) where
   held_ended : (o : Option Held) (s : SegsState)
-      → with_covered (ended flips o s) covered reservations ≡ with_covered s covered reservations
+      → with_covered (after_end flips o s) covered reservations ≡ with_covered s covered reservations
   held_ended None s = refl
   held_ended (Some h) s =
       elim (cases_Bool (h.flips == flips)) [
@@ -59,15 +59,15 @@ module _ (flips : ℕ) (covered reservations : List Run) where
       ]
 
   point_ended : (o : Option buffer.Point) (s : SegsState)
-      → with_covered (ended_at flips o s) covered reservations ≡ with_covered s covered reservations
+      → with_covered (after_end_at flips o s) covered reservations ≡ with_covered s covered reservations
   point_ended None s = refl
   point_ended (Some p) s = held_ended p.reservation s
 
   -- the end of reservations changes nothing else
   pub reservations_alone : (ps : List (Option buffer.Point)) (s : SegsState)
-      → with_covered (all_ended flips ps s) covered reservations ≡ with_covered s covered reservations
+      → with_covered (after_all_end flips ps s) covered reservations ≡ with_covered s covered reservations
   reservations_alone [] s = refl
-  reservations_alone (p ∷ ps) s = reservations_alone ps (ended_at flips p s) ∙ point_ended p s
+  reservations_alone (p ∷ ps) s = reservations_alone ps (after_end_at flips p s) ∙ point_ended p s
 
 -- ---- no reservation is live
 
@@ -116,7 +116,7 @@ module _ {F : Type 0} (layout : F → Layout) (t : TraceState F) (s : SegsState)
     (roots roots' : RootsState) (finals finals' : FinalsState) (w : World) (z : Traced) (before : StandsBefore layout t s m points w)
     (ends : EndsAtOnce t.formats points roots finals (traced t s m) roots' finals' z) where
   abbrev after : SegsState
-  after = all_ended points.flips points.points s
+  after = after_all_end points.flips points.points s
 
   the_models : IsFlipOfEverything (automatic_of t.formats s.segments) w
   the_models =

@@ -11,7 +11,7 @@ use Rattle.mps_base.specs.declared.moves.Move.TheVariants.{Flip}
 use Rattle.mps_bits.specs.Table.{bit}
 use Rattle.mps_buffer.specs.declared.point.Held.{Held}
 use Rattle.mps_buffer.specs.declared.point.Point.{Point}
-use Rattle.mps_buffer.specs.Points.{ended, ended_at, all_ended, without_reservation, PointsState}
+use Rattle.mps_buffer.specs.Points.{after_end, after_end_at, after_all_end, without_reservation, PointsState}
 use Rattle.mps_abstract.proofs.Lists.{contains_cases}
 use Rattle.mps_gen.specs.State.{max_chains}
 use Rattle.mps_model.specs.Graph.{contains}
@@ -129,7 +129,7 @@ entries_after (t ∷ ts) s = entries_after ts (condemning s t.base) ∙ length-s
 -- ---- the end of reservations condemns nothing
 
 module _ (flips : ℕ) where
-  one_condemns_none : (o : Option Held) (s : SegsState) → (ended flips o s).condemned ≡ s.condemned
+  one_condemns_none : (o : Option Held) (s : SegsState) → (after_end flips o s).condemned ≡ s.condemned
   one_condemns_none None s = refl
   one_condemns_none (Some h) s =
       let same : Bool = h.flips == flips in
@@ -138,13 +138,13 @@ module _ (flips : ℕ) where
         | inr is ↦ ap (λ (x : SegsState). x.condemned) (cond-false same (without_reservation s h) s is)
       ]
 
-  point_condemns_none : (o : Option Point) (s : SegsState) → (ended_at flips o s).condemned ≡ s.condemned
+  point_condemns_none : (o : Option Point) (s : SegsState) → (after_end_at flips o s).condemned ≡ s.condemned
   point_condemns_none None s = refl
   point_condemns_none (Some p) s = one_condemns_none p.reservation s
 
-  condemned_stay : (ps : List (Option Point)) (s : SegsState) → (all_ended flips ps s).condemned ≡ s.condemned
+  condemned_stay : (ps : List (Option Point)) (s : SegsState) → (after_all_end flips ps s).condemned ≡ s.condemned
   condemned_stay [] s = refl
-  condemned_stay (p ∷ ps) s = condemned_stay ps (ended_at flips p s) ∙ point_condemns_none p s
+  condemned_stay (p ∷ ps) s = condemned_stay ps (after_end_at flips p s) ∙ point_condemns_none p s
 
 -- ---- both
 
@@ -157,7 +157,7 @@ pub flip_condemns : {F : Type 0}
     → AreCondemnedToo x.segs (at_flip formats points x).segs (bases_of (automatic_of formats x.segs.segments))
 flip_condemns formats points x begin =
     let p : Segment → Bool = λ (t : Segment). is_automatic formats t.pool in
-    let e : SegsState = all_ended points.flips points.points x.segs in
+    let e : SegsState = after_all_end points.flips points.points x.segs in
     let after : SegsState = condemning_all (automatic_of formats e.segments) e in
     let ended_same : e.segments ≡ x.segs.segments = segments_stay points.flips points.points x.segs in
     let bits_same : e.condemned ≡ x.segs.condemned = condemned_stay points.flips points.points x.segs in

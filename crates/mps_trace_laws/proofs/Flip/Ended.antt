@@ -5,7 +5,7 @@ use Rattle.mps_base.specs.Run.{Run, in_order, without_run}
 use Rattle.mps_base.specs.Segment.{Segment}
 use Rattle.mps_buffer.specs.declared.point.Held.{Held}
 use Rattle.mps_buffer.specs.declared.point.Point.{Point}
-use Rattle.mps_buffer.specs.Points.{run_of_held, without_reservation, ended_at, all_ended, PointsState}
+use Rattle.mps_buffer.specs.Points.{run_of_held, without_reservation, after_end_at, after_all_end, PointsState}
 use Rattle.mps_trace_laws.proofs.Image.InOrder.{in_order-without}
 use Rattle.mps_model.specs.World.{extents_of}
 use Rattle.mps_seg.specs.Segs.{SegsState}
@@ -39,23 +39,23 @@ held_apart true h blocks rest apart = apart.2
 
 reservation_ended : (flips : ℕ) (o : Option Point) (s : SegsState) (blocks rest : List Run)
     → AreCovered s blocks (open_run_at flips o ++ rest) → BeginApart blocks (open_run_at flips o ++ rest)
-    → AreCovered (ended_at flips o s) blocks rest × BeginApart blocks rest
+    → AreCovered (after_end_at flips o s) blocks rest × BeginApart blocks rest
 reservation_ended flips None s blocks rest c apart = (c, apart)
 reservation_ended flips (Some p) s blocks rest c apart = go p.reservation c apart
   where
     go : (o : Option Held) → AreCovered s blocks (open_run_at flips (Some (record p { reservation = o })) ++ rest)
         → BeginApart blocks (open_run_at flips (Some (record p { reservation = o })) ++ rest)
-        → AreCovered (ended_at flips (Some (record p { reservation = o })) s) blocks rest × BeginApart blocks rest
+        → AreCovered (after_end_at flips (Some (record p { reservation = o })) s) blocks rest × BeginApart blocks rest
     go None c' apart' = (c', apart')
     go (Some h) c' apart' =
         (held_ended (h.flips == flips) h s blocks rest c' apart', held_apart (h.flips == flips) h blocks rest apart')
 
 pub reservations_ended : (flips : ℕ) (ps : List (Option Point)) (s : SegsState) (blocks : List Run)
-    → AreCovered s blocks (open_runs flips ps) → BeginApart blocks (open_runs flips ps) → AreCovered (all_ended flips ps s) blocks []
+    → AreCovered s blocks (open_runs flips ps) → BeginApart blocks (open_runs flips ps) → AreCovered (after_all_end flips ps s) blocks []
 reservations_ended flips [] s blocks c apart = c
 reservations_ended flips (p ∷ ps) s blocks c apart =
     let one = reservation_ended flips p s blocks (open_runs flips ps) c apart in
-    reservations_ended flips ps (ended_at flips p s) blocks one.0 one.1
+    reservations_ended flips ps (after_end_at flips p s) blocks one.0 one.1
 
 condemned_covered : (ts : List Segment) (s : SegsState) (blocks : List Run) → AreCovered s blocks []
     → AreCovered (condemning_all ts s) blocks []
@@ -69,6 +69,6 @@ pub flip_ends_reservations : {F : Type 0}
     → AreCovered x.segs blocks (open_runs points.flips points.points) → BeginApart blocks (open_runs points.flips points.points)
     → AreCovered (at_flip formats points x).segs blocks []
 flip_ends_reservations formats points x blocks c apart =
-    let e : SegsState = all_ended points.flips points.points x.segs in
+    let e : SegsState = after_all_end points.flips points.points x.segs in
     condemned_covered (automatic_of formats e.segments) e blocks
     (reservations_ended points.flips points.points x.segs blocks c apart)

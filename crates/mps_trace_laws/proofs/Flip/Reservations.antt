@@ -7,7 +7,7 @@ use Rattle.mps_base.specs.Run.{Run}
 use Rattle.mps_base.specs.Segment.{Segment}
 use Rattle.mps_buffer.specs.declared.point.Held.{Held}
 use Rattle.mps_buffer.specs.declared.point.Point as buffer
-use Rattle.mps_buffer.specs.Points.{ended, ended_at, all_ended, without_reservation, PointsState}
+use Rattle.mps_buffer.specs.Points.{after_end, after_end_at, after_all_end, without_reservation, PointsState}
 use Rattle.mps_trace_laws.specs.Image.Memory.{live_reservation}
 use Rattle.mps_model.specs.Graph.{Point, Reservation, entry_at, is_live_reservation}
 use Rattle.mps_model.specs.World.{PointMemory, extent_of_reservation, reserved_extents}
@@ -67,7 +67,7 @@ module _ {X : Type 0} (of : SegsState → X)
     (ends : (s : SegsState) (covered reservations : List Run) → of (record s { covered = covered; reservations = reservations }) ≡ of s)
     (condemns : (s : SegsState) (condemned : List Bool) → of (record s { condemned = condemned }) ≡ of s)
   where
-    one_stays : (flips : ℕ) (o : Option Held) (s : SegsState) → of (ended flips o s) ≡ of s
+    one_stays : (flips : ℕ) (o : Option Held) (s : SegsState) → of (after_end flips o s) ≡ of s
     one_stays flips None s = refl
     one_stays flips (Some h) s =
         let same : Bool = h.flips == flips in
@@ -77,26 +77,26 @@ module _ {X : Type 0} (of : SegsState → X)
           | inr is ↦ ap of (cond-false same (without_reservation s h) s is)
         ]
 
-    point_stays : (flips : ℕ) (o : Option buffer.Point) (s : SegsState) → of (ended_at flips o s) ≡ of s
+    point_stays : (flips : ℕ) (o : Option buffer.Point) (s : SegsState) → of (after_end_at flips o s) ≡ of s
     point_stays flips None s = refl
     point_stays flips (Some p) s = one_stays flips p.reservation s
 
-    ended_stays : (flips : ℕ) (ps : List (Option buffer.Point)) (s : SegsState) → of (all_ended flips ps s) ≡ of s
+    ended_stays : (flips : ℕ) (ps : List (Option buffer.Point)) (s : SegsState) → of (after_all_end flips ps s) ≡ of s
     ended_stays flips [] s = refl
-    ended_stays flips (p ∷ ps) s = ended_stays flips ps (ended_at flips p s) ∙ point_stays flips p s
+    ended_stays flips (p ∷ ps) s = ended_stays flips ps (after_end_at flips p s) ∙ point_stays flips p s
 
     condemned_stays : (ts : List Segment) (s : SegsState) → of (condemning_all ts s) ≡ of s
     condemned_stays [] s = refl
     condemned_stays (t ∷ ts) s = condemned_stays ts (condemning s t.base) ∙ condemns s (slice_set s.condemned (grain_of t.base) true)
 
     both_stay : (flips : ℕ) (ps : List (Option buffer.Point)) (ts : List Segment) (s : SegsState)
-        → of (condemning_all ts (all_ended flips ps s)) ≡ of s
-    both_stay flips ps ts s = condemned_stays ts (all_ended flips ps s) ∙ ended_stays flips ps s
+        → of (condemning_all ts (after_all_end flips ps s)) ≡ of s
+    both_stay flips ps ts s = condemned_stays ts (after_all_end flips ps s) ∙ ended_stays flips ps s
 
 pub flip_moves_nothing : {F : Type 0}
     → (formats : List (Option (Policy F))) (points : PointsState) (x : Traced) → IsNothingMoved x.segs (at_flip formats points x).segs
 flip_moves_nothing formats points x =
-    let e : SegsState = all_ended points.flips points.points x.segs in
+    let e : SegsState = after_all_end points.flips points.points x.segs in
     let ts : List Segment = automatic_of formats e.segments in
     record {
       words = both_stay (λ s. s.words) (λ s c r. refl) (λ s c. refl) points.flips points.points ts x.segs;

@@ -18,7 +18,7 @@ use Rattle.mps_model.specs.Flip.{end_where}
 use Rattle.mps_model.specs.Units.{is_last_condemned}
 use Rattle.mps_model.specs.World.{World}
 use Rattle.mps_abstract.specs.Collecting.{Reclaim, Collecting}
-use Rattle.mps_abstract.specs.Units.{IsReclaimedNext, reclaim_by, reclaimed}
+use Rattle.mps_abstract.specs.Units.{IsReclaimedNext, reclaim_by, collecting_after_reclaim}
 use Rattle.mps_abstract.proofs.Reclaimed.{final_world, final_collection}
 use Rattle.mps_abstract.proofs.Reclaiming.{goes_on_leads, last_leads, reclaims_shown}
 use Rattle.mps_trace_laws.specs.Image.Memory.{pool_layout}
@@ -162,7 +162,7 @@ module _ {F : Type 0} (layout : F → Layout) (formats : List (Option (Policy F)
       strong = stands.moving.strong;
     }
 
-    room_on : moves_left (reclaimed y t.base freed on.collection) + 2 ≤ z.moves.spare
+    room_on : moves_left (collecting_after_reclaim y t.base freed on.collection) + 2 ≤ z.moves.spare
     room_on =
         let left = moves_left_after y stands.running t (lost_of x.segs t) is_next in
         let same =
@@ -181,7 +181,7 @@ module _ {F : Type 0} (layout : F → Layout) (formats : List (Option (Policy F)
         let before = last_band.room in
         omega (arith, left, same, taken, before)
 
-    reclaiming_on : StandsReclaiming z (reclaimed y t.base freed on.collection)
+    reclaiming_on : StandsReclaiming z (collecting_after_reclaim y t.base freed on.collection)
     reclaiming_on = record {
       segments = subst (HasSegmentsOf z.segs) (sym leads) (record {
         same_grains = among.grains ∙ last_band.segments.same_grains;
@@ -198,7 +198,7 @@ module _ {F : Type 0} (layout : F → Layout) (formats : List (Option (Policy F)
       room = room_on;
     }
 
-    stands_on : UnitStands layout formats of at_flip z (reclaimed_at base run) (reclaimed y t.base freed on.collection)
+    stands_on : UnitStands layout formats of at_flip z (reclaimed_at base run) (collecting_after_reclaim y t.base freed on.collection)
     stands_on = record {
       running = (reclaims_shown y stands.running t freed is_next on.collection more on.runs).running;
       examined = stands.examined ∙ sym (ap (λ (c : Collection). c.registered_before) collection_is);
@@ -213,7 +213,7 @@ module _ {F : Type 0} (layout : F → Layout) (formats : List (Option (Policy F)
     pub done : IsTracedUnitDone layout formats of at_flip x y z (reclaimed_at base run)
     done = record {
       moves = reclaim_by y t.base freed;
-      after = reclaimed y t.base freed on.collection;
+      after = collecting_after_reclaim y t.base freed on.collection;
       unit = on.unit;
       stands = stands_on;
       trail =

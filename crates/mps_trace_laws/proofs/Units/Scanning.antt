@@ -14,7 +14,7 @@ use Rattle.mps_model.specs.Graph.{Cell, ReferenceCell, Body, Automatic, Manual, 
 use Rattle.mps_abstract.specs.Colours.{is_grey}
 use Rattle.mps_abstract.specs.Collecting.{Collecting, Running, is_tracing_band}
 use Rattle.mps_abstract.specs.Fixing.{Fixes, fixes_no_more, passes, keeps}
-use Rattle.mps_abstract.specs.Units.{scans, scanned}
+use Rattle.mps_abstract.specs.Units.{scans, collecting_after_scan}
 use Rattle.mps_abstract.proofs.Addresses.{address_of-live}
 use Rattle.mps_abstract.proofs.Kept.{held_in, keeps_leaves}
 use Rattle.mps_abstract.proofs.Lists.{contains_here, contains_later}
@@ -237,7 +237,7 @@ module _ {F : Type 0} (layout : F → Layout) (formats : List (Option (Policy F)
     pub scan_done : IsTracedUnitDone layout formats of at_flip x y z run
     scan_done = record {
       moves = scan.moves;
-      after = scanned scan.after g.id;
+      after = collecting_after_scan scan.after g.id;
       unit = scans g.id g.grey (stands.moving.strong g.id) scan.fixes;
       stands = record {
         running = (scans_shown y scan.after g.id scan.moves stands.running g.grey (stands.moving.strong g.id) scan.fixes).running;

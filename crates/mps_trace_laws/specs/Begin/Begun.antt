@@ -14,7 +14,7 @@ use Rattle.mps_model.specs.Flip.{flip_act, flip_of, is_nothing}
 use Rattle.mps_model.specs.Graph.{entries, ids_in_slots}
 use Rattle.mps_model.specs.World.{World, area_words, live_ids}
 use Rattle.mps_abstract.specs.Collecting.{Collecting, units_left}
-use Rattle.mps_abstract.specs.FlipLaws.{flipped, FixesHeld}
+use Rattle.mps_abstract.specs.FlipLaws.{collecting_after_flip, FixesHeld}
 use Rattle.mps_trace_laws.specs.Image.AtRest.{StandsAtRest}
 use Rattle.mps_trace_laws.specs.Image.Image.{black_cells}
 use Rattle.mps_trace.specs.Begin.{nailed_at_flip, Begins, EndsAtOnce, CanFixRoots}
@@ -36,11 +36,11 @@ use Rattle.mps_trace_laws.specs.Begin.Before.{StandsBefore}
 -- model's flip
 pub record IsFlipStanding {F : Type 0} (layout : F → Layout) (t : TraceState F) (m : Moves) (w : World) (x : Traced) : Type 0 where
   pub traces : TracingStands layout t.formats t.chains w.addresses
-      (black_cells (flipped w Everything []).running.condemned (flipped w Everything []).colours) x (flipped w Everything [])
+      (black_cells (collecting_after_flip w Everything []).running.condemned (collecting_after_flip w Everything []).colours) x (collecting_after_flip w Everything [])
   pub housed : AreHoused w.graph.objects x.segs.segments w.addresses
   pub strong : HasNoWeakMark x.segs
-  pub moving : IsMoving layout t.formats t.chains (flipped w Everything []).world
-  pub unreserved : AreCondemnedUnreserved x.segs (flipped w Everything []).world.graph.points (flipped w Everything []).world.point_memories
+  pub moving : IsMoving layout t.formats t.chains (collecting_after_flip w Everything []).world
+  pub unreserved : AreCondemnedUnreserved x.segs (collecting_after_flip w Everything []).world.graph.points (collecting_after_flip w Everything []).world.point_memories
   pub trail : x.moves.moves ≡ m.moves ++ flip_of w Everything ∷ []
 
 -- if something is condemned
@@ -55,8 +55,8 @@ AFlipStands F =
 
 -- the tables in order, and messages, hold what those of a world do
 pub record AreRootsHeld (w : World) (roots : RootsState) (finals : FinalsState) (rows : List (List (Option Id))) : Type 0 where
-  pub tables : AreTablesHeld w.addresses (flipped w Everything []) roots rows
-  pub messages : AreHeldAtFlip w.addresses (flipped w Everything []) finals.messages (map Some w.graph.messages)
+  pub tables : AreTablesHeld w.addresses (collecting_after_flip w Everything []) roots rows
+  pub messages : AreHeldAtFlip w.addresses (collecting_after_flip w Everything []) finals.messages (map Some w.graph.messages)
   pub all : entries (flat_map (λ row. row) rows) ≡ ids_in_slots w.graph
 
 -- the roots can be fixed after the flip
@@ -74,7 +74,7 @@ pub record IsActDone {F : Type 0} (layout : F → Layout) (t : TraceState F) (m 
     (roots roots' : RootsState) (finals' : FinalsState) (z : Traced) (run : RunningState) : Type 0 where
   pub first : List Move
   pub after : Collecting
-  pub fixes : FixesHeld w (flipped w Everything []) first after
+  pub fixes : FixesHeld w (collecting_after_flip w Everything []) first after
   pub stands : UnitStands layout t.formats t.chains w.addresses z run after
   pub trail : z.moves.moves ≡ m.moves ++ flip_of w Everything ∷ first
   pub slots : (n : ℕ) (row : List (Option Id)) → slice_get rows n ≡ Some row → (i : ℕ) (target : Option Id)
@@ -110,5 +110,5 @@ ACollectionOfNothingEnds F =
 -- there are no more units than a collection has room for moves
 abbrev pub UnitsAreFew : Type 0
 UnitsAreFew =
-    (w : World) (first : List Move) (y : Collecting) → FixesHeld w (flipped w Everything []) first y
+    (w : World) (first : List Move) (y : Collecting) → FixesHeld w (collecting_after_flip w Everything []) first y
     → w.graph.registered ≡ [] → units_left y ≤ 2 * length (live_ids w) + length w.segments

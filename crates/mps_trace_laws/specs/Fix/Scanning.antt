@@ -11,7 +11,7 @@ use Rattle.mps_abstract.specs.Fixing.{Fixes}
 use Rattle.mps_trace_laws.specs.Image.Memory.{all_cells, pool_layout}
 use Rattle.mps_trace_laws.specs.Image.Image.{CellSet, black_cells, AreShaped}
 use Rattle.mps_abstract.specs.Colours.{blackened}
-use Rattle.mps_abstract.specs.Units.{scanned}
+use Rattle.mps_abstract.specs.Units.{collecting_after_scan}
 use Rattle.mps_trace_laws.specs.Image.Scanning.{LeavesOthers}
 use Rattle.mps_trace.specs.Trace.{Traced}
 use Rattle.mps_trace.specs.Scan.{Scanned}
@@ -54,7 +54,7 @@ pub record IsScan {F : Type 0} (layout : F → Layout) (formats : List (Option (
   pub after : Collecting
   pub fixes : Fixes y (targets y.world.graph holder) moves after
   pub stands : TracingStands layout formats of at_flip (black_cells after.running.condemned (blackened after.colours holder)) z
-      (scanned after holder)
+      (collecting_after_scan after holder)
   pub trail : z.moves.moves ≡ x.moves.moves ++ moves
 
 -- a scan of a block is one of its object

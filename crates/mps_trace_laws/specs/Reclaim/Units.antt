@@ -13,7 +13,7 @@ use Rattle.mps_model.specs.Units.{is_last_condemned}
 use Rattle.mps_model.specs.World.{World}
 use Rattle.mps_abstract.specs.Colours.{Colours}
 use Rattle.mps_abstract.specs.Collecting.{Collecting}
-use Rattle.mps_abstract.specs.Units.{IsUnit, IsLastUnit, reclaim_by, reclaimed}
+use Rattle.mps_abstract.specs.Units.{IsUnit, IsLastUnit, reclaim_by, collecting_after_reclaim}
 use Rattle.mps_trace_laws.specs.Image.AtRest.{StandsAtRest}
 use Rattle.mps_trace_laws.specs.Reclaim.Left.{StandsFreeing}
 
@@ -28,7 +28,7 @@ pub record FreesFor (g : SegsState) (w : World) (c : Collection) (k : Colours) (
 pub record GoesOnSo (x : Collecting) (t : Segment) (freed : List Address) (layout : ℕ → Layout) (g' : SegsState) : Type 0 where
   pub collection : Collection
   pub runs : (world_after_moves x.world (reclaim_by x t.base freed)).collection ≡ Some collection
-  pub unit : IsUnit x (reclaim_by x t.base freed) (reclaimed x t.base freed collection)
+  pub unit : IsUnit x (reclaim_by x t.base freed) (collecting_after_reclaim x t.base freed collection)
   pub frees : FreesFor g' (world_after_moves x.world (reclaim_by x t.base freed)) collection x.colours layout
 
 -- what is shown of the reclaim of the next condemned segment: it goes on, or it is the last unit

@@ -7,7 +7,7 @@ use Rattle.mps_seg.specs.Segs.{SegsState}
 use Rattle.mps_buffer.specs.declared.point.Held.{Held}
 use Rattle.mps_buffer.specs.declared.point.Point.{Point}
 use Rattle.mps_buffer.specs.declared.point.Reserved.{Reserved}
-use Rattle.mps_buffer.specs.Points.{PointsState, point_at, with_point, new_point, placement_at, opened, run_of_held, IsOpenAt}
+use Rattle.mps_buffer.specs.Points.{PointsState, point_at, with_point, new_point, placement_at, after_open, run_of_held, IsOpenAt}
 use Rattle.mps_buffer.proofs.OpenTokens.{some_within}
 use Rattle.mps_buffer.proofs.tests.give_up.Goals as goal
 
@@ -23,11 +23,11 @@ there_when_set s s' key p is within =
 has_point : (s s' : PointsState) (key : ℕ) (p : Point) → s' ≡ with_point s key (Some p) → key < length s.points → HasPoint s' key
 has_point s s' key p is within = let there = there_when_set s s' key p is within in (p, there, some_within s'.points key p there)
 
-is_open : (s s' : PointsState) (key : ℕ) (p : Point) (pl : Placement) (h : Held) → s' ≡ with_point s key (Some (opened p pl h))
+is_open : (s s' : PointsState) (key : ℕ) (p : Point) (pl : Placement) (h : Held) → s' ≡ with_point s key (Some (after_open p pl h))
     → key < length s.points → IsOpenAt s' key h
 is_open s s' key p pl h is within =
-    let there = there_when_set s s' key (opened p pl h) is within in
-    record { within = some_within s'.points key (opened p pl h) there; point = opened p pl h; there = there; reserved = refl }
+    let there = there_when_set s s' key (after_open p pl h) is within in
+    record { within = some_within s'.points key (after_open p pl h) there; point = after_open p pl h; there = there; reserved = refl }
 
 -- the new point
 abbrev at_first : Point
@@ -48,7 +48,7 @@ fits-meanwhile-requires-clause-there c =
     let made = c.in_ok-key.ensures.made in
     let there = there_when_set c.args.points.now c.add.new.self c.in_ok-key.key at_first made.made made.within in
     let within = some_within c.add.new.self.points c.in_ok-key.key at_first there in
-    let q = opened at_first (placement_at at_first c.args.segs.now 3) c.in_ok-token.token.held in
+    let q = after_open at_first (placement_at at_first c.args.segs.now 3) c.in_ok-token.token.held in
     has_point c.add.new.self c.reserve.new.self c.in_ok-key.key q (c.in_ok-token.ensures.points at_first there) within
 
 pub abandon-requires-clause-open : goal.abandon-requires-clause-open
@@ -77,7 +77,7 @@ fits-requires-clause-there c =
     let s = c.reserve.new.self in
     let there = there_when_set c.args.points.now c.add.new.self c.in_ok-key.key at_first made.made made.within in
     let within = some_within c.add.new.self.points c.in_ok-key.key at_first there in
-    let q = opened at_first (placement_at at_first c.args.segs.now 3) c.in_ok-token.token.held in
+    let q = after_open at_first (placement_at at_first c.args.segs.now 3) c.in_ok-token.token.held in
     let now = there_when_set c.add.new.self s c.in_ok-key.key q (c.in_ok-token.ensures.points at_first there) within in
     let at_key = ap (λ (t : Reserved). t.point) (c.in_ok-token.ensures.value at_first there).1 in
     let P : ℕ → Type 0 = λ k. point_at s k ≡ Some q in

@@ -2,7 +2,7 @@ use Rattle.std.proofs.Common.{Contains, sym, subst}
 use Rattle.mps_extents.proofs.ApartRuns.{contains_put}
 use Rattle.mps_seg.specs.Segs.{SegsState}
 use Rattle.mps_buffer.specs.declared.point.Held.{Held}
-use Rattle.mps_buffer.specs.Points.{placement_at, opened, run_of_held}
+use Rattle.mps_buffer.specs.Points.{placement_at, after_open, run_of_held}
 use Rattle.mps_buffer.proofs.NoneOpen.{is_open, ready_again, at_hand_after}
 use Rattle.mps_buffer.proofs.tests.make_with.Goals as goal
 
@@ -15,7 +15,7 @@ commit-committed-requires-clause-open c =
     let h : Held = record { at = c.in_ok-reserve.field-0; head = 7; words = c.args.words; flips = s.flips } in
     let reserved = c.in_ok-reserve.ensures.points p ready.there.there in
     let P : SegsState → Type 0 = λ x. Contains x.reservations (run_of_held h) in (
-      opened p pl h,
+      after_open p pl h,
       h,
       is_open s c.reserve.new.self c.args.segs.now c.args.key ready h pl reserved,
       λ _. subst P (sym (c.in_ok-reserve.ensures.state p ready.there.there)) (contains_put (run_of_held h) c.args.segs.now.reservations),
@@ -32,10 +32,10 @@ returns c =
     let s2 = c.commit-committed.new.self in
     let has = is_open s c.reserve.new.self c.args.segs.now c.args.key ready h pl reserved in
     let after =
-    at_hand_after c.commit-committed.result c.reserve.new.segs c.commit-committed.new.segs h (opened p pl h).buffer
-    (c.commit-committed.ensures.state (opened p pl h) h has) (c.in_ok-reserve.ensures.at_hand p ready.there.there ready.is_copying) in
+    at_hand_after c.commit-committed.result c.reserve.new.segs c.commit-committed.new.segs h (after_open p pl h).buffer
+    (c.commit-committed.ensures.state (after_open p pl h) h has) (c.in_ok-reserve.ensures.at_hand p ready.there.there ready.is_copying) in
     record {
       ready =
           ready_again s c.reserve.new.self c.args.segs.now c.args.key ready h pl reserved s2 c.commit-committed.new.segs after
-          (c.commit-committed.ensures.points (opened p pl h) has.there);
+          (c.commit-committed.ensures.points (after_open p pl h) has.there);
     }

@@ -1,7 +1,7 @@
 use Rattle.std.proofs.Common.{◌<◌, Option, length, ap, sym, ◌∙◌, subst, arith}
 use Rattle.std.specs.Prelude.{slice_set}
 use Rattle.mps_buffer.specs.declared.point.Reserved.{Reserved}
-use Rattle.mps_buffer.specs.Points.{PointsState, point_at, ended_at, IsReservedAt}
+use Rattle.mps_buffer.specs.Points.{PointsState, point_at, after_end_at, IsReservedAt}
 use Rattle.mps_buffer.specs.Tokens.{tokens_from}
 use Rattle.mps_buffer.proofs.OpenTokens.{as_many, found_is, found_open, open_at, reserved_of, there_of, closed_of, ended_of, tokens_closed, closing, closing_none, ended_same}
 use Rattle.mps_buffer.proofs.open_points.OpenPoints.abandon_at.Goals as goal
@@ -76,7 +76,7 @@ returns-in-Some-clause-state c =
     c.index_mut.ensures.value within c.in-Some.token c.in-Some.is
     in
     c.abandon.ensures.state ∙ ended_of s c.args.key c.in-Some.token of c.args.segs.now
-    ∙ ap (λ (x : PointsState). ended_at x.flips (point_at x c.args.key) c.args.segs.now) c.self.view_is
+    ∙ ap (λ (x : PointsState). after_end_at x.flips (point_at x c.args.key) c.args.segs.now) c.self.view_is
 
 pub returns-in_default-clause-points : goal.returns-in_default-clause-points
 returns-in_default-clause-points c =
@@ -99,4 +99,4 @@ returns-in_default-clause-state c =
     c.index_mut.ensures.value within
     in
     ended_same c.args.key s.flips (point_at s c.args.key) c.args.segs.now (sym is ∙ c.in_default.is)
-    ∙ ap (λ (x : PointsState). ended_at x.flips (point_at x c.args.key) c.args.segs.now) c.self.view_is
+    ∙ ap (λ (x : PointsState). after_end_at x.flips (point_at x c.args.key) c.args.segs.now) c.self.view_is

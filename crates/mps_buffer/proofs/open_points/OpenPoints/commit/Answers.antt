@@ -5,7 +5,7 @@ use Rattle.mps_base.specs.declared.moves.Move.TheVariants.{Commit}
 use Rattle.mps_buffer.specs.declared.point.Point.{Point}
 use Rattle.mps_buffer.specs.declared.point.Held.{Held}
 use Rattle.mps_buffer.specs.declared.point.Reserved.{Reserved}
-use Rattle.mps_buffer.specs.Points.{PointsState, point_at, with_point, with_block, closed, IsReserved}
+use Rattle.mps_buffer.specs.Points.{PointsState, point_at, with_point, with_block, after_close, IsReserved}
 use Rattle.mps_buffer.specs.Tokens.{tokens_from, HasOpen}
 use Rattle.mps_buffer.proofs.OpenTokens.{some_within, as_many, found_is, found_open, has_token, token_with, open_at, same_held, there_of, closed_of, tokens_closed, closing}
 use Rattle.mps_buffer.proofs.open_points.OpenPoints.commit.Goals as goal
@@ -119,7 +119,7 @@ returns-clause-points c = λ p there.
     closed_of s c.args.key c.in-Some.token of c.commit.new.self
     (c.commit.ensures.points of.point (there_of s c.args.key c.in-Some.token of))
     ∙ ap (λ (x : PointsState). closing x c.args.key) c.self.view_is
-    ∙ ap (λ (o : Option Point). with_point c.args.self.now c.args.key (option_map closed o)) there
+    ∙ ap (λ (o : Option Point). with_point c.args.self.now c.args.key (option_map after_close o)) there
 
 pub returns-clause-state : goal.returns-clause-state
 returns-clause-state c = λ p h has.

@@ -1,7 +1,7 @@
 use Rattle.std.proofs.Common.{ℕ, ◌≡◌, Some, Option, ap, sym, ◌∙◌, subst, length, arith}
 use Rattle.std.specs.Prelude.{slice_set}
 use Rattle.mps_buffer.specs.declared.point.Reserved.{Reserved}
-use Rattle.mps_buffer.specs.Points.{PointsState, placement_at, opened}
+use Rattle.mps_buffer.specs.Points.{PointsState, placement_at, after_open}
 use Rattle.mps_buffer.specs.Tokens.{tokens_from, IsClosedAt}
 use Rattle.mps_buffer.proofs.OpenTokens.{some_within, as_many, no_token, token_under, tokens_with, token_with}
 use Rattle.mps_buffer.proofs.open_points.OpenPoints.reserve.Goals as goal
@@ -33,5 +33,5 @@ invariant_of-self-2 c =
     let at_key : token.point ≡ key = ap (λ (t : Reserved). t.point) (c.in_ok-token.ensures.value p now.there).1 in
     let with_key : ℕ → Option Reserved = λ k. Some (token_with k token.held) in
     c.put_token.ensures ∙ ap (λ (k : ℕ). slice_set ts key (with_key k)) at_key
-    ∙ tokens_with s ts c.self.invariant key (Some (opened p (placement_at p c.args.segs.now c.args.words) token.held))
+    ∙ tokens_with s ts c.self.invariant key (Some (after_open p (placement_at p c.args.segs.now c.args.words) token.held))
     ∙ sym (ap (λ (x : PointsState). tokens_from 0 x.points) (c.in_ok-token.ensures.points p now.there))

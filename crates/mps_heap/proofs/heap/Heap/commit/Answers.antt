@@ -1,6 +1,6 @@
 use Rattle.std.proofs.Common.{subst}
 use Rattle.mps_model.specs.declared.call.Call.TheVariants as call
-use Rattle.mps_heap_spec.specs.Allocating.{committed}
+use Rattle.mps_heap_spec.specs.Allocating.{after_commit}
 use Rattle.mps_refinement.specs.Answering.{answer_to, says_committed}
 use Rattle.mps_refinement.specs.RightMoving.{IsRightMoving}
 use Rattle.mps_refinement.proofs.Worlds.Appending.{commit_is_right_after}
@@ -26,7 +26,7 @@ returns g c = record {
       c.self.view_is
       (commit_is_right_after g.F.Format.layout c.self.inside.state c.args.trail.now c.args.x c.args.target c.commit.result
       c.commit.new.self c.commit.new.trail c.commit.ensures);
-  room = keeps_room c.args.trail.now c.self.inside.state (committed c.self.inside.state c.args.trail.now c.args.x c.args.target)
+  room = keeps_room c.args.trail.now c.self.inside.state (after_commit c.self.inside.state c.args.trail.now c.args.x c.args.target)
       c.commit.result c.commit.new.self
       c.commit.new.trail c.commit.ensures (commit_keeps_room g.F.Format.layout c.self.inside.state c.args.trail.now c.args.x
       c.args.target c.requires.fits);

@@ -1,6 +1,6 @@
 use Rattle.std.proofs.Common.{subst}
 use Rattle.mps_model.specs.declared.call.Call.TheVariants as call
-use Rattle.mps_heap_spec.specs.Allocating.{reserved}
+use Rattle.mps_heap_spec.specs.Allocating.{after_reserve}
 use Rattle.mps_refinement.specs.Answering.{answer_to, says_ok}
 use Rattle.mps_refinement.specs.RightMoving.{IsRightMoving}
 use Rattle.mps_refinement.proofs.Worlds.Appending.{reserve_is_right_after}
@@ -26,7 +26,7 @@ returns g c = record {
       c.self.view_is
       (reserve_is_right_after g.F.Format.layout c.self.inside.state c.args.trail.now c.args.x c.args.head c.reserve.result
       c.reserve.new.self c.reserve.new.trail c.reserve.ensures);
-  room = keeps_room c.args.trail.now c.self.inside.state (reserved g.F.Format.layout c.self.inside.state c.args.trail.now c.args.x
+  room = keeps_room c.args.trail.now c.self.inside.state (after_reserve g.F.Format.layout c.self.inside.state c.args.trail.now c.args.x
       c.args.head) c.reserve.result c.reserve.new.self
       c.reserve.new.trail c.reserve.ensures (reserve_keeps_room g.F.Format.layout c.self.inside.state c.args.trail.now c.args.x
       c.args.head c.requires.fits);

@@ -2,8 +2,8 @@ use Rattle.std.proofs.Common.{ℕ, List, length, ap, ◌∙◌}
 use Rattle.mps_base.specs.Segment.{Segment}
 use Rattle.mps_base.specs.Trail.{Moves, with_move}
 use Rattle.mps_base.specs.declared.moves.Move.TheVariants.{Flip}
-use Rattle.mps_amc.specs.Amc.{AmcState, flipped}
-use Rattle.mps_buffer.specs.Points.{all_ended}
+use Rattle.mps_amc.specs.Amc.{AmcState, tails_after_flip}
+use Rattle.mps_buffer.specs.Points.{after_all_end}
 use Rattle.mps_gen.specs.State.{max_chains}
 use Rattle.mps_ld.specs.State as ld
 use Rattle.mps_seg.specs.Segs.{SegsState}
@@ -34,12 +34,12 @@ returns-clause-flipped g c =
     let segs_is = c.condemn-condemned.ensures.state ∙ ap (λ (s : SegsState). all_condemned formats s) c.flip.ensures.state in
     let moves_is = c.push.ensures ∙ ap (λ (z : ℕ). with_move m (Flip (record { 0 = z }) max_chains 0)) zones_is in
     let amc_is = ap (λ (t : TraceState g.row.F.Denot). t.amc) c.drop_tails.ensures in
-    let told = flipped c.args.self.now.amc in
+    let told = tails_after_flip c.args.self.now.amc in
     ap (λ (a : AmcState). let x : Traced = record { amc = a; segs = c.condemn-condemned.new.segs; moves = c.push.new.self } in x) amc_is
     ∙ ap (λ (s : SegsState). let x : Traced = record { amc = told; segs = s; moves = c.push.new.self } in x) segs_is
     ∙ ap
     (λ (n : Moves).
-    let x : Traced = record { amc = told; segs = all_condemned formats (all_ended p.flips p.points c.args.segs.now); moves = n } in x)
+    let x : Traced = record { amc = told; segs = all_condemned formats (after_all_end p.flips p.points c.args.segs.now); moves = n } in x)
     moves_is
 
 pub returns-clause-epochs : goal.returns-clause-epochs
@@ -47,5 +47,5 @@ returns-clause-epochs g c =
     let p = c.args.points.now in
     let same = ap (λ (s : SegsState). s.segments) c.flip.ensures.state ∙ segments_stay p.flips p.points c.args.segs.now in
     c.flip-2.ensures.state
-    ∙ ap (λ (z : ℕ). ld.flipped c.args.epochs.now z)
+    ∙ ap (λ (z : ℕ). ld.epochs_after_flip c.args.epochs.now z)
     (c.condemn-condemned.ensures.zones ∙ ap (λ (ts : List Segment). zones_of (automatic_of c.args.self.now.formats ts)) same)
