@@ -1,2 +1,7 @@
+pub mod Groups
+pub mod CanCollect
+pub mod Answering
+pub mod Standing
+pub mod Keeping
 pub mod Generated
 pub mod GoodInput

@@ -18,7 +18,7 @@ use Rattle.mps_workload.specs.Ending.{FailsWithin}
 use Rattle.mps_workload.specs.Script.{script as generated_script}
 use Rattle.mps_args.specs.Meaning.{Meaning, Runs, Converts, Reads, Lists, Generates}
 use Rattle.mps_args.specs.Words.{meaning}
-use Rattle.mps_session.specs.Built.{session_built}
+use Rattle.mps_cli.specs.Built.{session_built}
 use Rattle.mps_run.specs.Leaving.{LeavesRun}
 use Rattle.mps_run.specs.LogFile.{IsInFile}
 use Rattle.mps_run.specs.Run.{RunsScript}

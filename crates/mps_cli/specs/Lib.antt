@@ -1,2 +1,7 @@
+pub mod Told
+pub mod Built
+pub mod Groups
+pub mod Session
+pub mod Standing
 pub mod Asked
 pub mod Over

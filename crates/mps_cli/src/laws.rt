@@ -7,7 +7,7 @@ ghost use Rattle.mps_blocks.specs.Listed.{Lists as ListsAll};
 ghost use Rattle.mps_event.specs.declared.version.Version.{Version};
 ghost use Rattle.mps_log_reader.specs.LogPrefix.{LogPrefix, LogEnds};
 ghost use Rattle.mps_txt.specs.Text.{TextEndsWith};
-ghost use Rattle.mps_session.specs.Built.{session_built};
+ghost use Rattle.mps_cli.specs.Built.{session_built};
 ghost use Rattle.mps_log_reader.specs.Ending.{is_input_verdict};
 ghost use Rattle.mps_run.specs.Ending.{NoFaultRose};
 ghost use Rattle.mps_run.specs.Script.{max_lines};

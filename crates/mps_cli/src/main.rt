@@ -4,6 +4,7 @@
 
 mod laws;
 mod mps;
+mod session;
 mod over;
 #[cfg(test)]
 mod tests;

@@ -14,7 +14,7 @@ use mps_args::{Command, command_of};
 use mps_desk::Desk;
 use mps_report::{NoBadPlace, Notice, Stop, report_ending};
 use mps_run::run_script;
-use mps_session::Session;
+use crate::session::Session;
 use mps_tools::{blocks, cnv, generate, txt};
 use std::alloc::Global;
 

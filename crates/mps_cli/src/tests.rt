@@ -7,6 +7,7 @@ mod gathered;
 mod memory;
 mod played;
 mod scripts;
+mod session;
 mod words;
 
 use crate::mps::mps;

@@ -1,0 +1,14 @@
+use Rattle.mps_cli.proofs.Answering.{answered_moving}
+use Rattle.mps_cli.proofs.session.moving.answer.Goals as goal
+
+pub returns-in-Reserve-clause-right : goal.returns-in-Reserve-clause-right
+returns-in-Reserve-clause-right c = answered_moving c.in-Reserve.is c.requires.empty c.done.ensures c.reserve.ensures.right
+
+pub returns-in-Commit-clause-right : goal.returns-in-Commit-clause-right
+returns-in-Commit-clause-right c = answered_moving c.in-Commit.is c.requires.empty c.committed.ensures c.commit.ensures.right
+
+pub returns-in-Alloc-clause-right : goal.returns-in-Alloc-clause-right
+returns-in-Alloc-clause-right c = answered_moving c.in-Alloc.is c.requires.empty c.done-in-Alloc.ensures c.alloc.ensures.right
+
+pub returns-in-Free-clause-right : goal.returns-in-Free-clause-right
+returns-in-Free-clause-right c = answered_moving c.in-Free.is c.requires.empty c.done-in-Free.ensures c.free.ensures.right

@@ -1,0 +1,40 @@
+// Answers the calls that may make moves.
+ghost use Rattle.std.specs.Prelude.{◌≡◌, ◌<◌, [], true};
+ghost use Rattle.mps_refinement.specs.RightMoving.{KeepsRoom};
+ghost use Rattle.mps_cli.specs.Groups.{may_move};
+ghost use Rattle.mps_cli.specs.Standing.{IsAnswered};
+
+use crate::session::replies::{committed, done};
+use mps_base::Trail;
+use mps_format::AnyFormat;
+use mps_heap::Heap;
+use mps_model::{Call, Reply};
+
+/// Whether a call makes or ends a block, and so may make moves. A collection isn't one of these.
+#[inline(always)]
+pub fn may_move(call: &Call) -> bool
+    ensures { result ≡ may_move call.now }
+{
+    matches!(
+        call,
+        Call::Reserve { .. } | Call::Commit { .. } | Call::Alloc { .. } | Call::Free { .. }
+    )
+}
+
+/// Answers a call that may make moves, which it appends to the empty trail, and writes the reply.
+#[inline(never)]
+pub fn answer(heap: &mut Heap<AnyFormat>, trail: &mut Trail, call: &Call, reply: &mut Reply)
+    requires which { may_move call.now ≡ true }
+    requires empty { trail.old.moves ≡ [] }
+    requires fits { 1 < trail.old.spare }
+    ensures right { IsAnswered heap.old call.now trail.new.moves reply.new heap.new }
+    ensures room { KeepsRoom trail.old trail.new }
+{
+    *reply = match *call {
+        Call::Reserve { point, head } => done(heap.reserve(trail, point, head)),
+        Call::Commit { point, target } => committed(heap.commit(trail, point, target)),
+        Call::Alloc { pool, words, place } => done(heap.alloc(trail, pool, words, place)),
+        Call::Free { place } => done(heap.free(trail, place)),
+        _ => unreachable!(),
+    };
+}

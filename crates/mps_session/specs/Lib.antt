@@ -1,5 +1,0 @@
-pub mod Told
-pub mod Built
-pub mod Groups
-pub mod Session
-pub mod Standing
