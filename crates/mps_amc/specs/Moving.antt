@@ -6,7 +6,7 @@ use Rattle.mps_base.specs.Run.{Run, with_run, without_run}
 use Rattle.mps_format.specs.Layout.{Layout}
 use Rattle.mps_format.specs.Blocks.{BeginsForwarded}
 use Rattle.mps_format.specs.Front.{front_layout}
-use Rattle.mps_marks.specs.Marks.{without_marks}
+use Rattle.mps_seg.specs.Marks.{without_marks}
 use Rattle.mps_seg.specs.Segs.{SegsState, new_segments}
 use Rattle.mps_seg.specs.Collecting.{is_kept_at, keeping, greying}
 

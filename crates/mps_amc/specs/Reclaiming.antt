@@ -8,11 +8,11 @@ use Rattle.mps_base.specs.Trail.{Moves, with_move}
 use Rattle.mps_base.specs.declared.address.Addr.{Addr}
 use Rattle.mps_base.specs.declared.moves.Move.TheVariants.{Free, Unseg}
 use Rattle.mps_base.specs.declared.names.Rank.TheVariants.{Exact}
-use Rattle.mps_bits.specs.Table.{bit}
+use Rattle.mps_extents.specs.Table.{bit}
 use Rattle.mps_extents.specs.Extents.{is_covered}
 use Rattle.mps_format.specs.Layout.{Layout, IsPadLength}
 use Rattle.mps_format.specs.Front.{front_layout}
-use Rattle.mps_marks.specs.Marks.{without_marks}
+use Rattle.mps_seg.specs.Marks.{without_marks}
 use Rattle.mps_seg.specs.Segs.{SegsState, new_segments, IsEmptyAt, IsUsed, at_word}
 use Rattle.mps_seg.specs.Collecting.{keeping}
 

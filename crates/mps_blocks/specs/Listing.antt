@@ -3,7 +3,7 @@ use Rattle.std.specs.Prelude.{◌≡◌, ℕ, codes, decimal, List, [], ◌∷�
 use Rattle.std.specs.Fmt.{digits}
 use Rattle.std.specs.List.{flat_map}
 use Rattle.mps_model.specs.Replay.{Block, Store}
-use Rattle.mps_numerals.specs.Hexadecimal.{hexadecimal}
+use Rattle.mps_report.specs.Hexadecimal.{hexadecimal}
 
 -- where the blocks begin
 abbrev pub addresses : Store → List ℕ

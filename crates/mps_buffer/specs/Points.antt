@@ -4,7 +4,7 @@ use Rattle.std.proofs.Common.{arith}
 use Rattle.mps_base.specs.Address.{word_of}
 use Rattle.mps_base.specs.Run.{Run, end_of, with_run, without_run}
 use Rattle.mps_base.specs.Placement.{Placement, Place, NewSegment, OverLimit, NoFreeRun}
-use Rattle.mps_arena.specs.Arena.{cleared_words}
+use Rattle.mps_seg.specs.Arena.{cleared_words}
 use Rattle.mps_base.specs.declared.names.Rank.{Rank}
 use Rattle.mps_base.specs.declared.names.Rank.TheVariants.{Exact, Weak}
 use Rattle.mps_seg.specs.Segs.{SegsState, new_segments, held_runs, IsOpenRun}

@@ -6,7 +6,7 @@ ghost use Rattle.mps_base.specs.Address.{word_of, max_block_words};
 ghost use Rattle.mps_base.specs.Trail.{with_move};
 ghost use Rattle.mps_base.specs.declared.moves.Move.TheVariants.{Commit};
 ghost use Rattle.mps_base.specs.declared.refusal.Refusal.TheVariants.{TooMany};
-ghost use Rattle.mps_arena.specs.Arena.{answer_of_placement};
+ghost use Rattle.mps_seg.specs.Arena.{answer_of_placement};
 ghost use Rattle.mps_base.specs.Run.{Run};
 ghost use Rattle.mps_seg.specs.Segs.{CanCover, moves_after};
 ghost use Rattle.mps_buffer.specs.declared.point.Point.{Point};

@@ -3,7 +3,7 @@
 
 ghost use Rattle.std.specs.Prelude.{◌≡◌, ◌<◌, ◌≤◌, true, Ok, Err, IfOk, MatchResult};
 ghost use Rattle.mps_base.specs.Address.{word_of, max_block_words};
-ghost use Rattle.mps_arena.specs.Arena.{answer_of_placement};
+ghost use Rattle.mps_seg.specs.Arena.{answer_of_placement};
 ghost use Rattle.mps_seg.specs.Segs.{moves_after, CanCover};
 ghost use Rattle.mps_buffer.specs.Points.{CanCoverAfter, placement_at, with_place, buffer_after};
 ghost use Rattle.mps_seg.specs.Buffer.{IsAtHand, run_of};

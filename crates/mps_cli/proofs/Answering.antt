@@ -14,7 +14,7 @@ use Rattle.mps_model.specs.declared.call.Call.{Call}
 use Rattle.mps_model.specs.declared.call.Call.TheVariants as call
 use Rattle.mps_model.specs.declared.reply.Reply.{Reply}
 use Rattle.mps_model.specs.declared.reply.Reply.TheVariants as reply
-use Rattle.mps_heap_spec.specs.State.{HeapState}
+use Rattle.mps_refinement.specs.State.{HeapState}
 use Rattle.mps_heap.specs.Answers.{says_words}
 use Rattle.mps_refinement.specs.Answering.{answer_to}
 use Rattle.mps_refinement.specs.Making.{IsRightMaking, IsRightMakingIn, MeansLayout, answer_of_making}

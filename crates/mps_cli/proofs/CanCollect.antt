@@ -9,9 +9,9 @@ use Rattle.mps_commands.specs.RightAnswer.{HasFewFlips}
 use Rattle.mps_format.specs.Layout.{Layout}
 use Rattle.mps_model.specs.World as world
 use Rattle.mps_model.specs.World.{World}
-use Rattle.mps_heap_spec.specs.Collecting.{can_collect, is_empty, most_flips}
+use Rattle.mps_refinement.specs.Collecting.{can_collect, is_empty, most_flips}
 use Rattle.mps_format.specs.Pools.{is_moved_or_manual}
-use Rattle.mps_heap_spec.specs.State.{HeapState}
+use Rattle.mps_refinement.specs.State.{HeapState}
 use Rattle.mps_format.specs.declared.pool.Pool.{Pool}
 use Rattle.mps_format.specs.declared.pool.Pool.TheVariants as pool
 use Rattle.mps_refinement.specs.StandsFor.{StandsFor, address_of_id}

@@ -2,9 +2,9 @@
 use Rattle.std.proofs.Common.{◌≡◌, ◌⊎◌, ℕ, List, true, subst, ◌∙◌, inl, inr}
 use Rattle.std.specs.Prelude.{codes}
 use Rattle.mps_desk.specs.Desk.{Outside, NothingWaits}
-use Rattle.mps_log_reader.specs.Ending.{is_input_verdict}
+use Rattle.mps_run.specs.LogReaderEnding.{is_input_verdict}
 use Rattle.mps_report.specs.Streams.{Prints, Reports}
-use Rattle.mps_workload.specs.Ending.{FailsWithin}
+use Rattle.mps_tools.specs.Ending.{FailsWithin}
 
 pub generated_asks_nothing : (status : ℕ) (old new : Outside) (text : List ℕ) → (status ≡ 0) ⊎ (status ≡ 4) ⊎ (status ≡ 8)
     → (status ≡ 0 → Prints old new text) → (status ≡ 4 → FailsWithin old new text)

@@ -3,11 +3,11 @@ use Rattle.std.proofs.Common.{◌≡◌, ◌≢◌, ◌⊎◌, ℕ, true, Some, 
 use Rattle.mps_desk.specs.Desk.{Outside}
 use Rattle.mps_event.specs.declared.version.Version.{Version}
 use Rattle.mps_base.specs.Record.{Record}
-use Rattle.mps_log_reader.specs.Causes.{IsStatus, StatusIsJustified}
-use Rattle.mps_log_reader.specs.Ending.{is_input_verdict}
-use Rattle.mps_log_reader.specs.LogPrefix.{LogPrefix, LogEnds}
-use Rattle.mps_blocks.specs.Listed.{Lists}
-use Rattle.mps_txt.specs.Text.{TextEndsWith}
+use Rattle.mps_run.specs.Causes.{IsStatus, StatusIsJustified}
+use Rattle.mps_run.specs.LogReaderEnding.{is_input_verdict}
+use Rattle.mps_run.specs.LogPrefix.{LogPrefix, LogEnds}
+use Rattle.mps_tools.specs.Listed.{Lists}
+use Rattle.mps_tools.specs.Text.{TextEndsWith}
 use Rattle.mps_run.specs.Ending.{NoFaultRose}
 use Rattle.mps_cli.specs.Asked.{ConvertsLog, ReadsText, ListsBlocks}
 

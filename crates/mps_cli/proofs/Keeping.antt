@@ -13,10 +13,10 @@ use Rattle.mps_model.specs.History.{world_after}
 use Rattle.mps_model.specs.World.{empty_world}
 use Rattle.mps_model.specs.declared.call.Call.{Call}
 use Rattle.mps_model.specs.declared.reply.Reply.{Reply}
-use Rattle.mps_heap_spec.specs.State.{HeapState}
+use Rattle.mps_refinement.specs.State.{HeapState}
 use Rattle.mps_refinement.specs.NewHeap.{arena_step}
 use Rattle.mps_refinement.specs.RightMoving.{KeepsRoom}
-use Rattle.mps_trace.specs.Collect.{most_moves}
+use Rattle.mps_refinement.specs.TraceCollect.{most_moves}
 use Rattle.mps_cli.specs.Built.{is_answered}
 use Rattle.mps_cli.specs.Standing.{AnswersRightly, Answered, HeapStands, HeapStandsStill, NotSupported, StandsForScript}
 use Rattle.mps_cli.proofs.Standing.{StepsTo, answer, answers_in, makes_none, numbers_are_lawful}

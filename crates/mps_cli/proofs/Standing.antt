@@ -12,7 +12,7 @@ use Rattle.mps_format.specs.Layout.{Layout, IsLawful}
 use Rattle.mps_format.specs.Leaf.{leaf_layout}
 use Rattle.mps_format.specs.Mapped.{mapped_layout}
 use Rattle.mps_format.specs.declared.any.AnyFormat.{AnyFormat}
-use Rattle.mps_changes.specs.Change.{makes_arena}
+use Rattle.mps_laws.specs.Change.{makes_arena}
 use Rattle.mps_laws.proofs.WellFormedHistories.{step_grains}
 use Rattle.mps_model.specs.Answer.{Answer, answer_of}
 use Rattle.mps_model.specs.FirstCall.{is_arena}
@@ -23,8 +23,8 @@ use Rattle.mps_model.specs.declared.call.Call.{Call}
 use Rattle.mps_model.specs.declared.call.Call.TheVariants as call
 use Rattle.mps_model.specs.declared.reply.Reply.{Reply}
 use Rattle.mps_model.specs.declared.reply.Reply.TheVariants as reply
-use Rattle.mps_heap_spec.specs.Collecting.{can_collect}
-use Rattle.mps_heap_spec.specs.State.{HeapState}
+use Rattle.mps_refinement.specs.Collecting.{can_collect}
+use Rattle.mps_refinement.specs.State.{HeapState}
 use Rattle.mps_cli.specs.Built.{can_collect_world, is_answered, is_built, is_unsupported_call}
 use Rattle.mps_cli.specs.Session.{MadeState, last_moves, arena_words}
 use Rattle.mps_cli.specs.Standing.{AnswersRightly, Answered, BeginsRightly, Begun, HeapStands, NotBegun, NotSupported, SessionStands}

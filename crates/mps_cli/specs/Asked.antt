@@ -5,17 +5,17 @@ use Rattle.mps_desk.specs.Desk.{Outside, NothingWaits}
 use Rattle.mps_report.specs.declared.stop.Stop.TheVariants as stop
 use Rattle.mps_report.specs.Reports.{report_of, ReportsStatus}
 use Rattle.mps_report.specs.Streams.{Prints, Reports}
-use Rattle.mps_log_reader.specs.BadLog.{text_of_bad_log}
-use Rattle.mps_log_reader.specs.Causes.{AsksWith, StatusIsJustified}
-use Rattle.mps_log_reader.specs.Ending.{IsUnopened, is_input_verdict}
-use Rattle.mps_log_reader.specs.Opening.{OpensNothing}
-use Rattle.mps_blocks.specs.BadReplay.{text_of_bad_replay}
-use Rattle.mps_blocks.specs.Listed.{ListedWith, IsUniqueList, ListsPart}
-use Rattle.mps_txt.specs.BadTextLine.{text_of_bad_line as text_of_bad_text_line}
-use Rattle.mps_txt.specs.Text.{ReadWith, IsCutShort as IsCutShortText, IsUniqueReading}
-use Rattle.mps_cnv.specs.Converted.{ConvertedWith, ConvertsUntilReadFault, ConvertsUntilWriteFault, IsUniqueConversion}
-use Rattle.mps_workload.specs.Ending.{FailsWithin}
-use Rattle.mps_workload.specs.Script.{script as generated_script}
+use Rattle.mps_run.specs.BadLog.{text_of_bad_log}
+use Rattle.mps_run.specs.Causes.{AsksWith, StatusIsJustified}
+use Rattle.mps_run.specs.LogReaderEnding.{IsUnopened, is_input_verdict}
+use Rattle.mps_run.specs.Opening.{OpensNothing}
+use Rattle.mps_tools.specs.BadReplay.{text_of_bad_replay}
+use Rattle.mps_tools.specs.Listed.{ListedWith, IsUniqueList, ListsPart}
+use Rattle.mps_tools.specs.BadTextLine.{text_of_bad_line as text_of_bad_text_line}
+use Rattle.mps_tools.specs.Text.{ReadWith, IsCutShort as IsCutShortText, IsUniqueReading}
+use Rattle.mps_tools.specs.Converted.{ConvertedWith, ConvertsUntilReadFault, ConvertsUntilWriteFault, IsUniqueConversion}
+use Rattle.mps_tools.specs.Ending.{FailsWithin}
+use Rattle.mps_tools.specs.Script.{script as generated_script}
 use Rattle.mps_args.specs.Meaning.{Meaning, Runs, Converts, Reads, Lists, Generates}
 use Rattle.mps_args.specs.Words.{meaning}
 use Rattle.mps_cli.specs.Built.{session_built}

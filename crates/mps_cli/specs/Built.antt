@@ -8,7 +8,7 @@ use Rattle.mps_model.specs.FirstCall.{is_arena}
 use Rattle.mps_model.specs.Graph.{empty_graph}
 use Rattle.mps_model.specs.World.{World, Pool, PoolKind, Collected, is_automatic_kind, is_copying_kind, empty_world}
 use Rattle.mps_commands.specs.Built.{Built}
-use Rattle.mps_heap_spec.specs.Collecting.{is_empty}
+use Rattle.mps_refinement.specs.Collecting.{is_empty}
 
 -- whether a collection moves the blocks of pools of a kind, or leaves them alone
 abbrev pub is_moved_or_manual_kind : PoolKind → Bool

@@ -3,8 +3,8 @@ use Rattle.std.specs.Prelude.{ℕ, ◌+◌, ◌≤◌, List, [], length, Option,
 use Rattle.mps_base.specs.Trail.{Moves}
 use Rattle.mps_base.specs.declared.moves.Move.{Move}
 use Rattle.mps_format.specs.declared.any.AnyFormat.{AnyFormat}
-use Rattle.mps_heap_spec.specs.State.{HeapState}
-use Rattle.mps_trace.specs.Collect.{most_moves}
+use Rattle.mps_refinement.specs.State.{HeapState}
+use Rattle.mps_refinement.specs.TraceCollect.{most_moves}
 
 pub record MadeState : Type 0 where
   pub heap : HeapState AnyFormat

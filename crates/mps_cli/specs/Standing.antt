@@ -13,7 +13,7 @@ use Rattle.mps_model.specs.declared.call.Call.{Call}
 use Rattle.mps_model.specs.declared.call.Call.TheVariants as call
 use Rattle.mps_model.specs.declared.reply.Reply.{Reply}
 use Rattle.mps_model.specs.declared.reply.Reply.TheVariants as reply
-use Rattle.mps_heap_spec.specs.State.{HeapState}
+use Rattle.mps_refinement.specs.State.{HeapState}
 use Rattle.mps_refinement.specs.RightStep.{IsRightIn, step_of}
 use Rattle.mps_refinement.specs.StandsFor.{StandsFor}
 use Rattle.mps_cli.specs.Session.{HasRoomForMoves, MadeState}

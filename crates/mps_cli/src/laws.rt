@@ -3,16 +3,16 @@ ghost use Rattle.std.specs.Prelude.{◌≡◌, ◌≢◌, ◌≤◌, ℕ, List, 
 ghost use Rattle.mps_desk.specs.Desk.{Outside, Files, HasRisen};
 ghost use Rattle.mps_args.specs.Meaning.{Runs, Converts, Reads, Lists};
 ghost use Rattle.mps_base.specs.Record.{Record};
-ghost use Rattle.mps_blocks.specs.Listed.{Lists as ListsAll};
+ghost use Rattle.mps_tools.specs.Listed.{Lists as ListsAll};
 ghost use Rattle.mps_event.specs.declared.version.Version.{Version};
-ghost use Rattle.mps_log_reader.specs.LogPrefix.{LogPrefix, LogEnds};
-ghost use Rattle.mps_txt.specs.Text.{TextEndsWith};
+ghost use Rattle.mps_run.specs.LogPrefix.{LogPrefix, LogEnds};
+ghost use Rattle.mps_tools.specs.Text.{TextEndsWith};
 ghost use Rattle.mps_cli.specs.Built.{session_built};
-ghost use Rattle.mps_log_reader.specs.Ending.{is_input_verdict};
+ghost use Rattle.mps_run.specs.LogReaderEnding.{is_input_verdict};
 ghost use Rattle.mps_run.specs.Ending.{NoFaultRose};
 ghost use Rattle.mps_run.specs.Script.{max_lines};
-ghost use Rattle.mps_script.specs.Line.{lines_of};
-ghost use Rattle.mps_script.specs.Script.{is_grammatical};
+ghost use Rattle.mps_run.specs.Line.{lines_of};
+ghost use Rattle.mps_run.specs.ScriptScript.{is_grammatical};
 ghost use Rattle.mps_run.specs.Following.{Answered, RanWhole, HoldsLog};
 ghost use Rattle.mps_cli.specs.Asked.{DoesAsAsked};
 

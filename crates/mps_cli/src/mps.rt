@@ -1,7 +1,7 @@
 // The top call.
 ghost use Rattle.std.specs.Prelude.{◌≡◌, ◌≢◌, ◌↔◌, None, Some, Err, IfOk, codes, true};
 ghost use Rattle.mps_desk.specs.Desk.{HasRisen, IsSteady, NothingWaits};
-ghost use Rattle.mps_log_reader.specs.Ending.{is_input_verdict};
+ghost use Rattle.mps_run.specs.LogReaderEnding.{is_input_verdict};
 ghost use Rattle.mps_args.specs.Runnable.{IsRunnable};
 ghost use Rattle.mps_args.specs.Seen.{meaning_of, texts};
 ghost use Rattle.mps_args.specs.Words.{meaning};

@@ -1,7 +1,7 @@
 // The program over a desk that gets the output in large pieces.
 ghost use Rattle.std.specs.Prelude.{◌≡◌, ◌⊎◌, None, Err, IfOk, true};
 ghost use Rattle.mps_desk.specs.Desk.{HasRisen, NothingWaits};
-ghost use Rattle.mps_log_reader.specs.Ending.{is_input_verdict};
+ghost use Rattle.mps_run.specs.LogReaderEnding.{is_input_verdict};
 ghost use Rattle.mps_args.specs.Seen.{texts};
 ghost use Rattle.mps_args.specs.Words.{meaning};
 ghost use Rattle.mps_gathering.specs.Gathering.{begun};

@@ -5,7 +5,7 @@ use Rattle.mps_base.specs.Address.{Address, address_of_word, word_of}
 use Rattle.mps_base.specs.Run.{Run}
 use Rattle.mps_base.specs.declared.moves.Move.{Move}
 use Rattle.mps_base.specs.declared.moves.Move.TheVariants.{Splat, Free}
-use Rattle.mps_extents.specs.Extents.{run_over}
+use Rattle.mps_seg.specs.Extents.{run_over}
 use Rattle.mps_format.specs.Front.{front_layout}
 use Rattle.mps_format.specs.Layout.{Layout}
 use Rattle.mps_seg.specs.Segs.{SegsState, new_segments}

@@ -1,2 +1,3 @@
 pub mod Extents
 pub mod Inside
+pub use Rattle.mps_bits.specs.Table

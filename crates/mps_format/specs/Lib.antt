@@ -11,3 +11,4 @@ pub mod Mapped
 pub mod Pools
 pub mod References
 pub mod TailExample
+pub use Rattle.mps_numerals.specs.Hexadecimal

@@ -6,7 +6,7 @@ use Rattle.mps_model.specs.FirstCall.{is_arena}
 use Rattle.mps_model.specs.declared.call.Call.{Call}
 use Rattle.mps_script.specs.declared.line.BadLine.{BadLine}
 use Rattle.mps_script.specs.Line.{call_of_line, lines_of}
-use Rattle.mps_line_words.specs.Lines.{is_line_feed}
+use Rattle.mps_script.specs.Lines.{is_line_feed}
 use Rattle.mps_script.specs.Script.{is_good, calls_of, call_or_none, in_turn, is_good_after, is_grammatical}
 use Rattle.mps_workload.specs.Script.{next_state, number_below, ending_lines, lines_of_kind, step_lines, state_after_step, lines_from, script}
 use Rattle.mps_generated.proofs.Separated.{has_none, line_first, number_has_none, no_line_feed}

@@ -11,10 +11,10 @@ use Rattle.mps_model.specs.declared.call.Call.{Call}
 use Rattle.mps_model.specs.declared.call.Call.TheVariants as call
 use Rattle.mps_numerals.specs.Reading.{number_in}
 use Rattle.mps_numerals.proofs.Decimals.{written_is_read}
-use Rattle.mps_line_words.specs.Name.{slot_of}
-use Rattle.mps_line_words.specs.Word.{is_space, words}
+use Rattle.mps_script.specs.Name.{slot_of}
+use Rattle.mps_script.specs.Word.{is_space, words}
 use Rattle.mps_script.specs.Line.{call_of_words}
-use Rattle.mps_line_words.specs.Lines.{max_line_bytes}
+use Rattle.mps_script.specs.Lines.{max_line_bytes}
 use Rattle.mps_script.specs.Script.{in_turn, is_good_after}
 use Rattle.mps_generated.proofs.Separated.{cut_first, uncut, is_number, number_has_none, no_space}
 

@@ -5,9 +5,9 @@ use Rattle.std.proofs.lemmas.List.Splits.{slice_split-cons_yes, slice_split-cons
 use Rattle.std.proofs.lemmas.Bool.Decides.{nat_tests}
 use Rattle.mps_numerals.specs.Reading.{digit_of, digits_value, below_word, are_digits, is_canonical, value_in}
 use Rattle.mps_numerals.proofs.Decimals.{written_is_read}
-use Rattle.mps_line_words.specs.Word.{is_space, is_nonempty}
+use Rattle.mps_script.specs.Word.{is_space, is_nonempty}
 use Rattle.mps_script.specs.Line.{lines_of, without_empty_last}
-use Rattle.mps_line_words.specs.Lines.{is_line_feed}
+use Rattle.mps_script.specs.Lines.{is_line_feed}
 
 -- no byte of a text is a separator
 abbrev pub has_none : (ℕ → Bool) → List ℕ → Bool

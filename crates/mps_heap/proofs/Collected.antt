@@ -4,11 +4,11 @@ use Rattle.std.proofs.lemmas.Bool.{and_parts, ltb-true}
 use Rattle.std.specs.Prelude.{◌&&◌, nat_lt}
 use Rattle.std.specs.List.{list_all}
 use Rattle.mps_base.specs.Trail.{Moves}
-use Rattle.mps_buffer.specs.Points.{WereMadeBefore}
+use Rattle.mps_heap_spec.specs.Points.{WereMadeBefore}
 use Rattle.mps_format.specs.Layout.{Layout}
 use Rattle.mps_model.specs.World.{World}
-use Rattle.mps_seg.specs.Table.{IsMarked}
-use Rattle.mps_trace.specs.Collect.{most_moves}
+use Rattle.mps_heap_spec.specs.Table.{IsMarked}
+use Rattle.mps_heap_spec.specs.Collect.{most_moves}
 use Rattle.mps_heap_spec.specs.Collecting.{CanCollectAll, IsCollected, can_collect, is_empty, most_flips}
 use Rattle.mps_format.specs.Pools.{is_moved_or_manual}
 use Rattle.mps_heap_spec.specs.State.{HeapState}

@@ -3,7 +3,7 @@ use Rattle.std.proofs.Common.{◌≡◌, ℕ, ◌≤◌, ap, sym, subst, []}
 use Rattle.mps_base.specs.Address.{max_grains}
 use Rattle.mps_format.specs.Layout.{Layout}
 use Rattle.mps_model.specs.World.{empty_world_of}
-use Rattle.mps_names.specs.State.{thing_in}
+use Rattle.mps_heap_spec.specs.NamesState.{thing_in}
 use Rattle.mps_heap_spec.specs.Arena.{new_heap}
 use Rattle.mps_heap_spec.specs.State.{HeapState}
 use Rattle.mps_refinement.specs.NewHeap.{arena_step}

@@ -2,3 +2,4 @@ pub mod Answers
 pub mod Lending
 pub mod Results
 pub mod Right
+pub use Rattle.mps_refinement.specs.RightMoving

@@ -7,7 +7,7 @@ use Rattle.mps_base.specs.declared.refusal.Refusal.{Refusal}
 use Rattle.mps_base.specs.declared.refusal.Refusal.TheVariants as refusal
 use Rattle.mps_buffer.specs.Points.{with_point}
 use Rattle.mps_buffer.specs.declared.point.Point.{Point}
-use Rattle.mps_model.specs.Checked.{Checked, ◌>>=◌, ◌>>◌, required, refuse_when}
+use Rattle.mps_heap_spec.specs.Checked.{Checked, ◌>>=◌, ◌>>◌, required, refuse_when}
 use Rattle.mps_names.specs.State.{NamesState, Updates, thing_named}
 use Rattle.mps_root.specs.State.{RootsState}
 use Rattle.mps_heap_spec.specs.Finding.{point_named}

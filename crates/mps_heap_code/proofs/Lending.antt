@@ -3,10 +3,10 @@ use Rattle.std.proofs.Common.{ℕ, ◌≡◌, ◌==◌, ◌+◌, ◌%◌, true, 
 use Rattle.std.proofs.lemmas.Bool.{eqb-true}
 use Rattle.std.specs.Option.{option_map_or}
 use Rattle.std.specs.Prelude.{slice_range}
-use Rattle.mps_arena.specs.Arena as arena
+use Rattle.mps_seg.specs.Arena as arena
 use Rattle.mps_base.specs.Address.{Address, word_of, bytes_of_word}
 use Rattle.mps_base.specs.declared.names.Slot.{Slot}
-use Rattle.mps_extents.specs.Extents.{run_over}
+use Rattle.mps_seg.specs.Extents.{run_over}
 use Rattle.mps_seg.specs.Segs.{SegsState, at_word}
 use Rattle.mps_heap_spec.specs.Finding.{with_words}
 use Rattle.mps_heap_spec.specs.Manual.{is_block_over}

@@ -3,7 +3,7 @@ use Rattle.std.proofs.Common.{ℕ, ◌≡◌, Result, Ok, Err, refl, sym, ap, su
 use Rattle.mps_base.specs.declared.names.Name.{Name}
 use Rattle.mps_base.specs.declared.names.Rank.{Rank}
 use Rattle.mps_base.specs.declared.refusal.Refusal.{Refusal}
-use Rattle.mps_model.specs.Checked.{Checked}
+use Rattle.mps_heap_spec.specs.Checked.{Checked}
 use Rattle.mps_heap_spec.specs.State.{HeapState}
 use Rattle.mps_heap_spec.specs.Making.{IsUntouched, IsMaking, Refused, OutOfMemory, Made, MakesPoint, MakesPointIn, check_point, without_answer}
 use Rattle.mps_heap_spec.specs.declared.found.Kept.{Kept}

@@ -6,8 +6,8 @@ use Rattle.mps_base.specs.declared.names.Slot.{Slot}
 use Rattle.mps_base.specs.declared.refusal.Refusal.{Refusal}
 use Rattle.mps_base.specs.declared.refusal.Refusal.TheVariants as refusal
 use Rattle.mps_format.specs.Layout.{Layout}
-use Rattle.mps_arena.specs.Arena as arena
-use Rattle.mps_model.specs.Checked.{Checked, ◌>>=◌, ◌>>◌, refuse_when}
+use Rattle.mps_seg.specs.Arena as arena
+use Rattle.mps_heap_spec.specs.Checked.{Checked, ◌>>=◌, ◌>>◌, refuse_when}
 use Rattle.mps_heap_spec.specs.Finding.{block_place_in, object_in, with_words}
 use Rattle.mps_heap_spec.specs.Manual.{block_in, is_block_over}
 use Rattle.mps_heap_spec.specs.State.{HeapState, pool_over}

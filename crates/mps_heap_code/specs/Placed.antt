@@ -5,7 +5,7 @@ use Rattle.mps_base.specs.Segment.{segment_over}
 use Rattle.mps_base.specs.Trail.{Moves}
 use Rattle.mps_base.specs.declared.refusal.Refusal.TheVariants as refusal
 use Rattle.mps_manual.specs.Manual.{has_blocks_of, answer_of_alloc, segs_after_alloc, moves_allocated, segs_after_free, moves_freed}
-use Rattle.mps_model.specs.Checked.{Checked, ◌>>=◌, ◌>>◌, required, refuse_when}
+use Rattle.mps_heap_spec.specs.Checked.{Checked, ◌>>=◌, ◌>>◌, required, refuse_when}
 use Rattle.mps_heap_spec.specs.Coming.{Moved}
 use Rattle.mps_heap_spec.specs.Manual.{with_block_place}
 use Rattle.mps_heap_spec.specs.State.{HeapState}

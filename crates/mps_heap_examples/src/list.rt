@@ -1,6 +1,6 @@
 // A list of numbers in a heap.
 ghost use Rattle.std.specs.Prelude.{◌+◌, ◌<◌, length};
-ghost use Rattle.mps_refinement.specs.RightMoving.{KeepsRoom};
+ghost use Rattle.mps_heap.specs.RightMoving.{KeepsRoom};
 
 use crate::Tail;
 use mps_base::{Kind, Name, Rank, Refusal, Slot, Trail};

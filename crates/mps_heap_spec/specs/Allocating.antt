@@ -1,6 +1,6 @@
 -- The outcomes of `reserve`, `init` and `commit`.
 use Rattle.std.specs.Prelude.{ℕ, ◌==◌, ◌&&◌, Bool, not, Some, option_and_then, is_some, Ok, slice_get, if◌then◌else◌}
-use Rattle.mps_arena.specs.Arena.{answer_of_placement}
+use Rattle.mps_seg.specs.Arena.{answer_of_placement}
 use Rattle.mps_base.specs.Trail.{Moves, with_move}
 use Rattle.mps_base.specs.declared.address.Addr.{Addr}
 use Rattle.mps_base.specs.declared.moves.Move.TheVariants as moves

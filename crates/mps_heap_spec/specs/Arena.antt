@@ -4,8 +4,8 @@ use Rattle.mps_base.specs.Address.{Address, word_of}
 use Rattle.mps_base.specs.Run.{total}
 use Rattle.mps_base.specs.declared.refusal.Refusal.TheVariants as refusal
 use Rattle.mps_buffer.specs.Points.{no_points}
-use Rattle.mps_final.specs.State.{no_finals}
-use Rattle.mps_ld.specs.State.{no_flips}
+use Rattle.mps_trace.specs.State.{no_finals}
+use Rattle.mps_trace.specs.LdState.{no_flips}
 use Rattle.mps_model.specs.Checked.{Checked, ◌>>◌, refuse_when}
 use Rattle.mps_names.specs.State.{NamesState}
 use Rattle.mps_root.specs.State.{no_roots}

@@ -4,7 +4,7 @@ use Rattle.std.specs.List.{list_all}
 use Rattle.mps_base.specs.Trail.{Moves}
 use Rattle.mps_buffer.specs.Points.{points_after_flip}
 use Rattle.mps_format.specs.Layout.{Layout}
-use Rattle.mps_ld.specs.State as ld
+use Rattle.mps_trace.specs.LdState as ld
 use Rattle.mps_trace.specs.Trace.{TraceState, traced}
 use Rattle.mps_trace.specs.Collect.{CanCollect, Collects, most_moves}
 use Rattle.mps_trace.specs.Flip.{automatic_of, zones_of}

@@ -4,7 +4,7 @@ use Rattle.mps_base.specs.Staleness.{is_stale}
 use Rattle.mps_base.specs.declared.names.Name.{Name}
 use Rattle.mps_base.specs.declared.names.Slot.{Slot}
 use Rattle.mps_format.specs.Layout.{Layout}
-use Rattle.mps_ld.specs.State.{LdState, reset_at, with_address, after_merge}
+use Rattle.mps_trace.specs.LdState.{LdState, reset_at, with_address, after_merge}
 use Rattle.mps_model.specs.Checked.{Checked, ◌>>=◌}
 use Rattle.mps_heap_spec.specs.State.{HeapState}
 use Rattle.mps_heap_spec.specs.Coming.{Outcome, done}

@@ -3,7 +3,7 @@ use Rattle.std.specs.Prelude.{Bool, true, false, nat_le, Ok, List, [], ◌∷◌
 use Rattle.mps_base.specs.Address.{Address}
 use Rattle.mps_base.specs.declared.names.Slot.{Slot}
 use Rattle.mps_base.specs.declared.refusal.Refusal.TheVariants as refusal
-use Rattle.mps_final.specs.State.{FinalsState, max_finals, finals_count, with_registration, without_registration, position_of}
+use Rattle.mps_trace.specs.State.{FinalsState, max_finals, finals_count, with_registration, without_registration, position_of}
 use Rattle.mps_format.specs.Layout.{Layout}
 use Rattle.mps_model.specs.Checked.{Checked, ◌>>=◌, ◌>>◌, required, refuse_when}
 use Rattle.mps_heap_spec.specs.State.{HeapState}

@@ -7,7 +7,7 @@ use Rattle.mps_base.specs.declared.refusal.Refusal.TheVariants as refusal
 use Rattle.mps_buffer.specs.declared.point.Point.{Point}
 use Rattle.mps_buffer.specs.Points.{point_at}
 use Rattle.mps_format.specs.Layout.{Layout}
-use Rattle.mps_ld.specs.State.{LdState}
+use Rattle.mps_trace.specs.LdState.{LdState}
 use Rattle.mps_model.specs.Checked.{Checked, ◌>>=◌, ◌>>◌, required, refuse_when}
 use Rattle.mps_names.specs.State.{thing_named}
 use Rattle.mps_names.specs.declared.names.Thing.{Thing}

@@ -6,7 +6,7 @@ use Rattle.mps_base.specs.declared.names.Rank.{Rank}
 use Rattle.mps_base.specs.declared.refusal.Refusal.{Refusal}
 use Rattle.mps_base.specs.declared.refusal.Refusal.TheVariants as refusal
 use Rattle.mps_buffer.specs.Points.{IsMade, new_point, with_point}
-use Rattle.mps_ld.specs.State.{reset_at}
+use Rattle.mps_trace.specs.LdState.{reset_at}
 use Rattle.mps_model.specs.Checked.{Checked, ◌>>=◌, ◌>>◌, required, refuse_when}
 use Rattle.mps_model.specs.Making.{most_roots, most_slots, most_points, most_pools, most_dependencies, is_block_size, is_weak_rank, refuse_at_limit}
 use Rattle.mps_names.specs.State.{NamesState, thing_named, IsSameMap, Updates}

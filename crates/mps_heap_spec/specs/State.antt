@@ -6,8 +6,8 @@ use Rattle.mps_buffer.specs.declared.point.Held.{Held}
 use Rattle.mps_buffer.specs.declared.point.Point.{Point}
 use Rattle.mps_buffer.specs.Points.{PointsState, point_at, run_of_held}
 use Rattle.mps_seg.specs.Buffer.{IsAtHand}
-use Rattle.mps_final.specs.State.{FinalsState}
-use Rattle.mps_ld.specs.State.{EpochsState, LdState}
+use Rattle.mps_trace.specs.State.{FinalsState}
+use Rattle.mps_trace.specs.LdState.{EpochsState, LdState}
 use Rattle.mps_names.specs.State.{NamesState}
 use Rattle.mps_root.specs.State.{RootsState}
 use Rattle.mps_seg.specs.Segs.{SegsState}

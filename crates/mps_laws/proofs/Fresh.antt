@@ -6,7 +6,7 @@ use Rattle.std.specs.List.{AllByRecursion}
 use Rattle.mps_base.specs.Staleness.{is_stale}
 use Rattle.mps_base.specs.declared.moves.Move.{Move}
 use Rattle.mps_base.specs.declared.names.Name.{Name}
-use Rattle.mps_format.specs.Layout.{Layout}
+use Rattle.mps_model.specs.Layout.{Layout}
 use Rattle.mps_model.proofs.Appending.{IsLegalFrom-later}
 use Rattle.mps_model.specs.declared.call.Call.{Call}
 use Rattle.mps_model.specs.declared.call.Call.TheVariants as call

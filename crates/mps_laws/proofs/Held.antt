@@ -1,7 +1,7 @@
 -- What a client holds is live.
 use Rattle.std.proofs.Common.{ℕ, refl, [], ◌∷◌, ◌++◌}
 use Rattle.std.specs.List.{AllByRecursion}
-use Rattle.mps_format.specs.Layout.{Layout}
+use Rattle.mps_model.specs.Layout.{Layout}
 use Rattle.mps_model.specs.Step.{Step, History}
 use Rattle.mps_model.specs.World.{World, empty_world_of}
 use Rattle.mps_model.specs.History.{IsLegalHistoryOf, HeldAreLive, world_after}

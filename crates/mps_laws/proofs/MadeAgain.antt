@@ -2,7 +2,7 @@
 use Rattle.std.proofs.Common.{◌≡◌, refl, true, false}
 use Rattle.std.specs.Prelude.{IsTrue, ◌||◌, None}
 use Rattle.std.specs.List.{list_all, flat_map}
-use Rattle.mps_format.specs.Any.{numbered_layout}
+use Rattle.mps_model.specs.Any.{numbered_layout}
 use Rattle.mps_model.specs.Step.{Step}
 use Rattle.mps_model.specs.Answer.{is_block}
 use Rattle.mps_model.specs.Graph.{ids_of_client, ids_in_blocks, targets}

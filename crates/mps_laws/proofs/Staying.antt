@@ -6,7 +6,7 @@ use Rattle.std.specs.Prelude.{not, ◌||◌, is_some, option_map}
 use Rattle.std.specs.Option.{option_map_or}
 use Rattle.std.specs.List.{AllByRecursion, list_all, list_any}
 use Rattle.mps_base.specs.declared.names.Slot.{Slot}
-use Rattle.mps_format.specs.Layout.{Layout}
+use Rattle.mps_model.specs.Layout.{Layout}
 use Rattle.mps_model.proofs.Appending.{world_after_steps-append, IsLegalFrom-later}
 use Rattle.mps_model.specs.declared.call.Call.TheVariants as call
 use Rattle.mps_model.specs.declared.reply.Reply.TheVariants as reply

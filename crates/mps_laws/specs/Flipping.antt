@@ -1,6 +1,6 @@
 -- How often a history flips.
 use Rattle.std.specs.Prelude.{ℕ, ◌+◌, ◌≤◌, length}
-use Rattle.mps_format.specs.Layout.{Layout}
+use Rattle.mps_model.specs.Layout.{Layout}
 use Rattle.mps_model.specs.Step.{Step, History}
 use Rattle.mps_model.specs.World.{World}
 use Rattle.mps_model.specs.History.{IsLegalStep, IsLegalHistoryOf, world_after}

@@ -3,7 +3,7 @@ use Rattle.std.specs.Prelude.{◌≡◌, ℕ, Bool, true, IsTrue, Option, Some, 
 use Rattle.mps_base.specs.Address.{Id}
 use Rattle.mps_base.specs.declared.names.Name.{Name}
 use Rattle.mps_base.specs.declared.names.Slot.{Slot}
-use Rattle.mps_format.specs.Layout.{Layout}
+use Rattle.mps_model.specs.Layout.{Layout}
 use Rattle.mps_model.specs.declared.call.Call.TheVariants as call
 use Rattle.mps_model.specs.Answer.{is_accepted}
 use Rattle.mps_model.specs.Step.{Step, History}

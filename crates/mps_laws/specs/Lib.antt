@@ -5,3 +5,4 @@ pub mod Staying
 pub mod Depending
 pub mod WellFormed
 pub mod Flipping
+pub use Rattle.mps_changes.specs.Change

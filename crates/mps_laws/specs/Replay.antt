@@ -1,6 +1,6 @@
 -- Replaying the log of a legal history: its live blocks.
 use Rattle.std.specs.Prelude.{◌≡◌, ℕ, Some}
-use Rattle.mps_format.specs.Layout.{Layout}
+use Rattle.mps_model.specs.Layout.{Layout}
 use Rattle.mps_model.specs.Step.{Step, History}
 use Rattle.mps_model.specs.Log.{log_of, records_of_step}
 use Rattle.mps_model.specs.Replay.{replay, replay_from}

@@ -5,8 +5,8 @@ use Rattle.mps_base.specs.declared.address.Addr.{Addr}
 use Rattle.mps_base.specs.declared.moves.Move.{Move}
 use Rattle.mps_base.specs.declared.moves.Move.TheVariants as moves
 use Rattle.mps_base.specs.declared.names.Name.{Name}
-use Rattle.mps_format.specs.Layout.{Layout}
-use Rattle.mps_format.specs.Any.{numbered_layout}
+use Rattle.mps_model.specs.Layout.{Layout}
+use Rattle.mps_model.specs.Any.{numbered_layout}
 use Rattle.mps_model.specs.declared.call.Call.{Call}
 use Rattle.mps_model.specs.declared.call.Call.TheVariants as call
 use Rattle.mps_model.specs.declared.reply.Reply.TheVariants as reply

@@ -9,9 +9,9 @@ use Rattle.mps_base.specs.declared.moves.Move.TheVariants.{Alloc, Free, Unseg}
 use Rattle.mps_base.specs.declared.names.Rank.TheVariants.{Exact}
 use Rattle.mps_base.specs.declared.refusal.Refusal.{Refusal}
 use Rattle.mps_base.specs.declared.refusal.Refusal.TheVariants.{BadSize}
-use Rattle.mps_arena.specs.Arena.{answer_of_placement, cleared_words}
+use Rattle.mps_seg.specs.Arena.{answer_of_placement, cleared_words}
 use Rattle.mps_seg.specs.Segs.{SegsState, segments_after, noted_for, moves_after}
-use Rattle.mps_marks.specs.Marks.{without_marks}
+use Rattle.mps_seg.specs.Marks.{without_marks}
 use Rattle.mps_seg.specs.Placing.{placement_in_gaps}
 
 -- in place of a size: blocks of any sizes

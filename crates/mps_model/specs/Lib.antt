@@ -25,3 +25,6 @@ pub mod History
 pub mod Text
 pub mod Posts
 pub mod WellFormed
+pub use Rattle.mps_format.specs.Any
+pub use Rattle.mps_format.specs.Fields
+pub use Rattle.mps_format.specs.Layout

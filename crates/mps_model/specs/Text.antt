@@ -3,7 +3,7 @@ use Rattle.std.specs.Prelude.{◌≡◌, ℕ, List, [], ◌∷◌, ◌++◌, cod
 use Rattle.std.specs.Fmt.{digits}
 use Rattle.mps_base.specs.declared.refusal.Refusal.{Refusal}
 use Rattle.mps_base.specs.declared.refusal.Refusal.TheVariants as refusal
-use Rattle.mps_numerals.specs.Hexadecimal.{hexadecimal}
+use Rattle.mps_format.specs.Hexadecimal.{hexadecimal}
 use Rattle.mps_format.specs.HeadText.{head_text}
 use Rattle.mps_model.specs.declared.reply.Reply.{Reply}
 use Rattle.mps_model.specs.declared.reply.Reply.TheVariants as reply

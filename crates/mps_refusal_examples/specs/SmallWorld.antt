@@ -7,7 +7,7 @@ use Rattle.mps_base.specs.declared.names.Kind.{Kind}
 use Rattle.mps_base.specs.declared.names.Kind.TheVariants as kind
 use Rattle.mps_base.specs.declared.names.Rank.{Rank}
 use Rattle.mps_base.specs.declared.names.Rank.TheVariants as rank
-use Rattle.mps_format.specs.Fields.{head_word}
+use Rattle.mps_model.specs.Fields.{head_word}
 use Rattle.mps_model.specs.Graph.{Cell, HeadCell, NumberCell, ReferenceCell, Automatic, Manual, Object, Reservation, Point, PlainWord, Hold, Thing, ChainThing, PoolThing, TableThing, AreaThing, BlocksThing, PointThing, DependencyThing, NamedThing, empty_graph}
 use Rattle.mps_model.specs.Collection.{Collection}
 use Rattle.mps_model.specs.World.{World, PoolKind, Pool, Collected, OneSize, AnySize, Dependency, PointMemory, empty_run, empty_world}

@@ -8,14 +8,14 @@ use Rattle.mps_base.specs.declared.names.Name.{Name}
 use Rattle.std.proofs.lemmas.Bool.Decides.{nat_tests}
 use Rattle.mps_model.specs.declared.call.Call.{Call}
 use Rattle.mps_model.specs.declared.call.Call.TheVariants as call
-use Rattle.mps_line_words.specs.Lines.{max_line_bytes}
-use Rattle.mps_line_words.specs.Word.{words, only_word}
-use Rattle.mps_line_words.specs.Reading.{first_of_two, both, named_in, single, onto, pair, each}
+use Rattle.mps_answers.specs.Lines.{max_line_bytes}
+use Rattle.mps_answers.specs.Word.{words, only_word}
+use Rattle.mps_answers.specs.Reading.{first_of_two, both, named_in, single, onto, pair, each}
 use Rattle.mps_script.specs.Calls.{none, one, two, three, four, or}
 use Rattle.mps_numerals.specs.Decimal.{decimal_number}
-use Rattle.mps_line_words.specs.Number.{number_of, number_within, prefixed_hexadecimal}
-use Rattle.mps_line_words.specs.Name.{name_of, slot_of}
-use Rattle.mps_line_words.specs.Head.{head_of}
+use Rattle.mps_answers.specs.Number.{number_of, number_within, prefixed_hexadecimal}
+use Rattle.mps_answers.specs.Name.{name_of, slot_of}
+use Rattle.mps_answers.specs.Head.{head_of}
 use Rattle.mps_script.specs.Form.{Form, kinds, kinds_on_chains, formats, ranks, keyword, grains_from, length_of_root, capacities, padded, chain, automatic_pool, pool_on_chain, pool_mfs, pool_mvff, pool, init, start, a_to_b_forms, c_forms, d_to_f_forms, g_to_k_forms, l_forms, m_to_o_forms, p_to_r_forms, s_to_z_forms, forms, call_in, command_call}
 use Rattle.mps_script.specs.Line.{begins_comment, or_bad, call_of_words, call_of_line}
 use Rattle.mps_script.specs.declared.line.BadLine.{BadLine}

@@ -11,7 +11,7 @@ use Rattle.mps_model.specs.World.{World, empty_world}
 use Rattle.mps_model.specs.History.{world_after_history}
 use Rattle.mps_model.proofs.Appending.{IsLegalFrom-append}
 use Rattle.mps_commands.specs.Built.{Built}
-use Rattle.mps_line_words.specs.Lines.{max_line_bytes}
+use Rattle.mps_answers.specs.Lines.{max_line_bytes}
 use Rattle.mps_script.specs.Line.{lines_of, call_of_line}
 use Rattle.mps_script.specs.Script.{is_good_after, is_grammatical}
 use Rattle.mps_report.specs.declared.stop.Stop.{Stop}

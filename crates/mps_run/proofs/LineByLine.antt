@@ -10,7 +10,7 @@ use Rattle.mps_model.specs.Step.{Step, History}
 use Rattle.mps_script.specs.declared.line.BadLine.{BadLine}
 use Rattle.mps_script.specs.Script.{calls_of, call_or_none, has_arena_after, is_good_after, is_grammatical, is_some_call}
 use Rattle.mps_script.proofs.Scripts.{script_grows, arena_after}
-use Rattle.mps_line_words.specs.Lines.{is_line_feed}
+use Rattle.mps_answers.specs.Lines.{is_line_feed}
 use Rattle.mps_script.specs.Line.{lines_of, without_empty_last, call_of_line}
 use Rattle.mps_lines.specs.Buffer.{length_of_line}
 use Rattle.mps_run.specs.Script.{ScriptCommand, commands_from, commands_of, command_of_step, commands_of_call}

@@ -9,7 +9,7 @@ use Rattle.mps_model.specs.World.{World, empty_world}
 use Rattle.mps_model.specs.History.{world_after, world_after_steps, world_after_history}
 use Rattle.mps_model.specs.Text.{line_of_answer}
 use Rattle.mps_model.proofs.Appending.{log_from-append, IsLegalFrom-append, world_after_steps-append}
-use Rattle.mps_format.specs.Any.{numbered_layout}
+use Rattle.mps_model.specs.Any.{numbered_layout}
 use Rattle.mps_laws.proofs.Flipping.{no_more_than_steps}
 use Rattle.mps_laws.proofs.Replays.Replay.{log_replays}
 use Rattle.mps_commands.specs.Built.{Built}

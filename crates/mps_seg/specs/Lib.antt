@@ -4,3 +4,7 @@ pub mod Lending
 pub mod Placing
 pub mod Segs
 pub mod Table
+pub use Rattle.mps_bits.specs.Table as BitsTable
+pub use Rattle.mps_arena.specs.Arena
+pub use Rattle.mps_extents.specs.Extents
+pub use Rattle.mps_marks.specs.Marks

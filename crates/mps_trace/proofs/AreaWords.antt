@@ -1,7 +1,7 @@
 -- Areas are gone through one after the other.
 use Rattle.std.proofs.Common.{ℕ, zero, suc, ◌≡◌, Option, Some, None, List, [], ◌∷◌, drop, get_or, refl, ◌∙◌}
 use Rattle.mps_base.specs.Address.{word_of}
-use Rattle.mps_extents.specs.Extents.{run_over}
+use Rattle.mps_seg.specs.Extents.{run_over}
 use Rattle.mps_root.specs.declared.roots.Stored.{Stored}
 use Rattle.mps_seg.specs.Segs.{SegsState}
 use Rattle.mps_trace.specs.Begin.{nailed_by_area, nailed_by_areas}

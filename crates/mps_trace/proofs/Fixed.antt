@@ -6,7 +6,7 @@ use Rattle.mps_base.specs.Trail.{Moves}
 use Rattle.mps_base.specs.declared.address.Addr.{Addr}
 use Rattle.mps_base.specs.declared.refusal.Refusal.{Refusal}
 use Rattle.mps_format.specs.Layout.{Layout}
-use Rattle.mps_arena.specs.Arena.{answer_of_placement}
+use Rattle.mps_seg.specs.Arena.{answer_of_placement}
 use Rattle.mps_seg.specs.Segs.{SegsState}
 use Rattle.mps_amc.specs.Moving.{IsForwarded, size_at}
 use Rattle.mps_amc.specs.Amc.{AmcState, answer_of_fix, AreWordsFixed, placement_of_copy, FixesAt, forwards, is_kept, keeps}

@@ -6,7 +6,7 @@ use Rattle.mps_base.specs.Address.{Address, Word, word_of, address_of_word}
 use Rattle.mps_base.specs.Run.{Run, IsAscending, end_of}
 use Rattle.mps_base.specs.declared.address.Addr.{Addr}
 use Rattle.mps_amc.specs.Moving.{nailed, kept_in_place}
-use Rattle.mps_extents.specs.Extents.{run_over, has_word}
+use Rattle.mps_seg.specs.Extents.{run_over, has_word}
 use Rattle.mps_seg.specs.Segs.{SegsState, at_word}
 use Rattle.mps_seg.specs.Collecting.{is_condemned_at, is_kept_at}
 use Rattle.mps_trace.specs.Flip.{nailed_in}

@@ -4,7 +4,7 @@ use Rattle.std.proofs.Common.{arith, lit<}
 use Rattle.mps_base.specs.Address.{Address, grain_of}
 use Rattle.mps_base.specs.Segment.{Segment}
 use Rattle.mps_base.specs.declared.names.Rank.TheVariants.{Exact}
-use Rattle.mps_bits.specs.Table.{bit}
+use Rattle.mps_seg.specs.BitsTable.{bit}
 use Rattle.mps_seg.specs.Segs.{SegsState, new_segments}
 use Rattle.mps_seg.specs.Collecting.{condemning}
 

@@ -9,7 +9,7 @@ use Rattle.mps_base.specs.declared.names.Rank.TheVariants.{Exact}
 use Rattle.mps_amc.specs.Amc as amc
 use Rattle.mps_amc.specs.Moving.{nailed}
 use Rattle.mps_buffer.specs.Points.{PointsState, after_all_end}
-use Rattle.mps_extents.specs.Extents.{run_over}
+use Rattle.mps_seg.specs.Extents.{run_over}
 use Rattle.mps_gen.specs.State.{max_chains}
 use Rattle.mps_root.specs.declared.roots.Stored.{Stored}
 use Rattle.mps_seg.specs.Segs.{SegsState}

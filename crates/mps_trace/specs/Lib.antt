@@ -10,3 +10,7 @@ pub mod Scan
 pub mod Trace
 pub mod Unit
 pub mod Collect
+pub use Rattle.mps_ld.specs.State as LdState
+pub use Rattle.mps_final.specs.State
+pub use Rattle.mps_gen.specs.State as GenState
+pub use Rattle.mps_manual.specs.Manual

@@ -7,7 +7,7 @@ use Rattle.mps_base.specs.declared.address.Addr.{Addr}
 use Rattle.mps_format.specs.Layout.{Layout}
 use Rattle.mps_format.specs.Front.{front_layout}
 use Rattle.mps_format.specs.References.{IsFirstReference, HasNoReference}
-use Rattle.mps_bits.specs.Table.{bit}
+use Rattle.mps_seg.specs.BitsTable.{bit}
 use Rattle.mps_seg.specs.Segs.{SegsState, at_word, new_segments}
 use Rattle.mps_seg.specs.Collecting.{noting, blackening}
 use Rattle.mps_amc.specs.Amc as amc

@@ -1,12 +1,12 @@
 // Answers the calls on the heap of an arena.
 ghost use Rattle.std.specs.Prelude.{◌≡◌, ◌≤◌, OnErr, OnOk, IsTrue, false, []};
 ghost use Rattle.mps_commands.specs.Range.{IsInRange};
-ghost use Rattle.mps_heap_spec.specs.Collecting.{can_collect};
+ghost use Rattle.mps_refinement.specs.Collecting.{can_collect};
 ghost use Rattle.mps_refinement.specs.RightMoving.{KeepsRoom};
 ghost use Rattle.mps_cli.specs.Built.{is_answered, call_takes_memory};
 ghost use Rattle.mps_cli.specs.Groups.{is_frequent};
 ghost use Rattle.mps_cli.specs.Standing.{AnswersRightly, HeapStandsStill};
-ghost use Rattle.mps_trace.specs.Collect.{most_moves};
+ghost use Rattle.mps_refinement.specs.TraceCollect.{most_moves};
 
 use crate::session::{areas, arena, collecting, making, moving, reading, writing};
 use mps_base::Trail;

@@ -1,10 +1,10 @@
 // Answers `collect`.
 ghost use Rattle.std.specs.Prelude.{◌≡◌, ◌≤◌, []};
 ghost use Rattle.mps_model.specs.declared.call.Call.TheVariants as call;
-ghost use Rattle.mps_heap_spec.specs.Collecting.{can_collect};
+ghost use Rattle.mps_refinement.specs.Collecting.{can_collect};
 ghost use Rattle.mps_refinement.specs.RightMoving.{KeepsRoom};
 ghost use Rattle.mps_cli.specs.Standing.{AnswersRightly};
-ghost use Rattle.mps_trace.specs.Collect.{most_moves};
+ghost use Rattle.mps_refinement.specs.TraceCollect.{most_moves};
 
 use mps_base::Trail;
 use mps_format::AnyFormat;

@@ -4,7 +4,7 @@ ghost use Rattle.mps_base.specs.Address.{max_grains};
 ghost use Rattle.mps_commands.specs.Range.{IsInRange};
 ghost use Rattle.mps_format.specs.AnyFormat.{any_layout};
 ghost use Rattle.mps_heap.specs.Right.{IsNewHeap};
-ghost use Rattle.mps_heap_spec.specs.Collecting.{can_collect};
+ghost use Rattle.mps_refinement.specs.Collecting.{can_collect};
 ghost use Rattle.mps_cli.specs.Built.{is_answered, call_takes_memory};
 ghost use Rattle.mps_cli.specs.Standing.{AnswersRightly, HeapStandsStill};
 

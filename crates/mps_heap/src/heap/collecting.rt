@@ -7,7 +7,7 @@ ghost use Rattle.mps_model.specs.declared.reply.Reply.TheVariants as reply;
 ghost use Rattle.mps_model.specs.Answer.{Replied};
 ghost use Rattle.mps_heap_spec.specs.Collecting.{can_collect};
 ghost use Rattle.mps_refinement.specs.RightMoving.{IsRightMoving, KeepsRoom};
-ghost use Rattle.mps_trace.specs.Collect.{most_moves};
+ghost use Rattle.mps_heap_spec.specs.Collect.{most_moves};
 
 use super::Heap;
 use mps_base::Trail;

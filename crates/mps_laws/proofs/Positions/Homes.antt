@@ -10,7 +10,7 @@ use Rattle.mps_base.specs.Run.{Run, Covers, end_of}
 use Rattle.mps_base.specs.Segment.{Segment, is_in_segment, grains_of_segment}
 use Rattle.mps_base.specs.declared.moves.Move.{Move}
 use Rattle.mps_base.specs.declared.moves.Move.TheVariants as moves
-use Rattle.mps_format.specs.Layout.{Layout}
+use Rattle.mps_model.specs.Layout.{Layout}
 use Rattle.mps_model.specs.Graph.{Object, entry_at}
 use Rattle.mps_model.specs.World.{World, address_of, empty_world_of, extent}
 use Rattle.mps_model.specs.Effect.{world_after_move}

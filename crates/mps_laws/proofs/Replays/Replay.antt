@@ -5,7 +5,7 @@ use Rattle.std.proofs.lemmas.Option.{none-some}
 use Rattle.std.proofs.lemmas.List.{length-map}
 use Rattle.std.specs.Prelude.{MatchBool, option_and_then}
 use Rattle.std.specs.List.{list_all}
-use Rattle.mps_format.specs.Layout.{Layout}
+use Rattle.mps_model.specs.Layout.{Layout}
 use Rattle.mps_base.specs.declared.moves.Move.{Move}
 use Rattle.mps_model.specs.declared.call.Call.{Call}
 use Rattle.mps_model.specs.declared.call.Call.TheVariants as call

@@ -8,7 +8,7 @@ use Rattle.std.specs.Prelude.{IsTrue, ◌&&◌, if◌then◌else◌, option_and_
 use Rattle.std.specs.List.{list_all, flat_map}
 use Rattle.std.specs.Option.{option_map_or}
 use Rattle.mps_base.specs.declared.names.Rank.{Rank}
-use Rattle.mps_format.specs.Layout.{Layout}
+use Rattle.mps_model.specs.Layout.{Layout}
 use Rattle.mps_model.specs.Graph.{Graph, Cell, HeadCell, NumberCell, ReferenceCell, retargeted, new_cells, new_cells_from, Point, Reservation, AreaWord, PlainWord, Slots, entries, entry_at, held_by_word, holds_of, ids_in_blocks, ids_in_holds, ids_in_reservations, ids_in_slots, ids_of_client, slots_of, target_of_cell, targets_of_cells, targets_of_point, targets_of_reservation, with_last, with_target_cell}
 use Rattle.mps_model.specs.Checked.{Found, Numbered}
 use Rattle.mps_model.specs.Allocating.{with_block_place, with_reservation, with_slot}

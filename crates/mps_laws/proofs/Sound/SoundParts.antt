@@ -8,7 +8,7 @@ use Rattle.std.specs.List.{list_all}
 use Rattle.mps_base.specs.declared.names.Name.{Name}
 use Rattle.mps_base.specs.declared.names.Rank.{Rank}
 use Rattle.mps_base.specs.declared.names.Slot.{Slot}
-use Rattle.mps_format.specs.Layout.{Layout}
+use Rattle.mps_model.specs.Layout.{Layout}
 use Rattle.mps_model.specs.Graph.{Object, Cell, NumberCell, ReferenceCell, Point, Reservation, AreaWord, PlainWord, Hold, entries, entry_at, object_at, slots_of, ids_in_slots, targets_of_cells, with_last, new_cells, new_cells_from}
 use Rattle.mps_model.specs.World.{World, Pool, is_live, pool_at}
 use Rattle.mps_model.specs.WellFormed.{are_shaped, are_right_cells}

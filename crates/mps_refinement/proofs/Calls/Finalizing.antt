@@ -9,7 +9,7 @@ use Rattle.std.specs.Option.{option_map_or}
 use Rattle.mps_base.specs.Address.{Address, Id}
 use Rattle.mps_base.specs.declared.names.Slot.{Slot}
 use Rattle.mps_base.specs.declared.refusal.Refusal.TheVariants as refusal
-use Rattle.mps_final.specs.State.{finals_count, max_finals, position_of, with_registration, without_registration}
+use Rattle.mps_trace.specs.State.{finals_count, max_finals, position_of, with_registration, without_registration}
 use Rattle.mps_format.specs.Layout.{Layout}
 use Rattle.mps_laws.proofs.Lookups.{map-with_last}
 use Rattle.mps_laws.proofs.Same.{Same, BothOrNeither, both, neither, fits, same_next, same_refuse_when, same_required, same_then}

@@ -4,7 +4,7 @@ use Rattle.std.proofs.lemmas.Bool.{cases_lt}
 use Rattle.std.proofs.lemmas.List.{ext_get_or, get_or-append_right, get_or-drop, get_or-set_other, get_or-set_same, get_or-take, get_or_append_left, length-drop, length-set}
 use Rattle.std.proofs.Math.Seq.{length-take-le}
 use Rattle.std.specs.Prelude.{nat_le, not, slice_set}
-use Rattle.mps_arena.specs.Arena as arena
+use Rattle.mps_seg.specs.Arena as arena
 use Rattle.mps_base.specs.Address.{Address, Word, word_of, bytes_of_word, max_block_words}
 use Rattle.mps_base.specs.declared.names.Slot.{Slot}
 use Rattle.mps_base.specs.declared.refusal.Refusal.TheVariants as refusal

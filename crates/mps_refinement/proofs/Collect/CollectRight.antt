@@ -46,8 +46,8 @@ use Rattle.mps_refinement.proofs.Collect.CollectedSegments.{none_condemned, none
 use Rattle.mps_refinement.proofs.Collect.Leavings.{a_collection_moves_objects}
 use Rattle.mps_refinement.proofs.Collect.RoomKept.{begin_pushes, units_keep_room, at_once_keeps_room}
 use Rattle.mps_refinement.proofs.Collect.RootsAfter.{roots_stay, messages_after, tables_after, AreRootsAfter}
-use Rattle.mps_gen.specs.State.{ChainsState}
-use Rattle.mps_final.specs.State.{FinalsState}
+use Rattle.mps_trace.specs.GenState.{ChainsState}
+use Rattle.mps_trace.specs.State.{FinalsState}
 use Rattle.mps_format.specs.declared.pool.Policy.{Policy}
 
 -- what has to be known of a heap that stands for a world before it collects everything: how its roots stand for those of the world, and

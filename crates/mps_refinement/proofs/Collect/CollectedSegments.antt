@@ -3,7 +3,7 @@ use Rattle.std.proofs.Common.{◌≡◌, ◌∙◌, ℕ, zero, suc, true, false,
 use Rattle.std.specs.Prelude.{replicate}
 use Rattle.mps_base.specs.Address.{Grain, Word}
 use Rattle.mps_base.specs.Segment.{Segment}
-use Rattle.mps_bits.specs.Table.{bit}
+use Rattle.mps_extents.specs.Table.{bit}
 use Rattle.mps_buffer.specs.Points.{PointsState, after_all_end}
 use Rattle.mps_model.specs.Effect.{Everything, condemned_by, world_flipped, world_after_moves}
 use Rattle.mps_model.specs.Flip.{flip_act, is_nothing}

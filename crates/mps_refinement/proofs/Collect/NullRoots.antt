@@ -4,9 +4,9 @@ use Rattle.std.proofs.lemmas.Bool.{false≢true, cases_lt}
 use Rattle.std.specs.Prelude.{slice_index_or, slice_set}
 use Rattle.std.specs.Option.{option_map_or}
 use Rattle.mps_base.specs.Address.{Address, Id}
-use Rattle.mps_final.specs.State.{FinalsState}
+use Rattle.mps_trace.specs.State.{FinalsState}
 use Rattle.mps_format.specs.Layout.{Layout}
-use Rattle.mps_gen.specs.State.{ChainsState}
+use Rattle.mps_trace.specs.GenState.{ChainsState}
 use Rattle.mps_model.specs.Effect.{Everything, condemned_by}
 use Rattle.mps_model.specs.Flip.{is_nothing}
 use Rattle.mps_model.specs.Graph.{Object, Slots, contains, is_automatic}

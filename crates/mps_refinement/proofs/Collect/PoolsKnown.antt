@@ -10,8 +10,8 @@ use Rattle.std.specs.Option.{option_map_or, unwrap_or}
 use Rattle.mps_base.specs.Generation.{target_generation}
 use Rattle.mps_format.specs.Layout.{Layout}
 use Rattle.mps_amc.specs.Amc.{HasTail}
-use Rattle.mps_gen.specs.State as chains
-use Rattle.mps_gen.specs.State.{ChainsState}
+use Rattle.mps_trace.specs.GenState as chains
+use Rattle.mps_trace.specs.GenState.{ChainsState}
 use Rattle.mps_model.specs.World as world
 use Rattle.mps_model.specs.World.{World, is_automatic_kind, pool_is, generations_of}
 use Rattle.mps_trace_laws.specs.Image.Memory.{pool_layout}

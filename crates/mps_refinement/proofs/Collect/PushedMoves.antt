@@ -12,10 +12,10 @@ use Rattle.mps_base.specs.declared.moves.Move.{Move}
 use Rattle.mps_base.specs.declared.moves.Move.TheVariants.{Free, Seg, Moved, Stay, Unseg}
 use Rattle.mps_base.specs.declared.refusal.Refusal.{Refusal}
 use Rattle.mps_format.specs.Layout.{Layout}
-use Rattle.mps_arena.specs.Arena.{answer_of_placement}
+use Rattle.mps_seg.specs.Arena.{answer_of_placement}
 use Rattle.mps_seg.specs.Segs.{SegsState, at_word, moves_after}
-use Rattle.mps_final.specs.State.{FinalsState}
-use Rattle.mps_gen.specs.State.{ChainsState}
+use Rattle.mps_trace.specs.State.{FinalsState}
+use Rattle.mps_trace.specs.GenState.{ChainsState}
 use Rattle.mps_root.specs.State.{RootsState, items_of}
 use Rattle.mps_amc.specs.Amc.{AmcState, FixesAt, forwards, is_kept, keeps, moves_fixed, placement_of_copy}
 use Rattle.mps_amc.specs.Moving.{size_at}

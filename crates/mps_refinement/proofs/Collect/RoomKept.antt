@@ -4,9 +4,9 @@ use Rattle.mps_base.specs.Address.{Address}
 use Rattle.mps_base.specs.Trail.{Moves, with_move}
 use Rattle.mps_base.specs.declared.moves.Move.TheVariants.{End, Flip}
 use Rattle.mps_buffer.specs.Points.{PointsState}
-use Rattle.mps_final.specs.State.{FinalsState}
+use Rattle.mps_trace.specs.State.{FinalsState}
 use Rattle.mps_format.specs.Layout.{Layout}
-use Rattle.mps_gen.specs.State.{max_chains}
+use Rattle.mps_trace.specs.GenState.{max_chains}
 use Rattle.mps_root.specs.State.{RootsState}
 use Rattle.mps_refinement.specs.RightMoving.{KeepsRoom}
 use Rattle.mps_abstract.specs.Collecting.{Collecting}

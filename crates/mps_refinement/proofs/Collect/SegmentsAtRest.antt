@@ -7,7 +7,7 @@ use Rattle.std.specs.Prelude.{◌||◌, option_map, slice_get}
 use Rattle.mps_base.specs.Address.{Address, Id, Word, address_of_word}
 use Rattle.mps_base.specs.Run.{Run, Covers, IsAscending, end_of}
 use Rattle.mps_base.specs.Segment.{Segment, grains_of_segment, segment_over, words_of_segment}
-use Rattle.mps_bits.specs.Table.{bit}
+use Rattle.mps_extents.specs.Table.{bit}
 use Rattle.mps_format.specs.Layout.{Layout}
 use Rattle.mps_seg.specs.Table.{IsMarked}
 use Rattle.mps_model.specs.Graph.{Object, entry_at, size_of}

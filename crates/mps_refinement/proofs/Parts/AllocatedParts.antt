@@ -5,13 +5,13 @@ use Rattle.std.proofs.lemmas.List.{length-replicate}
 use Rattle.std.proofs.lemmas.Option.{none-some, same_Some, slice_get_within, slice_get-map}
 use Rattle.std.specs.Prelude.{◌&&◌, not, slice_get, slice_set, option_map}
 use Rattle.std.specs.Option.{option_map_or}
-use Rattle.mps_arena.specs.Arena.{cleared_words}
+use Rattle.mps_seg.specs.Arena.{cleared_words}
 use Rattle.mps_base.specs.Address.{Address, Id, Word, word_of, address_of_word, max_grains}
 use Rattle.mps_base.specs.Placement.{Placement, Place, NewSegment, OverLimit, NoFreeRun}
 use Rattle.mps_base.specs.Run.{Run, Covers, with_run}
 use Rattle.mps_base.specs.Segment.{Segment, grains_of_segment, segment_over, words_of_segment}
 use Rattle.mps_base.specs.declared.names.Rank.TheVariants as rank
-use Rattle.mps_bits.specs.Table.{bit}
+use Rattle.mps_extents.specs.Table.{bit}
 use Rattle.mps_format.specs.Layout.{Layout}
 use Rattle.mps_trace_laws.specs.Image.ArenaLaws.{AreSegmentsKept, setting_with_segments}
 use Rattle.mps_trace_laws.specs.Image.AtRest.{StandsAtRest}

@@ -22,7 +22,7 @@ use Rattle.mps_laws.proofs.Lookups.{entry_at-set_other}
 use Rattle.mps_laws.proofs.Positions.Occupancy.{OfBlock, occupancy_of, shape_of}
 use Rattle.mps_laws.proofs.Positions.Segments.{IsAligned, IsAmong, among_without, found_segment}
 use Rattle.mps_laws.proofs.Sound.SoundGraph.{IsSoundGraph, auto}
-use Rattle.mps_manual.specs.Manual.{any_size, block_removed, segs_after_free, given_back, is_none, is_unused}
+use Rattle.mps_trace.specs.Manual.{any_size, block_removed, segs_after_free, given_back, is_none, is_unused}
 use Rattle.mps_model.specs.Graph.{Object, entry_at, is_automatic, is_automatic_body}
 use Rattle.mps_model.specs.World as world
 use Rattle.mps_model.specs.World.{World, Collected, OneSize, AnySize, begins_in, is_any_size_kind, is_automatic_kind, object_is}
@@ -47,7 +47,7 @@ use Rattle.mps_refinement.proofs.Parts.PointWritten.{none_set}
 use Rattle.mps_refinement.proofs.Parts.ReservedImage.{block_covers}
 use Rattle.mps_refinement.proofs.Parts.StillHeld.{messages_still, registered_still, reservation_targets, slots_still, words_still}
 use Rattle.mps_seg.specs.Collecting.{bit_of}
-use Rattle.mps_bits.specs.Table.{bit}
+use Rattle.mps_extents.specs.Table.{bit}
 
 -- ---- whether a segment is given back
 

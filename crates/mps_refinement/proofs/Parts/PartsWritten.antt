@@ -2,7 +2,7 @@
 use Rattle.std.proofs.Common.{◌≡◌, ◌∙◌, ℕ, refl, sym, List, length, map, Option, Some, arith}
 use Rattle.std.specs.Prelude.{slice_set}
 use Rattle.mps_base.specs.Address.{Address, Id}
-use Rattle.mps_final.specs.State.{FinalsState}
+use Rattle.mps_trace.specs.State.{FinalsState}
 use Rattle.mps_format.specs.Layout.{Layout}
 use Rattle.mps_model.specs.Allocating.{with_slot}
 use Rattle.mps_model.specs.Checked.{Found, with_graph}

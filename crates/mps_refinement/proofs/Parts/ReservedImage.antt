@@ -7,7 +7,7 @@ use Rattle.std.specs.Prelude.{◌≢◌, slice_get, slice_set, option_map, optio
 use Rattle.mps_base.specs.Address.{Address, Word, word_of, address_of_word}
 use Rattle.mps_base.specs.Run.{Run, Covers}
 use Rattle.mps_base.specs.Segment.{Segment, segment_over, words_of_segment}
-use Rattle.mps_bits.specs.Table.{bit}
+use Rattle.mps_extents.specs.Table.{bit}
 use Rattle.mps_format.specs.Layout.{Layout}
 use Rattle.mps_trace_laws.specs.Image.Changes.{AreFree}
 use Rattle.mps_trace_laws.specs.Image.Image.{IsFixedWord, no_colours}

@@ -6,7 +6,7 @@ use Rattle.std.specs.Prelude.{◌≢◌, not, ◌==◌, slice_get, slice_set, op
 use Rattle.mps_base.specs.Address.{Address, word_of}
 use Rattle.mps_base.specs.Placement.{Placement, Place, NewSegment, OverLimit, NoFreeRun}
 use Rattle.mps_base.specs.Segment.{Segment}
-use Rattle.mps_bits.specs.Table.{bit}
+use Rattle.mps_extents.specs.Table.{bit}
 use Rattle.mps_seg.specs.declared.buffer.Buffer.{Buffer}
 use Rattle.mps_buffer.specs.declared.point.Held.{Held}
 use Rattle.mps_buffer.specs.declared.point.Point.{Point}

@@ -3,7 +3,7 @@
 use Rattle.std.proofs.Common.{◌≡◌, ◌∙◌, ℕ, Bool, true, false, refl, sym, ap, subst, List, [], ◌∷◌, ◌++◌, Ok, Err}
 use Rattle.std.proofs.lemmas.List.{append-nil, append_assoc}
 use Rattle.std.specs.Prelude.{◌==◌, ◌-◌, if◌then◌else◌, not, slice_get, Option, Some, None}
-use Rattle.mps_arena.specs.Arena.{answer_of_placement}
+use Rattle.mps_seg.specs.Arena.{answer_of_placement}
 use Rattle.mps_base.specs.Run.{Run}
 use Rattle.mps_base.specs.Segment.{Segment, segment_over}
 use Rattle.mps_base.specs.declared.address.Addr.{Addr}
@@ -15,7 +15,7 @@ use Rattle.mps_base.specs.declared.names.Name.{Name}
 use Rattle.mps_base.specs.declared.names.Rank.TheVariants as rank
 use Rattle.mps_base.specs.declared.names.Slot.{Slot}
 use Rattle.mps_base.specs.declared.refusal.Refusal.TheVariants as refusal
-use Rattle.mps_manual.specs.Manual.{segs_after_alloc, answer_of_alloc, any_size, block_removed, has_blocks_of, is_unused, moves_freed, moves_given_back}
+use Rattle.mps_trace.specs.Manual.{segs_after_alloc, answer_of_alloc, any_size, block_removed, has_blocks_of, is_unused, moves_freed, moves_given_back}
 use Rattle.mps_buffer.specs.Points.{placement_at}
 use Rattle.mps_format.specs.Layout.{Layout}
 use Rattle.mps_model.specs.declared.call.Call.{Call}

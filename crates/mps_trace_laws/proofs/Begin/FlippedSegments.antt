@@ -6,9 +6,9 @@ use Rattle.mps_base.specs.Run.{IsAscending}
 use Rattle.mps_base.specs.Segment.{Segment, segment_over}
 use Rattle.mps_base.specs.Trail.{Moves}
 use Rattle.mps_base.specs.declared.names.Rank.TheVariants.{Exact}
-use Rattle.mps_bits.specs.Table.{bit}
+use Rattle.mps_extents.specs.Table.{bit}
 use Rattle.mps_format.specs.Layout.{Layout}
-use Rattle.mps_marks.specs.Marks.{MarkTables}
+use Rattle.mps_seg.specs.Marks.{MarkTables}
 use Rattle.mps_amc.proofs.Found.{over_is_there}
 use Rattle.mps_buffer.specs.Points.{PointsState}
 use Rattle.mps_seg.specs.Segs.{SegsState}

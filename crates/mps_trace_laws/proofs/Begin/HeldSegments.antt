@@ -9,7 +9,7 @@ use Rattle.mps_base.specs.Segment.{Segment, grains_of_segment}
 use Rattle.mps_base.proofs.PoolKinds.{moving_is_not_weak}
 use Rattle.mps_base.specs.declared.names.Rank.{Rank}
 use Rattle.mps_base.specs.declared.names.Rank.TheVariants.{Exact, Weak}
-use Rattle.mps_bits.specs.Table.{bit}
+use Rattle.mps_extents.specs.Table.{bit}
 use Rattle.mps_model.specs.Making.{is_weak_rank}
 use Rattle.mps_model.specs.World.{World, Pool, PoolKind, Collected, OneSize, AnySize, is_copying_kind, is_copying_pool, is_weak_kind, pool_at, pool_is}
 use Rattle.mps_model.specs.WellFormed.{IsWellFormed, is_right_segment, are_apart, lies_within}

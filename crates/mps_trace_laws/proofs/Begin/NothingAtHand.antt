@@ -11,8 +11,8 @@ use Rattle.mps_base.specs.Segment.{Segment}
 use Rattle.mps_seg.specs.declared.buffer.Buffer.{Buffer}
 use Rattle.mps_seg.specs.Buffer.{empty_buffer, run_of}
 use Rattle.mps_amc.specs.Amc.{AmcState, HasTail, row_after_flip, tails_after_flip}
-use Rattle.mps_gen.specs.State.{ChainsState}
-use Rattle.mps_gen.specs.State as chains
+use Rattle.mps_trace.specs.GenState.{ChainsState}
+use Rattle.mps_trace.specs.GenState as chains
 use Rattle.mps_model.specs.World.{empty_run}
 use Rattle.mps_trace_laws.specs.Image.AtHand.{Hand}
 use Rattle.mps_trace_laws.specs.Image.Memory.{Setting}

@@ -11,7 +11,7 @@ use Rattle.mps_base.specs.declared.moves.Move.TheVariants.{End}
 use Rattle.mps_buffer.specs.declared.point.Held.{Held}
 use Rattle.mps_buffer.specs.declared.point.Point as buffer
 use Rattle.mps_buffer.specs.Points.{PointsState, after_end, after_end_at, after_all_end, without_reservation}
-use Rattle.mps_final.specs.State.{FinalsState}
+use Rattle.mps_trace.specs.State.{FinalsState}
 use Rattle.mps_format.specs.Layout.{Layout}
 use Rattle.mps_root.specs.State.{RootsState}
 use Rattle.mps_seg.specs.Segs.{SegsState}

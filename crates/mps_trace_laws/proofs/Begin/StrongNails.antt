@@ -4,8 +4,8 @@ use Rattle.std.specs.Prelude.{if◌then◌else◌}
 use Rattle.mps_base.specs.Address.{Address, Word, word_of, address_of_word}
 use Rattle.mps_base.specs.declared.names.Rank.{Rank}
 use Rattle.mps_base.specs.declared.names.Rank.TheVariants.{Exact, Weak}
-use Rattle.mps_bits.specs.Table.{bit}
-use Rattle.mps_marks.specs.Marks.{MarkTables, with_grey}
+use Rattle.mps_extents.specs.Table.{bit}
+use Rattle.mps_seg.specs.Marks.{MarkTables, with_grey}
 use Rattle.mps_amc.specs.Moving.{nailed, kept_in_place}
 use Rattle.mps_extents.specs.Extents.{run_over}
 use Rattle.mps_root.specs.declared.roots.Stored.{Stored}

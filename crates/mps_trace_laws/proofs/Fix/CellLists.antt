@@ -5,7 +5,7 @@ use Rattle.std.proofs.lemmas.Option.{none-some, same_Some}
 use Rattle.std.specs.Prelude.{IsTrue, ◌==◌, ◌&&◌, nat_lt, slice_get, take}
 use Rattle.mps_base.specs.Address.{Address}
 use Rattle.mps_format.specs.Layout.{Layout}
-use Rattle.mps_gen.specs.State.{ChainsState}
+use Rattle.mps_trace.specs.GenState.{ChainsState}
 use Rattle.mps_model.specs.Graph.{Cell, entries, target_of_cell, targets_of_cells}
 use Rattle.mps_abstract.specs.Collecting.{Collecting}
 use Rattle.mps_trace_laws.specs.Image.Image.{CellSet, ImageStands, with_cell}

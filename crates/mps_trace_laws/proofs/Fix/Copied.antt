@@ -17,7 +17,7 @@ use Rattle.mps_amc.specs.Moving.{AreCopied, moved_to, run_at}
 use Rattle.mps_amc.specs.Amc.{AmcState, HasTail, tails_of}
 use Rattle.mps_amc.specs.Amc as amc
 use Rattle.mps_amc.proofs.Tails.{tail_written}
-use Rattle.mps_gen.specs.State.{ChainsState}
+use Rattle.mps_trace.specs.GenState.{ChainsState}
 use Rattle.mps_laws.proofs.Positions.ApartRuns.{AreApart, all_in_order, ascending_with_run}
 use Rattle.mps_laws.proofs.Positions.Segments.{among_aligned}
 use Rattle.mps_laws.proofs.Positions.Tails.{own_tail, other_tail}

@@ -9,7 +9,7 @@ use Rattle.mps_base.specs.Trail.{Moves}
 use Rattle.mps_base.specs.declared.address.Addr.{Addr}
 use Rattle.mps_base.specs.declared.names.Rank.TheVariants.{Exact}
 use Rattle.mps_format.specs.Layout.{Layout, IsLawful}
-use Rattle.mps_arena.specs.Arena.{answer_of_placement}
+use Rattle.mps_seg.specs.Arena.{answer_of_placement}
 use Rattle.mps_seg.specs.Segs.{SegsState}
 use Rattle.mps_seg.specs.Collecting.{is_kept_at}
 use Rattle.mps_seg.specs.Buffer.{run_of}
@@ -22,7 +22,7 @@ use Rattle.mps_trace_laws.specs.Image.Memory.{Setting, memory_in, setting_in, wo
 use Rattle.mps_trace_laws.specs.Image.Image.{LieApart}
 use Rattle.mps_trace_laws.specs.Image.Fixing.{AreAtHand, FixAt}
 use Rattle.mps_trace_laws.proofs.Image.SegmentMarks.{HasMarks}
-use Rattle.mps_marks.specs.Marks.{MarkTables, with_grey, without_marks}
+use Rattle.mps_seg.specs.Marks.{MarkTables, with_grey, without_marks}
 use Rattle.mps_base.specs.declared.names.Rank.{Rank}
 use Rattle.mps_base.specs.declared.names.Rank.TheVariants as rank
 use Rattle.mps_amc.specs.Moving.{moved_to, kept_in_place}

@@ -9,7 +9,7 @@ use Rattle.mps_format.specs.Layout.{Layout}
 use Rattle.mps_seg.specs.Segs.{SegsState}
 use Rattle.mps_seg.specs.Collecting.{noting_in, first_grain_over}
 use Rattle.mps_amc.specs.Amc.{AmcState}
-use Rattle.mps_gen.specs.State.{ChainsState}
+use Rattle.mps_trace.specs.GenState.{ChainsState}
 use Rattle.mps_model.specs.Graph.{ReferenceCell, Object}
 use Rattle.mps_abstract.specs.Colours.{is_white}
 use Rattle.mps_abstract.specs.Collecting.{Collecting}

@@ -11,7 +11,7 @@ use Rattle.mps_base.specs.Trail.{Moves}
 use Rattle.mps_base.specs.declared.address.Addr.{Addr}
 use Rattle.mps_base.specs.declared.names.Rank.TheVariants.{Exact}
 use Rattle.mps_format.specs.Layout.{Layout}
-use Rattle.mps_arena.specs.Arena.{answer_of_placement}
+use Rattle.mps_seg.specs.Arena.{answer_of_placement}
 use Rattle.mps_seg.specs.Segs.{SegsState, moves_after}
 use Rattle.mps_seg.specs.Collecting.{is_condemned_at, is_kept_at}
 use Rattle.mps_seg.specs.declared.buffer.Buffer.{Buffer}
@@ -19,7 +19,7 @@ use Rattle.mps_seg.specs.Buffer.{empty_buffer}
 use Rattle.mps_amc.specs.Moving.{moved_to, kept_in_place, size_at, nailed}
 use Rattle.mps_amc.specs.Amc.{AmcState, tails_of, FixesAt, forwards, is_kept, keeps, IsFixed, placement_of_copy, answer_of_fix, segs_fixed, moves_fixed, tails_after, with_place, AreWordsFixed}
 use Rattle.mps_amc.specs.Amc as amc
-use Rattle.mps_gen.specs.State.{ChainsState}
+use Rattle.mps_trace.specs.GenState.{ChainsState}
 use Rattle.mps_model.specs.Graph.{Object, entry_at, size_of, is_automatic}
 use Rattle.mps_model.specs.LegalMove.{has_no_room}
 use Rattle.mps_abstract.specs.Collecting.{Collecting, is_white_in}

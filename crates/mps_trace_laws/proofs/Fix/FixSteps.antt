@@ -19,7 +19,7 @@ use Rattle.mps_amc.specs.Moving as moving
 use Rattle.mps_amc.specs.Amc.{AmcState, HasTail, tails_of, FixesAt, IsFixed, placement_of_copy, answer_of_fix, segs_fixed, moves_fixed, tails_after, with_place, AreWordsFixed}
 use Rattle.mps_amc.specs.Amc as amc
 use Rattle.mps_amc.proofs.Tails.{tail_written}
-use Rattle.mps_gen.specs.State.{ChainsState}
+use Rattle.mps_trace.specs.GenState.{ChainsState}
 use Rattle.mps_laws.proofs.Positions.Segments.{found_among, of_in_segment}
 use Rattle.mps_model.specs.Graph.{Object, entry_at, size_of}
 use Rattle.mps_model.specs.World.{World, is_copying_pool, is_copying_object, target_generation_for, segment_at, address_of}
@@ -95,7 +95,7 @@ module _ (F : Type 0) (layout : F → Layout) (formats : List (Option (Policy F)
 
   has : HasTail x.amc o.pool generation
   has =
-      subst (λ p. HasTail x.amc o.pool (Rattle.mps_base.specs.Generation.target_generation (Rattle.mps_gen.specs.State.generations_of of p)
+      subst (λ p. HasTail x.amc o.pool (Rattle.mps_base.specs.Generation.target_generation (Rattle.mps_trace.specs.GenState.generations_of of p)
       s.generation)) (sym pool) (stands.state.tails.has o.pool s.generation copying)
 
   within : word_of at.0 < words_of_arena x.segs.grains

@@ -12,7 +12,7 @@ use Rattle.mps_base.proofs.Runs.{contains_first, contains_later, contains_cases}
 use Rattle.mps_format.specs.Layout.{Layout, IsLawful}
 use Rattle.mps_seg.specs.Segs.{held_runs, IsOpenRun, LiesIn}
 use Rattle.mps_amc.specs.Moving.{IsForwarded, IsUnforwarded, BlockStands, IsBlockOf, size_at, run_at}
-use Rattle.mps_gen.specs.State.{ChainsState}
+use Rattle.mps_trace.specs.GenState.{ChainsState}
 use Rattle.mps_model.specs.Graph.{HeadCell, Object, size_of}
 use Rattle.mps_model.specs.Checked.{head_of_body}
 use Rattle.mps_model.specs.World.{extent, extents_of, reserved_extents, is_copying_pool, tail_of, pool_is, is_automatic_kind}

@@ -8,7 +8,7 @@ use Rattle.mps_base.specs.Address.{Word, grain_of, address_of_word}
 use Rattle.mps_base.specs.Run.{Run, Covers, IsAscending, with_run, gaps, lowest_fitting}
 use Rattle.mps_base.specs.Segment.{Segment, grains_of_segment, words_of_segment, is_in_segment, with_segment, segment_over}
 use Rattle.mps_base.proofs.Runs.{in_lowest_gap}
-use Rattle.mps_bits.specs.Table.{bit}
+use Rattle.mps_extents.specs.Table.{bit}
 use Rattle.mps_seg.specs.Segs.{SegsState, held_runs}
 use Rattle.mps_seg.specs.Collecting.{bit_of}
 use Rattle.mps_laws.proofs.Positions.ApartRuns.{AreApart, put_apart}

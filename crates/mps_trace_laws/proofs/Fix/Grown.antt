@@ -3,7 +3,7 @@ use Rattle.std.proofs.Common.{◌≡◌, ◌∙◌, ℕ, ◌*◌, true, false, s
 use Rattle.std.proofs.lemmas.Bool.{cases_Bool}
 use Rattle.mps_base.specs.Address.{Address, word_of, grain_of, words_of_grain}
 use Rattle.mps_base.specs.Segment.{Segment, words_of_segment, with_segment}
-use Rattle.mps_bits.specs.Table.{bit}
+use Rattle.mps_extents.specs.Table.{bit}
 use Rattle.mps_format.specs.Layout.{Layout}
 use Rattle.mps_seg.specs.Segs.{SegsState}
 use Rattle.mps_seg.specs.declared.buffer.Buffer.{Buffer}
@@ -11,7 +11,7 @@ use Rattle.mps_seg.specs.Buffer.{run_of}
 use Rattle.mps_amc.specs.Amc.{AmcState, HasTail}
 use Rattle.mps_amc.specs.Amc as amc
 use Rattle.mps_amc.proofs.Tails.{tail_written}
-use Rattle.mps_gen.specs.State.{ChainsState}
+use Rattle.mps_trace.specs.GenState.{ChainsState}
 use Rattle.mps_laws.proofs.Positions.Segments.{among_with, among_cases}
 use Rattle.mps_laws.proofs.Positions.Tails.{own_tail, other_tail}
 use Rattle.mps_model.specs.Graph.{contains}

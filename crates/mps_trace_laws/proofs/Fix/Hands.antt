@@ -10,7 +10,7 @@ use Rattle.mps_base.specs.Segment.{Segment, words_of_segment, segment_over}
 use Rattle.mps_base.specs.declared.address.Addr.{Addr}
 use Rattle.mps_base.specs.declared.refusal.Refusal.{Refusal}
 use Rattle.mps_format.specs.Layout.{Layout}
-use Rattle.mps_arena.specs.Arena.{answer_of_placement}
+use Rattle.mps_seg.specs.Arena.{answer_of_placement}
 use Rattle.mps_seg.specs.Segs.{SegsState, held_runs, placement_for}
 use Rattle.mps_seg.proofs.Placements.{placement_cases, placed, refused}
 use Rattle.mps_seg.specs.declared.buffer.Buffer.{Buffer}

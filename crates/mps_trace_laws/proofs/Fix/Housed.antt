@@ -11,7 +11,7 @@ use Rattle.mps_base.specs.Segment.{Segment, end_of_segment, is_in_segment, segme
 use Rattle.mps_base.specs.declared.address.Addr.{Addr}
 use Rattle.mps_base.specs.declared.moves.Move.{Move}
 use Rattle.mps_base.specs.declared.refusal.Refusal.{Refusal}
-use Rattle.mps_arena.specs.Arena.{answer_of_placement}
+use Rattle.mps_seg.specs.Arena.{answer_of_placement}
 use Rattle.mps_seg.proofs.Placements.{placement_cases, placed, refused}
 use Rattle.mps_laws.proofs.Positions.Occupancy.{run_of_tail}
 use Rattle.mps_laws.proofs.Positions.Segments.{among_new, among_with, found_among}
@@ -35,7 +35,7 @@ use Rattle.mps_trace_laws.proofs.Fix.Hands.{contains_among}
 use Rattle.mps_trace_laws.proofs.Fix.NewTail.{among_contains}
 use Rattle.mps_trace_laws.proofs.Fix.Objects.{different}
 use Rattle.mps_format.specs.Layout.{Layout}
-use Rattle.mps_gen.specs.State.{ChainsState}
+use Rattle.mps_trace.specs.GenState.{ChainsState}
 use Rattle.mps_trace_laws.specs.Image.Image.{CellSet}
 use Rattle.mps_trace.specs.Trace.{Traced}
 use Rattle.mps_format.specs.declared.pool.Policy.{Policy}

@@ -9,8 +9,8 @@ use Rattle.mps_seg.specs.Segs.{SegsState}
 use Rattle.mps_seg.specs.Buffer.{run_of}
 use Rattle.mps_amc.specs.Amc.{AmcState, placement_of_copy}
 use Rattle.mps_amc.specs.Amc as amc
-use Rattle.mps_gen.specs.State.{ChainsState}
-use Rattle.mps_gen.specs.State as chains
+use Rattle.mps_trace.specs.GenState.{ChainsState}
+use Rattle.mps_trace.specs.GenState as chains
 use Rattle.mps_model.specs.Graph.{Object, entry_at, size_of}
 use Rattle.mps_model.specs.World.{World, pool_of, words_of, is_live, is_copying_object, is_copying_pool, generation_of, target_generation_for, generations_of, tail_of}
 use Rattle.mps_model.specs.World as world

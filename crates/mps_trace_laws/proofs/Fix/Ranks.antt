@@ -12,15 +12,15 @@ use Rattle.mps_base.specs.declared.address.Addr.{Addr}
 use Rattle.mps_base.specs.declared.names.Rank.{Rank}
 use Rattle.mps_base.specs.declared.names.Rank.TheVariants.{Exact}
 use Rattle.mps_base.specs.declared.refusal.Refusal.{Refusal}
-use Rattle.mps_bits.specs.Table.{bit}
+use Rattle.mps_extents.specs.Table.{bit}
 use Rattle.mps_format.specs.Layout.{Layout}
-use Rattle.mps_arena.specs.Arena.{answer_of_placement}
-use Rattle.mps_marks.specs.Marks.{MarkTables, with_grey, without_marks}
+use Rattle.mps_seg.specs.Arena.{answer_of_placement}
+use Rattle.mps_seg.specs.Marks.{MarkTables, with_grey, without_marks}
 use Rattle.mps_seg.specs.Segs.{SegsState, segments_after}
 use Rattle.mps_seg.specs.Collecting.{rank_of, greying, keeping, first_grain_over, noting_in, is_kept_at}
 use Rattle.mps_amc.specs.Moving.{run_at, size_at, nailed, kept_in_place}
 use Rattle.mps_amc.specs.Amc.{AmcState, FixesAt, forwards, is_kept, keeps, IsFixed, placement_of_copy, segs_fixed, with_place}
-use Rattle.mps_gen.specs.State.{ChainsState}
+use Rattle.mps_trace.specs.GenState.{ChainsState}
 use Rattle.mps_laws.proofs.Positions.Segments.{among_cases, found_among}
 use Rattle.mps_trace.specs.Trace.{Traced, FixesTo, passes, fixes, marks}
 use Rattle.mps_trace.specs.Scan.{FixesCell, is_null, leads, ScansTo, begins, goes_on, Scanned, word_at, ScansOne}

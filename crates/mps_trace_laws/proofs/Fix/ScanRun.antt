@@ -9,7 +9,7 @@ use Rattle.mps_base.specs.Address.{Address, Id, word_of}
 use Rattle.mps_base.specs.declared.address.Addr.{Addr}
 use Rattle.mps_format.specs.Layout.{Layout}
 use Rattle.mps_format.specs.References.{IsFirstReference}
-use Rattle.mps_gen.specs.State.{ChainsState}
+use Rattle.mps_trace.specs.GenState.{ChainsState}
 use Rattle.mps_model.specs.Checked.{head_of_body}
 use Rattle.mps_model.specs.Graph.{Cell, HeadCell, NumberCell, ReferenceCell, Graph, Object, entries, target_of_cell, is_reference_cell, targets_of_cells, entry_at, size_of}
 use Rattle.mps_model.specs.World.{World, Pool}

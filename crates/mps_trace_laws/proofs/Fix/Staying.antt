@@ -6,7 +6,7 @@ use Rattle.mps_seg.specs.Segs.{SegsState}
 use Rattle.mps_seg.specs.Collecting.{keeping}
 use Rattle.mps_amc.specs.Moving.{kept_in_place}
 use Rattle.mps_amc.specs.Amc.{AmcState}
-use Rattle.mps_gen.specs.State.{ChainsState}
+use Rattle.mps_trace.specs.GenState.{ChainsState}
 use Rattle.mps_format.specs.Layout.{Layout}
 use Rattle.mps_model.specs.Graph.{entry_at}
 use Rattle.mps_model.specs.Effect.{with_collection, placing}

@@ -11,7 +11,7 @@ use Rattle.mps_base.specs.declared.address.Addr.{Addr}
 use Rattle.mps_base.specs.declared.moves.Move.{Move}
 use Rattle.mps_base.specs.declared.moves.Move.TheVariants as move
 use Rattle.mps_format.specs.Layout.{Layout}
-use Rattle.mps_gen.specs.State.{ChainsState}
+use Rattle.mps_trace.specs.GenState.{ChainsState}
 use Rattle.mps_model.specs.Graph.{Object, entry_at}
 use Rattle.mps_model.specs.World.{World, is_copying_pool, is_copying_object, id_at, pool_of, target_generation_for, live_ids, with_tail}
 use Rattle.mps_model.specs.Accessing.{address_or_null}

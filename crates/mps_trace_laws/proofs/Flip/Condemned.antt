@@ -8,12 +8,12 @@ use Rattle.mps_base.specs.Segment.{Segment, grains_of_segment}
 use Rattle.mps_base.specs.Zones.{zones_of_runs}
 use Rattle.mps_base.specs.declared.moves.Move.{Move}
 use Rattle.mps_base.specs.declared.moves.Move.TheVariants.{Flip}
-use Rattle.mps_bits.specs.Table.{bit}
+use Rattle.mps_extents.specs.Table.{bit}
 use Rattle.mps_buffer.specs.declared.point.Held.{Held}
 use Rattle.mps_buffer.specs.declared.point.Point.{Point}
 use Rattle.mps_buffer.specs.Points.{after_end, after_end_at, after_all_end, without_reservation, PointsState}
 use Rattle.mps_abstract.proofs.Lists.{contains_cases}
-use Rattle.mps_gen.specs.State.{max_chains}
+use Rattle.mps_trace.specs.GenState.{max_chains}
 use Rattle.mps_model.specs.Graph.{contains}
 use Rattle.mps_model.specs.World.{is_automatic_kind, is_copying_pool, pool_is, World}
 use Rattle.mps_model.specs.Effect.{Everything, condemned_by}

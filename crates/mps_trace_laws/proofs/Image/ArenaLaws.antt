@@ -6,7 +6,7 @@ use Rattle.std.proofs.lemmas.List.{length-replicate, get_or-replicate, get_or_pa
 use Rattle.std.specs.Prelude.{not, ◌&&◌, ◌||◌, IsTrue, Option, List, slice_get, []}
 use Rattle.mps_base.specs.Address.{Address, Id, Word, word_of, words_of_grain}
 use Rattle.mps_base.specs.Run.{in_order}
-use Rattle.mps_bits.specs.Table.{bit}
+use Rattle.mps_extents.specs.Table.{bit}
 use Rattle.mps_model.specs.Graph.{Reservation, entry_at, Point}
 use Rattle.mps_model.specs.World.{extents_of, PointMemory, reserved_extents}
 use Rattle.mps_seg.specs.Segs.{new_segments}

@@ -6,8 +6,8 @@ use Rattle.std.specs.Prelude.{slice_set, ◌||◌, ◌≢◌}
 use Rattle.mps_base.specs.Address.{Address, Word, word_of}
 use Rattle.mps_base.specs.declared.names.Rank.{Rank}
 use Rattle.mps_base.specs.declared.names.Rank.TheVariants.{Exact, Weak}
-use Rattle.mps_bits.specs.Table.{bit}
-use Rattle.mps_marks.specs.Marks.{MarkTables, with_grey, without_marks}
+use Rattle.mps_extents.specs.Table.{bit}
+use Rattle.mps_seg.specs.Marks.{MarkTables, with_grey, without_marks}
 use Rattle.mps_seg.specs.Segs.{SegsState}
 use Rattle.mps_seg.specs.Collecting.{keeping, greying, blackening, rank_at}
 use Rattle.mps_trace_laws.specs.Image.Memory.{memory_in}

@@ -8,8 +8,8 @@ use Rattle.mps_base.specs.Run.{Run, IsAscending}
 use Rattle.mps_base.specs.declared.names.Rank.{Rank}
 use Rattle.mps_base.specs.declared.names.Rank.TheVariants.{Exact, Weak}
 use Rattle.mps_base.proofs.Runs.{contained_bounds}
-use Rattle.mps_bits.specs.Table.{bit}
-use Rattle.mps_marks.specs.Marks.{MarkTables, with_grey}
+use Rattle.mps_extents.specs.Table.{bit}
+use Rattle.mps_seg.specs.Marks.{MarkTables, with_grey}
 use Rattle.mps_amc.specs.Moving.{nailed, kept_in_place}
 use Rattle.mps_extents.specs.Extents.{run_over}
 use Rattle.mps_extents.proofs.ApartRuns.{has_word-parts}

@@ -6,7 +6,7 @@ use Rattle.std.specs.Prelude.{option_map, ◌&&◌, IsTrue}
 use Rattle.mps_base.specs.Address.{Address, Id, Word, word_of, address_of_word, address_of_grain, grain_of, max_grains}
 use Rattle.mps_base.specs.Run.{Run, IsAscending}
 use Rattle.mps_base.specs.Segment.{Segment, segment_over, is_in_segment, end_of_segment}
-use Rattle.mps_bits.specs.Table.{bit}
+use Rattle.mps_extents.specs.Table.{bit}
 use Rattle.mps_seg.specs.Segs.{SegsState}
 use Rattle.mps_seg.specs.Collecting.{bit_of}
 use Rattle.mps_amc.specs.Reclaiming.{lost_of}

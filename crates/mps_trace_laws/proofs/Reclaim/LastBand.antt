@@ -4,7 +4,7 @@ use Rattle.std.proofs.lemmas.Bool.{cases_Bool, cases_lt, true≢false, leb-true,
 use Rattle.std.specs.Prelude.{IsTrue, ◌↔◌, nat_le, find, ◌==◌, not, Option, List}
 use Rattle.mps_base.specs.Address.{Address, grain_of}
 use Rattle.mps_base.specs.Segment.{Segment, without_segment}
-use Rattle.mps_bits.specs.Table.{bit}
+use Rattle.mps_extents.specs.Table.{bit}
 use Rattle.mps_seg.specs.Segs.{SegsState}
 use Rattle.mps_amc.specs.Reclaiming.{lost_of, is_given, is_padded, IsReclaimed}
 use Rattle.mps_amc.proofs.Lost.{segments_after}

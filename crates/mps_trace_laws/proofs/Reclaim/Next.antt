@@ -5,7 +5,7 @@ use Rattle.std.specs.Prelude.{find, IsTrue, ◌==◌}
 use Rattle.std.specs.Option.{option_map_or}
 use Rattle.mps_base.specs.Address.{Address, grain_of, max_grains}
 use Rattle.mps_base.specs.Segment.{Segment, segment_over, is_in_segment}
-use Rattle.mps_bits.specs.Table.{bit}
+use Rattle.mps_extents.specs.Table.{bit}
 use Rattle.mps_format.specs.Layout.{Layout}
 use Rattle.mps_seg.specs.Segs.{SegsState}
 use Rattle.mps_amc.specs.Reclaiming.{lost_of}

@@ -8,7 +8,7 @@ use Rattle.mps_base.specs.Run.{Run, runs_within}
 use Rattle.mps_base.specs.Segment.{Segment, segment_over, end_of_segment, without_segment}
 use Rattle.mps_base.specs.Trail.{Moves}
 use Rattle.mps_base.specs.declared.address.Addr.{Addr}
-use Rattle.mps_bits.specs.Table.{bit}
+use Rattle.mps_extents.specs.Table.{bit}
 use Rattle.mps_format.specs.Layout.{Layout}
 use Rattle.mps_seg.specs.Segs.{SegsState}
 use Rattle.mps_seg.specs.Collecting.{bit_of}

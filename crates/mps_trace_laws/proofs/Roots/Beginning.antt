@@ -11,9 +11,9 @@ use Rattle.mps_trace_laws.specs.Roots.Beginning.{AreRootsFixed}
 use Rattle.mps_trace_laws.proofs.Roots.Rows.{joined, still_where, run_messages, ready_messages}
 use Rattle.mps_trace_laws.proofs.Roots.Tables.{all_of, entries_append, still_held, run_tables, ready_tables}
 use Rattle.std.specs.List.{flat_map}
-use Rattle.mps_final.specs.State.{FinalsState}
+use Rattle.mps_trace.specs.State.{FinalsState}
 use Rattle.mps_format.specs.Layout.{Layout}
-use Rattle.mps_gen.specs.State.{ChainsState}
+use Rattle.mps_trace.specs.GenState.{ChainsState}
 use Rattle.mps_root.specs.State.{RootsState}
 use Rattle.mps_model.specs.World.{World}
 use Rattle.mps_abstract.specs.Collecting.{Collecting}

@@ -7,7 +7,7 @@ use Rattle.mps_base.specs.Address.{Address, word_of, max_grains, grain_of, addre
 use Rattle.mps_base.specs.Run.{Run, IsAscending, end_of}
 use Rattle.mps_base.specs.Segment.{Segment, end_of_segment, grains_of_segment}
 use Rattle.mps_base.proofs.Runs.{IsAscending-bounds}
-use Rattle.mps_bits.specs.Table.{bit}
+use Rattle.mps_extents.specs.Table.{bit}
 use Rattle.mps_model.specs.Accessing.{address_or_null}
 use Rattle.mps_abstract.specs.Colours.{AreAllScanned, is_grey}
 use Rattle.mps_abstract.specs.Collecting.{Collecting, Running}
@@ -23,7 +23,7 @@ use Rattle.mps_trace_laws.proofs.Reclaim.LastBand.{the_last_band_begins}
 use Rattle.mps_trace_laws.specs.Units.Standing.{StandsTracing, StandsReclaiming, tracing, reclaiming, AreInArena, UnitStands}
 use Rattle.mps_format.specs.declared.pool.Policy.{Policy}
 use Rattle.mps_format.specs.Layout.{Layout}
-use Rattle.mps_gen.specs.State.{ChainsState}
+use Rattle.mps_trace.specs.GenState.{ChainsState}
 use Rattle.mps_trace.specs.declared.running.Running.{Running as RunningState}
 
 -- ---- segments
@@ -68,7 +68,7 @@ either_is true b first second = absurd (true≢false first)
 either_is false true first second = absurd (true≢false second)
 
 module _ {F : Type 0} (layout : F → Rattle.mps_format.specs.Layout.Layout) (formats : List (Rattle.std.specs.Prelude.Option (Policy F)))
-    (of : Rattle.mps_gen.specs.State.ChainsState) (at_flip : List (Rattle.std.specs.Prelude.Option Address)) (x : Traced)
+    (of : Rattle.mps_trace.specs.GenState.ChainsState) (at_flip : List (Rattle.std.specs.Prelude.Option Address)) (x : Traced)
     (y : Collecting) (run : Running y) (st : StandsTracing layout formats of at_flip x y) (drained : IsDrained x.segs) where
   none_grey : AreAllScanned y.colours
   none_grey id =

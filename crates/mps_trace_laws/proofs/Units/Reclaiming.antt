@@ -6,9 +6,9 @@ use Rattle.std.specs.Prelude.{◌==◌}
 use Rattle.mps_base.specs.Address.{Address, grain_of, word_of, words_of_grain}
 use Rattle.mps_base.specs.Segment.{Segment, end_of_segment}
 use Rattle.mps_base.specs.declared.address.Addr.{Addr}
-use Rattle.mps_bits.specs.Table.{bit}
+use Rattle.mps_extents.specs.Table.{bit}
 use Rattle.mps_format.specs.Layout.{Layout}
-use Rattle.mps_gen.specs.State.{ChainsState}
+use Rattle.mps_trace.specs.GenState.{ChainsState}
 use Rattle.mps_seg.specs.Segs.{SegsState}
 use Rattle.mps_amc.specs.Reclaiming.{lost_of, IsReclaimed, is_given, is_padded}
 use Rattle.mps_amc.proofs.Lost.{segments_after}

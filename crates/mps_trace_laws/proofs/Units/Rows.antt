@@ -3,7 +3,7 @@ use Rattle.std.proofs.Common.{◌≡◌, ◌∙◌, ℕ, ◌+◌, sym, ap, subst
 use Rattle.std.proofs.lemmas.List.{append_assoc, append-nil}
 use Rattle.mps_base.specs.Address.{Address}
 use Rattle.mps_format.specs.Layout.{Layout}
-use Rattle.mps_gen.specs.State.{ChainsState}
+use Rattle.mps_trace.specs.GenState.{ChainsState}
 use Rattle.mps_trace_laws.specs.Image.AtRest.{StandsAtRest}
 use Rattle.mps_model.proofs.Cutting.{world_after_moves-append}
 use Rattle.mps_model.specs.Effect.{world_after_moves}

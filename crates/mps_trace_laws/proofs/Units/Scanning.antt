@@ -5,9 +5,9 @@ use Rattle.std.specs.Prelude.{◌==◌, Contains, ◌||◌, map, slice_get}
 use Rattle.std.specs.Option.{option_map_or}
 use Rattle.mps_base.specs.Address.{Address, Id, Word, address_of_word}
 use Rattle.mps_base.specs.declared.moves.Move.{Move}
-use Rattle.mps_bits.specs.Table.{bit}
+use Rattle.mps_extents.specs.Table.{bit}
 use Rattle.mps_format.specs.Layout.{Layout}
-use Rattle.mps_gen.specs.State.{ChainsState}
+use Rattle.mps_trace.specs.GenState.{ChainsState}
 use Rattle.mps_seg.specs.Segs.{at_word, SegsState}
 use Rattle.mps_model.specs.Accessing.{address_or_null}
 use Rattle.mps_model.specs.Graph.{Cell, ReferenceCell, Body, Automatic, Manual, Object, contains, entry_at, targets, targets_of, targets_of_body, targets_of_cells, target_of_cell, is_automatic, is_automatic_body}

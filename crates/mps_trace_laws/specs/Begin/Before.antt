@@ -4,12 +4,12 @@ use Rattle.mps_base.specs.Address.{Id, Grain}
 use Rattle.mps_base.specs.Generation.{target_generation}
 use Rattle.mps_base.specs.Run.{in_order}
 use Rattle.mps_base.specs.Trail.{Moves}
-use Rattle.mps_bits.specs.Table.{bit}
+use Rattle.mps_extents.specs.Table.{bit}
 use Rattle.mps_format.specs.Layout.{Layout}
 use Rattle.mps_seg.specs.Segs.{SegsState}
 use Rattle.mps_buffer.specs.Points.{PointsState}
 use Rattle.mps_amc.specs.Amc.{HasTail}
-use Rattle.mps_gen.specs.State as chains
+use Rattle.mps_trace.specs.GenState as chains
 use Rattle.mps_model.specs.Graph.{is_weak_object}
 use Rattle.mps_model.specs.World.{World, is_automatic_kind, is_copying_pool, generations_of, pool_is, object_is, live_ids}
 use Rattle.mps_abstract.specs.FlipLaws.{IsAtRest}

@@ -7,7 +7,7 @@ use Rattle.mps_base.specs.declared.moves.Move.{Move}
 use Rattle.mps_format.specs.Layout.{Layout}
 use Rattle.mps_seg.specs.Segs.{SegsState}
 use Rattle.mps_buffer.specs.Points.{PointsState}
-use Rattle.mps_final.specs.State.{FinalsState}
+use Rattle.mps_trace.specs.State.{FinalsState}
 use Rattle.mps_root.specs.State.{RootsState}
 use Rattle.mps_model.specs.Effect.{Everything, condemned_by, world_after_moves}
 use Rattle.mps_model.specs.Flip.{flip_act, flip_of, is_nothing}

@@ -4,7 +4,7 @@ use Rattle.std.specs.Prelude.{◌≡◌, ℕ, zero, suc, ◌+◌, ◌≤◌, tru
 use Rattle.mps_base.specs.Address.{Address, Id, Word, word_of}
 use Rattle.mps_base.specs.Segment.{Segment, end_of_segment}
 use Rattle.mps_base.specs.declared.names.Rank.TheVariants.{Exact, Weak}
-use Rattle.mps_bits.specs.Table.{bit}
+use Rattle.mps_extents.specs.Table.{bit}
 use Rattle.mps_seg.specs.Segs.{SegsState}
 use Rattle.mps_model.specs.Graph.{Object, contains, entry_at, size_of}
 use Rattle.mps_model.specs.World.{World, is_live}

@@ -6,14 +6,14 @@ use Rattle.mps_base.specs.Address.{Address, Id, Word, word_of, address_of_grain,
 use Rattle.mps_base.specs.Generation.{target_generation}
 use Rattle.mps_base.specs.Run.{Run, Covers, IsAscending, end_of}
 use Rattle.mps_base.specs.Segment.{Segment, grains_of_segment, end_of_segment}
-use Rattle.mps_bits.specs.Table.{bit}
+use Rattle.mps_extents.specs.Table.{bit}
 use Rattle.mps_format.specs.Layout.{Layout}
 use Rattle.mps_seg.specs.Segs.{SegsState}
 use Rattle.mps_seg.specs.Buffer.{run_of}
 use Rattle.mps_amc.specs.Amc.{AmcState, HasTail}
 use Rattle.mps_amc.specs.Amc as amc
-use Rattle.mps_gen.specs.State.{ChainsState}
-use Rattle.mps_gen.specs.State as chains
+use Rattle.mps_trace.specs.GenState.{ChainsState}
+use Rattle.mps_trace.specs.GenState as chains
 use Rattle.mps_model.specs.Graph.{Object, Point, Reservation, contains, is_automatic, entry_at}
 use Rattle.mps_model.specs.World.{PointMemory, is_copying_pool, generations_of, tail_of, live_ids, pool_is, is_automatic_kind}
 use Rattle.mps_abstract.specs.Colours.{Colours, is_white}

@@ -5,8 +5,8 @@ use Rattle.mps_base.specs.Address.{Address, address_of_grain, grain_of}
 use Rattle.mps_base.specs.Segment.{Segment}
 use Rattle.mps_base.specs.declared.moves.Move.TheVariants.{Flip}
 use Rattle.mps_base.specs.declared.names.Rank.TheVariants.{Exact}
-use Rattle.mps_bits.specs.Table.{bit}
-use Rattle.mps_gen.specs.State.{max_chains}
+use Rattle.mps_extents.specs.Table.{bit}
+use Rattle.mps_trace.specs.GenState.{max_chains}
 use Rattle.mps_model.specs.Graph.{contains}
 use Rattle.mps_model.specs.World.{World}
 use Rattle.mps_model.specs.Effect.{Everything, condemned_by, condemned_zones, collection_at_flip, world_flipped}

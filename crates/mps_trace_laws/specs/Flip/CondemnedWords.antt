@@ -3,7 +3,7 @@ use Rattle.std.specs.Prelude.{◌≡◌, ℕ, true, false, Option, Some, List, [
 use Rattle.std.proofs.Common.{lit<}
 use Rattle.mps_base.specs.Address.{Address, Word, grain_of}
 use Rattle.mps_base.specs.Segment.{Segment}
-use Rattle.mps_bits.specs.Table.{bit}
+use Rattle.mps_extents.specs.Table.{bit}
 use Rattle.mps_trace_laws.specs.Image.Memory.{Lies, is_condemned_word, pool_over_word}
 use Rattle.mps_model.specs.Graph.{Object}
 use Rattle.mps_seg.specs.Segs.{SegsState, new_segments}

@@ -5,7 +5,7 @@ use Rattle.mps_base.specs.Address.{Address, Id, Word, word_of, address_of_word, 
 use Rattle.mps_base.specs.Run.{Run}
 use Rattle.mps_base.specs.Segment.{segment_over}
 use Rattle.mps_base.specs.declared.names.Rank.TheVariants as rank
-use Rattle.mps_bits.specs.Table.{bit}
+use Rattle.mps_extents.specs.Table.{bit}
 use Rattle.mps_format.specs.Layout.{Layout}
 use Rattle.mps_seg.specs.Segs.{SegsState, new_segments}
 use Rattle.mps_seg.specs.Collecting.{is_condemned_at, condemning, keeping, greying}

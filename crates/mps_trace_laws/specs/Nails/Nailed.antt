@@ -3,7 +3,7 @@ use Rattle.std.specs.Prelude.{◌≡◌, ℕ, Bool, true, false, ◌&&◌, ◌||
 use Rattle.std.specs.List.{list_any}
 use Rattle.mps_base.specs.Address.{Address, Id, Word, word_of}
 use Rattle.mps_base.specs.Run.{Run, IsAscending}
-use Rattle.mps_bits.specs.Table.{bit}
+use Rattle.mps_extents.specs.Table.{bit}
 use Rattle.mps_extents.specs.Extents.{run_over}
 use Rattle.mps_root.specs.declared.roots.Stored.{Stored}
 use Rattle.mps_seg.specs.Segs.{SegsState}

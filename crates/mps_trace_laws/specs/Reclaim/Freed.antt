@@ -3,7 +3,7 @@ use Rattle.std.specs.Prelude.{◌≡◌, true, false, IsTrue, Option, Some, None
 use Rattle.mps_base.specs.Address.{Address, Id, Word, word_of, address_of_word, grain_of}
 use Rattle.mps_base.specs.Run.{Run}
 use Rattle.mps_base.specs.Segment.{Segment, segment_over, is_in_segment}
-use Rattle.mps_bits.specs.Table.{bit}
+use Rattle.mps_extents.specs.Table.{bit}
 use Rattle.mps_seg.specs.Segs.{SegsState}
 use Rattle.mps_model.specs.Graph.{contains, entry_at}
 use Rattle.mps_model.specs.Units.{is_ascending}

@@ -3,7 +3,7 @@ use Rattle.std.specs.Prelude.{◌≡◌, ◌<◌, false, IsTrue, Option, Some, N
 use Rattle.mps_base.specs.Address.{Address, Id}
 use Rattle.mps_base.specs.declared.moves.Move.{Move}
 use Rattle.mps_format.specs.Layout.{Layout}
-use Rattle.mps_gen.specs.State.{ChainsState}
+use Rattle.mps_trace.specs.GenState.{ChainsState}
 use Rattle.mps_model.specs.Graph.{Object, entries, entry_at, is_automatic}
 use Rattle.mps_abstract.specs.Collecting.{Collecting, is_white_in}
 use Rattle.mps_abstract.specs.Fixing.{Fixes}

@@ -3,7 +3,7 @@ use Rattle.std.specs.Prelude.{◌≡◌, ℕ, ◌<◌, ◌≤◌, Option, Some, 
 use Rattle.std.specs.List.{flat_map}
 use Rattle.mps_base.specs.Address.{Address, Id}
 use Rattle.mps_format.specs.Layout.{Layout}
-use Rattle.mps_gen.specs.State.{ChainsState}
+use Rattle.mps_trace.specs.GenState.{ChainsState}
 use Rattle.mps_root.specs.State.{RootsState, items_of}
 use Rattle.mps_abstract.specs.Collecting.{Collecting}
 use Rattle.mps_trace_laws.specs.Image.Image.{CellSet}

@@ -4,7 +4,7 @@ use Rattle.mps_base.specs.Address.{Address}
 use Rattle.mps_base.specs.declared.moves.Move.{Move}
 use Rattle.mps_format.specs.Layout.{Layout}
 use Rattle.mps_seg.specs.Segs.{SegsState}
-use Rattle.mps_gen.specs.State.{ChainsState}
+use Rattle.mps_trace.specs.GenState.{ChainsState}
 use Rattle.mps_model.specs.Effect.{world_after_moves}
 use Rattle.mps_model.specs.World.{World}
 use Rattle.mps_abstract.specs.Collecting.{Collecting}

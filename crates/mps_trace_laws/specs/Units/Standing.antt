@@ -3,10 +3,10 @@
 use Rattle.std.specs.Prelude.{◌≡◌, ℕ, ◌+◌, ◌*◌, ◌≤◌, true, false, IsTrue, Option, List, Contains}
 use Rattle.mps_base.specs.Address.{Address, Id, word_of, words_of_grain, grain_of}
 use Rattle.mps_base.specs.Segment.{Segment, end_of_segment}
-use Rattle.mps_bits.specs.Table.{bit}
+use Rattle.mps_extents.specs.Table.{bit}
 use Rattle.mps_format.specs.Layout.{Layout}
 use Rattle.mps_seg.specs.Segs.{SegsState}
-use Rattle.mps_gen.specs.State.{ChainsState}
+use Rattle.mps_trace.specs.GenState.{ChainsState}
 use Rattle.mps_model.specs.Graph.{Point, is_weak_object}
 use Rattle.mps_model.specs.World.{World, PointMemory, is_automatic_kind, is_copying_pool, generations_of, pool_is, object_is}
 use Rattle.mps_abstract.specs.Colours.{AreAllScanned}

@@ -1,7 +1,7 @@
 use Rattle.std.proofs.Common.{◌≡◌, sym, ap, ◌∙◌, inl, inr, arith}
 use Rattle.std.proofs.lemmas.Bool.{cases_lt}
 use Rattle.mps_base.specs.Address.{Address, grain_of}
-use Rattle.mps_bits.specs.Table.{bit}
+use Rattle.mps_seg.specs.BitsTable.{bit}
 use Rattle.mps_seg.specs.declared.segment_info.SegmentInfo.{SegmentInfo}
 use Rattle.mps_trace.proofs.Ordered.{lowest_found, none_from}
 use Rattle.mps_trace.proofs.finding.next_condemned.Goals as goal

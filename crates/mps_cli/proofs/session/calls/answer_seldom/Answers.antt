@@ -1,6 +1,6 @@
 use Rattle.std.proofs.Common.{◌∙◌}
 use Rattle.std.proofs.lemmas.Result.{err_from_is_err_and}
-use Rattle.mps_heap_spec.specs.Collecting.{can_collect}
+use Rattle.mps_refinement.specs.Collecting.{can_collect}
 use Rattle.mps_cli.proofs.Answering.{answered_last, still_last}
 use Rattle.mps_cli.proofs.Groups.{left_over, making_takes_memory}
 use Rattle.mps_cli.proofs.session.calls.answer_seldom.Goals as goal

@@ -3,7 +3,7 @@ use Rattle.mps_model.specs.declared.call.Call.TheVariants as call
 use Rattle.mps_model.specs.declared.reply.Reply.TheVariants as reply
 use Rattle.mps_model.specs.Answer.{Replied}
 use Rattle.mps_heap_spec.specs.Collecting.{can_collect}
-use Rattle.mps_trace.specs.Collect.{most_moves}
+use Rattle.mps_heap_spec.specs.Collect.{most_moves}
 use Rattle.mps_refinement.specs.RightMoving.{IsRightMoving}
 use Rattle.mps_refinement.proofs.Worlds.Staying.{stays}
 use Rattle.mps_heap.proofs.Collected.{can_collect_here, collected_rightly, few_epochs}

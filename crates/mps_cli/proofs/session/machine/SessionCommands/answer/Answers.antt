@@ -1,5 +1,5 @@
 use Rattle.std.proofs.Common.{subst}
-use Rattle.mps_heap_spec.specs.Collecting.{can_collect}
+use Rattle.mps_refinement.specs.Collecting.{can_collect}
 use Rattle.mps_cli.specs.Standing.{SessionStands}
 use Rattle.mps_cli.proofs.Standing.{answers_exactly, answers_in, begins_exactly, begins_in, ok_then}
 use Rattle.mps_cli.proofs.session.machine.SessionCommands.answer.Goals as goal

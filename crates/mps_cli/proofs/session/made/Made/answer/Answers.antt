@@ -1,6 +1,6 @@
 use Rattle.std.proofs.Common.{subst}
 use Rattle.mps_base.specs.Trail.{Moves}
-use Rattle.mps_heap_spec.specs.Collecting.{can_collect}
+use Rattle.mps_refinement.specs.Collecting.{can_collect}
 use Rattle.mps_refinement.specs.RightMoving.{KeepsRoom}
 use Rattle.mps_cli.proofs.Keeping.{call_keeps}
 use Rattle.mps_cli.proofs.session.made.Made.answer.Goals as goal

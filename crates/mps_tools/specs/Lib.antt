@@ -1,0 +1,7 @@
+pub use Rattle.mps_workload.specs.Ending
+pub use Rattle.mps_workload.specs.Script
+pub use Rattle.mps_cnv.specs.Converted
+pub use Rattle.mps_txt.specs.BadTextLine
+pub use Rattle.mps_txt.specs.Text
+pub use Rattle.mps_blocks.specs.BadReplay
+pub use Rattle.mps_blocks.specs.Listed
