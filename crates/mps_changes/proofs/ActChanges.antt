@@ -243,7 +243,8 @@ module _ (marked : Bool) (judged v : World) where
       andthen (object_in v from.value) (λ (object : Numbered Object).
       accepted (Aside _ _ _ _ _ _ (λ h. refl) (λ h. absurd (true≢false h))))))
   act_changes_so (call.DependencyMerge dependency source) =
-      andthen (dependency_named v dependency) (λ (d : Numbered Dependency). andthen (dependency_named v source) (λ (e : Numbered Dependency).
+      andthen (dependency_named v dependency) (λ (d : Numbered Dependency). andthen (dependency_named v source)
+      (λ (e : Numbered Dependency).
       accepted (Aside _ _ _ _ _ _ (λ h. refl) (λ h. absurd (true≢false h)))))
   act_changes_so (call.DependencyStale dependency) =
       andthen (dependency_named v dependency) (λ (d : Numbered Dependency). told (is_stale v.flips d.value.epoch d.value.zones))

@@ -4,8 +4,8 @@
 
 mod laws;
 mod mps;
-mod session;
 mod over;
+mod session;
 #[cfg(test)]
 mod tests;
 

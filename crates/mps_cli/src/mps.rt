@@ -10,11 +10,11 @@ ghost use Rattle.mps_run.specs.Ending.{CountsGrow, NoFaultRose};
 ghost use Rattle.mps_cli.specs.Asked.{DoesAsAsked};
 ghost use Rattle.mps_cli.specs.declared.mps.NoWords.TheVariants.{NotText, OutOfMemory};
 
+use crate::session::Session;
 use mps_args::{Command, command_of};
 use mps_desk::Desk;
 use mps_report::{NoBadPlace, Notice, Stop, report_ending};
 use mps_run::run_script;
-use crate::session::Session;
 use mps_tools::{blocks, cnv, generate, txt};
 use std::alloc::Global;
 

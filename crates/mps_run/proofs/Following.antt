@@ -48,7 +48,8 @@ answered_of built ends script old new other l = record {
   history = l.history;
   run = l.run;
   printed = l.printed ∙ ap (appended old.printed)
-      (ap (λ (p : List ℕ). answers_of l.history ++ p) (printed_none ends l.part old new l.is_part other) ∙ append-nil (answers_of l.history));
+      (ap (λ (p : List ℕ). answers_of l.history ++ p) (printed_none ends l.part old new l.is_part other) ∙ append-nil
+      (answers_of l.history));
 }
 
 answered_nothing : (built : Built) (script : List ℕ) (old new : Outside) → new.printed ≡ old.printed → Answered built script old new

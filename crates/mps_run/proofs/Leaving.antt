@@ -279,7 +279,8 @@ module _ (built : Built) (header script : List ℕ) (old mid new : Outside) (pri
       → Leaves built (Err why) header script old new
   leaves_unsettled ends why none is l =
       let nothing : Nothing ≡ l.part = sym (fault_or_none ends l.part none l.is_part) in
-      leaves_as l (Err why) header old new (subst (λ (p : Part). IsPartAt (Err why) p old new) nothing tt) (of_fault why is) (printed ∙ l.printed)
+      leaves_as l (Err why) header old new (subst (λ (p : Part). IsPartAt (Err why) p old new) nothing tt) (of_fault why is) (printed
+      ∙ l.printed)
       (logged ∙ l.logged)
     where
       of_fault : (why : Stop BadScriptLine) → (why ≡ stop.LogFailed) ⊎ (why ≡ stop.WriteFailed)

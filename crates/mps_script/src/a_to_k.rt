@@ -14,10 +14,10 @@ use crate::chain::chain;
 use crate::grains::grains_limit;
 use crate::roots::{name_length, name_name_rank};
 use crate::several::{alone, hexadecimal, init};
-use mps_model::Call;
 use mps_line_words::{
     name, name_decimal_slot, name_slot, slot, slot_slot, slot_slot_decimal, strip_word,
 };
+use mps_model::Call;
 
 /// The call of a line at whose beginning stands a command word that begins with a letter `a` to `b`.
 #[inline(never)]

@@ -5,8 +5,8 @@ ghost use Rattle.mps_line_words.specs.Word.{words};
 ghost use Rattle.mps_script.specs.Form.{chain, capacities, padded};
 
 use crate::grains::MAX_GRAINS;
-use mps_model::Call;
 use mps_line_words::{name_of, next_word, number_within};
+use mps_model::Call;
 
 /// The most generations of a chain.
 const MAX_GENERATIONS: usize = 8;

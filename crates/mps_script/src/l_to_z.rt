@@ -14,11 +14,11 @@ use crate::grains::grains;
 use crate::pools::pool;
 use crate::roots::name_length;
 use crate::several::{alone, name_head, start};
-use mps_model::Call;
 use mps_line_words::{
     decimal, name, name_name, name_slot, slot, slot_decimal, slot_decimal_slot, slot_decimal_value,
     slot_slot, slot_value, strip_word,
 };
+use mps_model::Call;
 
 /// The call of a line at whose beginning stands a command word that begins with `l`.
 #[inline(never)]

@@ -4,8 +4,8 @@ ghost use Rattle.mps_script.specs.Filled.{found};
 ghost use Rattle.mps_script.specs.Line.{begins_comment, call_of_line};
 
 use crate::commands::command_call;
-use mps_model::Call;
 use mps_line_words::{MAX_LINE_BYTES, after_spaces};
+use mps_model::Call;
 
 /// The line is in the form of no command, or has more than 4096 bytes.
 #[derive(Clone, Copy, Debug, PartialEq, Eq)]

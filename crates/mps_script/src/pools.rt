@@ -7,9 +7,9 @@ ghost use Rattle.mps_line_words.specs.Reading.{named_in, pair};
 ghost use Rattle.mps_script.specs.Form.{kinds, kinds_on_chains, formats, automatic_pool, pool_on_chain, pool_mfs, pool_mvff, pool};
 
 use mps_base::{Kind, Name};
+use mps_line_words::{is_word, name, name_of, next_word, only_word};
 use mps_model::Call;
 use mps_numerals::decimal_number;
-use mps_line_words::{is_word, name, name_of, next_word, only_word};
 
 /// A kind of automatic pool.
 fn kind_of(word: &[u8]) -> Option<Kind>

@@ -10,12 +10,12 @@ ghost use Rattle.mps_model.specs.declared.call.Call.{Call};
 ghost use Rattle.mps_script.specs.Calls.{none};
 ghost use Rattle.mps_script.specs.Form.{init, start};
 
-use mps_model::Call;
-use mps_numerals::decimal_number;
 use mps_line_words::{
     WrittenName, is_blank, name_decimal, name_of, next_name, next_word, only_head, only_word,
     prefixed_hexadecimal, slot, value,
 };
+use mps_model::Call;
+use mps_numerals::decimal_number;
 
 /// No word is left.
 #[inline(always)]

@@ -51,10 +51,12 @@ pub format_read : {F : Type 0} (formats : List (Option (Policy F))) (pool : ℕ)
 format_read formats pool o format listed read = read ∙ get_or_from_slice_get formats pool (Some format) o listed
 
 -- the format that is read is that of the pool of the segment over an address
-pub format_is : {F : Type 0} (t t' : TraceState F) → t' ≡ t → (s : SegsState) (at : Addr) (info : SegmentInfo) (seg : Segment) (format : Policy F)
+pub format_is : {F : Type 0} (t t' : TraceState F) → t' ≡ t
+    → (s : SegsState) (at : Addr) (info : SegmentInfo) (seg : Segment) (format : Policy F)
     → segment_over s.segments at.0 ≡ Some seg
     → ((x : Segment) → segment_over s.segments at.0 ≡ Some x → Some info ≡ Some (info_of s x))
-    → slice_get t.formats seg.pool ≡ Some (Some format) → (o : Option (Policy F)) → o ≡ get_or t'.formats info.pool o → (got : Policy F) → o ≡ Some got
+    → slice_get t.formats seg.pool ≡ Some (Some format) → (o : Option (Policy F)) → o ≡ get_or t'.formats info.pool o
+    → (got : Policy F) → o ≡ Some got
     → got ≡ format
 format_is {F} t t' same s at info seg format over found listed o read got is =
     let pool = ap (λ (i : SegmentInfo). i.pool) (same_info info (info_of s seg) (found seg over)) in
@@ -64,7 +66,8 @@ format_is {F} t t' same s at info seg format over found listed o read got is =
     same_format got format (sym is ∙ format_read t'.formats info.pool o format there read)
 
 -- the format of a pool that is listed, as the fields of the collector have it
-module _ {F : Type 0} (t t' : TraceState F) (same : t' ≡ t) (s : SegsState) (at : Addr) (info : SegmentInfo) (seg : Segment) (format : Policy F)
+module _ {F : Type 0} (t t' : TraceState F) (same : t'
+    ≡ t) (s : SegsState) (at : Addr) (info : SegmentInfo) (seg : Segment) (format : Policy F)
     (over : segment_over s.segments at.0 ≡ Some seg) (begins : seg.base ≡ at.0)
     (told : (x : Segment) → Contains s.segments x → x.base ≡ at.0 → info ≡ info_of s x)
     (listed : slice_get t.formats seg.pool ≡ Some (Some format))

@@ -38,4 +38,5 @@ module _ {F : Type 0} (layout : F → Layout) (seen value : PoolsState F) (is : 
   pub are_flipped : (epochs epochs' : EpochsState) → epochs' ≡ ld.epochs_after_flip epochs (zones_of (automatic_of t.formats s.segments))
       → epochs' ≡ ld.epochs_after_flip epochs (zones_of (automatic_of (map policy_of_pool value.pools) s.segments))
   are_flipped epochs epochs' is =
-      is ∙ ap (λ (formats : List (Option (Policy F))). ld.epochs_after_flip epochs (zones_of (automatic_of formats s.segments))) known.formats
+      is ∙ ap (λ (formats : List (Option (Policy F))). ld.epochs_after_flip epochs (zones_of
+      (automatic_of formats s.segments))) known.formats

@@ -16,7 +16,6 @@ one_longer xs y a =
     replicate-append-replicate (length xs) 1 a ∙ ap (λ n. replicate n a) (sym (length-append xs (y ∷ [])))
 
 module _ {F : Type 0} where
-
   -- a pool that the collector gets with its policy
   pub one_more_is_sound : (pools : List (Pool F)) (t : TraceState F) (p : Pool F) → IsSoundTrace pools t
       → IsSoundTrace (pools ++ p ∷ []) (with_pool t (policy_of_pool p))

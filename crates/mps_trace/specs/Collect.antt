@@ -28,7 +28,8 @@ pub data Collects {F : Type 0} (layout : F → Layout) (formats : List (Option (
         → Collects layout formats chains points roots finals x most roots' finals' z
 
 -- once it has begun, each of at most n units can be done when its turn comes, and it doesn't go on after all of them
-pub record CanEnd {F : Type 0} (layout : F → Layout) (formats : List (Option (Policy F))) (chains : ChainsState) (z : Traced) (run : Running)
+pub record CanEnd {F : Type 0} (layout : F
+    → Layout) (formats : List (Option (Policy F))) (chains : ChainsState) (z : Traced) (run : Running)
     (most : ℕ) : Type 0 where
   pub ready : AreUnitsReady layout (record { formats = formats; amc = z.amc; chains = chains }) z.segs z.moves run most
   pub ends : (last : Traced) (run' : Running) → UnitsTo layout formats chains z run most last run' → ⊥

@@ -12,7 +12,8 @@ use Rattle.mps_trace.specs.Trace.{TraceState, Traced, traced, CanFixAt, FixesTo}
 use Rattle.mps_format.specs.declared.pool.Policy.{Policy}
 
 -- what is done with a root that has an address: null stays, and any other is fixed
-pub data FixesRoot {F : Type 0} (layout : F → Layout) (formats : List (Option (Policy F))) (chains : ChainsState) (x : Traced) (at : Address)
+pub data FixesRoot {F : Type 0} (layout : F
+    → Layout) (formats : List (Option (Policy F))) (chains : ChainsState) (x : Traced) (at : Address)
     : Traced → (answer : Address) → Type 0
   where
     is_null : at ≡ 0 → FixesRoot layout formats chains x at x 0
@@ -20,7 +21,8 @@ pub data FixesRoot {F : Type 0} (layout : F → Layout) (formats : List (Option 
         → FixesRoot layout formats chains x at y to.0
 
 -- a root is null or can be fixed
-abbrev pub CanFixRootAt : {F : Type 0} → (F → Layout) → (formats : List (Option (Policy F))) → ChainsState → Traced → (at : Address) → Type 0
+abbrev pub CanFixRootAt : {F : Type 0} → (F → Layout) → (formats : List (Option (Policy F))) → ChainsState → Traced → (at : Address)
+    → Type 0
 CanFixRootAt layout formats chains x at = 0 < at → CanFixAt layout formats chains x at
 
 abbrev pub CanFixRoot : {F : Type 0} → (F → Layout) → TraceState F → SegsState → Moves → (at : Address) → Type 0
@@ -36,7 +38,8 @@ abbrev pub with_slot : RootsState → (key index : ℕ) → Address → RootsSta
 with_slot roots key index at = record roots { tables = with_item roots.tables key index at }
 
 -- as many slots of a table as this are fixed, in ascending order
-pub data FixesSlots {F : Type 0} (layout : F → Layout) (formats : List (Option (Policy F))) (chains : ChainsState) (key : ℕ) (roots : RootsState)
+pub data FixesSlots {F : Type 0} (layout : F
+    → Layout) (formats : List (Option (Policy F))) (chains : ChainsState) (key : ℕ) (roots : RootsState)
     (x : Traced) : (count : ℕ) → RootsState → Traced → Type 0
   where
     begins : FixesSlots layout formats chains key roots x 0 roots x

@@ -39,7 +39,8 @@ pub data FixesCell {F : Type 0} (layout : F → Layout) (f : Layout) (formats : 
         → FixesCell layout f formats chains at cell x z
 
 -- the reference of a cell is null, or leads to what can be fixed
-abbrev pub CanFixCellAt : {F : Type 0} → (F → Layout) → (f : Layout) → (formats : List (Option (Policy F))) → ChainsState → Traced → (at : Addr)
+abbrev pub CanFixCellAt : {F : Type 0} → (F → Layout) → (f : Layout) → (formats : List (Option (Policy F))) → ChainsState → Traced
+    → (at : Addr)
     → (cell : ℕ) → Type 0
 CanFixCellAt layout f formats chains x at cell = 0 < target_at f x at cell → CanFixAt layout formats chains x (target_at f x at cell)
 
@@ -56,7 +57,8 @@ pub data ScansTo {F : Type 0} (layout : F → Layout) (f : Layout) (formats : Li
         → ScansTo layout f formats chains head at x (cell + 1) z
 
 -- each reference can be fixed when its turn comes
-abbrev pub AreReady : {F : Type 0} → (F → Layout) → (f : Layout) → (formats : List (Option (Policy F))) → ChainsState → (head : ℕ) → (at : Addr)
+abbrev pub AreReady : {F : Type 0} → (F → Layout) → (f : Layout) → (formats : List (Option (Policy F))) → ChainsState → (head : ℕ)
+    → (at : Addr)
     → Traced → Type 0
 AreReady layout f formats chains head at x = (from cell : ℕ) (y : Traced) → ScansTo layout f formats chains head at x from y
     → IsFirstReference f head from cell → CanFixCellAt layout f formats chains y at cell
@@ -98,7 +100,8 @@ abbrev pub CanScanGrey : {F : Type 0} → (F → Layout) → TraceState F → Se
 CanScanGrey layout t s m = (word : Word) → bit s.marks.exact word ≡ true → CanScan layout t s m (at_word word)
 
 -- one of them was scanned
-pub record ScansOne {F : Type 0} (layout : F → Layout) (formats : List (Option (Policy F))) (chains : ChainsState) (x z : Traced) : Type 0 where
+pub record ScansOne {F : Type 0} (layout : F
+    → Layout) (formats : List (Option (Policy F))) (chains : ChainsState) (x z : Traced) : Type 0 where
   pub word : Word
   pub grey : bit x.segs.marks.exact word ≡ true
   pub scanned : Scanned layout formats chains x (at_word word) z

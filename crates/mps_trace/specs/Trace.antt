@@ -59,7 +59,8 @@ pub record CanMove (f : Layout) (chains : ChainsState) (x : Traced) (at : Addres
   pub room : 1 < x.moves.spare
 
 -- a block in a condemned segment can be fixed
-pub record CanKeep {F : Type 0} (layout : F → Layout) (formats : List (Option (Policy F))) (chains : ChainsState) (x : Traced) (at : Address)
+pub record CanKeep {F : Type 0} (layout : F
+    → Layout) (formats : List (Option (Policy F))) (chains : ChainsState) (x : Traced) (at : Address)
     : Type 0 where
   pub segment : Segment
   pub over : segment_over x.segs.segments at ≡ Some segment
@@ -68,7 +69,8 @@ pub record CanKeep {F : Type 0} (layout : F → Layout) (formats : List (Option 
   pub moving : format.moves ≡ true → CanMove (layout format.format) chains x at segment
 
 -- an address on a word of the arena. If it lies in a condemned segment, a block can be fixed there
-pub record CanFixAt {F : Type 0} (layout : F → Layout) (formats : List (Option (Policy F))) (chains : ChainsState) (x : Traced) (at : Address)
+pub record CanFixAt {F : Type 0} (layout : F
+    → Layout) (formats : List (Option (Policy F))) (chains : ChainsState) (x : Traced) (at : Address)
     : Type 0 where
   pub aligned : at % bytes_of_word ≡ 0
   pub in_arena : word_of at < length x.segs.words
@@ -98,10 +100,12 @@ pub data FixesTo {F : Type 0} (layout : F → Layout) (formats : List (Option (P
 abbrev segment_of_pool : ℕ → Segment
 segment_of_pool pool = record { base = 0x1000; grains = 1; pool = pool; generation = 0; rank = Exact }
 
-pub a_pool_with_nothing_at_hand : (with_pool {F = ℕ} no_pools (Some (record { format = 3; moves = true }))).amc.tails ≡ (empty_buffer ∷ []) ∷ []
+pub a_pool_with_nothing_at_hand : (with_pool {F = ℕ} no_pools (Some (record { format = 3; moves = true }))).amc.tails
+    ≡ (empty_buffer ∷ []) ∷ []
 a_pool_with_nothing_at_hand = refl
 
-pub a_pool_on_no_chain_has_one_generation : target_of (with_pool {F = ℕ} no_pools (Some (record { format = 3; moves = true }))).chains (segment_of_pool 0) ≡ 0
+pub a_pool_on_no_chain_has_one_generation : target_of (with_pool {F = ℕ} no_pools (Some (record { format = 3; moves = true }))).chains
+    (segment_of_pool 0) ≡ 0
 a_pool_on_no_chain_has_one_generation = refl
 
 -- if no pool has a format nothing is fixed

@@ -63,7 +63,8 @@ pub data UnitsTo {F : Type 0} (layout : F → Layout) (formats : List (Option (P
         → UnitTo layout formats chains y run' z run'' → UnitsTo layout formats chains x run (count + 1) z run''
 
 -- the collection ends within n units
-pub record EndsWithin {F : Type 0} (layout : F → Layout) (formats : List (Option (Policy F))) (chains : ChainsState) (x : Traced) (run : Running)
+pub record EndsWithin {F : Type 0} (layout : F
+    → Layout) (formats : List (Option (Policy F))) (chains : ChainsState) (x : Traced) (run : Running)
     (most : ℕ) (z : Traced) : Type 0 where
   pub count : ℕ
   pub within : count < most

@@ -8,9 +8,9 @@ ghost use Rattle.mps_heap_spec.specs.Depending.{with_dependency, dependency_rese
 use super::State;
 use mps_base::{Addr, Name, Refusal, Slot};
 use mps_format::Format;
+use mps_heap_spec::{Kept, item};
 use mps_ld::Ld;
 use mps_names::Thing;
-use mps_heap_spec::{Kept, item};
 
 impl<F: Format> State<F> {
     /// The dependency that has a name.

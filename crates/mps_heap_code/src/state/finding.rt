@@ -10,8 +10,8 @@ use super::State;
 use mps_base::{Addr, Name, Refusal, Slot};
 use mps_buffer::Point;
 use mps_format::{Format, Pool, format_of_pool};
-use mps_names::Thing;
 use mps_heap_spec::{Block, Entry, Kept, item, pool_of_segment};
+use mps_names::Thing;
 use mps_root::Stored;
 
 impl<F: Format> State<F> {

@@ -7,8 +7,8 @@ ghost use Rattle.mps_heap_code.specs.Lending.{block_named, leaf_named, IsBlockBo
 use super::State;
 use mps_base::{Addr, Refusal, Slot};
 use mps_format::{Format, is_leaf};
-use mps_manual::Manual;
 use mps_heap_spec::begins_block;
+use mps_manual::Manual;
 
 impl<F: Format> State<F> {
     /// The address of the manual block in a place.

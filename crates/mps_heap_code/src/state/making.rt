@@ -10,9 +10,9 @@ ghost use Rattle.mps_heap_code.specs.Made.{IsMade};
 use super::State;
 use mps_base::{Kind, Name, Rank, Refusal};
 use mps_format::{Format, Pool, is_copying};
+use mps_heap_spec::{Kept, may_have_point, refuse_at_limit};
 use mps_ld::Ld;
 use mps_names::Thing;
-use mps_heap_spec::{Kept, may_have_point, refuse_at_limit};
 
 /// How many roots, slots of all roots together, points, pools and dependencies there may be.
 const MAX_ROOTS: u32 = 256;

@@ -208,7 +208,8 @@ module _ (limit : ℕ) (w : World) (p : Numbered Pool) (words : ℕ) (some : 0 <
       let fresh = fresh_segment limit w words grain grains p.number 0 base laid some new refl in
       let counted = Rattle.mps_laws.proofs.Positions.Holding.need_of_placement w.grains w.limit
       (map Rattle.mps_base.specs.Segment.grains_of_segment w.segments) (grains_needed words) grain grains new in
-      let held = Rattle.mps_laws.proofs.Positions.Holding.held_laid_out limit (occupancy_of w) s laid fresh (exact_ranked w base grains p.number 0) in
+      let held = Rattle.mps_laws.proofs.Positions.Holding.held_laid_out limit (occupancy_of w) s laid fresh
+      (exact_ranked w base grains p.number 0) in
       let a = fresh.aligned in
       let at : word_of base ≡ (words_of_segment s).from = refl in
       let made = made_where (holding w s) place base held (record {

@@ -180,7 +180,8 @@ free_well limit w place answer laid live s =
         let there = address_there id (block_is_live w place found id live e f) in
         let first = freed_one w at (id_at w at) (λ j h.
         subst (λ (k : ℕ). manual w k ≡ true)
-        (Rattle.mps_laws.proofs.Positions.LegalMoves.different limit (Rattle.mps_laws.proofs.Positions.Occupancy.occupancy_of w) laid id j at there
+        (Rattle.mps_laws.proofs.Positions.LegalMoves.different limit
+        (Rattle.mps_laws.proofs.Positions.Occupancy.occupancy_of w) laid id j at there
         (id_at-found w at j h)) kind) s in
         let v = where_one w (id_at w at) (λ n. after_free w n at) in
         then_well w v (world_after_moves v (give_back_empty v (segment_of w at))) first (given_back_well v (segment_of w at) first.sound)

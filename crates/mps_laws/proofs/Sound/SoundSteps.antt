@@ -163,7 +163,8 @@ module _ (judged v : World) (j : IsSoundGraph judged) (grown : Grows judged v) (
       let o = object_of_slot v s held.slot held.from object held.there held.is in pin_is_sound v s object.number object.value o.1 o.0
   shown_sound (ShownPoked place id word e f fate) = hold_is_sound v s id word (block_lies v s word id f)
 
-  written_right : {marked : Bool} {c : Call} {cells : List Cell} {change : List Cell → List Cell} → IsWritten marked c judged v cells change → (likes : List Cell)
+  written_right : {marked : Bool} {c : Call} {cells : List Cell} {change : List Cell → List Cell}
+      → IsWritten marked c judged v cells change → (likes : List Cell)
       → AreRight (auto v) likes cells → AreRight (auto v) likes (change cells)
   written_right {cells = cells} (WritesReference k source from e) likes h =
       right_target_cell (auto v) likes cells k from.value (slot_passes v s source from e) h
@@ -184,7 +185,8 @@ module _ (judged v : World) (j : IsSoundGraph judged) (grown : Grows judged v) (
       let v1 = with_graph v (with_reservation v.graph p None) in
       let o = committed_object p.value r in
       let right : is_right_object v1 o ≡ true =
-      Rattle.mps_laws.proofs.Sound.SoundGraph.right_object_kept v v1 (grows_alike v v1 refl (λ n q h. h) refl) o (committed_right p r there f) in
+      Rattle.mps_laws.proofs.Sound.SoundGraph.right_object_kept v v1 (grows_alike v v1 refl (λ n q h. h) refl) o
+      (committed_right p r there f) in
       let second = object_added v1 first o (Some (reserved_address v p.number)) right in
       let v2 = record v1 {
         graph = record v1.graph { objects = with_last v.graph.objects o };
@@ -226,11 +228,13 @@ module _ (judged v : World) (j : IsSoundGraph judged) (grown : Grows judged v) (
   change_sound live other (BlockWordIs id k value) = block_word_written v s id k value
   change_sound live other (PlaceEmptied from place e found) = place_written v s place None (place_own from place found) tt
   change_sound live other (Allocated pool p words into place at e of kind size found) =
-      allocated_sound p words place at (grown.pools p.number p.value (pool_named-is judged pool p of)) kind size (place_judged into place found)
+      allocated_sound p words place at (grown.pools p.number p.value (pool_named-is judged pool p of)) kind size
+      (place_judged into place found)
   change_sound live other (PoolMade name p e made) =
       untouched v (with_pool v name p) s refl (λ n q h. slice_get-kept v.pools p q n h) refl refl refl refl refl refl refl refl
   change_sound live other (PointMade name pool of at_rank e is may) = new_point v s name of.number at_rank (
-    kind_of_pool is_automatic_kind v.pools of.number of.value (pool_named-is v pool of is) (may_is_automatic of.value.kind at_rank (ap not may)),
+    kind_of_pool is_automatic_kind v.pools of.number of.value (pool_named-is v pool of is) (may_is_automatic of.value.kind at_rank
+        (ap not may)),
     (λ weak. kind_of_pool is_weak_kind v.pools of.number of.value (pool_named-is v pool of is)
         (may_is_weak of.value.kind at_rank (ap not may) weak)),
   )

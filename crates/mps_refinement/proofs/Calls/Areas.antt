@@ -130,7 +130,8 @@ module _ {F : Type 0} (layout : F → Layout) (h : HeapState F) where
   pub taken_right : (slot place : Slot) (result : Checked (Unit {0})) (after : HeapState F) → Comes h (after_take h slot place) result after
       → IsRight layout h (call.Take slot place) [] (answer_to says_ok result) after
   taken_right slot place result after =
-      quiet_is_right layout says_ok h (call.Take slot place) refl refl (λ a. refl) (after_take h slot place) result after (taken_same slot place)
+      quiet_is_right layout says_ok h (call.Take slot place) refl refl (λ a. refl) (after_take h slot place) result after
+      (taken_same slot place)
 
   -- ---- poke
 

@@ -179,7 +179,8 @@ module _ {F : Type 0} (layout : F → Layout) (past : Past) (h : HeapState F) (w
           index_is = old.index_is;
           found_index = old.found_index;
           there = old.there;
-          value = old.value ∙ sym (value_still slot.value (Rattle.mps_laws.proofs.Sound.SoundGraph.entry-passes (is_live w) slot.list target.index
+          value = old.value ∙ sym (value_still slot.value (Rattle.mps_laws.proofs.Sound.SoundGraph.entry-passes
+              (is_live w) slot.list target.index
               slot.value all old.there));
         }
       where
@@ -193,7 +194,8 @@ module _ {F : Type 0} (layout : F → Layout) (past : Past) (h : HeapState F) (w
 
     new_there : entry_at made_world.addresses (length w.graph.objects) ≡ Some at
     new_there =
-        ap (entry_at (with_last w.addresses (Some at))) (sym numbered) ∙ Rattle.mps_refinement.proofs.Parts.ObjectMore.new_address w.addresses at
+        ap (entry_at (with_last w.addresses (Some at))) (sym numbered)
+        ∙ Rattle.mps_refinement.proofs.Parts.ObjectMore.new_address w.addresses at
 
     pub block_parts : AreParts layout past (with_slot made_heap entry held.at.0)
         (with_graph made_world (model.with_slot made_world.graph slot (Some (length w.graph.objects))))

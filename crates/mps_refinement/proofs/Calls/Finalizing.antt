@@ -99,7 +99,8 @@ module _ {F : Type 0} (layout : F → Layout) (h : HeapState F) where
         };
       })))
 
-  pub registered_right : (slot : Slot) (result : Checked (Unit {0})) (after : HeapState F) → Comes h (after_finalize layout h slot) result after
+  pub registered_right : (slot : Slot) (result : Checked (Unit {0})) (after : HeapState F)
+      → Comes h (after_finalize layout h slot) result after
       → IsRight layout h (call.Finalize slot) [] (answer_to says_ok result) after
   registered_right slot result after =
       quiet_is_right layout says_ok h (call.Finalize slot) refl refl (λ a. refl) (after_finalize layout h slot) result after

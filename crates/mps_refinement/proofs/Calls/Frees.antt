@@ -180,7 +180,8 @@ module _ {F : Type 0} (layout : F → Layout) (h : HeapState F) (trail : Moves) 
             subst (IsRightFree w line) (sym outcome_is)
             (subst (λ ns. IsRightIn layout w
             (step_of line (call.Free place) ns (Replied reply.Ok))
-            (with_block_place (record h { segs = segs_after_free size h.segs at }) entry 0)) (sym (moves_are size h.segs trail at t none live.over))
+            (with_block_place (record h { segs = segs_after_free size h.segs at }) entry 0)) (sym
+            (moves_are size h.segs trail at t none live.over))
             (subst (λ segs. IsRightIn layout w
             (step_of line (call.Free place) ms (Replied reply.Ok))
             (with_block_place (record h { segs = segs }) entry 0)) (sym (freed_is size h.segs at t live.over))

@@ -388,7 +388,8 @@ pub point_is_right : {F : Type 0} (layout : F → Layout) (h : HeapState F) (nam
     → IsMaking h (without_answer (check_point h name pool at_rank)) (MakesPointIn h name pool at_rank) result after
     → IsRightMaking layout h (call.Point name pool at_rank) result after
 point_is_right layout h name pool at_rank result after making =
-    making_is_right layout h (call.Point name pool at_rank) (without_answer (check_point h name pool at_rank)) (MakesPointIn h name pool at_rank)
+    making_is_right layout h (call.Point name pool at_rank) (without_answer (check_point h name pool at_rank))
+    (MakesPointIn h name pool at_rank)
     refl refl (λ w past parts reached. point_alike layout h w past parts reached name pool at_rank) result after making
 
 pub droppoint_is_right : {F : Type 0} (layout : F → Layout) (h : HeapState F) (name : Name) (result : Result (Unit {0}) Refusal)

@@ -146,7 +146,8 @@ module _ (w : World) (rest : IsAtRest w) (positive : (id : Id) (at : Address) �
         (subst (λ k. AreHeldAtFlip w.addresses (collecting_after_flip w Everything []) (items_of before.tables k) row.0) place.is
         (held.each place.place row.0 row.1)) in
         let row_is : row.0 ≡ is.0 =
-        same_row w.addresses (collecting_after_flip w Everything []) (well_formed_different w rest.well_formed) positive was.0 row.0 is.0 holds is.2
+        same_row w.addresses (collecting_after_flip w Everything [])
+        (well_formed_different w rest.well_formed) positive was.0 row.0 is.0 holds is.2
         (live_in (number key) is.0 is.1) in
         let many = length-map is.0 (address_of_target w.addresses) in
         let all = ap (λ (xs : List Address). length xs) is.2 in (

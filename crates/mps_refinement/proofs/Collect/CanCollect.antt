@@ -35,7 +35,8 @@ abbrev enough : (grains : ℕ) → Moves
 enough grains = record { moves = []; spare = most_moves grains }
 
 module _ {F : Type 0} (layout : F → Layout) (begins : ACollectionBegins F) (can_fix : RootsCanBeFixed F) (few : UnitsAreFew)
-    (scans : (formats : List (Option (Policy F))) (of : ChainsState) (at_flip : List (Option Address)) → AreScansDone layout formats of at_flip)
+    (scans : (formats : List (Option (Policy F))) (of : ChainsState) (at_flip : List (Option Address))
+    → AreScansDone layout formats of at_flip)
     (h : HeapState F) (m : Moves) (w : World) (st : StandsFor layout h w)
     (known : (n : Moves) → most_moves h.segs.grains ≤ n.spare → IsBefore layout h n w) (room : most_moves h.segs.grains ≤ m.spare) where
   k : IsBefore layout h m w

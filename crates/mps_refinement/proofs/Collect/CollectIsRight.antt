@@ -191,7 +191,8 @@ module _ {F : Type 0} (layout : F → Layout) where
   -- ---- where something is condemned
 
   ends_collection : (w : World) (first later : List Move) (y : Collecting) (count : ℕ) → IsAtRest w
-      → is_nothing (condemned_by w Everything) ≡ false → FixesHeld w (collecting_after_flip w Everything []) first y → Ends y count later → IsPlain w
+      → is_nothing (condemned_by w Everything) ≡ false → FixesHeld w (collecting_after_flip w Everything []) first y
+      → Ends y count later → IsPlain w
       → IsCollection w y (flip_act w Everything ++ later)
   ends_collection w first later y count rest some fixed ends plain =
       let act_leads = (flip_done w Everything [] first y rest refl some (nothing_remembered w rest) fixed).leads in

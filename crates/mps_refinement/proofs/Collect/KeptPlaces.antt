@@ -97,7 +97,8 @@ module _ (x : Collecting) (run : Running x) (s : Segment) (freed : List Address)
       of_now None (Some at) e g = (frees x run s freed next).left n at g (not_freed x run s freed next n at black g) ∙ sym g
 
   pub reclaim_stays : (c : Collection) → is_last_condemned x.running s.base ≡ false
-      → (world_after_moves x.world (reclaim_by x s.base freed)).collection ≡ Some c → StaysInPlace x (collecting_after_reclaim x s.base freed c)
+      → (world_after_moves x.world (reclaim_by x s.base freed)).collection ≡ Some c
+      → StaysInPlace x (collecting_after_reclaim x s.base freed c)
   reclaim_stays c not_last runs =
       let leads = goes_on_leads x run s freed next not_last in
       let same : final_collection x run s freed next ≡ c =

@@ -75,7 +75,8 @@ module _ (w : World) (rest : IsAtRest w) (nothing : is_nothing (condemned_by w E
 
   -- and there is no message
   no_message : (messages : List Address) (ids : List Id)
-      → AreHeldAtFlip w.addresses (collecting_after_flip w Everything []) messages (map Some ids) → (count : ℕ) → count < length messages → ⊥
+      → AreHeldAtFlip w.addresses (collecting_after_flip w Everything []) messages (map Some ids) → (count : ℕ)
+      → count < length messages → ⊥
   no_message messages [] held count less = let long = held.long in omega (arith, long, less)
   no_message messages (id ∷ ids) held count less = none_was (slice_index_or messages 0 0) id (held.each 0 (Some id) refl)
 

@@ -57,7 +57,8 @@ module _ {F : Type 0} where
 
   layout_is : (layout : F → Layout) (formats : ℕ → Layout) (p : Pool F) (q : world.Pool) (format : Policy F) → IsPool layout formats p q
       → policy_of_pool p ≡ Some format → layout format.format ≡ formats q.format
-  layout_is layout formats (pool.Automatic kind other) q format is e = ap (λ (x : Policy F). layout x.format) (sym (same_Some _ format e)) ∙ sym is.1
+  layout_is layout formats (pool.Automatic kind other) q format is e = ap (λ (x : Policy F). layout x.format) (sym
+      (same_Some _ format e)) ∙ sym is.1
   layout_is layout formats (pool.OneSize words) q format is e = absurd (none-some format e)
   layout_is layout formats pool.AnySize q format is e = absurd (none-some format e)
 
@@ -193,7 +194,8 @@ module _ {F : Type 0} (layout : F → Layout) (pools : List (Pool F)) (t : Trace
           ∙ copying_by_number layout w.formats p q is w number f
       by_cases (neither e f) = absurd (none-some (Some format) (sym (format_at number None e) ∙ there))
 
-  known_pools : AreKnownPools layout t.formats t.chains (pool_is is_automatic_kind w) (world.is_copying_pool w) (pool_layout w) (generations_of w)
+  known_pools : AreKnownPools layout t.formats t.chains (pool_is is_automatic_kind w) (world.is_copying_pool w) (pool_layout w)
+      (generations_of w)
   known_pools = record {
     listed = λ number automatic.
         let m = collected number automatic in (m.format, format_at number (Some m.pool_is) m.there ∙ ap Some m.format_is);

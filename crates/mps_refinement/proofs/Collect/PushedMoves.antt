@@ -136,7 +136,8 @@ module _ {F : Type 0} (layout : F → Layout) (formats : List (Option (Policy F)
   scan_pushes x z one =
       let s = one.scanned in
       subst (λ (v : Traced). IsPushed x.moves v.moves) (sym s.black)
-      (cells_push (layout s.format.format) (slice_index x.segs.words (word_of (at_word one.word).0)) (at_word one.word) x s.all.from s.before
+      (cells_push (layout s.format.format) (slice_index x.segs.words (word_of (at_word one.word).0))
+      (at_word one.word) x s.all.from s.before
       s.all.run)
 
 -- ---- a reclaim

@@ -163,7 +163,8 @@ module _ {F : Type 0} (layout : F → Layout) (h : HeapState F) (trail : Moves) 
       (after_reserve layout h (fresh trail) name head) (reserve_appends name head)
       (λ result after trail_after. reserve_is_right layout h (fresh trail) name head result after trail_after refl)
 
-  commit_appends : (name : Name) (target : Slot) → Appends trail (after_commit h trail name target) (after_commit h (fresh trail) name target)
+  commit_appends : (name : Name) (target : Slot)
+      → Appends trail (after_commit h trail name target) (after_commit h (fresh trail) name target)
   commit_appends name target =
       after_check trail (point_named h name) _ _ (λ point.
       after_check trail (slot_in h target) _ _ (λ slot.

@@ -212,7 +212,8 @@ module _ (w : World) (rest : w.collection ≡ None) (sound : IsSound w) where
       (all-at (is_live w) targets_of_point w.graph.points p.number (Some p.value) parts.held.reservations
       (entry_is_there w.graph.points p.number p.value (point_named-is w name p there).1)))) (λ c is. none_kept c is)) refl
     where
-      cells_left : All (is_live w) (targets_of_reservation r) → All (is_live w) (targets_of_reservation (record r { cells = change r.cells }))
+      cells_left : All (is_live w) (targets_of_reservation r)
+          → All (is_live w) (targets_of_reservation (record r { cells = change r.cells }))
       cells_left all =
           subst (λ b. All (is_live w) (if b then [] else targets_of_cells (change r.cells))) (sym lives)
           (written_live write r.cells (subst (λ b. All (is_live w) (if b then [] else targets_of_cells r.cells)) lives all))

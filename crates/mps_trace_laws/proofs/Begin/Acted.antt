@@ -78,7 +78,8 @@ as_far (passes black rest) = as_far rest
 as_far (keeps white keep rest) = let far = as_far rest in record { next = far.next; band = far.band; cursor = far.cursor }
 
 moving_still : {F : Type 0} (layout : F → Layout) (formats : List (Option (Policy F))) (of : ChainsState) (w w' : World) → IsSameGraph w w'
-    → AreKnownPools layout formats of (pool_is is_automatic_kind w') (is_copying_pool w') (pool_layout w') (generations_of w') → IsMoving layout formats of w
+    → AreKnownPools layout formats of (pool_is is_automatic_kind w') (is_copying_pool w') (pool_layout w') (generations_of w')
+    → IsMoving layout formats of w
     → IsMoving layout formats of w'
 moving_still layout formats of w w' same pools moving = record {
   shaped = shaped_still w w' same moving.shaped;

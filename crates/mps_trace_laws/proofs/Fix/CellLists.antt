@@ -30,7 +30,8 @@ targets_more (x ∷ xs) (suc k) c ids is = go (target_of_cell x) (targets_more x
     go (Some n) rest = ap (λ ns. n ∷ ns) rest
 
 -- the facts hold of other fixed cells, where the image stands for these
-pub image_again : {F : Type 0} (layout : F → Layout) (formats : List (Option (Policy F))) (of : ChainsState) (at_flip : List (Option Address))
+pub image_again : {F : Type 0} (layout : F
+    → Layout) (formats : List (Option (Policy F))) (of : ChainsState) (at_flip : List (Option Address))
     (done done' : CellSet) (x : Traced) (y : Collecting)
     → ImageStands (setting_of x.segs at_flip y) (memory_in x.segs) y.world.addresses y.colours done'
     → TracingStands layout formats of at_flip done x y → TracingStands layout formats of at_flip done' x y
@@ -55,7 +56,8 @@ image_again layout formats of at_flip done done' x y image stands =
     }
 
 -- they hold of fewer
-pub fewer_done : {F : Type 0} (layout : F → Layout) (formats : List (Option (Policy F))) (of : ChainsState) (at_flip : List (Option Address))
+pub fewer_done : {F : Type 0} (layout : F
+    → Layout) (formats : List (Option (Policy F))) (of : ChainsState) (at_flip : List (Option Address))
     (done done' : CellSet) (x : Traced) (y : Collecting) → ((id i : ℕ) → IsTrue (done' id i) → IsTrue (done id i))
     → TracingStands layout formats of at_flip done x y → TracingStands layout formats of at_flip done' x y
 fewer_done layout formats of at_flip done done' x y sub stands =

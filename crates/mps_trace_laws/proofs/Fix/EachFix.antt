@@ -168,14 +168,16 @@ module _ (F : Type 0) (layout : F → Layout) (formats : List (Option (Policy F)
           nothing_done layout formats of at_flip done x y stands t now o target.object target.there at.0 e.0 e.1
 
       module _ (s : Segment) (over : segment_over x.segs.segments at.0 ≡ Some s) (pool : s.pool ≡ o.pool)
-          (condemned : is_condemned_at x.segs at.0 ≡ true) (format : Policy F) (listed : slice_get formats o.pool ≡ Some (Some format)) where
+          (condemned : is_condemned_at x.segs at.0 ≡ true) (format : Policy F) (listed : slice_get formats o.pool
+          ≡ Some (Some format)) where
         abbrev g : Layout
         g = pool_layout y.world o.pool
 
         condemned_word : is_condemned_word x.segs (word_of at.0) ≡ true
         condemned_word = ap (is_condemned_at x.segs) begins ∙ condemned
 
-        found_step : (copying : IsTrue (is_copying_pool y.world o.pool)) (state' : AmcState) (s' : SegsState) (moves' : Moves) (answer : Addr)
+        found_step : (copying : IsTrue (is_copying_pool y.world o.pool)) (state' : AmcState) (s' : SegsState) (moves' : Moves)
+            (answer : Addr)
             → FixesAt g x.amc x.segs x.moves at (target_of of s) state' s' moves' answer
             → IsFixStep layout formats of at_flip done x (record { amc = state'; segs = s'; moves = moves' }) y t answer.0
         found_step copying state' s' moves' answer (forwards to is) =

@@ -95,7 +95,8 @@ module _ (F : Type 0) (layout : F → Layout) (formats : List (Option (Policy F)
 
   has : HasTail x.amc o.pool generation
   has =
-      subst (λ p. HasTail x.amc o.pool (Rattle.mps_base.specs.Generation.target_generation (Rattle.mps_trace.specs.GenState.generations_of of p)
+      subst (λ p. HasTail x.amc o.pool (Rattle.mps_base.specs.Generation.target_generation
+      (Rattle.mps_trace.specs.GenState.generations_of of p)
       s.generation)) (sym pool) (stands.state.tails.has o.pool s.generation copying)
 
   within : word_of at.0 < words_of_arena x.segs.grains

@@ -40,7 +40,8 @@ module _ (s : SegsState) (held : AreHeld s) (objects : List Object) (points : Li
   abbrev after : SegsState
   after = with_one s u
 
-  elsewhere : (n : Word) (pool : ℕ) → Covers (words_of_segment u) n → Rattle.mps_trace_laws.specs.Image.Memory.pool_over_word s n ≡ Some pool → ⊥
+  elsewhere : (n : Word) (pool : ℕ) → Covers (words_of_segment u) n → Rattle.mps_trace_laws.specs.Image.Memory.pool_over_word s n
+      ≡ Some pool → ⊥
   elsewhere =
       nothing_there s held objects points memories layout at_flip condemned is_read addresses tables placed reserved u free
 

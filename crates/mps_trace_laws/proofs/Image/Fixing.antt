@@ -156,7 +156,6 @@ module _ (s : Setting) (m : Memory) (addresses : List (Option Address)) (k : Col
     (shaped : AreShaped s.objects s.layout)
     (all_read : (id : Id) → IsTrue (s.is_read id)) (st : ImageStands s m addresses k done) (holder i : ℕ) (o : Object) (n : Word) (tag : ℕ)
     (lies : Lies s.objects addresses holder i o n) where
-
   module _ (t now : ℕ) (holder_kept : is_white s.condemned k holder ≡ false)
       (cell : slice_get (all_cells o.body) i ≡ Some (ReferenceCell (Some t) tag)) (there : entry_at addresses t ≡ Some now) where
     -- the word is written after what its address means was fixed

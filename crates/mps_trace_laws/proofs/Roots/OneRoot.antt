@@ -20,7 +20,8 @@ use Rattle.mps_trace_laws.specs.Roots.OneRoot.{AreFixed, MeansLive, RefersTo, Is
 use Rattle.mps_format.specs.declared.pool.Policy.{Policy}
 
 -- nothing was fixed, where the targets are null
-pub none_fixed : {F : Type 0} (layout : F → Layout) (formats : List (Option (Policy F))) (of : ChainsState) (at_flip : List (Option Address))
+pub none_fixed : {F : Type 0} (layout : F
+    → Layout) (formats : List (Option (Policy F))) (of : ChainsState) (at_flip : List (Option Address))
     (done : CellSet) (x : Traced) (y : Collecting) (targets : List (Option Id)) → entries targets ≡ []
     → TracingStands layout formats of at_flip done x y → AreFixed layout formats of at_flip done x x y targets
 none_fixed layout formats of at_flip done x y targets null stands = record {

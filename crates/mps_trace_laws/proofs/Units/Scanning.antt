@@ -46,7 +46,8 @@ use Rattle.mps_base.specs.Trail.{Moves}
 
 -- ---- what fixes leave of a world
 
-pub record IsStill {F : Type 0} (layout : F → Layout) (formats : List (Option (Policy F))) (of : ChainsState) (x y : Collecting) : Type 0 where
+pub record IsStill {F : Type 0} (layout : F
+    → Layout) (formats : List (Option (Policy F))) (of : ChainsState) (x y : Collecting) : Type 0 where
   pub moving : IsMoving layout formats of x.world → IsMoving layout formats of y.world
   pub cursor : y.cursor ≡ x.cursor
   pub next : y.next ≡ x.next
@@ -111,7 +112,8 @@ body_refers (Manual words) i t tag e automatic = absurd (false≢true automatic)
 
 -- ---- a grey object
 
-module _ {F : Type 0} (layout : F → Layout) (formats : List (Option (Policy F))) (of : ChainsState) (at_flip : List (Option Address)) (x : Traced)
+module _ {F : Type 0} (layout : F
+    → Layout) (formats : List (Option (Policy F))) (of : ChainsState) (at_flip : List (Option Address)) (x : Traced)
     (run : RunningState) (y : Collecting) (stands : UnitStands layout formats of at_flip x run y) where
   -- where a block is grey objects are traced
   pub traced_so : (n : Word) → bit x.segs.marks.exact n ≡ true → StandsTracing layout formats of at_flip x y

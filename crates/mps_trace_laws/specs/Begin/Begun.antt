@@ -36,11 +36,13 @@ use Rattle.mps_trace_laws.specs.Begin.Before.{StandsBefore}
 -- model's flip
 pub record IsFlipStanding {F : Type 0} (layout : F → Layout) (t : TraceState F) (m : Moves) (w : World) (x : Traced) : Type 0 where
   pub traces : TracingStands layout t.formats t.chains w.addresses
-      (black_cells (collecting_after_flip w Everything []).running.condemned (collecting_after_flip w Everything []).colours) x (collecting_after_flip w Everything [])
+      (black_cells (collecting_after_flip w Everything []).running.condemned (collecting_after_flip w Everything []).colours) x
+      (collecting_after_flip w Everything [])
   pub housed : AreHoused w.graph.objects x.segs.segments w.addresses
   pub strong : HasNoWeakMark x.segs
   pub moving : IsMoving layout t.formats t.chains (collecting_after_flip w Everything []).world
-  pub unreserved : AreCondemnedUnreserved x.segs (collecting_after_flip w Everything []).world.graph.points (collecting_after_flip w Everything []).world.point_memories
+  pub unreserved : AreCondemnedUnreserved x.segs (collecting_after_flip w Everything []).world.graph.points
+      (collecting_after_flip w Everything []).world.point_memories
   pub trail : x.moves.moves ≡ m.moves ++ flip_of w Everything ∷ []
 
 -- if something is condemned

@@ -47,7 +47,8 @@ pub record IsScannedTo {F : Type 0} (layout : F → Layout) (formats : List (Opt
   pub same_condemned : after.running.condemned ≡ y.running.condemned
 
 -- all references of an object were fixed, and it is grey no longer: what a unit of the abstract collector does that scans it
-pub record IsScan {F : Type 0} (layout : F → Layout) (formats : List (Option (Policy F))) (of : ChainsState) (at_flip : List (Option Address))
+pub record IsScan {F : Type 0} (layout : F
+    → Layout) (formats : List (Option (Policy F))) (of : ChainsState) (at_flip : List (Option Address))
     (x z : Traced) (y : Collecting) (holder : Id)
     : Type 0 where
   pub moves : List Move

@@ -50,4 +50,5 @@ returns-in-Blocks-clause-asked g c = rw c.in-Blocks.is (record {
 
 pub returns-in-Generate-clause-written : goal.returns-in-Generate-clause-written
 returns-in-Generate-clause-written g c verdict none =
-    generated_written c.generate.result (g.D.Desk.outside c.generate.new.desk) c.generate.ensures.statuses c.generate.ensures.written verdict
+    generated_written c.generate.result
+    (g.D.Desk.outside c.generate.new.desk) c.generate.ensures.statuses c.generate.ensures.written verdict

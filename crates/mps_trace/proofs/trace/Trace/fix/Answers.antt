@@ -136,7 +136,8 @@ returns-clause-fixed g c =
     λ n. FixesAt (g.F.Format.layout c.in-Some-index.format.format) t.amc s m c.args.at n c.fix.new.self c.fix.new.segs c.fix.new.trail c.fix.result
     in
     let R : Policy g.row.F.Denot → Type 0 =
-    λ q. FixesAt (g.F.Format.layout q.format) t.amc s m c.args.at (target_of t.chains k.segment) c.fix.new.self c.fix.new.segs c.fix.new.trail
+    λ q. FixesAt (g.F.Format.layout q.format) t.amc s m c.args.at
+    (target_of t.chains k.segment) c.fix.new.self c.fix.new.segs c.fix.new.trail
     c.fix.result
     in
     let fixed = subst R got_is (subst Q generation_is c.fix.ensures.fixed) in
@@ -179,7 +180,8 @@ returns-clause-aligned g c =
     λ n. FixesAt (g.F.Format.layout c.in-Some-index.format.format) t.amc s m c.args.at n c.fix.new.self c.fix.new.segs c.fix.new.trail c.fix.result
     in
     let R : Policy g.row.F.Denot → Type 0 =
-    λ q. FixesAt (g.F.Format.layout q.format) t.amc s m c.args.at (target_of t.chains k.segment) c.fix.new.self c.fix.new.segs c.fix.new.trail
+    λ q. FixesAt (g.F.Format.layout q.format) t.amc s m c.args.at
+    (target_of t.chains k.segment) c.fix.new.self c.fix.new.segs c.fix.new.trail
     c.fix.result
     in
     let fixed = subst R got_is (subst Q generation_is c.fix.ensures.fixed) in

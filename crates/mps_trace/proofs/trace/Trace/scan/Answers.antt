@@ -19,7 +19,8 @@ fix_cells-requires-clause-ready g c =
     c.in-Some.ensures.found c.requires.listed c.index.result.now c.index.ensures c.in-Some-index.format c.in-Some-index.is
     in
     let P : Policy g.row.F.Denot → Type 0 =
-    λ q. AreReadyIn g.F.Format.layout (g.F.Format.layout q.format) c.args.self.now s c.args.trail.now (slice_index s.words (word_of c.args.at.0))
+    λ q. AreReadyIn g.F.Format.layout (g.F.Format.layout q.format) c.args.self.now s c.args.trail.now (slice_index s.words
+    (word_of c.args.at.0))
     c.args.at
     in
     let Q : ℕ → Type 0 =
