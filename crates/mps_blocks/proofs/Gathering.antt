@@ -1,11 +1,11 @@
 -- The lines of the blocks, gathered one after the other and printed.
-use Rattle.std.proofs.Common.{◌≡◌, ℕ, List, [], ◌++◌, length, take, drop, Result, Ok, Err, refl, sym, ap, subst, ◌∙◌, append_assoc}
+use Rattle.std.proofs.Common.{◌≡◌, ℕ, List, [], ◌++◌, length, take, drop, Result, Ok, Err, sym, ap, ◌∙◌, append_assoc}
 use Rattle.std.specs.Prelude.{OnErr}
 use Rattle.std.proofs.lemmas.List.{append-nil, take-append-drop}
 use Rattle.std.proofs.Math.Seq.{take-append_seam}
 use Rattle.mps_desk.specs.Desk.{Outside}
 use Rattle.mps_report.specs.Streams.{PrintsPart, Gathers}
-use Rattle.mps_report.proofs.Gathering.{gathers-none, gathers-then}
+use Rattle.mps_report.proofs.Gathering.{gathers-then}
 use Rattle.mps_report.proofs.Outside.{part_after_front}
 
 -- a prefix of a text was gathered, and this is left of it
@@ -14,9 +14,6 @@ pub record IsGatheredUpTo (old new : Outside) (before after all left : List ℕ)
   pub gathers : Gathers old new before after text
   pub split : all ≡ text ++ left
 
-pub gathered-none : (o : Outside) (x all : List ℕ) → IsGatheredUpTo o o x x all all
-gathered-none o x all = record { text = []; gathers = gathers-none o x; split = refl }
-
 pub gathered_more : (a b c : Outside) (x y z all left line rest : List ℕ) → IsGatheredUpTo a b x y all left → left ≡ line ++ rest
     → Gathers b c y z line → IsGatheredUpTo a c x z all rest
 gathered_more a b c x y z all left line rest e is f = record {
@@ -24,10 +21,6 @@ gathered_more a b c x y z all left line rest e is f = record {
   gathers = gathers-then a b c x y z e.text line e.gathers f;
   split = e.split ∙ ap (λ (t : List ℕ). e.text ++ t) is ∙ sym (append_assoc e.text line rest);
 }
-
-pub gathered_all : (a b : Outside) (x y all left : List ℕ) → IsGatheredUpTo a b x y all left → left ≡ [] → Gathers a b x y all
-gathered_all a b x y all left e is =
-    subst (λ (t : List ℕ). Gathers a b x y t) (sym (e.split ∙ ap (λ (t : List ℕ). e.text ++ t) is ∙ append-nil e.text)) e.gathers
 
 pub all_gathered : (a b : Outside) (x y all : List ℕ) → Gathers a b x y all → IsGatheredUpTo a b x y all []
 all_gathered a b x y all e = record { text = all; gathers = e; split = sym (append-nil all) }

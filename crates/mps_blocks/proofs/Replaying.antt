@@ -19,8 +19,8 @@ use Rattle.mps_blocks.specs.declared.bad_replay.BadReplay.{BadReplay}
 use Rattle.mps_blocks.specs.declared.bad_replay.BadReplay.TheVariants as bad_replay
 use Rattle.mps_log_reader.specs.Input.{Buffered, ReadsMore, IsAtEnd}
 use Rattle.mps_log_reader.specs.Left.{left_of, LastGives}
-use Rattle.mps_log_reader.proofs.Left.{left_same, split_pending, nothing_left, fault_left, nothing_in_front, one_in_front, left_after_known}
-use Rattle.mps_log_reader.proofs.Records.{none_yet, all_and_one, flat_one}
+use Rattle.mps_log_reader.proofs.Left.{left_same, split_pending, nothing_left, fault_left, one_in_front, left_after_known}
+use Rattle.mps_log_reader.proofs.Records.{all_and_one, flat_one}
 use Rattle.mps_blocks.specs.Replayed.{State, after_interning, after_labelling, replayed_after, replayed_from}
 use Rattle.mps_blocks.specs.Ending.{IsBadReplay}
 use Rattle.mps_blocks.specs.Replaying.{PendingReplays, NextReplays, AllReplay}
@@ -89,16 +89,6 @@ pub record SoFar (version : Version) (count offset : ℕ) (left left_after : Opt
   pub offset_is : offset ≡ 8 + length (records_bytes records)
   pub front : left ≡ option_map (λ rest. records_bytes records ++ rest) left_after
   pub replay : replayed_from old records ≡ Some new
-
-pub at_start : (version : Version) (left : Option (List ℕ)) (state : State) → SoFar version 0 8 left left state state
-at_start version left state = record {
-  records = [];
-  each = none_yet version;
-  counted = refl;
-  offset_is = refl;
-  front = nothing_in_front left;
-  replay = refl;
-}
 
 -- the records before, and one more
 pub replayed-one : (s : State) (rs : List Record) (r : Record)

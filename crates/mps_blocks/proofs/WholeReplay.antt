@@ -1,5 +1,5 @@
 -- A replay from the header to its end, what is listed then, and how the program ends.
-use Rattle.std.proofs.Common.{◌≡◌, ℕ, List, [], ◌++◌, true, length, take, Option, Some, Result, Ok, Err, refl, sym, ap, subst, ◌∙◌, arith}
+use Rattle.std.proofs.Common.{◌≡◌, ℕ, List, ◌++◌, true, length, take, Option, Some, Result, Ok, Err, refl, sym, ap, subst, ◌∙◌, arith}
 use Rattle.std.specs.Prelude.{OnOk, IfErr}
 use Rattle.std.specs.Option.{option_map}
 use Rattle.mps_desk.specs.Desk.{Outside}
@@ -14,7 +14,6 @@ use Rattle.mps_log_reader.specs.declared.bad_log.BadLog.TheVariants as bad_log
 use Rattle.mps_log_reader.specs.Ending.{is_input_verdict}
 use Rattle.mps_log_reader.proofs.LogPrefix.{after_header}
 use Rattle.mps_log_reader.proofs.Opening.{size_with_header, header_known}
-use Rattle.mps_log_reader.proofs.PutOut.{nothing_put}
 use Rattle.mps_log_reader.proofs.Reported.{has_reported}
 use Rattle.mps_log_reader.proofs.Stops.{other_than_verdict}
 use Rattle.mps_blocks.specs.declared.bad_replay.BadReplay.{BadReplay}
@@ -91,14 +90,6 @@ listed_part bytes state a b c h same p = record {
   count = p.count;
   printed = printed_since (take p.count (listing state.blocks)) a.printed b.printed c.printed same p.printed;
 }
-
-pub listed_stop : (bytes : List ℕ) (why : Stop BadReplay) (a b : Outside) → HasReplayed bytes (Err why) → b.printed ≡ a.printed
-    → HasListed bytes (Err why) a b
-listed_stop bytes stop.ReadFailed a b h same = tt
-listed_stop bytes stop.OutOfMemory a b h same = tt
-listed_stop bytes stop.WriteFailed a b h same = absurd h.ends_at
-listed_stop bytes (stop.Bad (bad_replay.Log bad_log.Header)) a b h same = ([], (h, refl), same ∙ nothing_put a.printed)
-listed_stop bytes why a b h same = ([], (h, refl), same ∙ nothing_put a.printed)
 
 -- ---- how the program ends
 

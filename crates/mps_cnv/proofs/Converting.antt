@@ -1,5 +1,5 @@
 -- The conversion of a log, one record after the other.
-use Rattle.std.proofs.Common.{◌≡◌, ℕ, ◌+◌, ◌<◌, ◌≤◌, true, false, List, [], ◌∷◌, ◌++◌, length, drop, Option, Some, None, Result, Ok, Err, refl, sym, ap, subst, ◌∙◌, arith}
+use Rattle.std.proofs.Common.{◌≡◌, ℕ, ◌+◌, ◌<◌, ◌≤◌, true, false, List, [], ◌∷◌, ◌++◌, length, drop, Option, Some, None, Result, Ok, Err, sym, ap, subst, ◌∙◌, arith}
 use Rattle.std.specs.Prelude.{IfSome, unwrap_or}
 use Rattle.std.specs.List.{All, flat_map}
 use Rattle.std.specs.Option.{option_map}
@@ -19,10 +19,10 @@ use Rattle.mps_report.specs.Streams.{FlushedPrefix}
 use Rattle.mps_log_reader.specs.Input.{Buffered, ReadsMore, IsAtEnd}
 use Rattle.mps_log_reader.specs.Left.{left_of, LastGives}
 use Rattle.mps_log_reader.specs.PutOut.{put_out, PutsOut}
-use Rattle.mps_log_reader.proofs.Left.{left_same, split_pending, nothing_left, fault_left, nothing_in_front, one_in_front, left_after_known}
-use Rattle.mps_report.proofs.Appended.{appended_empty, appended_both}
+use Rattle.mps_log_reader.proofs.Left.{left_same, split_pending, nothing_left, fault_left, one_in_front, left_after_known}
+use Rattle.mps_report.proofs.Appended.{appended_both}
 use Rattle.mps_log_reader.proofs.PutOut.{put_same, put_more}
-use Rattle.mps_log_reader.proofs.Records.{none_yet, all_and_one, flat_one}
+use Rattle.mps_log_reader.proofs.Records.{all_and_one, flat_one}
 use Rattle.mps_cnv.specs.Portable.{line_of_kinds}
 use Rattle.mps_cnv.specs.Converting.{PendingConverts, NextConverts, PutsLines, AllGive}
 
@@ -76,13 +76,6 @@ next_stops version kinds offset a b c x y left_after p q r (stop.Bad (bad_log.Re
 next_stops version kinds offset a b c x y left_after p q r stop.ReadFailed at_end reads kept gives = tt
 next_stops version kinds offset a b c x y left_after p q r why at_end reads kept gives = absurd gives
 
-pub room_fails : (version : Version) (kinds offset : ℕ) (left left_after before after : Option (List ℕ))
-    (result : Result (Unit {0}) (Stop BadLog)) (why : Stop BadLog)
-    → result ≡ Err stop.WriteFailed → result ≡ Err why → NextConverts version kinds offset left left_after before after (Err why)
-room_fails version kinds offset left left_after before after result why e f =
-    let g : why ≡ stop.WriteFailed = cc in
-    rw g tt
-
 -- ---- all records so far
 
 pub record SoFar (version : Version) (kinds count offset : ℕ) (left left_after before after : Option (List ℕ)) : Type 0 where
@@ -92,16 +85,6 @@ pub record SoFar (version : Version) (kinds count offset : ℕ) (left left_after
   pub place : offset ≡ 8 + length (records_bytes records)
   pub front : left ≡ option_map (λ rest. records_bytes records ++ rest) left_after
   pub put : PutsOut before after (flat_map (line_of_kinds version kinds) records)
-
-pub at_start : (version : Version) (kinds : ℕ) (left before : Option (List ℕ)) → SoFar version kinds 0 8 left left before before
-at_start version kinds left before = record {
-  records = [];
-  each = none_yet version;
-  counted = refl;
-  place = refl;
-  front = nothing_in_front left;
-  put = appended_empty before;
-}
 
 pub one_more : (version : Version) (kinds count offset size : ℕ) (left left_after left_then before after put : Option (List ℕ))
     → SoFar version kinds count offset left left_after before after

@@ -27,7 +27,7 @@ use Rattle.mps_log_reader.specs.Causes.{WorksOnInput}
 use Rattle.mps_log_reader.specs.Input.{Buffered}
 use Rattle.mps_log_reader.proofs.FirstRecord.{is_at_front, length-record_bytes}
 use Rattle.mps_log_reader.proofs.Left.{split_pending, one_in_front}
-use Rattle.mps_log_reader.proofs.Records.{none_yet, all_and_one, flat_one}
+use Rattle.mps_log_reader.proofs.Records.{all_and_one, flat_one}
 use Rattle.mps_cnv.specs.Portable.{is_wanted, line_of_kinds}
 use Rattle.mps_cnv.specs.Skipping.{BeginsWithUnwanted, SkipsUnwanted}
 use Rattle.mps_cnv.proofs.Converting.{SoFar}
@@ -100,16 +100,6 @@ at_most_forty event None sized = tt
 at_most_forty event (Some size) sized = omega (arith, sized, count-le event)
 
 -- ---- one after the other
-
-pub none_skipped : (version : Version) (kinds : ℕ) (bytes : List ℕ) → SkipsUnwanted version kinds 0 0 bytes
-none_skipped version kinds bytes = record {
-  records = [];
-  each = none_yet version;
-  counted = refl;
-  sized = refl;
-  front = refl;
-  silent = refl;
-}
 
 pub one_skipped : (version : Version) (kinds count size more : ℕ) (bytes : List ℕ) → SkipsUnwanted version kinds count size bytes
     → BeginsWithUnwanted version kinds more (drop size bytes) → SkipsUnwanted version kinds (count + 1) (size + more) bytes

@@ -181,29 +181,6 @@ out_held i g h piece bytes rest =
       };
     }
 
--- a piece is printed at once, where none waits
-pub out_passed_on : (i j : Outside) (g h : Gathered) (piece : List ℕ) → TakesToPrint i j piece → g.out.bytes ≡ [] → h ≡ g
-    → TakesToPrint (outside_with i g) (outside_with j h) piece
-out_passed_on i j g h piece t none same =
-    let printed : appended j.printed [] ≡ appended (appended i.printed []) piece =
-    sym (appended_empty j.printed) ∙ t.printed ∙ ap (λ (known : Option (List ℕ)). appended known piece) (appended_empty i.printed) in
-    record {
-      printed = cc (printed, none, same);
-      steady = cc same;
-      others = record {
-        files = cc (same, t.others.files);
-        text = cc (same, t.others.files, t.others.text);
-        asked = cc (same, t.others.asked);
-        input = t.others.input;
-        in_faults = cc same;
-        logged = cc (same, t.others.logged);
-        log_faults = cc same;
-        reported = t.others.reported;
-        err_faults = t.others.err_faults;
-        log_waits = λ waits. waits_still g.log.bytes i.log_waits j.log_waits t.others.log_waits (cc (waits, same));
-      };
-    }
-
 -- the log was handed the first of what waits for it
 pub log_counted_on : (i j : Outside) (g h : Gathered) (count : ℕ) → LogsPrefix i j (take count g.log.bytes)
     → g.log.bytes ≢ []
@@ -350,52 +327,6 @@ out_refused a b h = record { printed = h.printed; others = hands_prints a b h }
 
 pub out_refused_twice : (a b c : Outside) → OnlyHandsOn a b → OnlyHandsOn b c → RefusesToPrint a c
 out_refused_twice a b c f g = out_refused a c (hands_on_twice a b c f g)
-
-out_passed_over : (i j : Outside) (g h : Gathered) → j.printed ≡ i.printed → OnlyPrints i j → h.out.bytes ≡ g.out.bytes
-    → h ≡ record g { out = h.out } → RefusesToPrint (outside_with i g) (outside_with j h)
-out_passed_over i j g h printed others left rest = record {
-  printed = cc (printed, left);
-  others = record {
-    files = cc (rest, others.files);
-    text = cc (rest, others.files, others.text);
-    asked = cc (rest, others.asked);
-    input = others.input;
-    in_faults = cc rest;
-    logged = cc (rest, others.logged);
-    log_faults = cc rest;
-    reported = others.reported;
-    err_faults = others.err_faults;
-    log_waits = λ waits. waits_still g.log.bytes i.log_waits j.log_waits others.log_waits (cc (waits, rest));
-  };
-}
-
-prints_then : (a b c : Outside) → OnlyHandsOn a b → OnlyPrints b c → OnlyPrints a c
-prints_then a b c h p = record {
-  files = p.files ∙ h.files;
-  text = p.text ∙ h.text;
-  asked = p.asked ∙ h.asked;
-  input = p.input ∙ h.input;
-  in_faults = p.in_faults ∙ h.in_faults;
-  logged = p.logged ∙ h.logged;
-  log_faults = p.log_faults ∙ h.log_faults;
-  reported = p.reported ∙ h.reported;
-  err_faults = p.err_faults ∙ h.err_faults;
-  log_waits = λ waits. h.log_waits (p.log_waits waits);
-}
-
-pub out_refused_after : (a b : Outside) (i j : Outside) (g h : Gathered) → OnlyHandsOn a b → OnlyHandsOn b (outside_with i g)
-    → j.printed ≡ i.printed → OnlyPrints i j
-    → h.out.bytes ≡ g.out.bytes → h ≡ record g { out = h.out } → RefusesToPrint a (outside_with j h)
-out_refused_after a b i j g h first second printed others left rest =
-    let over = out_passed_over i j g h printed others left rest in
-    let hands = hands_on_twice a b (outside_with i g) first second in
-    record { printed = over.printed ∙ hands.printed; others = prints_then a (outside_with i g) (outside_with j h) hands over.others }
-
-pub out_took_after : (a b : Outside) (i j : Outside) (g h : Gathered) (piece : List ℕ) → OnlyHandsOn a b → OnlyHandsOn b (outside_with i g)
-    → TakesToPrint i j piece → g.out.bytes ≡ [] → h ≡ g → TakesToPrint a (outside_with j h) piece
-out_took_after a b i j g h piece first second t none same =
-    out_after a (outside_with i g) (outside_with j h) piece (hands_on_twice a b (outside_with i g) first second)
-    (out_passed_on i j g h piece t none same)
 
 pub out_held_after : (a b c d : Outside) (piece : List ℕ) → OnlyHandsOn a b → OnlyHandsOn b c → TakesToPrint c d piece
     → TakesToPrint a d piece

@@ -1,7 +1,7 @@
 -- Names opened and made through a desk that gathers.
-use Rattle.std.proofs.Common.{◌≡◌, ℕ, Bool, true, false, Option, Some, None, IfSome, List, [], refl, sym, ap, subst, ◌∙◌, if◌then◌else◌}
+use Rattle.std.proofs.Common.{◌≡◌, ℕ, Option, Some, None, IfSome, List, [], refl, sym, ap, subst, ◌∙◌}
 use Rattle.std.specs.Option.{option_map}
-use Rattle.mps_desk.specs.Desk.{Outside, Files, Request, OnlyCreates, Asks, AreNext, SameFiles, SameElsewhere, after_log, made_for_log, text_in}
+use Rattle.mps_desk.specs.Desk.{Outside, Files, SameElsewhere, after_log, made_for_log, text_in}
 use Rattle.mps_report.proofs.Logging.{filed_nothing}
 use Rattle.mps_gathering.specs.Gathering.{Gathered, outside_with, text_over, OnlyHandsToLog}
 
@@ -20,21 +20,6 @@ text_settled o waiting name none law =
     ap (λ (piece : List ℕ). text_over (option_map (after_log piece) o.files) o.text name) none
     ∙ ap (λ (known : Option Files). text_over known o.text name) (sym (filed_nothing o.files))
     ∙ text_is o.files o.text name law
-
-asked_next : (requests_unknown : Bool) (old new : Option (List Request)) (requests : List Request) → AreNext old requests new
-    → AreNext (if requests_unknown then None else old) requests (if requests_unknown then None else new)
-asked_next true old new requests next = tt
-asked_next false old new requests next = next
-
--- a request that was handed on
-pub asks : (a : Outside) (i j : Outside) (g h : Gathered) (requests : List Request) → OnlyHandsToLog a (outside_with i g)
-    → Asks i j requests
-    → h ≡ g → Asks a (outside_with j h) requests
-asks a i j g h requests hands next same =
-    subst (λ (old : Option (List Request)). AreNext old requests (outside_with j h).asked) hands.kept.asked
-    (subst (λ (b : Bool). AreNext (outside_with i g).asked requests (if b then None else j.asked))
-    (ap (λ (x : Gathered). x.requests_unknown) (sym same))
-    (asked_next g.requests_unknown i.asked j.asked requests next))
 
 -- the input is the text of the name
 pub opened : (a : Outside) (i j : Outside) (g h : Gathered) (name : List ℕ) → OnlyHandsToLog a (outside_with i g) → g.log.bytes ≡ []
@@ -61,22 +46,3 @@ elsewhere a i j g h name hands none same law_i law_j stays = λ other differs.
     text_settled j h.log.bytes other (ap (λ (x : Gathered). x.log.bytes) same ∙ none) (law_j other)
     ∙ stays other differs ∙ sym (text_settled i g.log.bytes other none (law_i other))
     ∙ ap (λ (text : List ℕ → Option (List ℕ)). text other) hands.kept.text
-
-pub creates : (a : Outside) (i j : Outside) (g h : Gathered) → OnlyHandsToLog a (outside_with i g) → OnlyCreates i j → h ≡ g
-    → OnlyCreates a (outside_with j h)
-creates a i j g h hands o same = record {
-  input = o.input ∙ hands.kept.input;
-  in_faults = cc (same, hands.kept.in_faults);
-  printed = cc (same, o.printed, hands.kept.printed);
-  out_faults = cc (same, hands.kept.out_faults);
-  reported = o.reported ∙ hands.kept.reported;
-  err_faults = o.err_faults ∙ hands.kept.err_faults;
-  out_waits = cc (same, o.out_waits, hands.out_waits);
-}
-
-pub not_made : (a : Outside) (i j : Outside) (g h : Gathered) → OnlyHandsToLog a (outside_with i g) → SameFiles i j → h ≡ g
-    → SameFiles a (outside_with j h)
-not_made a i j g h hands s same = record {
-  files = cc (same, s.files, hands.kept.files);
-  text = cc (same, s.files, s.text, hands.kept.text);
-}

@@ -8,9 +8,6 @@ use Rattle.mps_base.specs.Record.{Record}
 use Rattle.mps_event.specs.declared.version.Version.{Version}
 use Rattle.mps_event.specs.Grammar.{IsRecord}
 
-pub none_yet : (version : Version) → All (IsRecord version) []
-none_yet version = All-nil (IsRecord version)
-
 pub all_and_one : (version : Version) (rs : List Record) (r : Record) → All (IsRecord version) rs → IsRecord version r
     → All (IsRecord version) (rs ++ r ∷ [])
 all_and_one version rs r h k = All-append (IsRecord version) rs (r ∷ []) h (All-cons (IsRecord version) r [] k (All-nil (IsRecord version)))

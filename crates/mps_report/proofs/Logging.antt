@@ -2,7 +2,7 @@
 use Rattle.std.proofs.Common.{◌≡◌, ℕ, ◌+◌, ◌-◌, ◌≤◌, Option, Some, None, List, [], ◌∷◌, ◌++◌, length, take, drop, refl, sym, ◌∙◌, ap, subst, arith, append_assoc, append-nil}
 use Rattle.std.specs.Option.{option_map}
 use Rattle.std.proofs.Math.Seq.{take-add, take-append_seam}
-use Rattle.std.proofs.lemmas.List.{take_all, take_rest, take-append-drop}
+use Rattle.std.proofs.lemmas.List.{take_rest, take-append-drop}
 use Rattle.mps_desk.specs.Desk.{Outside, File, Files, HasRisen, OnlyLogs, OnlyReads, with_more, with_logged, after_log}
 use Rattle.mps_report.proofs.Outside.{risen_earlier}
 use Rattle.mps_report.specs.Streams.{appended, Logs, LogsPart, LogTakes}
@@ -135,9 +135,6 @@ part_logged a b c bytes at before logged files counted others fault = record {
   fault = risen_earlier a.log_faults b.log_faults c.log_faults (omega (arith, before.steady)) fault;
   others = only_logs_then a b c before.others others;
 }
-
-pub all_logged : (a b : Outside) (bytes : List ℕ) (at : ℕ) → length bytes ≤ at → Logs a b (take at bytes) → Logs a b bytes
-all_logged a b bytes at le l = logs_as a b _ _ (take_all at bytes le) l
 
 -- ---- two pieces, of which not all was logged
 

@@ -4,7 +4,7 @@ use Rattle.std.specs.Option.{option_map}
 use Rattle.std.proofs.lemmas.List.{take_all, take_rest}
 use Rattle.std.proofs.Math.Seq.{take-add}
 use Rattle.mps_desk.specs.Desk.{Outside, HasRisen, OnlyPrints, OnlyReports, added}
-use Rattle.mps_report.specs.Streams.{Prints, PrintsPart, Reports}
+use Rattle.mps_report.specs.Streams.{Prints, PrintsPart}
 use Rattle.mps_report.proofs.Appended.{appended_empty, appended_both}
 
 -- ---- counts
@@ -111,9 +111,6 @@ settled_part a b c text before printed counted others fault =
     part_printed a b c text (length text) (prints-as a b _ _ (sym (take_all (length text) text (omega arith))) before) printed counted
     others fault
 
-pub all_printed : (a b : Outside) (bytes : List ℕ) (at : ℕ) → length bytes ≤ at → Prints a b (take at bytes) → Prints a b bytes
-all_printed a b bytes at le p = prints-as a b _ _ (take_all at bytes le) p
-
 -- ---- reporting
 
 pub reports_only-same : (o : Outside) → OnlyReports o o
@@ -152,9 +149,6 @@ pub record IsReporting (old new : Outside) (text : List ℕ) : Type 0 where
   pub counted : old.err_faults ≤ new.err_faults
   pub others : OnlyReports old new
 
-pub reports-none : (o : Outside) → IsReporting o o []
-reports-none o = record { reported = appended_empty o.reported; counted = omega arith; others = reports_only-same o }
-
 pub reports_more : (a b c : Outside) (bytes : List ℕ) (at count : ℕ) → IsReporting a b (take at bytes)
     → c.reported ≡ added b.reported (take (length bytes - at) (drop at bytes)) count → b.err_faults ≤ c.err_faults → OnlyReports b c
     → IsReporting a c (take (at + count) bytes)
@@ -168,18 +162,3 @@ reports_more a b c bytes at count before reported counted others =
       counted = omega (arith, before.counted);
       others = reports_only-then a b c before.others others;
     }
-
-pub reported_all : (a b : Outside) (bytes : List ℕ) (at : ℕ) → length bytes ≤ at → IsReporting a b (take at bytes) → Reports a b bytes
-reported_all a b bytes at le r = record {
-  reported = inr (r.reported ∙ ap (λ (x : List ℕ). option_map (λ front. front ++ x) a.reported) (take_all at bytes le));
-  counted = r.counted;
-  others = r.others;
-}
-
-pub report_failed : (a b c : Outside) (bytes front : List ℕ) → IsReporting a b front → OnlyReports b c
-    → HasRisen b.err_faults c.err_faults → b.err_faults ≤ c.err_faults → Reports a c bytes
-report_failed a b c bytes front r others fault counted = record {
-  reported = inl (risen_earlier a.err_faults b.err_faults c.err_faults r.counted fault);
-  counted = omega (arith, r.counted);
-  others = reports_only-then a b c r.others others;
-}

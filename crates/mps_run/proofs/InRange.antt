@@ -11,7 +11,7 @@ use Rattle.mps_model.specs.declared.call.Call.TheVariants as call
 use Rattle.mps_answers.specs.Lines.{max_line_bytes}
 use Rattle.mps_answers.specs.Word.{words, only_word}
 use Rattle.mps_answers.specs.Reading.{first_of_two, both, named_in, single, onto, pair, each}
-use Rattle.mps_script.specs.Calls.{none, one, two, three, four, or}
+use Rattle.mps_script.specs.Calls.{none, one, two, three, or}
 use Rattle.mps_numerals.specs.Decimal.{decimal_number}
 use Rattle.mps_answers.specs.Number.{number_of, number_within, prefixed_hexadecimal}
 use Rattle.mps_answers.specs.Name.{name_of, slot_of}
@@ -82,11 +82,6 @@ two_in_range a b f h ws = and_then_in_range (λ p. f p.0 p.1) (pair a b ws) (λ 
 three_in_range : {A B C : Type 0} (a : List ℕ → Option A) (b : List ℕ → Option B) (c : List ℕ → Option C) (f : A → B → C → Call)
     → ((x : A) (y : B) (z : C) → IsInRange (f x y z)) → FormInRange (three a b c f)
 three_in_range a b c f h ws = and_then_in_range (λ p. f p.0 p.1.0 p.1.1) (onto a (pair b c) ws) (λ p e. h p.0 p.1.0 p.1.1)
-
-four_in_range : {A B C D : Type 0} (a : List ℕ → Option A) (b : List ℕ → Option B) (c : List ℕ → Option C) (d : List ℕ → Option D)
-    (f : A → B → C → D → Call) → ((x : A) (y : B) (z : C) (u : D) → IsInRange (f x y z u)) → FormInRange (four a b c d f)
-four_in_range a b c d f h ws =
-    and_then_in_range (λ p. f p.0 p.1.0 p.1.1.0 p.1.1.1) (onto a (onto b (pair c d)) ws) (λ p e. h p.0 p.1.0 p.1.1.0 p.1.1.1)
 
 or_in_range : (a b : List (List ℕ) → Option Call) → FormInRange a → FormInRange b → FormInRange (or a b)
 or_in_range a b h k ws = first_in_range (a ws) (b ws) (h ws) (k ws)

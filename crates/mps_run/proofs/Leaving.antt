@@ -25,7 +25,7 @@ use Rattle.mps_lines.specs.declared.next.Next.TheVariants as next
 use Rattle.mps_lines.proofs.NextLine.{line_bound}
 use Rattle.mps_run.specs.declared.bad_script_line.BadScriptLine.{BadScriptLine}
 use Rattle.mps_run.specs.declared.progress.Progress.{Progress}
-use Rattle.mps_run.specs.Ending.{Ending, IsFault, IsUnbegun, is_fault, is_verdict}
+use Rattle.mps_run.specs.Ending.{Ending, IsFault, IsUnbegun, is_fault}
 use Rattle.mps_report.proofs.Outside.{risen_earlier, risen_later}
 use Rattle.mps_run.specs.Leaving.{StopsPrinting, Part, Nothing, SomeRecords, SomeAnswer, IsPartAt, IsOfNext, Begins, NeedsMemory, StopsReading, RunEndsAt, Leaves, LeavesRun, log_header, logged_of, printed_of}
 use Rattle.mps_run.specs.Running.{IsBegun, IsPartOf, IsReason, LineStops}
@@ -315,12 +315,6 @@ leaves_unbegun built why script old new (inl is) u = subst (λ why. LeavesRun bu
 leaves_unbegun built why script old new (inr is) u =
     subst (λ why. LeavesRun built (Err why) script old new) (sym is)
     (inl (record { printed = u.printed; count = 0; logged = u.logged ∙ appended_empty old.logged }))
-
--- that is no end of the lines
-pub no_verdict_of_fault : (why : Stop BadScriptLine) → IsFault why → is_verdict (Err why) ≡ false
-no_verdict_of_fault why (inl is) = rw is refl
-no_verdict_of_fault why (inr (inl is)) = rw is refl
-no_verdict_of_fault why (inr (inr is)) = rw is refl
 
 -- a report changes nothing of what the run leaves
 pub leaves_then_reported : (built : Built) (script : List ℕ) (old mid new : Outside) → OnlyReports mid new → (ends : Ending)

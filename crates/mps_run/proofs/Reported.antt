@@ -1,16 +1,13 @@
 -- The report at the end of a run, and the status.
-use Rattle.std.proofs.Common.{◌≡◌, ℕ, ◌≤◌, List, [], ◌∷◌, ◌++◌, Option, Some, None, append_assoc, true, false, Ok, Err, OnOk, IfErr, refl, sym, ◌∙◌, ap, arith, subst, inl, inr}
+use Rattle.std.proofs.Common.{◌≡◌, ℕ, ◌≤◌, List, [], ◌∷◌, false, Ok, Err, OnOk, IfErr, refl, sym, ◌∙◌, ap, arith, subst, inl, inr}
 use Rattle.mps_desk.specs.Desk.{Outside, OnlyReports, HasRisen, IsSteady}
 use Rattle.mps_log_reader.proofs.Steady.{asks_then_nothing}
-use Rattle.mps_log_reader.specs.Ending.{is_input_verdict}
 use Rattle.mps_report.specs.declared.stop.Stop.TheVariants as stop
 use Rattle.mps_report.specs.Reports.{report_of, status_of, status_of_ending, HasReportedEnding}
 use Rattle.mps_report.specs.Streams.{Reports}
 use Rattle.mps_report.proofs.Outside.{reports_only-same}
 use Rattle.mps_run.specs.Ending.{AsksInOrder, Ending, HasCause, RunsOn, requests_of_run, text_of_bad_line}
-use Rattle.mps_desk.specs.Desk.{AreNext, Asks, Request, opening}
-use Rattle.std.specs.Option.{option_map}
-use Rattle.mps_run.specs.Ending.{NoFaultRose}
+use Rattle.mps_desk.specs.Desk.{Asks, opening}
 use Rattle.mps_report.specs.Streams.{appended}
 
 -- an ending was reported, with its status
@@ -75,19 +72,6 @@ asked_for_both log script old mid new (Err stop.LogFailed) h same = asks_then_no
 asked_for_both log script old mid new (Err stop.TooLong) h same = asks_then_nothing old mid new (requests_of_run log script) h same
 asked_for_both log script old mid new (Err (stop.Bad bad)) h same = asks_then_nothing old mid new (requests_of_run log script) h same
 
-two_asked : (before middle after : Option (List Request)) (first second : Request) → AreNext before (first ∷ []) middle
-    → AreNext middle (second ∷ []) after → AreNext before (first ∷ second ∷ []) after
-two_asked before middle None first second f g = tt
-two_asked before None (Some all) first second f g = absurd (let wrong : Some all ≡ None = g in cc)
-two_asked None (Some some) (Some all) first second f g = absurd (let wrong : Some some ≡ None = f in cc)
-two_asked (Some known) (Some some) (Some all) first second f g =
-    g ∙ (ap (option_map (λ rs. rs ++ second ∷ [])) f ∙ ap Some (append_assoc known (first ∷ []) (second ∷ [])))
-
--- one request after another
-pub asks_two : (old mid new : Outside) (first second : Request) → Asks old mid (first ∷ []) → Asks mid new (second ∷ [])
-    → Asks old new (first ∷ second ∷ [])
-asks_two old mid new first second f g = two_asked old.asked mid.asked new.asked first second f g
-
 -- with status 4 printing failed
 write_failed : (ends : Ending) → status_of_ending ends ≡ 4 → ends ≡ Err stop.WriteFailed
 write_failed (Ok done) e = absurd (omega (arith, e))
@@ -105,47 +89,6 @@ reported_after (Ok done) old mid new runs reported = reported ∙ runs.reported
 reported_after (Err why) old mid new runs (inl risen) = inl (subst (λ n. HasRisen n new.err_faults) runs.err_faults risen)
 reported_after (Err why) old mid new runs (inr reported) =
     inr (reported ∙ ap (λ known. appended known (report_of text_of_bad_line why)) runs.reported)
-
-pub complete_ending : (ends : Ending) (old new : Outside) → HasCause ends old new → NoFaultRose old new
-    → (status_of_ending ends ≡ 8 → ⊥) → is_input_verdict (status_of_ending ends) ≡ true
-complete_ending (Ok done) old new h f m = refl
-complete_ending (Err (stop.Bad bad)) old new h f m = refl
-complete_ending (Err stop.TooLong) old new h f m = refl
-complete_ending (Err stop.ReadFailed) old new h f m = absurd (f.reading h)
-complete_ending (Err stop.WriteFailed) old new h f m = absurd (f.printing h)
-complete_ending (Err stop.LogFailed) old new h f m = absurd (f.logging h)
-complete_ending (Err stop.OutOfMemory) old new h f m = absurd (m refl)
-
--- a status blames a side of the outside only where the count of its faults rose
-pub read_blamed : (ends : Ending) (old new : Outside) → HasCause ends old new → status_of_ending ends ≡ 3
-    → HasRisen old.in_faults new.in_faults
-read_blamed (Err stop.ReadFailed) old new h e = h
-read_blamed (Ok done) old new h e = absurd (let wrong : 0 ≡ 3 = e in cc)
-read_blamed (Err (stop.Bad bad)) old new h e = absurd (let wrong : 6 ≡ 3 = e in cc)
-read_blamed (Err stop.TooLong) old new h e = absurd (let wrong : 7 ≡ 3 = e in cc)
-read_blamed (Err stop.WriteFailed) old new h e = absurd (let wrong : 4 ≡ 3 = e in cc)
-read_blamed (Err stop.LogFailed) old new h e = absurd (let wrong : 5 ≡ 3 = e in cc)
-read_blamed (Err stop.OutOfMemory) old new h e = absurd (let wrong : 8 ≡ 3 = e in cc)
-
-pub write_blamed : (ends : Ending) (old new : Outside) → HasCause ends old new → status_of_ending ends ≡ 4
-    → HasRisen old.out_faults new.out_faults
-write_blamed (Err stop.WriteFailed) old new h e = h
-write_blamed (Ok done) old new h e = absurd (let wrong : 0 ≡ 4 = e in cc)
-write_blamed (Err (stop.Bad bad)) old new h e = absurd (let wrong : 6 ≡ 4 = e in cc)
-write_blamed (Err stop.TooLong) old new h e = absurd (let wrong : 7 ≡ 4 = e in cc)
-write_blamed (Err stop.ReadFailed) old new h e = absurd (let wrong : 3 ≡ 4 = e in cc)
-write_blamed (Err stop.LogFailed) old new h e = absurd (let wrong : 5 ≡ 4 = e in cc)
-write_blamed (Err stop.OutOfMemory) old new h e = absurd (let wrong : 8 ≡ 4 = e in cc)
-
-pub log_blamed : (ends : Ending) (old new : Outside) → HasCause ends old new → status_of_ending ends ≡ 5
-    → HasRisen old.log_faults new.log_faults
-log_blamed (Err stop.LogFailed) old new h e = h
-log_blamed (Ok done) old new h e = absurd (let wrong : 0 ≡ 5 = e in cc)
-log_blamed (Err (stop.Bad bad)) old new h e = absurd (let wrong : 6 ≡ 5 = e in cc)
-log_blamed (Err stop.TooLong) old new h e = absurd (let wrong : 7 ≡ 5 = e in cc)
-log_blamed (Err stop.ReadFailed) old new h e = absurd (let wrong : 3 ≡ 5 = e in cc)
-log_blamed (Err stop.WriteFailed) old new h e = absurd (let wrong : 4 ≡ 5 = e in cc)
-log_blamed (Err stop.OutOfMemory) old new h e = absurd (let wrong : 8 ≡ 5 = e in cc)
 
 -- the fault that is the cause came before the report
 pub cause_then_reported : (ends : Ending) (old mid new : Outside) → OnlyReports mid new → HasCause ends old mid → HasCause ends old new

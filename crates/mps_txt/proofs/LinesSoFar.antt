@@ -14,9 +14,9 @@ use Rattle.mps_log_reader.specs.Input.{Buffered, IsComplete}
 use Rattle.mps_log_reader.specs.Left.{LastGives}
 use Rattle.mps_log_reader.specs.PutOut.{PutsOut}
 use Rattle.mps_log_reader.specs.RecordLine.{record_line}
-use Rattle.mps_log_reader.proofs.Left.{nothing_in_front, one_in_front}
-use Rattle.mps_log_reader.proofs.PutOut.{nothing_put, one_put}
-use Rattle.mps_log_reader.proofs.Records.{none_yet, all_and_one, flat_one}
+use Rattle.mps_log_reader.proofs.Left.{one_in_front}
+use Rattle.mps_log_reader.proofs.PutOut.{one_put}
+use Rattle.mps_log_reader.proofs.Records.{all_and_one, flat_one}
 use Rattle.mps_txt.specs.declared.bad_text_line.BadTextLine.{BadTextLine}
 use Rattle.mps_txt.specs.Labels.{Naming, no_names, after_record, after_records}
 use Rattle.mps_txt.specs.Readable.{readable_line, readable_from, readable}
@@ -85,21 +85,6 @@ pub record LinesSoFar (version : Version) (count : ℕ) (start now : Progress) :
   pub front : option_map terminated start.left ≡ option_map (λ rest. flat_map record_line records ++ terminated rest) now.left
   pub whole : IsWholeOrLast (flat_map record_line records) start.left now.left now.buffer
   pub put : PutsOut start.put now.put (readable version records)
-
-nothing_terminated : (left : Option (List ℕ)) → option_map terminated left ≡ option_map (λ rest. [] ++ terminated rest) left
-nothing_terminated None = refl
-nothing_terminated (Some left) = refl
-
-pub at_start : (version : Version) (start : Progress) → start.labels ≡ no_names → LinesSoFar version 0 start start
-at_start version start is = record {
-  records = [];
-  each = none_yet version;
-  meaning = ap Some (sym is);
-  counted = refl;
-  front = nothing_terminated start.left;
-  whole = inl (nothing_in_front start.left);
-  put = nothing_put start.put;
-}
 
 both_terminated : (x y : List ℕ) (a b c : Option (List ℕ)) → option_map terminated a ≡ option_map (λ rest. x ++ terminated rest) b
     → option_map terminated b ≡ option_map (λ rest. y ++ terminated rest) c

@@ -1,5 +1,5 @@
 -- The next line of what is left, from what is pending.
-use Rattle.std.proofs.Common.{◌≡◌, ℕ, ◌<◌, ◌≤◌, Bool, true, false, List, [], ◌∷◌, ◌++◌, length, drop, Option, Some, None, Result, Ok, Err, refl, sym, ap, subst, ◌∙◌, arith}
+use Rattle.std.proofs.Common.{◌≡◌, ℕ, ◌<◌, ◌≤◌, Bool, true, false, List, [], ◌∷◌, ◌++◌, length, drop, Option, Some, None, Ok, Err, refl, sym, ap, subst, ◌∙◌, arith}
 use Rattle.std.specs.Prelude.{IfSome, unwrap_or, is_some}
 use Rattle.std.specs.Option.{option_map}
 use Rattle.mps_desk.specs.Desk.{Outside}
@@ -19,7 +19,7 @@ use Rattle.mps_txt.specs.PendingLine.{IsBrokenOff}
 use Rattle.mps_txt.specs.Labels.{Naming}
 use Rattle.mps_txt.specs.Readable.{readable_line}
 use Rattle.mps_txt.specs.Text.{terminated, IsWrongNext, IsNextToTakeMemory, BreaksOff}
-use Rattle.mps_txt.specs.TextSteps.{PendingGives, IsWholeOrLast, Progress, progress, NextGives}
+use Rattle.mps_txt.specs.TextSteps.{PendingGives, IsWholeOrLast, progress, NextGives}
 use Rattle.mps_txt.proofs.PendingLine.{HoldsLine, pending_terminated, line_feed_after, whole_or_last, wrong_next, next_takes_memory}
 
 pub end_known : (ended : Bool) (input : Option (List ℕ)) (more : List ℕ) → input ≡ Some more
@@ -137,10 +137,3 @@ module _ (a b c : Outside) (x y : Buffered) (p q : List ℕ) (ready : IsReadyFor
     unchanged r gives.1,
   )
   next_stops t following r why gives = absurd gives
-
-pub room_fails : (version : Version) (number : ℕ) (before after : Progress) (unread : Option (List ℕ))
-    (result : Result (Unit {0}) (Stop BadTextLine)) (why : Stop BadTextLine)
-    → result ≡ Err stop.WriteFailed → result ≡ Err why → NextGives version number before after unread (Err why)
-room_fails version number before after unread result why e f =
-    let g : why ≡ stop.WriteFailed = cc in
-    rw g tt

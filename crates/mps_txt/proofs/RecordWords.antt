@@ -3,7 +3,7 @@ use Rattle.std.proofs.Common.{◌≡◌, ℕ, ◌+◌, ◌^◌, ◌<◌, Bool, t
 use Rattle.std.specs.Prelude.{◌≢◌, All, codes}
 use Rattle.std.specs.List.{flat_map, AllByRecursion}
 use Rattle.std.specs.Result.{OkIff, is_ok}
-use Rattle.std.proofs.lemmas.List.{drop_more, append-nil, take_more_set, drop_all}
+use Rattle.std.proofs.lemmas.List.{drop_more, append-nil, take_more_set}
 use Rattle.std.proofs.lemmas.List.Elements.{All-get_or, recursion_from_All}
 use Rattle.std.proofs.lemmas.Grind.{flat_map-append}
 use Rattle.std.proofs.lemmas.Option.{none-some}
@@ -70,12 +70,6 @@ no_field_left i all within e =
     ∙ ap (λ (x : List ℕ). flat_map field_text x) (drop_more all i 0 within) in
     let h : 0 ≡ length (32 ∷ (hexadecimal (get_or all i 0) ++ flat_map field_text (drop (i + 1) all))) =
     ap (λ (x : List ℕ). length x) split in
-    omega (arith, h)
-
-pub all_fields_left : (count : ℕ) (all text : List ℕ) → length all ≡ count → 32 ∷ text ≡ flat_map field_text (drop count all) → ⊥
-all_fields_left count all text full e =
-    let none : drop count all ≡ [] = drop_all count all (omega arith) in
-    let h : length (32 ∷ text) ≡ 0 = ap (λ (x : List ℕ). length x) (e ∙ ap (λ (x : List ℕ). flat_map field_text x) none) in
     omega (arith, h)
 
 -- one more field

@@ -20,7 +20,7 @@ use Rattle.mps_txt.specs.declared.bad_text_line.BadTextLine.{BadTextLine}
 use Rattle.mps_txt.specs.BadTextLine.{text_of_bad_line}
 use Rattle.mps_txt.specs.Readable.{readable}
 use Rattle.mps_txt.specs.Text.{terminated, Ending, readable_text, BeginsWith, Reads, FirstLines, BreaksOff, FailsInFirstLine, FailsAfterLines, RunsOutOfMemory, HasRead, ReadWith}
-use Rattle.mps_txt.specs.TextSteps.{ShowsLines, ShowsAll, ShowsWholeLines, ShowsBeforeMemory, AllGives, OpensText, IsWholeOrLast}
+use Rattle.mps_txt.specs.TextSteps.{ShowsLines, ShowsAll, ShowsWholeLines, ShowsBeforeMemory, AllGives, IsWholeOrLast}
 use Rattle.mps_txt.proofs.LinesSoFar.{whole_known}
 use Rattle.mps_txt.proofs.VersionOne.{is_second}
 
@@ -211,13 +211,3 @@ read_with status bytes (Err why) a b c e h = record {
   read = read_later bytes a b c e.reports.others (Err why) h;
   reported = has_reported (report_of text_of_bad_line why) a b c e.quiet e.faults e.reports.reported;
 }
-
--- ---- what may come before
-
-pub opening_stops : (bytes : List ℕ) (left : Option (List ℕ)) (a b : Outside) (why : Stop BadTextLine)
-    → OpensText bytes left a.input b.input (Err why) → b.printed ≡ a.printed
-    → HasRead {T = Unit {0}} bytes (Err why) a b
-opening_stops bytes left a b (stop.Bad bad) h same = inl (record { first = h.0; none = h.1; printed = same })
-opening_stops bytes left a b stop.ReadFailed h same = inl (record { breaks = h; printed = same })
-opening_stops bytes left a b stop.WriteFailed h same = tt
-opening_stops bytes left a b why h same = absurd h
