@@ -24,7 +24,7 @@ pub const MAX_FRAMES: usize = 4_096;
 pub struct Frames {
     alloc: Global,
     pools: Vec<Option<Pool>>,
-    open: u32,
+    open_frames: u32,
 }
 
 impl Model for Frames {
@@ -35,7 +35,7 @@ impl Model for Frames {
 
     ghost view = { λ f. f.pools.items };
 
-    ghost invariant = { λ f. (length f.pools.items ≡ max_pools) × (f.open ≡ frames_count f.pools.items) × (f.open ≤ max_frames) };
+    ghost invariant = { λ f. (length f.pools.items ≡ max_pools) × (f.open_frames ≡ frames_count f.pools.items) × (f.open_frames ≤ max_frames) };
 }
 
 impl Frames {
@@ -50,7 +50,7 @@ impl Frames {
         Ok(Frames {
             alloc,
             pools,
-            open: 0,
+            open_frames: 0,
         })
     }
 
@@ -97,7 +97,7 @@ impl Frames {
         ensures fits { frames_count self.old < max_frames → IsOk result }
         ensures full { IfErr result (λ why. (why ≡ Refusal.TooMany max_frames) × (frames_count self.old ≡ max_frames)) }
     {
-        if self.open as usize == MAX_FRAMES {
+        if self.open_frames as usize == MAX_FRAMES {
             return Err(Refusal::TooMany {
                 limit: MAX_FRAMES as u32,
             });
@@ -107,7 +107,7 @@ impl Frames {
         };
         let number = frames.frames();
         frames.push();
-        self.open += 1;
+        self.open_frames += 1;
         Ok(number)
     }
 
@@ -128,7 +128,7 @@ impl Frames {
         let before = frames.frames();
         let popped = frames.pop(frame);
         let closed = before - frames.frames();
-        self.open -= closed;
+        self.open_frames -= closed;
         popped
     }
 }
