@@ -35,7 +35,8 @@ impl Model for Frames {
 
     ghost view = { λ f. f.pools.items };
 
-    ghost invariant = { λ f. (length f.pools.items ≡ max_pools) × (f.open_frames ≡ frames_count f.pools.items) × (f.open_frames ≤ max_frames) };
+    ghost invariant = { λ f. (length f.pools.items ≡ max_pools) × (f.open_frames ≡ frames_count f.pools.items)
+        × (f.open_frames ≤ max_frames) };
 }
 
 impl Frames {
