@@ -1,12 +1,10 @@
 pub mod Borrowed
 pub mod Copying
-pub mod Found
-pub mod Lost
 pub mod Padded
 pub mod Padding
 pub mod PartSeen
 pub mod Reclaimed
-pub mod Reopening
 pub mod Tails
-pub mod Walked
-pub mod Within
+pub use Rattle.mps_seg.proofs.Found
+pub use Rattle.mps_seg.proofs.Lost
+pub use Rattle.mps_seg.proofs.Within

@@ -6,7 +6,7 @@ use Rattle.mps_base.specs.Run.{Run, end_of, runs_within}
 use Rattle.mps_extents.specs.Extents.{is_covered}
 use Rattle.mps_format.specs.Layout.{Layout}
 use Rattle.mps_amc.specs.Reclaiming.{LiesInPad, LiesInOpenPad, ArePadded}
-use Rattle.mps_amc.proofs.Within.{word_of_run, word_of_others, no_word_below}
+use Rattle.mps_seg.proofs.Within.{word_of_run, word_of_others, no_word_below}
 
 -- ---- a pad more
 

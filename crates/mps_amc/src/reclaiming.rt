@@ -1,28 +1,21 @@
 // A segment is reclaimed at the end of a collection.
 #![tactic(auto)]
 
-ghost use Rattle.std.specs.Prelude.{◌≡◌, ℕ, ◌+◌, ◌-◌, ◌%◌, ◌<◌, ◌≤◌, ◌⊎◌, [], ◌∷◌, length, slice_index, IfSome, IfNone, Contains};
+ghost use Rattle.std.specs.Prelude.{◌≡◌, ℕ, ◌+◌, ◌-◌, ◌%◌, ◌<◌, ◌≤◌, ◌⊎◌, length, slice_index};
 ghost use Rattle.mps_base.specs.Address.{word_of, bytes_of_word};
 ghost use Rattle.mps_base.specs.Run.{runs_within};
 ghost use Rattle.mps_extents.specs.Extents.{is_covered};
 ghost use Rattle.mps_seg.specs.Segs.{LiesIn, held_runs};
 ghost use Rattle.mps_amc.specs.Moving.{run_at};
-ghost use Rattle.mps_amc.specs.Reclaiming.{IsSpan, CanReclaim, lost_between, without_blocks, moves_freed, LiesInPad, ArePadded, IsReclaimed};
+ghost use Rattle.mps_amc.specs.Reclaiming.{IsSpan, CanReclaim, LiesInPad, ArePadded, IsReclaimed};
 
 use crate::Amc;
-use mps_base::{Addr, BYTES_OF_GRAIN, BYTES_OF_WORD, Move, Trail};
+use mps_base::{Addr, BYTES_OF_GRAIN, BYTES_OF_WORD, Trail};
 use mps_format::Format;
-use mps_seg::Segs;
+use mps_seg::{Block, Segs};
 
 /// The most words that a pad has.
 const MAX_PAD_WORDS: u64 = 65_536;
-
-/// A block: where it begins, and how many words it has.
-#[derive(Clone, Copy)]
-struct Block {
-    at: Addr,
-    words: u32,
-}
 
 impl Amc {
     /// Reclaims the segment at `base` at the end of a collection. Its blocks that weren't kept are freed, in ascending order. If
@@ -35,49 +28,13 @@ impl Amc {
         let _ = segs.grains();
         let bytes = BYTES_OF_GRAIN * u64::from(segs.segment(base).grains);
         let end = Addr(base.0 + bytes);
-        free_lost(segs, trail, base, end);
+        segs.drop_lost(trail, base);
         if segs.is_empty(base) {
             segs.give(trail, base);
         } else {
             segs.segments_are_held();
             pad_around(segs, format, base, end);
         }
-    }
-}
-
-/// The lowest block of the segment at `base` that begins at `from` or above. The segment ends at `end`.
-fn next_block(segs: &Segs, base: Addr, from: Addr, end: Addr) -> Option<Block>
-    requires { IsSpan segs.now base.0 end.0 }
-    ensures first { IfSome result (λ b. runs_within (word_of from.0) (word_of end.0) segs.now.blocks
-        ≡ run_at b.at.0 b.words ∷ runs_within (word_of b.at.0 + b.words) (word_of end.0) segs.now.blocks) }
-    ensures none { IfNone result (runs_within (word_of from.0) (word_of end.0) segs.now.blocks ≡ []) }
-    ensures there { IfSome result (λ b. Contains segs.now.blocks (run_at b.at.0 b.words)) }
-    ensures aligned { IfSome result (λ b. b.at.0 % bytes_of_word ≡ 0) }
-    ensures nonzero { IfSome result (λ b. 0 < b.words) }
-    ensures above { IfSome result (λ b. word_of from.0 ≤ word_of b.at.0) }
-    ensures below { IfSome result (λ b. word_of b.at.0 < word_of end.0) }
-    ensures in_arena { IfSome result (λ b. word_of b.at.0 + b.words ≤ length segs.now.words) }
-{
-    let at = segs.walk(base, from)?;
-    let words = segs.block_words(at);
-    Some(Block { at, words })
-}
-
-/// Frees the blocks that begin in the segment from `base` to `end` and weren't kept, in ascending order.
-fn free_lost(segs: &mut Segs, trail: &mut Trail, base: Addr, end: Addr)
-    requires span { IsSpan segs.old base.0 end.0 }
-    requires fits { length (lost_between (word_of base.0) (word_of end.0) segs.old) < trail.old.spare }
-    ensures state { segs.new ≡ without_blocks (lost_between (word_of base.0) (word_of end.0) segs.old) segs.old }
-    ensures moves { trail.new ≡ moves_freed (lost_between (word_of base.0) (word_of end.0) segs.old) trail.old }
-{
-    let _ = segs.grains();
-    let mut from = base;
-    while let Some(Block { at, words }) = next_block(segs, base, from, end) {
-        if !segs.is_kept(at) {
-            segs.drop_block(at, words);
-            trail.push(Move::Free { at });
-        }
-        from = Addr(at.0 + BYTES_OF_WORD * u64::from(words));
     }
 }
 
@@ -92,7 +49,7 @@ fn pad_around<F: Format>(segs: &mut Segs, format: &F, base: Addr, end: Addr)
 {
     let _ = segs.grains();
     let mut from = base;
-    while let Some(Block { at, words }) = next_block(segs, base, from, end) {
+    while let Some(Block { at, words }) = segs.next_block(base, from, end) {
         pad_words(segs, format, from, at);
         from = Addr(at.0 + BYTES_OF_WORD * u64::from(words));
     }

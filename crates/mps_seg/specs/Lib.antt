@@ -1,7 +1,9 @@
 pub mod Buffer
 pub mod Collecting
 pub mod Lending
+pub mod Moving
 pub mod Placing
+pub mod Reclaiming
 pub mod Segs
 pub mod Table
 pub use Rattle.mps_bits.specs.Table as BitsTable

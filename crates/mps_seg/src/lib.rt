@@ -10,7 +10,7 @@ mod segs;
 
 pub use buffer::{Buffer, Placed};
 pub use segment_info::SegmentInfo;
-pub use segs::Segs;
+pub use segs::{Block, Segs};
 
 #[cfg(test)]
 mod tests;

@@ -13,12 +13,14 @@ ghost use Rattle.mps_seg.specs.Segs.{new_segments, placement_for, segments_after
 ghost use Rattle.mps_seg.specs.Table.{IsMarked};
 
 mod collecting;
+mod freeing;
 mod gaps;
 mod words;
 
 use crate::SegmentInfo;
 use crate::entry::Entry;
 use crate::first_grains::{note_first, return_free, use_free};
+pub use freeing::Block;
 use mps_arena::Arena;
 use mps_base::{Addr, BYTES_OF_GRAIN, BYTES_OF_WORD, Move, Rank, Refusal, Trail, WORDS_OF_GRAIN};
 use mps_bits::Bits;

@@ -1,4 +1,4 @@
--- A condemned segment is reclaimed: given back or padded. The image stands for the objects that are left.
+-- A condemned segment is reclaimed: given back, or some of its blocks are left. The image stands for the objects that are left.
 use Rattle.std.proofs.Common.{◌≡◌, ◌∙◌, ℕ, ◌+◌, ◌<◌, ◌≤◌, Bool, true, false, not, refl, sym, ap, subst, List, [], ◌∷◌, ◌++◌, Option, Some, Contains, inl, inr, arith}
 use Rattle.std.proofs.lemmas.Bool.{cases_eq, ne_eqb, false≢true}
 use Rattle.std.proofs.lemmas.Option.{none-some, same_Some}
@@ -12,8 +12,8 @@ use Rattle.mps_extents.specs.Table.{bit}
 use Rattle.mps_format.specs.Layout.{Layout}
 use Rattle.mps_seg.specs.Segs.{SegsState}
 use Rattle.mps_seg.specs.Collecting.{bit_of}
-use Rattle.mps_amc.specs.Reclaiming.{lost_of, freed_in, without_block, without_blocks, ArePadded, IsReclaimed, is_given, is_padded}
-use Rattle.mps_amc.proofs.Lost.{segments_after, words_after}
+use Rattle.mps_seg.specs.Reclaiming.{lost_of, freed_in, without_block, without_blocks, AreBlocksUnwritten, IsSwept, is_given, is_used}
+use Rattle.mps_seg.proofs.Lost.{segments_after, words_after}
 use Rattle.mps_model.specs.Graph.{Object, Point, entry_at, size_of}
 use Rattle.mps_model.specs.World.{PointMemory, extent, extents_of, reserved_extents}
 use Rattle.mps_abstract.specs.Colours.{Colours, is_white, AreAllScanned}
@@ -102,12 +102,12 @@ module _ (g : SegsState) (objects : List Object) (points : List (Option Point)) 
       (subst (λ ss. Stands (settled h g.grains ss h.condemned) (memory_in h) left k) (sym segments)
       (subst (λ bs. Stands (settled h g.grains g.segments bs) (memory_in h) left k) (sym bits) st))
 
-  -- ---- the segment is padded
+  -- ---- something is left in the segment
 
-  module _ (f : Layout) (words : List ℕ)
-      (padded : ArePadded f low high (runs_within low high freed.blocks) g.words words) where
-    abbrev padded_state : SegsState
-    padded_state = record freed { words = words }
+  module _ (words : List ℕ)
+      (unwritten : AreBlocksUnwritten low high (runs_within low high freed.blocks) g.words words) where
+    abbrev used_state : SegsState
+    used_state = record freed { words = words }
 
     old_words : freed.words ≡ g.words
     old_words = words_after (lost_of g t) g
@@ -126,30 +126,30 @@ module _ (g : SegsState) (objects : List Object) (points : List (Option Point)) 
               let down : word_of l.at + size_of o ≤ high =
               subst (λ (x : Segment). word_of l.at + size_of o ≤ word_of (end_of_segment x)) one below
               in
-              padded.inside n
+              unwritten.inside n
               (covered_by (runs_within low high freed.blocks) (extent l.at (size_of o)) n
               (own_run id l.at o l.address l.object up (omega (arith, down, within)))
               (omega (arith, is)) (omega (arith, is, within)))
           | inr other ↦
-              padded.outside n
+              unwritten.outside n
               (beside g.segments swept.order h.segment t n h.held held other (omega (arith, is, above)) (omega (arith, is, within, below)))
         ]
 
-    padded_stands : Stands s (memory_in padded_state) left k
-    padded_stands =
+    used_stands : Stands s (memory_in used_state) left k
+    used_stands =
         image_around s (memory_in freed) words left k (black_cells condemned k) refl
-        (padded.long ∙ ap (λ ws. Rattle.std.specs.Prelude.length ws) (sym old_words))
+        (unwritten.long ∙ ap (λ ws. Rattle.std.specs.Prelude.length ws) (sym old_words))
         (λ id i o n l. inside_same id i o n l ∙ ap (λ ws. slice_index ws n) (sym old_words))
-        (λ point i r n l. padded.outside n (unreserved point i r n l) ∙ ap (λ ws. slice_index ws n) (sym old_words))
+        (λ point i r n l. unwritten.outside n (unreserved point i r n l) ∙ ap (λ ws. slice_index ws n) (sym old_words))
         freed_stands
 
-    pub swept_padded : IsReclaimShown g objects points memories layout condemned k addresses t padded_state
-    swept_padded =
+    pub swept_used : IsReclaimShown g objects points memories layout condemned k addresses t used_state
+    swept_used =
         let segments = segments_after (lost_of g t) g in
         record {
           swept = record {
             image =
-                stands_for padded_state (grains_after (lost_of g t) g) segments (condemned_after (lost_of g t) g) padded_stands;
+                stands_for used_state (grains_after (lost_of g t) g) segments (condemned_after (lost_of g t) g) used_stands;
             order = subst Rattle.mps_trace_laws.specs.Image.SegmentWords.AreSegmentsInOrder (sym segments) swept.order;
             housed = subst (λ ss. AreHoused objects ss left) (sym segments) home_left;
           };
@@ -242,9 +242,9 @@ module _ (g : SegsState) (objects : List Object) (points : List (Option Point)) 
   pub same_segment : (base : Addr) (u : Segment) → t.base ≡ base.0 → segment_over g.segments base.0 ≡ Some u → t ≡ u
   same_segment base u is found = same_Some t u (sym (over_base g.segments swept.order t held) ∙ ap (segment_over g.segments) is ∙ found)
 
-  pub reclaimed_sweeps : (f : Layout) (moves : Moves) (base : Addr) (g' : SegsState) (moves' : Moves) → t.base ≡ base.0
-      → IsReclaimed f g moves base g' moves' → IsReclaimShown g objects points memories layout condemned k addresses t g'
-  reclaimed_sweeps f moves base g' moves' is (is_given u found empty state trail) =
+  pub reclaimed_sweeps : (moves : Moves) (base : Addr) (g' : SegsState) (moves' : Moves) → t.base ≡ base.0
+      → IsSwept g moves base g' moves' → IsReclaimShown g objects points memories layout condemned k addresses t g'
+  reclaimed_sweeps moves base g' moves' is (is_given u found empty state trail) =
       let one = same_segment base u is found in
       let emptied : runs_within low high freed.covered ≡ [] =
       subst (λ (x : Segment). runs_within (word_of x.base) (word_of (end_of_segment x)) (freed_in g x).covered ≡ []) (sym one) empty.empty
@@ -255,14 +255,14 @@ module _ (g : SegsState) (objects : List Object) (points : List (Option Point)) 
       ∙ ap (λ b. record freed { segments = without_segment g.segments b }) (sym is)
       in
       subst (IsReclaimShown g objects points memories layout condemned k addresses t) (sym given) (swept_given emptied)
-  reclaimed_sweeps f moves base g' moves' is (is_padded u found used state padded trail) =
+  reclaimed_sweeps moves base g' moves' is (is_used u found used state unwritten trail) =
       let one = same_segment base u is found in
-      let pads : ArePadded f low high (runs_within low high freed.blocks) g.words g'.words =
-      subst (λ b. ArePadded f (word_of b) high (runs_within (word_of b) high freed.blocks) g.words g'.words) (sym is)
-      (subst (λ (x : Segment). ArePadded f (word_of base.0) (word_of (end_of_segment x))
-      (runs_within (word_of base.0) (word_of (end_of_segment x)) (freed_in g x).blocks) g.words g'.words) (sym one) padded)
+      let same : AreBlocksUnwritten low high (runs_within low high freed.blocks) g.words g'.words =
+      subst (λ b. AreBlocksUnwritten (word_of b) high (runs_within (word_of b) high freed.blocks) g.words g'.words) (sym is)
+      (subst (λ (x : Segment). AreBlocksUnwritten (word_of base.0) (word_of (end_of_segment x))
+      (runs_within (word_of base.0) (word_of (end_of_segment x)) (freed_in g x).blocks) g.words g'.words) (sym one) unwritten)
       in
-      let left_state : g' ≡ padded_state f g'.words pads =
+      let left_state : g' ≡ used_state g'.words same =
       state ∙ ap (λ (x : Segment). record (freed_in g x) { words = g'.words }) (sym one)
       in
-      subst (IsReclaimShown g objects points memories layout condemned k addresses t) (sym left_state) (swept_padded f g'.words pads)
+      subst (IsReclaimShown g objects points memories layout condemned k addresses t) (sym left_state) (swept_used g'.words same)

@@ -16,8 +16,8 @@ use Rattle.mps_extents.specs.Table.{bit}
 use Rattle.mps_format.specs.Layout.{Layout}
 use Rattle.mps_seg.specs.Segs.{SegsState, IsEmptyAt, IsUsed}
 use Rattle.mps_seg.specs.Collecting.{collected}
-use Rattle.mps_amc.specs.Reclaiming.{lost_of, freed_in, moves_freed_in, IsReclaimed, is_given, is_padded}
-use Rattle.mps_amc.proofs.Lost.{segments_after}
+use Rattle.mps_seg.specs.Reclaiming.{lost_of, freed_in, moves_freed_in, IsSwept, is_given, is_used}
+use Rattle.mps_seg.proofs.Lost.{segments_after}
 use Rattle.mps_model.specs.Collection.{Collection}
 use Rattle.mps_model.specs.Graph.{contains, without_first, entry_at}
 use Rattle.mps_model.specs.World.{World, begins_in, covered, extents_of, reserved_extents, is_empty_segment}
@@ -140,25 +140,25 @@ module _ (x : Collecting) (g : SegsState) (layout : ℕ → Layout) (base : Addr
   base_is : at_address t.base ≡ base
   base_is = ap (λ (n : Address). let a : Addr = record { 0 = n } in a) next.begins
 
-  trail_is : (fm : Layout) (moves : Moves) (g' : SegsState) (moves' : Moves) → IsReclaimed fm g moves base g' moves'
+  trail_is : (moves : Moves) (g' : SegsState) (moves' : Moves) → IsSwept g moves base g' moves'
       → moves'.moves ≡ (moves.moves ++ frees_at freed) ++ give_back_where t.base is_left
-  trail_is fm moves g' moves' (is_given u found empty state trail) =
+  trail_is moves g' moves' (is_given u found empty state trail) =
       ap (λ (m : Moves). m.moves) trail
       ∙ ap (λ (y : Segment). (moves_freed_in g y moves).moves ++ Unseg base ∷ []) (sym (one_segment u found))
       ∙ ap (λ ms. ms ++ Unseg base ∷ []) (appended moves)
       ∙ ap (λ (a : Addr). (moves.moves ++ frees_at freed) ++ Unseg a ∷ []) (sym base_is)
       ∙ ap (λ b. (moves.moves ++ frees_at freed) ++ give_back_where t.base b) (sym (emptied u found empty))
-  trail_is fm moves g' moves' (is_padded u found used state padded trail) =
+  trail_is moves g' moves' (is_used u found used state unwritten trail) =
       ap (λ (m : Moves). m.moves) trail
       ∙ ap (λ (y : Segment). (moves_freed_in g y moves).moves) (sym (one_segment u found))
       ∙ appended moves
       ∙ sym (append-nil (moves.moves ++ frees_at freed))
       ∙ ap (λ b. (moves.moves ++ frees_at freed) ++ give_back_where t.base b) (sym (still_used u found used))
 
-  pub moves_are : (fm : Layout) (moves : Moves) (g' : SegsState) (moves' : Moves) → IsReclaimed fm g moves base g' moves'
+  pub moves_are : (moves : Moves) (g' : SegsState) (moves' : Moves) → IsSwept g moves base g' moves'
       → moves'.moves ++ end_where (is_last_condemned x.running t.base) ≡ moves.moves ++ reclaim_by x t.base freed
-  moves_are fm moves g' moves' reclaimed =
-      ap (λ ms. ms ++ end_where (is_last_condemned x.running t.base)) (trail_is fm moves g' moves' reclaimed)
+  moves_are moves g' moves' reclaimed =
+      ap (λ ms. ms ++ end_where (is_last_condemned x.running t.base)) (trail_is moves g' moves' reclaimed)
       ∙ regrouped moves.moves (frees_at freed) (give_back_where t.base is_left) (end_where (is_last_condemned x.running t.base))
 
   -- ---- the world after it
@@ -223,10 +223,10 @@ module _ (x : Collecting) (g : SegsState) (layout : ℕ → Layout) (base : Addr
     given_runs =
         ap (λ b. Some (if b then given_collection else swept_collection)) is_next.condemned
 
-    -- padded
-    padded_frees : g'.segments ≡ g.segments
+    -- something is left
+    used_frees : g'.segments ≡ g.segments
         → FreesFor g' (world_after_moves swept (give_back_where t.base false)) swept_collection x.colours layout
-    padded_frees segments = record {
+    used_frees segments = record {
       stands = stands_later;
       segments = f.segments ∙ sym segments;
       bits = λ u held. bits_before u (subst (λ ss. Contains ss u) segments held);
@@ -247,29 +247,29 @@ module _ (x : Collecting) (g : SegsState) (layout : ℕ → Layout) (base : Addr
 
   -- ---- the unit
 
-  goes_on_so : (fm : Layout) (moves : Moves) (g' : SegsState) (moves' : Moves)
+  goes_on_so : (moves : Moves) (g' : SegsState) (moves' : Moves)
       → IsReclaimShown g w.graph.objects w.graph.points w.point_memories layout x.running.condemned x.colours w.addresses t g'
-      → IsReclaimed fm g moves base g' moves' → is_last_condemned x.running t.base ≡ false → GoesOnSo x t freed layout g'
-  goes_on_so fm moves g' moves' shown (is_given u found empty state trail) not_last =
+      → IsSwept g moves base g' moves' → is_last_condemned x.running t.base ≡ false → GoesOnSo x t freed layout g'
+  goes_on_so moves g' moves' shown (is_given u found empty state trail) not_last =
       let segments : g'.segments ≡ without_segment g.segments t.base =
       ap (λ (y : SegsState). y.segments) state ∙ ap (without_segment g.segments) (sym next.begins)
       in
       goes_on g' shown given_collection true not_last (emptied u found empty) (given_runs g' shown) (given_frees g' shown segments)
-  goes_on_so fm moves g' moves' shown (is_padded u found used state padded trail) not_last =
+  goes_on_so moves g' moves' shown (is_used u found used state unwritten trail) not_last =
       let segments : g'.segments ≡ g.segments =
       ap (λ (y : SegsState). y.segments) state ∙ segments_after (lost_of g u) g
       in
-      goes_on g' shown swept_collection false not_last (still_used u found used) refl (padded_frees g' shown segments)
+      goes_on g' shown swept_collection false not_last (still_used u found used) refl (used_frees g' shown segments)
 
-  pub is_unit : (fm : Layout) (moves : Moves) (g' : SegsState) (moves' : Moves) → IsUnreserved w.graph.points w.point_memories t
-      → IsReclaimed fm g moves base g' moves' → IsUnitReclaimed x t freed layout g'
-  is_unit fm moves g' moves' unreserved reclaimed =
+  pub is_unit : (moves : Moves) (g' : SegsState) (moves' : Moves) → IsUnreserved w.graph.points w.point_memories t
+      → IsSwept g moves base g' moves' → IsUnitReclaimed x t freed layout g'
+  is_unit moves g' moves' unreserved reclaimed =
       let shown =
       reclaimed_sweeps g w.graph.objects w.graph.points w.point_memories layout x.running.condemned x.colours w.addresses t f.stands scanned
-      next.listed next.condemned unreserved fm moves base g' moves' next.begins reclaimed
+      next.listed next.condemned unreserved moves base g' moves' next.begins reclaimed
       in
       record {
-        goes_on = goes_on_so fm moves g' moves' shown reclaimed;
+        goes_on = goes_on_so moves g' moves' shown reclaimed;
         ends = λ last. reclaims_last is_next last;
       }
 
@@ -332,45 +332,45 @@ module _ (x : Collecting) (g : SegsState) (layout : ℕ → Layout) (base : Addr
             stands = subst (StandsAtRest (collected g')) (sym after) at_rest;
           }
 
-  pub ends : (fm : Layout) (moves : Moves) (g' : SegsState) (moves' : Moves) → layout ≡ pool_layout w
+  pub ends : (moves : Moves) (g' : SegsState) (moves' : Moves) → layout ≡ pool_layout w
       → IsUnreserved w.graph.points w.point_memories t → is_last_condemned x.running t.base ≡ true
-      → IsReclaimed fm g moves base g' moves' → EndsSo x t freed g'
-  ends fm moves g' moves' same unreserved last reclaimed = by_case reclaimed
+      → IsSwept g moves base g' moves' → EndsSo x t freed g'
+  ends moves g' moves' same unreserved last reclaimed = by_case reclaimed
     where
       shown : IsReclaimShown g w.graph.objects w.graph.points w.point_memories layout x.running.condemned x.colours w.addresses t g'
       shown =
           reclaimed_sweeps g w.graph.objects w.graph.points w.point_memories layout x.running.condemned x.colours w.addresses t f.stands
-          scanned next.listed next.condemned unreserved fm moves base g' moves' next.begins reclaimed
+          scanned next.listed next.condemned unreserved moves base g' moves' next.begins reclaimed
 
-      by_case : IsReclaimed fm g moves base g' moves' → EndsSo x t freed g'
+      by_case : IsSwept g moves base g' moves' → EndsSo x t freed g'
       by_case (is_given u found empty state trail) =
           ends_so g' last shown same true (emptied u found empty)
           (ap (λ ss. without_segment ss t.base) f.segments ∙ ap (without_segment g.segments) next.begins
           ∙ sym (ap (λ (y : SegsState). y.segments) state))
-      by_case (is_padded u found used state padded trail) =
+      by_case (is_used u found used state unwritten trail) =
           ends_so g' last shown same false (still_used u found used)
           (f.segments ∙ sym (ap (λ (y : SegsState). y.segments) state ∙ segments_after (lost_of g u) g))
 
 -- the moves of a reclaim are the model's, but for the end of the collection, which comes after them where the segment is the last one
-pub the_moves_are_the_models : (f : Layout) (x : Collecting) (g : SegsState) (layout : ℕ → Layout) (base : Addr) (moves : Moves)
+pub the_moves_are_the_models : (x : Collecting) (g : SegsState) (layout : ℕ → Layout) (base : Addr) (moves : Moves)
     (g' : SegsState) (moves' : Moves)
     → Running x → AreAllScanned x.colours → AreAllExamined x → FreesFor g x.world x.running x.colours layout
-    → (next : IsNextCondemned g x.cursor base.0) → IsReclaimed f g moves base g' moves'
+    → (next : IsNextCondemned g x.cursor base.0) → IsSwept g moves base g' moves'
     → moves'.moves ++ end_where (is_last_condemned x.running next.segment.base)
     ≡ moves.moves ++ reclaim_by x next.segment.base (addresses_of (lost_of g next.segment))
-the_moves_are_the_models fm x g layout base moves g' moves' run scanned examined f next reclaimed =
-    moves_are x g layout base run scanned examined f next fm moves g' moves' reclaimed
+the_moves_are_the_models x g layout base moves g' moves' run scanned examined f next reclaimed =
+    moves_are x g layout base run scanned examined f next moves g' moves' reclaimed
 
 pub a_reclaim_is_a_unit : AReclaimIsAUnit
-a_reclaim_is_a_unit fm x g layout base moves g' moves' run scanned examined f next unreserved reclaimed =
-    is_unit x g layout base run scanned examined f next fm moves g' moves' unreserved reclaimed
+a_reclaim_is_a_unit x g layout base moves g' moves' run scanned examined f next unreserved reclaimed =
+    is_unit x g layout base run scanned examined f next moves g' moves' unreserved reclaimed
 
 -- after the last reclaim, once marks and condemned bits are ended, the segments stand for a world at rest
-pub the_last_reclaim_ends : (f : Layout) (x : Collecting) (g : SegsState) (base : Addr) (moves : Moves) (g' : SegsState)
+pub the_last_reclaim_ends : (x : Collecting) (g : SegsState) (base : Addr) (moves : Moves) (g' : SegsState)
     (moves' : Moves) → Running x
     → AreAllScanned x.colours → AreAllExamined x → FreesFor g x.world x.running x.colours (pool_layout x.world)
     → (next : IsNextCondemned g x.cursor base.0) → IsUnreserved x.world.graph.points x.world.point_memories next.segment
-    → IsReclaimed f g moves base g' moves' → IsTrue (is_last_condemned x.running next.segment.base)
+    → IsSwept g moves base g' moves' → IsTrue (is_last_condemned x.running next.segment.base)
     → EndsSo x next.segment (addresses_of (lost_of g next.segment)) g'
-the_last_reclaim_ends fm x g base moves g' moves' run scanned examined f next unreserved reclaimed last =
-    ends x g (pool_layout x.world) base run scanned examined f next fm moves g' moves' refl unreserved last reclaimed
+the_last_reclaim_ends x g base moves g' moves' run scanned examined f next unreserved reclaimed last =
+    ends x g (pool_layout x.world) base run scanned examined f next moves g' moves' refl unreserved last reclaimed

@@ -10,8 +10,9 @@ use Rattle.mps_extents.specs.Table.{bit}
 use Rattle.mps_format.specs.Layout.{Layout}
 use Rattle.mps_trace.specs.GenState.{ChainsState}
 use Rattle.mps_seg.specs.Segs.{SegsState}
-use Rattle.mps_amc.specs.Reclaiming.{lost_of, IsReclaimed, is_given, is_padded}
-use Rattle.mps_amc.proofs.Lost.{segments_after}
+use Rattle.mps_seg.specs.Reclaiming.{lost_of, without_block, without_blocks, IsSwept, is_given, is_used}
+use Rattle.mps_seg.proofs.Lost.{segments_after}
+use Rattle.mps_amc.proofs.Reclaimed.{reclaimed_is_swept}
 use Rattle.mps_model.specs.Collection.{Collection}
 use Rattle.mps_model.specs.Effect.{world_after_moves}
 use Rattle.mps_model.specs.Flip.{end_where}
@@ -51,18 +52,18 @@ pub record AreAmong (g g' : SegsState) : Type 0 where
   pub limit : g'.limit ≡ g.limit
 
 limit_after : (rs : List Rattle.mps_base.specs.Run.Run) (g : SegsState)
-    → (Rattle.mps_amc.specs.Reclaiming.without_blocks rs g).limit ≡ g.limit
+    → (without_blocks rs g).limit ≡ g.limit
 limit_after [] g = refl
-limit_after (r ∷ rs) g = limit_after rs (Rattle.mps_amc.specs.Reclaiming.without_block r g)
+limit_after (r ∷ rs) g = limit_after rs (without_block r g)
 
 grains_after : (rs : List Rattle.mps_base.specs.Run.Run) (g : SegsState)
-    → (Rattle.mps_amc.specs.Reclaiming.without_blocks rs g).grains ≡ g.grains
+    → (without_blocks rs g).grains ≡ g.grains
 grains_after [] g = refl
-grains_after (r ∷ rs) g = grains_after rs (Rattle.mps_amc.specs.Reclaiming.without_block r g)
+grains_after (r ∷ rs) g = grains_after rs (without_block r g)
 
-pub are_among : (fm : Layout) (g : SegsState) (moves : Rattle.mps_base.specs.Trail.Moves) (base : Addr) (g' : SegsState)
-    (moves' : Rattle.mps_base.specs.Trail.Moves) → IsReclaimed fm g moves base g' moves' → AreAmong g g'
-are_among fm g moves base g' moves' (is_given t found empty state trail) = record {
+pub are_among : (g : SegsState) (moves : Rattle.mps_base.specs.Trail.Moves) (base : Addr) (g' : SegsState)
+    (moves' : Rattle.mps_base.specs.Trail.Moves) → IsSwept g moves base g' moves' → AreAmong g g'
+are_among g moves base g' moves' (is_given t found empty state trail) = record {
   was = λ u held.
       (was_held (λ s. not (s.base == base.0)) g.segments u
       (subst (λ ss. Contains ss u) (ap (λ (y : SegsState). y.segments) state) held)).0;
@@ -70,7 +71,7 @@ are_among fm g moves base g' moves' (is_given t found empty state trail) = recor
   grains = ap (λ (y : SegsState). y.grains) state ∙ grains_after (lost_of g t) g;
   limit = ap (λ (y : SegsState). y.limit) state ∙ limit_after (lost_of g t) g;
 }
-are_among fm g moves base g' moves' (is_padded t found used state padded trail) = record {
+are_among g moves base g' moves' (is_used t found used state unwritten trail) = record {
   was = λ u held.
       subst (λ ss. Contains ss u) (ap (λ (y : SegsState). y.segments) state ∙ segments_after (lost_of g t) g) held;
   condemned = ap (λ (y : SegsState). y.condemned) state ∙ condemned_after (lost_of g t) g;
@@ -101,13 +102,13 @@ module _ {F : Type 0} (layout : F → Layout) (formats : List (Option (Policy F)
   unreserved : IsUnreserved y.world.graph.points y.world.point_memories t
   unreserved = stands.unreserved t lowest.listed lowest.condemned
 
-  abbrev fm : Layout
-  fm = layout next.reclaimed.format.format
+  swept : IsSwept x.segs x.moves base z.segs z.moves
+  swept = reclaimed_is_swept (layout next.reclaimed.format.format) x.segs x.moves base z.segs z.moves next.reclaimed.reclaimed
 
   pub trail_is : z.moves.moves ++ end_where (is_last_condemned y.running t.base) ≡ x.moves.moves ++ reclaim_by y t.base freed
   trail_is =
-      the_moves_are_the_models fm y x.segs (pool_layout y.world) base x.moves z.segs z.moves stands.running last_band.scanned
-      stands.examined last_band.frees lowest next.reclaimed.reclaimed
+      the_moves_are_the_models y x.segs (pool_layout y.world) base x.moves z.segs z.moves stands.running last_band.scanned
+      stands.examined last_band.frees lowest swept
 
   -- ---- whether it is the last one
 
@@ -141,8 +142,8 @@ module _ {F : Type 0} (layout : F → Layout) (formats : List (Option (Policy F)
   module _ (more : is_last_condemned y.running t.base ≡ false) where
     on : GoesOnSo y t freed (pool_layout y.world) z.segs
     on =
-        (a_reclaim_is_a_unit fm y x.segs (pool_layout y.world) base x.moves z.segs z.moves stands.running last_band.scanned
-        stands.examined last_band.frees lowest unreserved next.reclaimed.reclaimed).goes_on more
+        (a_reclaim_is_a_unit y x.segs (pool_layout y.world) base x.moves z.segs z.moves stands.running last_band.scanned
+        stands.examined last_band.frees lowest unreserved swept).goes_on more
 
     leads : world_after_moves y.world (reclaim_by y t.base freed) ≡ final_world y stands.running t freed is_next
     leads = goes_on_leads y stands.running t freed is_next more
@@ -153,7 +154,7 @@ module _ {F : Type 0} (layout : F → Layout) (formats : List (Option (Policy F)
         (sym on.runs ∙ ap (λ (w : World). w.collection) leads)
 
     among : AreAmong x.segs z.segs
-    among = are_among fm x.segs x.moves base z.segs z.moves next.reclaimed.reclaimed
+    among = are_among x.segs x.moves base z.segs z.moves swept
 
     moving_on : IsMoving layout formats of (final_world y stands.running t freed is_next)
     moving_on = record {
@@ -175,8 +176,8 @@ module _ {F : Type 0} (layout : F → Layout) (formats : List (Option (Policy F)
         })) collection_is
         in
         let taken =
-        spare_after fm x.segs x.moves base z.segs z.moves t
-        (over_base x.segs.segments last_band.frees.stands.order t lowest.listed) lowest.begins next.reclaimed.reclaimed
+        spare_after x.segs x.moves base z.segs z.moves t
+        (over_base x.segs.segments last_band.frees.stands.order t lowest.listed) lowest.begins swept
         in
         let before = last_band.room in
         omega (arith, left, same, taken, before)
@@ -243,17 +244,20 @@ the_last_unit_is_done layout formats of at_flip x z run y stands unit =
     let low = lowest layout formats of at_flip x unit.before run y unit.base stands next in
     let last = is_last layout formats of at_flip x unit.before run y unit.base stands next unit.last in
     let there = stands.unreserved low.segment low.listed low.condemned in
-    let fm = layout next.reclaimed.format.format in
+    let swept =
+    reclaimed_is_swept (layout next.reclaimed.format.format) x.segs x.moves unit.base unit.before.segs unit.before.moves
+    next.reclaimed.reclaimed
+    in
     let freed = addresses_of (lost_of x.segs low.segment) in
     let shown =
-    a_reclaim_is_a_unit fm y x.segs (pool_layout y.world) unit.base x.moves unit.before.segs unit.before.moves stands.running band.scanned
-    stands.examined band.frees low there next.reclaimed.reclaimed
+    a_reclaim_is_a_unit y x.segs (pool_layout y.world) unit.base x.moves unit.before.segs unit.before.moves stands.running band.scanned
+    stands.examined band.frees low there swept
     in
-    let among = are_among fm x.segs x.moves unit.base unit.before.segs unit.before.moves next.reclaimed.reclaimed in
+    let among = are_among x.segs x.moves unit.base unit.before.segs unit.before.moves swept in
     let sizes = last_size layout formats of at_flip x unit.before run y unit.base stands next last in
     let end =
-    the_last_reclaim_ends fm y x.segs unit.base x.moves unit.before.segs unit.before.moves stands.running band.scanned stands.examined
-    band.frees low there next.reclaimed.reclaimed last
+    the_last_reclaim_ends y x.segs unit.base x.moves unit.before.segs unit.before.moves stands.running band.scanned stands.examined
+    band.frees low there swept last
     in
     record {
       moves = reclaim_by y low.segment.base freed;

@@ -8,9 +8,8 @@ use Rattle.mps_base.specs.Segment.{Segment, segment_over}
 use Rattle.mps_base.specs.Trail.{Moves, with_move}
 use Rattle.mps_base.specs.declared.address.Addr.{Addr}
 use Rattle.mps_base.specs.declared.moves.Move.TheVariants.{Free}
-use Rattle.mps_format.specs.Layout.{Layout}
 use Rattle.mps_seg.specs.Segs.{SegsState, at_word}
-use Rattle.mps_amc.specs.Reclaiming.{lost_of, moves_freed, IsReclaimed, is_given, is_padded}
+use Rattle.mps_seg.specs.Reclaiming.{lost_of, moves_freed, IsSwept, is_given, is_used}
 use Rattle.mps_model.specs.World.{World, live_ids, numbers_of}
 use Rattle.mps_abstract.specs.Colours.{is_white}
 use Rattle.mps_abstract.specs.Collecting.{Collecting, Running}
@@ -32,15 +31,15 @@ room_freed [] m = omega arith
 room_freed (r ∷ rs) m = let rest = room_freed rs (with_move m (Free (at_word r.from))) in omega (arith, rest)
 
 -- a Free takes room for each block that is lost, and the segment for one move at most
-pub spare_after : (fm : Layout) (g : SegsState) (moves : Moves) (base : Addr) (g' : SegsState) (moves' : Moves) (t : Segment)
-    → segment_over g.segments t.base ≡ Some t → t.base ≡ base.0 → IsReclaimed fm g moves base g' moves'
+pub spare_after : (g : SegsState) (moves : Moves) (base : Addr) (g' : SegsState) (moves' : Moves) (t : Segment)
+    → segment_over g.segments t.base ≡ Some t → t.base ≡ base.0 → IsSwept g moves base g' moves'
     → moves.spare ≤ moves'.spare + length (lost_of g t) + 1
-spare_after fm g moves base g' moves' t over begins (is_given u found empty state trail) =
+spare_after g moves base g' moves' t over begins (is_given u found empty state trail) =
     let same : t ≡ u = same_Some t u (sym over ∙ ap (segment_over g.segments) begins ∙ found) in
     let told = ap (λ (m : Moves). m.spare) trail in
     subst (λ (v : Segment). moves.spare ≤ moves'.spare + length (lost_of g v) + 1) (sym same)
     (let freed = room_freed (lost_of g u) moves in omega (arith, freed, told))
-spare_after fm g moves base g' moves' t over begins (is_padded u found used state padded trail) =
+spare_after g moves base g' moves' t over begins (is_used u found used state unwritten trail) =
     let same : t ≡ u = same_Some t u (sym over ∙ ap (segment_over g.segments) begins ∙ found) in
     let told = ap (λ (m : Moves). m.spare) trail in
     subst (λ (v : Segment). moves.spare ≤ moves'.spare + length (lost_of g v) + 1) (sym same)

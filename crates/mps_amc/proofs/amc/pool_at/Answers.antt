@@ -5,7 +5,7 @@ use Rattle.mps_base.specs.Segment.{Segment}
 use Rattle.mps_seg.specs.Segs.{base_address}
 use Rattle.mps_seg.proofs.SegmentOver.{segment_found}
 use Rattle.mps_seg.specs.declared.segment_info.SegmentInfo.{SegmentInfo}
-use Rattle.mps_amc.proofs.Found.{over_is_there}
+use Rattle.mps_seg.proofs.Found.{over_is_there}
 use Rattle.mps_amc.proofs.amc.pool_at.Goals as goal
 
 pub segment-requires : goal.segment-requires

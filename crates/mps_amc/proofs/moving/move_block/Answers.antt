@@ -6,7 +6,7 @@ use Rattle.mps_seg.proofs.OpenWords.{open_bounds}
 use Rattle.mps_amc.specs.Moving.{run_at}
 use Rattle.mps_base.specs.Run.{with_run}
 use Rattle.mps_seg.proofs.PartCovered.{rest_is_open}
-use Rattle.mps_amc.proofs.Reopening.{open_after_without}
+use Rattle.mps_seg.proofs.Reopening.{open_after_without}
 use Rattle.mps_amc.proofs.moving.move_block.Goals as goal
 
 pub commit_block-requires-clause-free : goal.commit_block-requires-clause-free

@@ -1,7 +1,7 @@
 use Rattle.std.proofs.Common.{◌-◌}
 use Rattle.mps_base.specs.Address.{word_of}
-use Rattle.mps_amc.proofs.Lost.{AreFreedBelow}
-use Rattle.mps_amc.proofs.reclaiming.free_lost.Given as goal
+use Rattle.mps_seg.proofs.Lost.{AreFreedBelow}
+use Rattle.mps_seg.proofs.segs.freeing.free_lost.Given as goal
 
 -- the blocks passed so far are freed, and the rest are to go as they were at first
 abbrev pub invariant-loop-at : goal.invariant-loop-at

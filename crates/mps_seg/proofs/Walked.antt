@@ -8,10 +8,10 @@ use Rattle.mps_base.specs.declared.address.Addr.{Addr}
 use Rattle.mps_extents.specs.Extents.{first_run}
 use Rattle.mps_extents.proofs.ContainedRuns.{same_count}
 use Rattle.mps_seg.specs.Segs.{SegsState, at_word}
-use Rattle.mps_amc.specs.Moving.{run_at}
-use Rattle.mps_amc.specs.Reclaiming.{IsSpan}
-use Rattle.mps_amc.proofs.Found.{over_is_there}
-use Rattle.mps_amc.proofs.Within.{NextRun, next_run, no_run, same_run}
+use Rattle.mps_seg.specs.Moving.{run_at}
+use Rattle.mps_seg.specs.Reclaiming.{IsSpan}
+use Rattle.mps_seg.proofs.Found.{over_is_there}
+use Rattle.mps_seg.proofs.Within.{NextRun, next_run, no_run, same_run}
 
 -- the next block that begins in a segment, from an address on
 pub record Walked (s : SegsState) (from end : Address) (at : Addr) : Type 0 where

@@ -4,10 +4,10 @@ use Rattle.mps_base.specs.Run.{Run, end_of}
 use Rattle.mps_base.specs.Trail.{with_move}
 use Rattle.mps_base.specs.declared.address.Addr.{Addr}
 use Rattle.mps_base.specs.declared.moves.Move.TheVariants.{Free}
-use Rattle.mps_amc.specs.Moving.{run_at}
-use Rattle.mps_amc.proofs.Lost.{freed_same, freed_kept, freed_lost, at_word_is}
-use Rattle.mps_amc.proofs.reclaiming.free_lost.Goals as goal
-use Rattle.mps_amc.proofs.reclaiming.free_lost.Goals.{then-not-is_kept, else-not-is_kept}
+use Rattle.mps_seg.specs.Moving.{run_at}
+use Rattle.mps_seg.proofs.Lost.{freed_same, freed_kept, freed_lost, at_word_is}
+use Rattle.mps_seg.proofs.segs.freeing.free_lost.Goals as goal
+use Rattle.mps_seg.proofs.segs.freeing.free_lost.Goals.{then-not-is_kept, else-not-is_kept}
 
 pub loop-at-preserved : goal.loop-at-preserved
 loop-at-preserved c =

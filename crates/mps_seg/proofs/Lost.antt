@@ -8,11 +8,11 @@ use Rattle.mps_base.proofs.Runs.{IsAscending-without_run}
 use Rattle.mps_base.specs.Trail.{Moves, with_move}
 use Rattle.mps_base.specs.declared.address.Addr.{Addr}
 use Rattle.mps_base.specs.declared.moves.Move.TheVariants.{Free}
-use Rattle.mps_extents.specs.Table.{bit}
+use Rattle.mps_bits.specs.Table.{bit}
 use Rattle.mps_extents.proofs.WrittenBits.{bit-set_other}
 use Rattle.mps_seg.specs.Segs.{SegsState, at_word}
-use Rattle.mps_amc.specs.Reclaiming.{is_lost, lost_between, without_block, without_blocks, moves_freed, IsSpan}
-use Rattle.mps_amc.proofs.Within.{within_here, within_later, within_without, sides}
+use Rattle.mps_seg.specs.Reclaiming.{is_lost, lost_between, without_block, without_blocks, moves_freed, IsSpan}
+use Rattle.mps_seg.proofs.Within.{within_here, within_later, within_without, sides}
 
 -- without a block, other blocks are lost as before
 lost_still : (low high : ℕ) (r : Run) (s : SegsState) (rs : List Run) → r.from < low

@@ -1,0 +1,80 @@
+-- A segment that is reclaimed: its words, and what is known once its blocks that weren't kept are freed.
+use Rattle.std.proofs.Common.{ℕ, ◌+◌, ◌*◌, ◌<◌, ◌≡◌, List, length, Contains, Some, sym, ap, ◌∙◌, subst, arith}
+use Rattle.std.proofs.lemmas.Option.{same_Some}
+use Rattle.mps_base.specs.Address.{Address, Word, word_of}
+use Rattle.mps_base.specs.Run.{Run}
+use Rattle.mps_base.specs.Segment.{Segment, segment_over, end_of_segment, without_segment}
+use Rattle.mps_base.specs.Trail.{Moves}
+use Rattle.mps_seg.specs.Segs.{SegsState}
+use Rattle.mps_seg.specs.Collecting.{info_of}
+use Rattle.mps_seg.specs.declared.segment_info.SegmentInfo.{SegmentInfo}
+use Rattle.mps_seg.specs.Reclaiming.{IsSpan, CanReclaim, lost_between, lost_of, freed_in, moves_freed_in}
+use Rattle.mps_seg.proofs.Found.{over_is_there}
+use Rattle.mps_seg.proofs.Lost.{span_after, segments_after, spare_after}
+
+module _ (s : SegsState) (base : Address) (spare : ℕ) (can : CanReclaim s base spare) where
+  pub listed : Contains s.segments can.segment
+  listed = over_is_there s.segments base can.segment can.over
+
+  pub is_mine : (t : Segment) → segment_over s.segments base ≡ Some t → can.segment ≡ t
+  is_mine t over = same_Some can.segment t (sym can.over ∙ over)
+
+  pub lost_from_base : lost_between (word_of base) (word_of (end_of_segment can.segment)) s ≡ lost_of s can.segment
+  lost_from_base = ap (λ (low : Address). lost_between (word_of low) (word_of (end_of_segment can.segment)) s) (sym can.begins)
+
+  -- the segment has as many grains as it is said to have
+  pub end_fits : (info : SegmentInfo) (n : ℕ) → ((t : Segment) → Contains s.segments t → t.base ≡ base → info ≡ info_of s t)
+      → n ≡ info.grains → word_of (base + 4096 * n) ≡ word_of (end_of_segment can.segment)
+  end_fits info n known counted =
+      let grains = counted ∙ ap (λ (i : SegmentInfo). i.grains) (known can.segment listed can.begins) in
+      let same : base + 4096 * n ≡ end_of_segment can.segment = omega (arith, can.begins, grains) in
+      ap (λ (a : ℕ). word_of a) same
+
+  module _ (end : Address) (fits : word_of end ≡ word_of (end_of_segment can.segment)) where
+    pub span_of : IsSpan s base end
+    span_of = record {
+      segment = can.segment;
+      over = can.over;
+      begins = can.begins;
+      ends = sym fits;
+      inside = omega (arith, can.inside, fits);
+      ordered = can.ordered;
+    }
+
+    pub lost_is : lost_between (word_of base) (word_of end) s ≡ lost_of s can.segment
+    lost_is = ap (λ (high : Word). lost_between (word_of base) high s) fits ∙ lost_from_base
+
+    pub room_for : length (lost_between (word_of base) (word_of end) s) < spare
+    room_for =
+        let P : List Run → Type 0 = λ xs. length xs < spare in
+        subst P (sym (ap (λ (high : Word). lost_between (word_of base) high s) fits)) can.room
+
+  -- there is room for one move more
+  pub room_left : (moves m : Moves) → moves.spare ≡ spare → m ≡ moves_freed_in s can.segment moves → 0 < m.spare
+  room_left moves m same is =
+      omega (
+        arith,
+        same,
+        ap (λ (x : Moves). x.spare) is,
+        spare_after (lost_of s can.segment) moves,
+        can.room,
+        ap (λ (xs : List Run). length xs) lost_from_base,
+      )
+
+  module _ (x : SegsState) (freed : x ≡ freed_in s can.segment) where
+    pub still_listed : Contains x.segments can.segment
+    still_listed =
+        let P : List Segment → Type 0 = λ ss. Contains ss can.segment in
+        subst P (sym (ap (λ (y : SegsState). y.segments) freed ∙ segments_after (lost_of s can.segment) s)) listed
+
+    pub still_span : (end : Address) → word_of end ≡ word_of (end_of_segment can.segment) → IsSpan x base end
+    still_span end fits =
+        let P : SegsState → Type 0 = λ y. IsSpan y base end in
+        subst P (sym freed) (span_after (lost_of s can.segment) s base end (span_of end fits))
+
+    pub given_then : (y : SegsState) → y ≡ record x { segments = without_segment x.segments base }
+        → y ≡ record (freed_in s can.segment) { segments = without_segment s.segments base }
+    given_then y is =
+        let Q : SegsState → SegsState = λ z. record z { segments = without_segment z.segments base } in
+        let R : List Segment → SegsState = λ ss. record (freed_in s can.segment) { segments = without_segment ss base } in
+        is ∙ ap Q freed ∙ ap R (segments_after (lost_of s can.segment) s)
