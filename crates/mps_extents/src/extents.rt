@@ -146,6 +146,15 @@ impl Extents {
         let _ = &self.covered;
     }
 
+    /// Does nothing: a caller knows that the blocks are in ascending order.
+    #[inline(always)]
+    #[tactic(auto, using(crate::proofs::Tally::blocks_ascend))]
+    pub fn blocks_are_in_order(&self)
+        ensures { IsAscending 0 self.now.size self.now.blocks }
+    {
+        let _ = &self.covered;
+    }
+
     /// How many words the block has that begins at `at`.
     pub fn block_words(&self, at: usize) -> usize
         requires { (words : ℕ) × Contains self.now.blocks (record { from = at; count = words }) }

@@ -1,8 +1,9 @@
 -- The words of a block and those of a segment lie in runs of grains that the arena holds.
-use Rattle.std.proofs.Common.{ℕ, ◌*◌, ◌≡◌, ◌≤◌, ◌<◌, Bool, Contains, List, [], ◌∷◌, Option, Some, None, leb, ltb, refl, sym, ◌∙◌, subst, inl, inr, arith, option_map}
+use Rattle.std.proofs.Common.{ℕ, ◌+◌, ◌*◌, ◌≡◌, ◌≤◌, ◌<◌, Bool, Contains, List, [], ◌∷◌, Option, Some, None, leb, ltb, refl, sym, ap, ◌∙◌, subst, inl, inr, arith, option_map}
 use Rattle.std.proofs.lemmas.Bool.{cases_Bool, cond-true, cond-false, and_parts, leb-true, ltb-true}
 use Rattle.mps_base.specs.Address.{word_of, grain_of, words_of_grain}
 use Rattle.mps_base.specs.Run.{Run}
+use Rattle.mps_base.proofs.Runs.{contained_bounds}
 use Rattle.mps_base.specs.Segment.{Segment, segment_over, is_in_segment, end_of_segment}
 use Rattle.mps_base.specs.declared.address.Addr.{Addr}
 use Rattle.mps_arena.specs.Arena.{AreHeldWords}
@@ -63,3 +64,13 @@ module _ (s : Inside) (seen : SegsState) (sound : IsSoundInside s) (is : seen_by
       let r : Run = record { from = grain_of t.base; count = t.grains } in
       let P : SegsState → Type 0 = λ st. Contains (held_runs st) r in
       record { grains = r; there = subst P is listed; after = omega (arith, entry.aligned); before = omega (arith, entry.aligned) }
+
+  pub segment_in_arena : (t : Segment) → Contains seen.segments t
+      → word_of (end_of_segment t) ≤ words_of_grain * (seen.grains + 1)
+  segment_in_arena t there =
+      let entry = entry_at_seen_base s seen t.base t is there refl in
+      let listed = entry_is_held s.table.items (grain_of t.base) t.grains t.pool t.generation t.rank entry.is in
+      let r : Run = record { from = grain_of t.base; count = t.grains } in
+      let P : List Run → Type 0 = λ rs. Contains rs r in
+      let bounds = contained_bounds 1 (s.arena.grains + 1) s.arena.held r sound.0.ascending (subst P (sym sound.0.held) listed) in
+      omega (arith, bounds.2, entry.aligned, ap (λ (x : SegsState). x.grains) is)

@@ -1,16 +1,50 @@
 -- A segment that is reclaimed: its words, and what is known once its blocks that weren't kept are freed.
-use Rattle.std.proofs.Common.{ℕ, ◌+◌, ◌*◌, ◌<◌, ◌≡◌, List, length, Contains, Some, sym, ap, ◌∙◌, subst, arith}
+use Rattle.std.proofs.Common.{ℕ, ◌+◌, ◌*◌, ◌<◌, ◌≤◌, ◌≡◌, List, [], ◌∷◌, length, Contains, Some, refl, sym, ap, ◌∙◌, subst, inl, inr, arith}
+use Rattle.std.proofs.lemmas.List.Filters.{length-filter_both}
 use Rattle.std.proofs.lemmas.Option.{same_Some}
-use Rattle.mps_base.specs.Address.{Address, Word, word_of}
-use Rattle.mps_base.specs.Run.{Run}
+use Rattle.std.specs.Prelude.{filter, not}
+use Rattle.mps_base.specs.Address.{Address, Word, word_of, words_of_grain}
+use Rattle.mps_base.specs.Run.{Run, IsAscending, runs_within}
 use Rattle.mps_base.specs.Segment.{Segment, segment_over, end_of_segment, without_segment}
 use Rattle.mps_base.specs.Trail.{Moves}
 use Rattle.mps_seg.specs.Segs.{SegsState}
 use Rattle.mps_seg.specs.Collecting.{info_of}
 use Rattle.mps_seg.specs.declared.segment_info.SegmentInfo.{SegmentInfo}
-use Rattle.mps_seg.specs.Reclaiming.{IsSpan, CanReclaim, lost_between, lost_of, freed_in, moves_freed_in}
+use Rattle.mps_seg.specs.Reclaiming.{IsSpan, CanReclaim, is_lost, lost_between, lost_of, freed_in, moves_freed_in}
 use Rattle.mps_seg.proofs.Found.{over_is_there}
 use Rattle.mps_seg.proofs.Lost.{span_after, segments_after, spare_after}
+use Rattle.mps_seg.proofs.Within.{within_here, within_later, sides}
+
+-- ---- what it needs
+
+within_few : (low high : Word) (rs : List Run) → length (runs_within low high rs) ≤ length rs
+within_few low high [] = omega arith
+within_few low high (r ∷ rs) =
+    let rest = within_few low high rs in
+    elim (sides low high r.from) [
+      | inl (from, under) ↦ omega (arith, rest, ap (λ (xs : List Run). length xs) (within_here low high r rs from under))
+      | inr out ↦ omega (arith, rest, ap (λ (xs : List Run). length xs) (within_later low high r rs out))
+    ]
+
+lost_few : (low high : Word) (s : SegsState) → length (lost_between low high s) ≤ length s.blocks
+lost_few low high s =
+    let both = length-filter_both (is_lost s) (λ r. not (is_lost s r)) (λ r. refl) (runs_within low high s.blocks) in
+    omega (arith, both, within_few low high s.blocks)
+
+-- there is room for a move for each block
+pub with_room_for_all : (s : SegsState) (base : Address) (spare : ℕ) (t : Segment) → segment_over s.segments base ≡ Some t → t.base ≡ base
+    → word_of (end_of_segment t) ≤ words_of_grain * (s.grains + 1) → IsAscending 0 (words_of_grain * (s.grains + 1)) s.blocks
+    → length s.blocks < spare → CanReclaim s base spare
+with_room_for_all s base spare t over begins inside ordered room = record {
+  segment = t;
+  over = over;
+  begins = begins;
+  inside = inside;
+  ordered = ordered;
+  room = omega (arith, room, lost_few (word_of base) (word_of (end_of_segment t)) s);
+}
+
+-- ---- what is known of it
 
 module _ (s : SegsState) (base : Address) (spare : ℕ) (can : CanReclaim s base spare) where
   pub listed : Contains s.segments can.segment

@@ -2,7 +2,7 @@
 #![tactic(auto)]
 
 ghost use Rattle.std.specs.Prelude.{◌≡◌, ℕ, true, false, ◌+◌, ◌*◌, ◌<◌, ◌≤◌, IfOk, IfErr, OnOk, MatchResult, Contains, option_map, length};
-ghost use Rattle.mps_base.specs.Run.{with_run, without_run, total};
+ghost use Rattle.mps_base.specs.Run.{IsAscending, with_run, without_run, total};
 ghost use Rattle.mps_base.specs.Address.{words_of_grain, word_of, grains_needed, max_grains, max_block_words};
 ghost use Rattle.mps_base.specs.Segment.{Segment, end_of_segment, segment_over, without_segment};
 ghost use Rattle.mps_base.specs.Trail.{with_move};
@@ -309,6 +309,15 @@ impl Segs {
             → LiesIn (held_runs self.now) (record { from = word_of t.base; count = words_of_grain * t.grains }) }
     {
         let _ = &self.arena;
+    }
+
+    /// Does nothing: a caller knows that the blocks are in ascending order, and that each segment lies in the arena.
+    pub fn blocks_are_in_order(&self)
+        ensures ordered { IsAscending 0 (words_of_grain * (self.now.grains + 1)) self.now.blocks }
+        ensures inside { (t : Segment) → Contains self.now.segments t
+            → word_of (end_of_segment t) ≤ words_of_grain * (self.now.grains + 1) }
+    {
+        self.extents.blocks_are_in_order();
     }
 
     /// Sets the commit limit, in grains. Refuses `BelowCommitted` where more grains than that are held.

@@ -8,6 +8,7 @@ ghost use Rattle.mps_base.specs.Run.{runs_within};
 ghost use Rattle.mps_bits.specs.Table.{bit};
 ghost use Rattle.mps_marks.specs.Marks.{grey_of};
 ghost use Rattle.mps_seg.specs.Segs.{base_address, segment_from};
+ghost use Rattle.mps_seg.specs.Moving.{kept_in_place, nailed};
 ghost use Rattle.mps_seg.specs.Collecting.{info_of, lowest_grey_in, first_grain_over, is_white_at, is_kept_at, is_grey_at, rank_at, condemning, collected, keeping, greying, greying_all, all_grey, blackening, summary_at, summarizing, noting};
 
 use super::Segs;
@@ -161,6 +162,25 @@ impl Segs {
     {
         let rank = self.rank_at(at);
         self.marks.set_grey(at.word(), rank);
+    }
+
+    /// Keeps the block at `at` where it lies. It is grey.
+    pub fn keep_in_place(&mut self, at: Addr)
+        requires { word_of at.0 < words_of_grain * (self.old.grains + 1) }
+        ensures { self.new ≡ kept_in_place self.old at.0 }
+    {
+        self.keep(at);
+        self.set_grey(at);
+    }
+
+    /// Keeps the block at `at` where it lies. A block that is kept already is left as it is.
+    pub fn nail(&mut self, at: Addr)
+        requires { word_of at.0 < words_of_grain * (self.old.grains + 1) }
+        ensures { self.new ≡ nailed self.old at.0 }
+    {
+        if !self.is_kept(at) {
+            self.keep_in_place(at);
+        }
     }
 
     /// All blocks of the segment at `base` become grey.

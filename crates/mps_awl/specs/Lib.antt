@@ -1,0 +1,3 @@
+pub mod Splatting
+pub use Rattle.mps_seg.specs.Moving
+pub use Rattle.mps_seg.specs.Reclaiming
