@@ -6,7 +6,7 @@ ghost use Rattle.mps_base.specs.Address.{word_of, bytes_of_word, words_of_grain}
 ghost use Rattle.mps_base.specs.Segment.{Segment, segment_over};
 ghost use Rattle.mps_seg.specs.Buffer.{IsAtHand};
 ghost use Rattle.mps_amc.specs.Moving.{BlockStands, IsBlockOf, IsForwarded, IsUnforwarded, size_at, nailed};
-ghost use Rattle.mps_amc.specs.Amc.{no_pools, with_pool, row_after_flip, tails_after_flip, HasTail, tail_of, with_tail, IsFixed, FixesAt};
+ghost use Rattle.mps_amc.specs.Amc.{no_pools, with_pool, row_after_flip, tails_after_flip, HasTail, tail_of, with_tail, IsFixed};
 
 use crate::moving::{keep_in_place, move_block};
 use mps_base::{Addr, Move, Rank, Trail};
@@ -84,42 +84,32 @@ impl Amc {
         self.tails[pool as usize][generation as usize] = tail;
     }
 
-    /// Fixes the block at `at` and returns its address: the forwarding address if it has moved, `at` if it is kept already. Any other
-    /// block is kept now: it moves to this generation of its pool, or stays if there is no space.
-    pub fn fix<F: Format>(
+    /// Keeps the block at `at`, which isn't kept yet: it moves to a generation of its pool, or if there is no room it stays. Returns
+    /// where it then lies. It is grey.
+    pub fn keep<F: Format>(
         &mut self,
         segs: &mut Segs,
         trail: &mut Trail,
         format: &F,
         at: Addr,
+        pool: u32,
         generation: u32,
     ) -> Addr
         requires aligned { at.0 % bytes_of_word ≡ 0 }
-        requires in_arena { word_of at.0 < length segs.old.words }
-        requires block { IsUnforwarded (F.layout format.now) segs.old.words at.0
-            → BlockStands (F.layout format.now) segs.old.words at.0 (size_at (F.layout format.now) segs.old.words at.0)
-            × IsBlockOf segs.old at.0 (size_at (F.layout format.now) segs.old.words at.0) }
-        requires segment { (t : Segment) × (segment_over segs.old.segments at.0 ≡ Some t) × HasTail self.old t.pool generation
-            × IsAtHand segs.old (tail_of self.old t.pool generation) }
+        requires stands { BlockStands (F.layout format.now) segs.old.words at.0 (size_at (F.layout format.now) segs.old.words at.0) }
+        requires block { IsBlockOf segs.old at.0 (size_at (F.layout format.now) segs.old.words at.0) }
+        requires tail { HasTail self.old pool generation }
+        requires at_hand { IsAtHand segs.old (tail_of self.old pool generation) }
         requires fits { 1 < trail.old.spare }
-        ensures fixed { FixesAt (F.layout format.now) self.old segs.old trail.old at generation self.new segs.new trail.new result }
-        ensures at_hand { (t : Segment) → segment_over segs.old.segments at.0 ≡ Some t
-            → IsAtHand segs.new (tail_of self.new t.pool generation) }
+        ensures kept { IsFixed (F.layout format.now) self.old self.new segs.old segs.new trail.old trail.new at pool generation
+            (size_at (F.layout format.now) segs.old.words at.0) result }
+        ensures at_hand { IsAtHand segs.new (tail_of self.new pool generation) }
     {
-        if let Some(to) = forwarded_from(segs, format, at) {
-            return to;
-        }
-        let _ = segs.grains();
-        if segs.is_kept(at) {
-            return at;
-        }
-        let pool = pool_at(segs, at);
         let words = format.words(segs.word(at));
         self.keep_block(segs, trail, format, at, pool, generation, words)
     }
 
-    /// Keeps the block of `words` words at `at`, which isn't kept yet: it moves to a generation of its pool, or if there is no room
-    /// it stays. Returns where it then lies. It is grey.
+    /// Keeps a block of `words` words, as `keep` does.
     fn keep_block<F: Format>(
         &mut self,
         segs: &mut Segs,
@@ -161,24 +151,13 @@ impl Amc {
     }
 }
 
-/// Where the block has moved that was at `at`.
-fn forwarded_from<F: Format>(segs: &Segs, format: &F, at: Addr) -> Option<Addr>
+/// Where the block has moved that was at `at`; None if no forwarded block begins there.
+pub fn forwarded_from<F: Format>(segs: &Segs, format: &F, at: Addr) -> Option<Addr>
     requires held { (t : Segment) × (segment_over segs.now.segments at.0 ≡ Some t) }
     ensures sound { IfSome result (λ to. IsForwarded (F.layout format.now) segs.now.words at.0 to.0) }
     ensures complete { IfNone result (IsUnforwarded (F.layout format.now) segs.now.words at.0) }
 {
     format.forwarded(segs.words_from(at))
-}
-
-/// The pool of the segment in which an address lies.
-fn pool_at(segs: &Segs, at: Addr) -> u32
-    requires { (t : Segment) × (segment_over segs.now.segments at.0 ≡ Some t) }
-    ensures { (t : Segment) → segment_over segs.now.segments at.0 ≡ Some t → result ≡ t.pool }
-{
-    let Some(base) = segs.segment_of(at) else {
-        unreachable!()
-    };
-    segs.segment(base).pool
 }
 
 /// Empties these rows of tails.

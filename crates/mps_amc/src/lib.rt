@@ -5,4 +5,5 @@ mod amc;
 mod moving;
 mod reclaiming;
 
-pub use amc::Amc;
+pub use amc::{Amc, forwarded_from};
+pub use moving::keep_in_place;

@@ -31,7 +31,7 @@ pub(crate) fn move_block<F: Format>(segs: &mut Segs, format: &F, at: Addr, to: A
 }
 
 /// Keeps the block at `at` where it lies. It is grey.
-pub(crate) fn keep_in_place(segs: &mut Segs, at: Addr)
+pub fn keep_in_place(segs: &mut Segs, at: Addr)
     requires { word_of at.0 < words_of_grain * (segs.old.grains + 1) }
     ensures { segs.new ≡ kept_in_place segs.old at.0 }
 {

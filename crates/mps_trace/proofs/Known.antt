@@ -1,19 +1,20 @@
 -- What is known of the segment over an address, of its pool and of where its blocks move.
 use Rattle.std.proofs.Common.{ℕ, ◌<◌, ◌≡◌, Bool, true, false, not, Option, Some, None, List, Contains, length, get_or, refl, sym, ap, ◌∙◌, subst}
-use Rattle.std.specs.Prelude.{option_map, slice_get}
+use Rattle.std.specs.Prelude.{option_map, slice_get, ◌%◌, IfSome, if◌then◌else◌}
 use Rattle.std.proofs.lemmas.Option.{slice_get_within, get_or_from_slice_get}
-use Rattle.mps_base.specs.Address.{grain_of}
+use Rattle.mps_base.specs.Address.{grain_of, bytes_of_word}
 use Rattle.mps_base.specs.Generation.{target_generation}
 use Rattle.mps_base.specs.Segment.{Segment, segment_over}
 use Rattle.mps_base.specs.declared.address.Addr.{Addr}
 use Rattle.mps_format.specs.Layout.{Layout}
 use Rattle.mps_seg.specs.Segs.{SegsState, base_address}
-use Rattle.mps_seg.specs.Collecting.{info_of, is_condemned_at, bit_of}
+use Rattle.mps_seg.specs.Collecting.{info_of, is_condemned_at, is_kept_at, bit_of}
+use Rattle.mps_amc.specs.Moving.{IsForwarded}
 use Rattle.mps_seg.specs.declared.segment_info.SegmentInfo.{SegmentInfo}
 use Rattle.mps_amc.proofs.Found.{over_is_there}
 use Rattle.mps_gen.specs.State.{ChainsState, generations_of}
-use Rattle.mps_base.specs.Trail.{Moves}
-use Rattle.mps_trace.specs.Trace.{TraceState, Traced, traced, CanKeep, CanFix, target_of}
+use Rattle.mps_trace.specs.Finding.{IsOfKnownPool, CanFind, FindsIn, has_moved, lies}
+use Rattle.mps_trace.specs.Trace.{TraceState, target_of}
 use Rattle.mps_format.specs.declared.pool.Policy.{Policy}
 
 pub some_over : (o : Option Segment) (base : Addr) → Some base ≡ option_map base_address o → (t : Segment) × (o ≡ Some t)
@@ -83,34 +84,55 @@ module _ {F : Type 0} (t t' : TraceState F) (same : t'
     pub format_at : (o : Option (Policy F)) → o ≡ get_or t'.formats info.pool o → o ≡ Some format
     format_at o read = format_read t'.formats info.pool o format listed_at read
 
--- a block in a condemned segment can be kept, as the fields of the collector have it
-pub keep_there : {F : Type 0} (layout : F → Layout) (t t' : TraceState F) (s : SegsState) (m : Moves) (at : Addr) (info : SegmentInfo)
-    → t' ≡ t → CanFix layout t s m at → info.is_condemned ≡ is_condemned_at s at.0 → not info.is_condemned ≡ false
-    → CanKeep layout t'.formats t'.chains (traced t' s m) at.0
-keep_there {F} layout t t' s m at info same can condemned is =
-    let P : TraceState F → Type 0 = λ u. CanFix layout u s m at in
+-- what is known of a pool, as the fields of the collector have it
+pub known_there : {F : Type 0} (layout : F → Layout) (t t' : TraceState F) (s : SegsState) (at : Addr) (info : SegmentInfo) → t' ≡ t
+    → CanFind layout t.formats s at → info.is_condemned ≡ is_condemned_at s at.0 → not info.is_condemned ≡ false
+    → IsOfKnownPool layout t'.formats s at
+known_there {F} layout t t' s at info same can condemned is =
+    let P : TraceState F → Type 0 = λ u. CanFind layout u.formats s at in
     (subst P (sym same) can).condemned (sym condemned ∙ not_false info.is_condemned is)
 
-module _ {F : Type 0} (layout : F → Layout) (formats : List (Option (Policy F))) (chains : ChainsState) (x : Traced) (at : Addr)
-    (info : SegmentInfo) (keep : CanKeep layout formats chains x at.0)
-    (found : (t : Segment) → segment_over x.segs.segments at.0 ≡ Some t → Some info ≡ Some (info_of x.segs t))
+-- what is read of the segment over an address, and the policy that is read of its pool
+module _ {F : Type 0} (formats : List (Option (Policy F))) (chains : ChainsState) (s : SegsState) (at : Addr) (info : SegmentInfo)
+    (seg : Segment) (format : Policy F) (over : segment_over s.segments at.0 ≡ Some seg)
+    (listed : slice_get formats seg.pool ≡ Some (Some format))
+    (found : (t : Segment) → segment_over s.segments at.0 ≡ Some t → Some info ≡ Some (info_of s t))
   where
-    is_known : info ≡ info_of x.segs keep.segment
-    is_known = same_info info (info_of x.segs keep.segment) (found keep.segment keep.over)
+    is_known : info ≡ info_of s seg
+    is_known = same_info info (info_of s seg) (found seg over)
 
-    pub pool_is : info.pool ≡ keep.segment.pool
+    pub pool_is : info.pool ≡ seg.pool
     pool_is = ap (λ (i : SegmentInfo). i.pool) is_known
 
-    pub generation_is : info.generation ≡ keep.segment.generation
+    generation_is : info.generation ≡ seg.generation
     generation_is = ap (λ (i : SegmentInfo). i.generation) is_known
 
-    pub listed_is : slice_get formats info.pool ≡ Some (Some keep.format)
-    listed_is = ap (λ (n : ℕ). slice_get formats n) pool_is ∙ keep.listed
+    listed_is : slice_get formats info.pool ≡ Some (Some format)
+    listed_is = ap (λ (n : ℕ). slice_get formats n) pool_is ∙ listed
 
     pub pool_within : info.pool < length formats
-    pool_within = slice_get_within formats info.pool (Some keep.format) listed_is
+    pool_within = slice_get_within formats info.pool (Some format) listed_is
 
-    pub target_is : (n : ℕ) → n ≡ target_generation (generations_of chains info.pool) info.generation → n ≡ target_of chains keep.segment
+    pub policy_read : (o : Option (Policy F)) → o ≡ get_or formats info.pool o → o ≡ Some format
+    policy_read o read = format_read formats info.pool o format listed_is read
+
+    -- the policy that is there
+    pub policy_is : (o : Option (Policy F)) → o ≡ get_or formats info.pool o → (got : Policy F) → o ≡ Some got → got ≡ format
+    policy_is o read got is = same_format got format (sym is ∙ policy_read o read)
+
+    pub target_is : (n : ℕ) → n ≡ target_generation (generations_of chains info.pool) info.generation → n ≡ target_of chains seg
     target_is n is =
         is ∙ ap (λ (p : ℕ). target_generation (generations_of chains p) info.generation) pool_is
-        ∙ ap (λ (g : ℕ). target_generation (generations_of chains keep.segment.pool) g) generation_is
+        ∙ ap (λ (g : ℕ). target_generation (generations_of chains seg.pool) g) generation_is
+
+-- a block is found on a word
+pub found_aligned : (f : Layout) (moves : Bool) (s : SegsState) (at : Addr) (found : Option Addr) → at.0 % bytes_of_word ≡ 0
+    → (moves ≡ true → (to : ℕ) → IsForwarded f s.words at.0 to → to % bytes_of_word ≡ 0) → FindsIn f moves s at found
+    → IfSome found (λ to. to.0 % bytes_of_word ≡ 0)
+found_aligned f moves s at found aligned leads (has_moved to is forwarded) = leads is to.0 forwarded
+found_aligned f moves s at found aligned leads (lies isnt is) =
+    subst (λ (o : Option Addr). IfSome o (λ to. to.0 % bytes_of_word ≡ 0)) (sym is) (of_test (is_kept_at s at.0))
+  where
+    of_test : (b : Bool) → IfSome (if b then Some at else None) (λ to. to.0 % bytes_of_word ≡ 0)
+    of_test true = aligned
+    of_test false = tt

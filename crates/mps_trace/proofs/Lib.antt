@@ -4,6 +4,7 @@ pub mod Collected
 pub mod Condemning
 pub mod Ending
 pub mod Fixed
+pub mod Keeping
 pub mod Known
 pub mod Nailing
 pub mod Ordered

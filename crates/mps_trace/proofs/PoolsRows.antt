@@ -4,7 +4,6 @@ use Rattle.std.proofs.Math.Seq.{map-set_same}
 use Rattle.std.proofs.lemmas.List.{length-set, length-replicate}
 use Rattle.std.specs.Prelude.{slice_set}
 use Rattle.mps_base.specs.Address.{Address}
-use Rattle.mps_base.specs.Trail.{Moves}
 use Rattle.mps_base.specs.declared.address.Addr.{Addr}
 use Rattle.mps_seg.specs.declared.buffer.Buffer.{Buffer}
 use Rattle.mps_buffer.specs.Points.{PointsState}
@@ -13,9 +12,8 @@ use Rattle.mps_final.specs.State.{FinalsState}
 use Rattle.mps_format.specs.Layout.{Layout}
 use Rattle.mps_gen.specs.State.{ChainsState}
 use Rattle.mps_root.specs.State.{RootsState}
-use Rattle.mps_seg.specs.Segs.{SegsState}
-use Rattle.mps_amc.specs.Amc.{AmcState, FixesAt, forwards, is_kept, keeps, row_after_flip, tails_of, with_tail}
-use Rattle.mps_trace.specs.Trace.{Traced, FixesTo, passes, fixes, marks}
+use Rattle.mps_amc.specs.Amc.{AmcState, row_after_flip, tails_of, with_tail}
+use Rattle.mps_trace.specs.Trace.{Traced, KeepsTo, FixesTo, moves, marks, finds, keeps, target_of}
 use Rattle.mps_trace.specs.Scan as scan
 use Rattle.mps_trace.specs.Roots as roots
 use Rattle.mps_trace.specs.Unit as units
@@ -35,18 +33,15 @@ emptied (row ∷ rows) =
     ap (λ n. n ∷ map length (map row_after_flip rows)) (length-replicate (length row) empty_buffer)
     ∙ ap (λ ns. length row ∷ ns) (emptied rows)
 
-fixed_at : {f : Layout} {amc amc' : AmcState} {s s' : SegsState} {m m' : Moves} {at answer : Addr} {generation : ℕ}
-    → FixesAt f amc s m at generation amc' s' m' answer → rows_of amc' ≡ rows_of amc
-fixed_at (forwards to is) = refl
-fixed_at (is_kept unforwarded kept) = refl
-fixed_at {amc = amc} {generation = generation} (keeps t answer unforwarded kept over fixed) =
-    ap rows_of fixed.tails ∙ tail_written amc t.pool generation _
-
 module _ {F : Type 0} (layout : F → Layout) (formats : List (Option (Policy F))) (chains : ChainsState) where
+  kept : {x y : Traced} {at answer : Addr} → KeepsTo layout formats chains x at y answer → rows_of y.amc ≡ rows_of x.amc
+  kept {x} (moves t format answer over listed is fixed) =
+      ap rows_of fixed.tails ∙ tail_written x.amc t.pool (target_of chains t) _
+  kept (marks t format over listed stays is) = ap (λ (w : Traced). rows_of w.amc) is
+
   fixed : {x y : Traced} {at answer : Addr} → FixesTo layout formats chains x at y answer → rows_of y.amc ≡ rows_of x.amc
-  fixed (passes calm) = refl
-  fixed (fixes t format answer condemned over listed moves is) = fixed_at is
-  fixed {x} (marks t format condemned over listed stays is) = ap (λ (w : Traced). rows_of w.amc) is
+  fixed (finds to found) = refl
+  fixed (keeps answer white keep) = kept keep
 
   -- ---- references of blocks
 

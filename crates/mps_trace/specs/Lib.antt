@@ -1,5 +1,6 @@
 pub mod Begin
 pub mod Condemned
+pub mod Finding
 pub mod Flip
 pub mod Pools
 pub mod PoolsCollecting

@@ -23,7 +23,7 @@ pub data FixesRoot {F : Type 0} (layout : F
 -- a root is null or can be fixed
 abbrev pub CanFixRootAt : {F : Type 0} → (F → Layout) → (formats : List (Option (Policy F))) → ChainsState → Traced → (at : Address)
     → Type 0
-CanFixRootAt layout formats chains x at = 0 < at → CanFixAt layout formats chains x at
+CanFixRootAt layout formats chains x at = 0 < at → CanFixAt layout formats chains x (record { 0 = at })
 
 abbrev pub CanFixRoot : {F : Type 0} → (F → Layout) → TraceState F → SegsState → Moves → (at : Address) → Type 0
 CanFixRoot layout t s m at = CanFixRootAt layout t.formats t.chains (traced t s m) at

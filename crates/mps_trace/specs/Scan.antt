@@ -42,7 +42,8 @@ pub data FixesCell {F : Type 0} (layout : F → Layout) (f : Layout) (formats : 
 abbrev pub CanFixCellAt : {F : Type 0} → (F → Layout) → (f : Layout) → (formats : List (Option (Policy F))) → ChainsState → Traced
     → (at : Addr)
     → (cell : ℕ) → Type 0
-CanFixCellAt layout f formats chains x at cell = 0 < target_at f x at cell → CanFixAt layout formats chains x (target_at f x at cell)
+CanFixCellAt layout f formats chains x at cell = 0 < target_at f x at cell
+    → CanFixAt layout formats chains x (record { 0 = target_at f x at cell })
 
 abbrev pub CanFixCell : {F : Type 0} → (F → Layout) → (f : Layout) → TraceState F → SegsState → Moves → (at : Addr) → (cell : ℕ) → Type 0
 CanFixCell layout f t s m at cell = CanFixCellAt layout f t.formats t.chains (traced t s m) at cell

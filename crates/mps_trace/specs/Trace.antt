@@ -8,11 +8,11 @@ use Rattle.mps_base.specs.declared.address.Addr.{Addr}
 use Rattle.mps_base.specs.declared.names.Rank.TheVariants.{Exact}
 use Rattle.mps_format.specs.Layout.{Layout}
 use Rattle.mps_seg.specs.Segs.{SegsState}
-use Rattle.mps_seg.specs.Collecting.{is_condemned_at}
 use Rattle.mps_seg.specs.Buffer.{IsAtHand, empty_buffer}
-use Rattle.mps_amc.specs.Moving.{IsForwarded, IsUnforwarded, BlockStands, IsBlockOf, size_at, nailed}
-use Rattle.mps_amc.specs.Amc.{AmcState, HasTail, tail_of, FixesAt}
+use Rattle.mps_amc.specs.Moving.{BlockStands, IsBlockOf, size_at, kept_in_place}
+use Rattle.mps_amc.specs.Amc.{AmcState, HasTail, tail_of, IsFixed}
 use Rattle.mps_amc.specs.Amc as amc
+use Rattle.mps_trace.specs.Finding.{CanFind, FindsTo, nothing_is_white_without_a_pool}
 use Rattle.mps_gen.specs.State.{ChainsState, no_chains, generations_of}
 use Rattle.mps_format.specs.declared.pool.Policy.{Policy}
 
@@ -47,53 +47,57 @@ traced t s m = record { amc = t.amc; segs = s; moves = m }
 abbrev pub target_of : ChainsState → Segment → ℕ
 target_of chains t = target_generation (generations_of chains t.pool) t.generation
 
--- a block of a segment with this layout, whose pool moves its blocks, can be fixed
+-- a white block of a segment with this layout, whose pool moves its blocks, can be kept
 pub record CanMove (f : Layout) (chains : ChainsState) (x : Traced) (at : Address) (segment : Segment) : Type 0 where
   pub known : segment.pool < length chains.of_pool
-  -- a block stands there, if none has moved from there, and else that lies on a word
-  pub block : IsUnforwarded f x.segs.words at
-      → BlockStands f x.segs.words at (size_at f x.segs.words at) × IsBlockOf x.segs at (size_at f x.segs.words at)
-  pub leads : (to : Address) → IsForwarded f x.segs.words at to → to % bytes_of_word ≡ 0
+  pub stands : BlockStands f x.segs.words at (size_at f x.segs.words at)
+  pub block : IsBlockOf x.segs at (size_at f x.segs.words at)
   pub tail : HasTail x.amc segment.pool (target_of chains segment)
   pub at_hand : IsAtHand x.segs (tail_of x.amc segment.pool (target_of chains segment))
   pub room : 1 < x.moves.spare
 
--- a block in a condemned segment can be fixed
-pub record CanKeep {F : Type 0} (layout : F
-    → Layout) (formats : List (Option (Policy F))) (chains : ChainsState) (x : Traced) (at : Address)
+-- the white block at an address on a word of the arena can be kept
+pub record CanKeep {F : Type 0} (layout : F → Layout) (formats : List (Option (Policy F))) (chains : ChainsState) (x : Traced) (at : Addr)
     : Type 0 where
+  pub aligned : at.0 % bytes_of_word ≡ 0
+  pub in_arena : word_of at.0 < length x.segs.words
   pub segment : Segment
-  pub over : segment_over x.segs.segments at ≡ Some segment
+  pub over : segment_over x.segs.segments at.0 ≡ Some segment
   pub format : Policy F
   pub listed : slice_get formats segment.pool ≡ Some (Some format)
-  pub moving : format.moves ≡ true → CanMove (layout format.format) chains x at segment
+  pub moving : format.moves ≡ true → CanMove (layout format.format) chains x at.0 segment
 
--- an address on a word of the arena. If it lies in a condemned segment, a block can be fixed there
-pub record CanFixAt {F : Type 0} (layout : F
-    → Layout) (formats : List (Option (Policy F))) (chains : ChainsState) (x : Traced) (at : Address)
+-- the block to which an address leads can be found, and if it is white it can be kept
+pub record CanFixAt {F : Type 0} (layout : F → Layout) (formats : List (Option (Policy F))) (chains : ChainsState) (x : Traced) (at : Addr)
     : Type 0 where
-  pub aligned : at % bytes_of_word ≡ 0
-  pub in_arena : word_of at < length x.segs.words
-  pub condemned : is_condemned_at x.segs at ≡ true → CanKeep layout formats chains x at
+  pub find : CanFind layout formats x.segs at
+  pub keep : FindsTo layout formats x.segs at None → CanKeep layout formats chains x at
 
 abbrev pub CanFix : {F : Type 0} → (F → Layout) → TraceState F → SegsState → Moves → Addr → Type 0
-CanFix layout t s m at = CanFixAt layout t.formats t.chains (traced t s m) at.0
+CanFix layout t s m at = CanFixAt layout t.formats t.chains (traced t s m) at
 
--- what is done with an address, and where the block lies then
+-- what the pool of a white block does with it to keep it, and where the block lies then
+pub data KeepsTo {F : Type 0} (layout : F → Layout) (formats : List (Option (Policy F))) (chains : ChainsState) (x : Traced) (at : Addr)
+    : Traced → (answer : Addr) → Type 0
+  where
+    -- the pool moves its blocks
+    moves : {y : Traced} (t : Segment) (format : Policy F) (answer : Addr) → segment_over x.segs.segments at.0 ≡ Some t
+        → slice_get formats t.pool ≡ Some (Some format) → format.moves ≡ true
+        → IsFixed (layout format.format) x.amc y.amc x.segs y.segs x.moves y.moves at t.pool (target_of chains t)
+        (size_at (layout format.format) x.segs.words at.0) answer
+        → KeepsTo layout formats chains x at y answer
+    -- or keeps them where they lie: the block is grey
+    marks : {y : Traced} (t : Segment) (format : Policy F) → segment_over x.segs.segments at.0 ≡ Some t
+        → slice_get formats t.pool ≡ Some (Some format) → format.moves ≡ false
+        → y ≡ record x { segs = kept_in_place x.segs at.0 } → KeepsTo layout formats chains x at y at
+
+-- what is done with an address, and where the block lies then: it is found, or else it is kept
 pub data FixesTo {F : Type 0} (layout : F → Layout) (formats : List (Option (Policy F))) (chains : ChainsState) (x : Traced) (at : Addr)
     : Traced → (answer : Addr) → Type 0
   where
-    -- the segment isn't condemned
-    passes : is_condemned_at x.segs at.0 ≡ false → FixesTo layout formats chains x at x at
-    -- the pool of the segment moves its blocks
-    fixes : {y : Traced} (t : Segment) (format : Policy F) (answer : Addr) → is_condemned_at x.segs at.0 ≡ true
-        → segment_over x.segs.segments at.0 ≡ Some t → slice_get formats t.pool ≡ Some (Some format) → format.moves ≡ true
-        → FixesAt (layout format.format) x.amc x.segs x.moves at (target_of chains t) y.amc y.segs y.moves answer
+    finds : (to : Addr) → FindsTo layout formats x.segs at (Some to) → FixesTo layout formats chains x at x to
+    keeps : {y : Traced} (answer : Addr) → FindsTo layout formats x.segs at None → KeepsTo layout formats chains x at y answer
         → FixesTo layout formats chains x at y answer
-    -- or keeps them where they lie
-    marks : {y : Traced} (t : Segment) (format : Policy F) → is_condemned_at x.segs at.0 ≡ true
-        → segment_over x.segs.segments at.0 ≡ Some t → slice_get formats t.pool ≡ Some (Some format) → format.moves ≡ false
-        → y ≡ record x { segs = nailed x.segs at.0 } → FixesTo layout formats chains x at y at
 
 -- ---- vectors
 
@@ -108,11 +112,9 @@ pub a_pool_on_no_chain_has_one_generation : target_of (with_pool {F = ℕ} no_po
     (segment_of_pool 0) ≡ 0
 a_pool_on_no_chain_has_one_generation = refl
 
--- if no pool has a format nothing is fixed
-pub nothing_moves_without_a_pool : (layout : ℕ → Layout) (x y : Traced) (at answer : Addr)
-    → FixesTo layout [] no_chains x at y answer → answer ≡ at
-nothing_moves_without_a_pool layout x y at answer (passes calm) = refl
-nothing_moves_without_a_pool layout x y at answer (fixes t format to condemned over listed moves fixed) =
-    let never : None ≡ Some (Some format) = listed in cc
-nothing_moves_without_a_pool layout x y at answer (marks t format condemned over listed stays is) =
-    let never : None ≡ Some (Some format) = listed in cc
+-- if no pool is known nothing is kept
+pub nothing_is_kept_without_a_pool : (layout : ℕ → Layout) (x y : Traced) (at answer : Addr)
+    → FixesTo layout [] no_chains x at y answer → y ≡ x
+nothing_is_kept_without_a_pool layout x y at answer (finds to found) = refl
+nothing_is_kept_without_a_pool layout x y at answer (keeps to white kept) =
+    absurd (nothing_is_white_without_a_pool layout x.segs at white)

@@ -1,12 +1,16 @@
-// The segment over an address.
+// The segment over an address, and where a block lies now.
 #![tactic(auto)]
 
-ghost use Rattle.std.specs.Prelude.{◌≡◌, ℕ, ◌<◌, true, false, Some, IfSome, IfNone, Contains};
+ghost use Rattle.std.specs.Prelude.{◌≡◌, ℕ, ◌+◌, ◌*◌, ◌<◌, true, false, Some, IfSome, IfNone, Contains};
+ghost use Rattle.mps_base.specs.Address.{word_of, words_of_grain};
 ghost use Rattle.mps_base.specs.Segment.{Segment, segment_over};
 ghost use Rattle.mps_seg.specs.Collecting.{is_condemned_at, info_of};
 ghost use Rattle.mps_trace.specs.Condemned.{AreInOrder, IsNextCondemned, NoneLeft};
+ghost use Rattle.mps_trace.specs.Finding.{FindsIn, kept_at};
 
+use mps_amc::forwarded_from;
 use mps_base::Addr;
+use mps_format::{Format, Policy};
 use mps_seg::{SegmentInfo, Segs};
 
 /// What is known of the segment over an address; None if the address lies in none.
@@ -34,4 +38,37 @@ pub(crate) fn next_condemned(segs: &Segs, from: Addr) -> Option<Addr>
         at = Addr(base.0 + 1);
     }
     None
+}
+
+/// Where the block at `at` lies, which hasn't moved; None if it isn't kept.
+fn find_kept(segs: &Segs, at: Addr) -> Option<Addr>
+    requires in_arena { word_of at.0 < words_of_grain * (segs.now.grains + 1) }
+    ensures { result ≡ kept_at segs.now at }
+{
+    if segs.is_kept(at) { Some(at) } else { None }
+}
+
+/// Where the block lies now that was at `at` in a condemned segment of a pool that moves its blocks; None if it is white.
+fn find_moved<F: Format>(segs: &Segs, format: &F, at: Addr) -> Option<Addr>
+    requires held { (t : Segment) × (segment_over segs.now.segments at.0 ≡ Some t) }
+    requires in_arena { word_of at.0 < words_of_grain * (segs.now.grains + 1) }
+    ensures found { FindsIn (F.layout format.now) true segs.now at result }
+{
+    match forwarded_from(segs, format, at) {
+        Some(to) => Some(to),
+        None => find_kept(segs, at),
+    }
+}
+
+/// Where the block lies now that was at `at` in a condemned segment of a pool with this policy; None if it is white.
+pub(crate) fn find_in<F: Format>(segs: &Segs, policy: Policy<F>, at: Addr) -> Option<Addr>
+    requires held { (t : Segment) × (segment_over segs.now.segments at.0 ≡ Some t) }
+    requires in_arena { word_of at.0 < words_of_grain * (segs.now.grains + 1) }
+    ensures found { FindsIn (F.layout policy.format) policy.moves segs.now at result }
+{
+    if policy.moves {
+        find_moved(segs, &policy.format, at)
+    } else {
+        find_kept(segs, at)
+    }
 }

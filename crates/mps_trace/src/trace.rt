@@ -1,7 +1,7 @@
 // The collector's state, and how it fixes references.
 #![tactic(auto)]
 
-ghost use Rattle.std.specs.Prelude.{◌≡◌, ℕ, ◌+◌, ◌*◌, ◌%◌, ◌<◌, ◌≤◌, true, false, IsTrue, Some, length, slice_index, slice_get, MatchResult};
+ghost use Rattle.std.specs.Prelude.{◌≡◌, ℕ, ◌+◌, ◌*◌, ◌%◌, ◌<◌, ◌≤◌, true, false, IsTrue, Some, length, slice_index, slice_get, MatchResult, IfSome};
 ghost use Rattle.mps_base.specs.Address.{word_of, bytes_of_word, words_of_grain};
 ghost use Rattle.mps_base.specs.Segment.{Segment, segment_over};
 ghost use Rattle.mps_seg.specs.Collecting.{is_condemned_at};
@@ -9,13 +9,14 @@ ghost use Rattle.mps_gen.specs.State.{max_pools};
 ghost use Rattle.mps_amc.specs.Amc.{tails_after_flip};
 ghost use Rattle.mps_amc.specs.Moving.{nailed};
 ghost use Rattle.mps_trace.specs.Flip.{is_automatic};
-ghost use Rattle.mps_trace.specs.Trace.{traced, FixesTo, CanFix, no_pools, with_pool};
+ghost use Rattle.mps_trace.specs.Finding.{CanFind, FindsTo};
+ghost use Rattle.mps_trace.specs.Trace.{traced, KeepsTo, FixesTo, CanKeep, CanFix, no_pools, with_pool};
 ghost use Rattle.mps_base.specs.declared.address.Addr.{Addr};
 ghost use Rattle.mps_trace.specs.Reclaim.{CanReclaimAt, Reclaims};
 ghost use Rattle.mps_trace.specs.Scan.{FixesCell, CanFixCell, AreReadyIn, ScansAll, CanScan, Scanned, CanScanGrey, ScansOne, IsDrained};
 
-use crate::finding::segment_at;
-use mps_amc::Amc;
+use crate::finding::{find_in, segment_at};
+use mps_amc::{Amc, keep_in_place};
 use mps_base::{Addr, BYTES_OF_WORD, Rank, Trail};
 use mps_format::{Format, Policy};
 use mps_gen::Chains;
@@ -91,6 +92,51 @@ impl<F: Format> Trace<F> {
         self.amc.nail(segs, at);
     }
 
+    /// Where the block lies now to which an address leads; None if it is white. A block in a segment that isn't condemned is where it
+    /// was.
+    pub fn find(&self, segs: &Segs, at: Addr) -> Option<Addr>
+        requires { CanFind F.layout self.now.formats segs.now at }
+        ensures found { FindsTo F.layout self.now.formats segs.now at result }
+        ensures aligned { IfSome result (λ to. to.0 % bytes_of_word ≡ 0) }
+    {
+        let _ = segs.grains(); // its words are those of the marks
+        let Some(segment) = segment_at(segs, at) else {
+            return Some(at);
+        };
+        if !segment.is_condemned {
+            return Some(at);
+        }
+        let Some(format) = self.formats[segment.pool as usize] else {
+            unreachable!()
+        };
+        find_in(segs, format, at)
+    }
+
+    /// Keeps the white block at `at` as its pool does: it moves, or it stays where it lies. Returns where it then lies. It is grey.
+    fn keep(&mut self, segs: &mut Segs, trail: &mut Trail, at: Addr) -> Addr
+        requires { CanKeep F.layout self.old.formats self.old.chains (traced self.old segs.old trail.old) at }
+        ensures kept { KeepsTo F.layout self.old.formats self.old.chains (traced self.old segs.old trail.old) at
+            (traced self.new segs.new trail.new) result }
+        ensures unchanged { self.new ≡ record self.old { amc = self.new.amc } }
+        ensures aligned { result.0 % bytes_of_word ≡ 0 }
+        ensures size { length segs.new.words ≡ length segs.old.words }
+    {
+        let Some(segment) = segment_at(segs, at) else {
+            unreachable!()
+        };
+        let Some(format) = self.formats[segment.pool as usize] else {
+            unreachable!()
+        };
+        if !format.moves {
+            let _ = segs.grains(); // its words are those of the marks
+            keep_in_place(segs, at);
+            return at;
+        }
+        let generation = self.chains.target(segment.pool, segment.generation);
+        self.amc
+            .keep(segs, trail, &format.format, at, segment.pool, generation)
+    }
+
     /// Fixes a reference: returns the new address of the block at `at`. A block in a segment that isn't condemned stays; any other
     /// is fixed as its pool does.
     pub fn fix(&mut self, segs: &mut Segs, trail: &mut Trail, at: Addr) -> Addr
@@ -101,22 +147,10 @@ impl<F: Format> Trace<F> {
         ensures aligned { result.0 % bytes_of_word ≡ 0 }
         ensures size { length segs.new.words ≡ length segs.old.words }
     {
-        let Some(segment) = segment_at(segs, at) else {
-            return at;
-        };
-        if !segment.is_condemned {
-            return at;
+        match self.find(segs, at) {
+            Some(to) => to,
+            None => self.keep(segs, trail, at),
         }
-        let Some(format) = self.formats[segment.pool as usize] else {
-            unreachable!()
-        };
-        if !format.moves {
-            let _ = segs.grains(); // its words are those of the marks
-            self.amc.nail(segs, at);
-            return at;
-        }
-        let generation = self.chains.target(segment.pool, segment.generation);
-        self.amc.fix(segs, trail, &format.format, at, generation)
     }
 
     /// Fixes the reference in a cell of the block at `at`: the block to which it leads is fixed, and the cell leads to where that then

@@ -1,9 +1,10 @@
 -- Fixes and scans: steps of the abstract collector.
 pub mod Growing
-pub mod InWords
 pub mod Hands
-pub mod Copying
+pub mod LongTables
 pub mod Found
+pub mod Finding
+pub mod CanFix
 pub mod OneFix
 pub mod Taking
 pub mod NewTail

@@ -1,6 +1,7 @@
 -- Fixes and scans: steps of the abstract collector.
 pub mod Tracing
-pub mod Fixing
+pub mod Growing
+pub mod Finding
 pub mod Steps
 pub mod Cells
 pub mod Scanning

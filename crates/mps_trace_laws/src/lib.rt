@@ -2,10 +2,16 @@
 //! Each function is a theorem: its contract is the statement.
 #![tactic(auto)]
 
+ghost use Rattle.mps_trace_laws.specs.Fix.Finding.{AnObjectIsFound};
 ghost use Rattle.mps_trace_laws.specs.Fix.Steps.{AFixIsAStep};
 ghost use Rattle.mps_trace_laws.specs.Fix.Scanning.{AScanIsAScan};
 ghost use Rattle.mps_trace_laws.specs.Reclaim.Laws.{AReclaimIsAUnit};
 ghost use Rattle.mps_trace_laws.specs.Begin.Begun.{ACollectionBegins};
+
+/// What is found at an address that means an object is where it lies now, and nothing is found exactly if it is white.
+pub fn an_object_is_found<F>()
+    ensures { AnObjectIsFound F }
+{}
 
 /// What the collector does with an address that means an object is a step of the abstract collector, which fixes that object by the
 /// same moves, and the state stands for it as before.

@@ -17,7 +17,7 @@ use Rattle.mps_seg.specs.Segs.{SegsState, at_word, moves_after}
 use Rattle.mps_trace.specs.State.{FinalsState}
 use Rattle.mps_trace.specs.GenState.{ChainsState}
 use Rattle.mps_root.specs.State.{RootsState, items_of}
-use Rattle.mps_amc.specs.Amc.{AmcState, FixesAt, forwards, is_kept, keeps, moves_fixed, placement_of_copy}
+use Rattle.mps_amc.specs.Amc.{moves_fixed, placement_of_copy}
 use Rattle.mps_amc.specs.Moving.{size_at}
 use Rattle.mps_amc.specs.Reclaiming.{lost_of, moves_freed, IsReclaimed, is_given, is_padded}
 use Rattle.mps_amc.proofs.Lost.{spare_after}
@@ -26,7 +26,7 @@ use Rattle.mps_trace.specs.Roots as roots
 use Rattle.mps_trace.specs.Roots.{FixesRoot, FixesSlots, FixesTables, FixesMessages, key_at}
 use Rattle.mps_trace.specs.Scan as scan
 use Rattle.mps_trace.specs.Scan.{FixesCell, ScansTo, ScansOne}
-use Rattle.mps_trace.specs.Trace.{Traced, FixesTo, passes, fixes, marks, target_of}
+use Rattle.mps_trace.specs.Trace.{Traced, KeepsTo, FixesTo, moves, marks, finds, keeps, target_of}
 use Rattle.mps_trace.specs.Unit as units
 use Rattle.mps_trace.specs.Unit.{UnitTo, UnitsTo}
 use Rattle.mps_trace.specs.declared.running.Running.{Running}
@@ -74,23 +74,19 @@ kept_or_moved : (answer : Result Addr Refusal) (m : Moves) (at : Addr) → IsPus
 kept_or_moved (Ok to) m at = one_pushed m (Moved at to)
 kept_or_moved (Err why) m at = one_pushed m (Stay at)
 
-fix_pushes : (f : Layout) (amc : AmcState) (s : SegsState) (m : Moves) (at : Addr) (generation : ℕ) (amc' : AmcState) (s' : SegsState)
-    (m' : Moves) (answer : Addr) → FixesAt f amc s m at generation amc' s' m' answer → IsPushed m m'
-fix_pushes f amc s m at generation _ _ _ _ (forwards to there) = none_pushed m
-fix_pushes f amc s m at generation _ _ _ _ (is_kept not_moved is) = none_pushed m
-fix_pushes f amc s m at generation amc' s' m' _ (keeps t answer not_moved isnt over fixed) =
-    let placement = placement_of_copy amc s t.pool generation (size_at f s.words at.0) in
-    let moves = moves_after placement t.pool generation m in
-    subst (IsPushed m) (sym fixed.trail)
-    (pushed_on (placed placement t.pool generation m) (kept_or_moved (answer_of_placement placement) moves at))
-
 module _ {F : Type 0} (layout : F → Layout) (formats : List (Option (Policy F))) (chains : ChainsState) where
-  to_pushes : (x : Traced) (at : Addr) (y : Traced) (to : Addr) → FixesTo layout formats chains x at y to → IsPushed x.moves y.moves
-  to_pushes x at _ _ (passes calm) = none_pushed x.moves
-  to_pushes x at y to (fixes t format answer condemned over listed moves fixed) =
-      fix_pushes (layout format.format) x.amc x.segs x.moves at (target_of chains t) y.amc y.segs y.moves answer fixed
-  to_pushes x at y to (marks t format condemned over listed stays is) =
+  keep_pushes : (x : Traced) (at : Addr) (y : Traced) (to : Addr) → KeepsTo layout formats chains x at y to → IsPushed x.moves y.moves
+  keep_pushes x at y to (moves t format answer over listed is fixed) =
+      let placement = placement_of_copy x.amc x.segs t.pool (target_of chains t) (size_at (layout format.format) x.segs.words at.0) in
+      subst (IsPushed x.moves) (sym fixed.trail)
+      (pushed_on (placed placement t.pool (target_of chains t) x.moves)
+      (kept_or_moved (answer_of_placement placement) (moves_after placement t.pool (target_of chains t) x.moves) at))
+  keep_pushes x at y to (marks t format over listed stays is) =
       subst (λ (w : Traced). IsPushed x.moves w.moves) (sym is) (none_pushed x.moves)
+
+  to_pushes : (x : Traced) (at : Addr) (y : Traced) (to : Addr) → FixesTo layout formats chains x at y to → IsPushed x.moves y.moves
+  to_pushes x at _ _ (finds to found) = none_pushed x.moves
+  to_pushes x at y to (keeps answer white kept) = keep_pushes x at y answer kept
 
   -- ---- roots
 

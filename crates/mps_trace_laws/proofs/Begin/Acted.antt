@@ -1,9 +1,8 @@
 -- The act of a flip, in words, is the abstract collector's: slots and messages are fixed, and the state stands before the first unit.
 use Rattle.std.proofs.Common.{◌≡◌, ◌∙◌, ◌<◌, false, refl, sym, ap, subst, List, [], ◌∷◌, ◌++◌, length, Option, Some, arith}
 use Rattle.std.proofs.lemmas.List.{append_assoc}
-use Rattle.std.specs.Prelude.{IsTrue, map, slice_get}
+use Rattle.std.specs.Prelude.{IsTrue, map}
 use Rattle.std.specs.List.{flat_map}
-use Rattle.std.specs.Option.{option_map_or}
 use Rattle.mps_base.specs.Address.{Id}
 use Rattle.mps_base.specs.Segment.{Segment}
 use Rattle.mps_base.specs.Trail.{Moves}
@@ -17,7 +16,7 @@ use Rattle.mps_seg.specs.Segs.{SegsState}
 use Rattle.mps_model.specs.Effect.{Everything, condemned_by}
 use Rattle.mps_model.specs.Flip.{flip_of, is_nothing}
 use Rattle.mps_model.specs.Graph.{Graph, entry_at, for_object, is_weak_object}
-use Rattle.mps_model.specs.World.{World, Pool, area_words, is_automatic_kind, is_copying_kind, is_copying_pool, generations_of, pool_is}
+use Rattle.mps_model.specs.World.{World, area_words, is_automatic_kind, is_copying_pool, generations_of, pool_is}
 use Rattle.mps_abstract.specs.Colours.{is_black}
 use Rattle.mps_abstract.specs.Collecting.{Collecting, is_tracing_band}
 use Rattle.mps_abstract.specs.Fixing.{Fixes, fixes_no_more, passes, keeps}

@@ -37,7 +37,7 @@ use Rattle.mps_trace_laws.proofs.Image.SegmentMarks.{moving_marks}
 use Rattle.mps_trace_laws.specs.Fix.Tracing.{StateStands, setting_of, AreStill}
 use Rattle.mps_trace_laws.proofs.Fix.Growing.{over_back}
 use Rattle.mps_trace_laws.proofs.Fix.Hands.{contains_among}
-use Rattle.mps_trace_laws.proofs.Fix.Copying.{tables_moved, has_marks}
+use Rattle.mps_trace_laws.proofs.Fix.LongTables.{tables_moved, has_marks}
 use Rattle.mps_trace_laws.proofs.Fix.Taking.{IsFirstTaken, rest_of, tails_after, which}
 use Rattle.mps_trace_laws.proofs.Fix.Objects.{pool_is, words_are}
 use Rattle.mps_format.specs.declared.pool.Policy.{Policy}

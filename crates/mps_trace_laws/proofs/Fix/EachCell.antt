@@ -26,7 +26,7 @@ use Rattle.mps_trace_laws.specs.Fix.Tracing.{StateStands, TracingStands, setting
 use Rattle.mps_trace_laws.specs.Fix.Steps.{IsFixStep}
 use Rattle.mps_trace_laws.specs.Fix.Cells.{HoldsReference, IsCellStep}
 use Rattle.mps_trace_laws.proofs.Fix.CellLists.{image_again}
-use Rattle.mps_trace_laws.proofs.Fix.Found.{can_fix}
+use Rattle.mps_trace_laws.proofs.Fix.CanFix.{can_fix}
 use Rattle.mps_trace_laws.proofs.Fix.EachFix.{each_step}
 use Rattle.mps_format.specs.declared.pool.Policy.{Policy}
 
@@ -129,7 +129,8 @@ module _ (F : Type 0) (layout : F → Layout) (formats : List (Option (Policy F)
         found.target
 
     cell_can : CanFixCellAt layout f formats of x at i
-    cell_can positive = can_fix F layout formats of at_flip done x y shaped stands (target_at f x at i) t now found.object target_there
+    cell_can positive = can_fix F layout formats of at_flip done x y shaped stands (record { 0 = target_at f x at i }) t now found.object
+        target_there
 
     not_null : 0 < target_at f x at i
     not_null = omega (arith, found.not_null, found.read.target)

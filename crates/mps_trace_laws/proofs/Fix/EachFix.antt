@@ -1,10 +1,9 @@
 -- Whatever the tracing collector does with an address that means an object, it is a step of the abstract collector.
-use Rattle.std.proofs.Common.{◌≡◌, ◌∙◌, ℕ, ◌+◌, ◌-◌, true, false, refl, sym, ap, List, [], slice_index, Option, Some, subst, arith, Bool}
-use Rattle.std.proofs.lemmas.Bool.{and_right, and_from}
-use Rattle.std.proofs.lemmas.List.{get_or-drop, set-get_or}
+use Rattle.std.proofs.Common.{◌≡◌, ◌∙◌, ℕ, ◌+◌, ◌-◌, true, false, refl, sym, ap, List, [], Option, Some, None, subst, arith}
+use Rattle.std.proofs.lemmas.List.{set-get_or}
 use Rattle.std.proofs.lemmas.Option.{same_Some}
-use Rattle.std.specs.Prelude.{IsTrue, not, slice_get, slice_set, if◌then◌else◌}
-use Rattle.mps_base.specs.Address.{Address, Id, word_of, grain_of, address_of_word, address_of_grain, grains_needed}
+use Rattle.std.specs.Prelude.{IsTrue, slice_get, slice_set}
+use Rattle.mps_base.specs.Address.{Address, Id, grain_of, address_of_word, address_of_grain, grains_needed}
 use Rattle.mps_base.specs.Placement.{Placement, NewSegment, OverLimit, NoFreeRun}
 use Rattle.mps_base.specs.Segment.{Segment, segment_over, with_segment}
 use Rattle.mps_base.specs.Trail.{Moves}
@@ -13,21 +12,24 @@ use Rattle.mps_base.specs.declared.names.Rank.TheVariants.{Exact}
 use Rattle.mps_format.specs.Layout.{Layout}
 use Rattle.mps_seg.specs.Arena.{answer_of_placement}
 use Rattle.mps_seg.specs.Segs.{SegsState, moves_after}
-use Rattle.mps_seg.specs.Collecting.{is_condemned_at, is_kept_at}
+use Rattle.mps_seg.specs.Collecting.{is_condemned_at}
 use Rattle.mps_seg.specs.declared.buffer.Buffer.{Buffer}
 use Rattle.mps_seg.specs.Buffer.{empty_buffer}
-use Rattle.mps_amc.specs.Moving.{moved_to, kept_in_place, size_at, nailed}
-use Rattle.mps_amc.specs.Amc.{AmcState, tails_of, FixesAt, forwards, is_kept, keeps, IsFixed, placement_of_copy, answer_of_fix, segs_fixed, moves_fixed, tails_after, with_place, AreWordsFixed}
+use Rattle.mps_amc.specs.Moving.{moved_to, kept_in_place, size_at}
+use Rattle.mps_amc.specs.Amc.{AmcState, tails_of, IsFixed, placement_of_copy, answer_of_fix, segs_fixed, moves_fixed, tails_after, with_place, AreWordsFixed}
 use Rattle.mps_amc.specs.Amc as amc
 use Rattle.mps_trace.specs.GenState.{ChainsState}
 use Rattle.mps_model.specs.Graph.{Object, entry_at, size_of, is_automatic}
 use Rattle.mps_model.specs.LegalMove.{has_no_room}
 use Rattle.mps_abstract.specs.Collecting.{Collecting, is_white_in}
-use Rattle.mps_trace_laws.specs.Image.Memory.{Setting, memory_in, pool_layout, is_condemned_word}
+use Rattle.mps_trace_laws.specs.Image.Memory.{Setting, pool_layout}
 use Rattle.mps_trace_laws.specs.Image.Image.{CellSet, AreShaped}
 use Rattle.mps_trace_laws.specs.Image.Fixing.{Target}
-use Rattle.mps_trace_laws.proofs.Image.Targets as targets
-use Rattle.mps_trace.specs.Trace.{Traced, FixesTo, passes, fixes, target_of, marks}
+use Rattle.mps_trace.specs.Trace.{Traced, KeepsTo, FixesTo, finds, keeps, target_of}
+use Rattle.mps_trace.specs.Trace as trace
+use Rattle.mps_trace_laws.specs.Fix.Finding.{FindsObject}
+use Rattle.mps_trace_laws.specs.Fix.Finding as finding
+use Rattle.mps_trace_laws.proofs.Fix.Finding.{object_found, white_is_condemned}
 use Rattle.mps_trace_laws.specs.Fix.Tracing.{TracingStands, setting_of}
 use Rattle.mps_trace_laws.specs.Fix.Steps.{IsFixStep, AFixIsAStep}
 use Rattle.mps_trace_laws.proofs.Fix.Hands.{IsPlacedAt, in_tail, in_new, is_over, has_no_run, placed_at}
@@ -155,114 +157,78 @@ module _ (F : Type 0) (layout : F → Layout) (formats : List (Option (Policy F)
       abbrev setting : Setting
       setting = setting_of x.segs at_flip y
 
-      begins : address_of_word (word_of at.0) ≡ at.0
-      begins =
-          let aligned = found.is_aligned F layout formats of at_flip done x y shaped stands at.0 t now o target in omega (arith, aligned)
+      module _ (here : at.0 ≡ now) (white : is_white_in y t ≡ true) (condemned : is_condemned_at x.segs at.0 ≡ true) (s : Segment)
+          (over : segment_over x.segs.segments at.0 ≡ Some s) (format : Policy F)
+          (listed : slice_get formats s.pool ≡ Some (Some format)) where
+        its : (u : Segment) × (segment_over x.segs.segments at.0 ≡ Some u) × (u.pool ≡ o.pool)
+        its = found.its_segment F layout formats of at_flip done x y shaped stands at.0 t now o target
 
-      passed : is_condemned_at x.segs at.0 ≡ false → IsFixStep layout formats of at_flip done x x y t at.0
-      passed calm =
-          let e =
-          targets.not_condemned setting (memory_in x.segs) y.world.addresses y.colours done shaped stands.state.image t at.0 now o target
-          (ap (is_condemned_at x.segs) begins ∙ calm)
-          in
-          nothing_done layout formats of at_flip done x y stands t now o target.object target.there at.0 e.0 e.1
+        pool : s.pool ≡ o.pool
+        pool = ap (λ (u : Segment). u.pool) (same_Some s its.0 (sym over ∙ its.1)) ∙ its.2
 
-      module _ (s : Segment) (over : segment_over x.segs.segments at.0 ≡ Some s) (pool : s.pool ≡ o.pool)
-          (condemned : is_condemned_at x.segs at.0 ≡ true) (format : Policy F) (listed : slice_get formats o.pool
-          ≡ Some (Some format)) where
-        abbrev g : Layout
-        g = pool_layout y.world o.pool
+        listed_there : slice_get formats o.pool ≡ Some (Some format)
+        listed_there = ap (slice_get formats) (sym pool) ∙ listed
 
-        condemned_word : is_condemned_word x.segs (word_of at.0) ≡ true
-        condemned_word = ap (is_condemned_at x.segs) begins ∙ condemned
+        lies_there : entry_at y.world.addresses t ≡ Some at.0
+        lies_there = target.there ∙ ap (λ a. Some a) (sym here)
 
-        found_step : (copying : IsTrue (is_copying_pool y.world o.pool)) (state' : AmcState) (s' : SegsState) (moves' : Moves)
-            (answer : Addr)
-            → FixesAt g x.amc x.segs x.moves at (target_of of s) state' s' moves' answer
-            → IsFixStep layout formats of at_flip done x (record { amc = state'; segs = s'; moves = moves' }) y t answer.0
-        found_step copying state' s' moves' answer (forwards to is) =
-            let head : slice_index x.segs.words (word_of at.0) ≡ g.forwarded_head is.size =
-            ap (slice_index x.segs.words) (let z : word_of at.0 ≡ word_of at.0 + 0 = omega arith in z)
-            ∙ sym (get_or-drop (word_of at.0) x.segs.words 0 0) ∙ is.begins.head
-            in
-            let e =
-            targets.is_forwarded setting (memory_in x.segs) y.world.addresses y.colours done shaped stands.state.image t at.0 now o target
-            is.size is.begins.in_range head
-            in
-            nothing_done layout formats of at_flip done x y stands t now o target.object target.there to.0 (is.leads ∙ e.0) e.1
-        found_step copying state' s' moves' answer (is_kept unforwarded kept) =
-            let e = found.unforwarded_there F layout formats of at_flip done x y shaped stands at.0 t now o target format listed
-            unforwarded in
-            let black : is_white_in y t ≡ false =
-            stands.state.image.marks.white_there t at.0 (target.there ∙ ap (λ a. Some a) (sym e))
-            ∙ and_right (is_condemned_word x.segs (word_of at.0)) (not (is_kept_at x.segs at.0)) (ap not kept)
-            in
-            nothing_done layout formats of at_flip done x y stands t now o target.object target.there at.0 e black
-        found_step copying state' s' moves' answer (keeps other answer' unforwarded lost its fixed) =
-            let e = found.unforwarded_there F layout formats of at_flip done x y shaped stands at.0 t now o target format listed
-            unforwarded in
-            let size_is = found.size_is F layout formats of at_flip done x y shaped stands at.0 t now o target format listed e in
-            let there : entry_at y.world.addresses t ≡ Some at.0 = target.there ∙ ap (λ a. Some a) (sym e) in
-            let white : is_white_in y t ≡ true =
-            stands.state.image.marks.white_there t at.0 there
-            ∙ and_from (is_condemned_word x.segs (word_of at.0)) (not (is_kept_at x.segs at.0)) condemned_word (ap not lost)
-            in
-            let same_pool : other.pool ≡ o.pool =
-            ap (λ (u : Segment). u.pool) (same_Some other s (sym its ∙ over)) ∙ pool
+        -- its pool moves it
+        moved_step : {z : Traced} (answer : Addr) → format.moves ≡ true
+            → IsFixed (layout format.format) x.amc z.amc x.segs z.segs x.moves z.moves at s.pool (target_of of s)
+            (size_at (layout format.format) x.segs.words at.0) answer
+            → IsFixStep layout formats of at_flip done x z y t answer.0
+        moved_step {z} answer moves fixed =
+            let g = pool_layout y.world o.pool in
+            let copying : IsTrue (is_copying_pool y.world o.pool) =
+            sym (stands.state.pools.moves_is o.pool format listed_there) ∙ moves
             in
             let mine =
-            subst (λ n. IsFixed g x.amc state' x.segs s' x.moves moves' at o.pool (target_of of s) n answer) size_is
-            (subst (λ p. IsFixed g x.amc state' x.segs s' x.moves moves' at p (target_of of s)
-            (size_at g x.segs.words at.0) answer) same_pool
-            fixed)
+            subst (λ n. IsFixed g x.amc z.amc x.segs z.segs x.moves z.moves at o.pool (target_of of s) n answer)
+            (found.size_is F layout formats of at_flip done x y shaped stands at.0 t now o target format listed_there here)
+            (subst (λ p. IsFixed g x.amc z.amc x.segs z.segs x.moves z.moves at p (target_of of s) (size_at g x.segs.words at.0) answer)
+            pool
+            (subst
+            (λ (h : Layout). IsFixed h x.amc z.amc x.segs z.segs x.moves z.moves at s.pool (target_of of s)
+            (size_at h x.segs.words at.0) answer)
+            (stands.state.pools.format_is o.pool format listed_there) fixed))
             in
-            keeps_step target.object target.automatic there s over pool condemned white copying state' s' moves' answer mine
+            keeps_step target.object target.automatic lies_there s over pool condemned white copying z.amc z.segs z.moves answer mine
 
-        -- its pool marks it
-        marked_step : is_copying_pool y.world o.pool ≡ false
-            → IsFixStep layout formats of at_flip done x (record x { segs = nailed x.segs at.0 }) y t at.0
-        marked_step isnt = by_mark (is_kept_at x.segs at.0) refl
-          where
-            here : at.0 ≡ now
-            here = found.there_if_still F layout formats of at_flip done x y shaped stands at.0 t now o target isnt
+        -- or marks it
+        marked_step : format.moves ≡ false → IsFixStep layout formats of at_flip done x (record x { segs = kept_in_place x.segs at.0 }) y t at.0
+        marked_step stays =
+            let isnt : is_copying_pool y.world o.pool ≡ false = sym (stands.state.pools.moves_is o.pool format listed_there) ∙ stays in
+            mark_step layout formats of at_flip done x y stands t at.0 o target.object lies_there white
+            (record x { segs = kept_in_place x.segs at.0 })
+            (ap (λ e. option_map_or (λ (p : Object). is_copying_pool y.world p.pool) e false) target.object ∙ isnt) refl
+            (marked_stands F layout formats of at_flip done x.amc x.segs y stands.state t at.0 lies_there
+            (let within = found.in_arena F layout formats of at_flip done x y shaped stands at.0 t now o target in
+            omega (arith, within, stands.state.image.words.long)))
 
-            there : entry_at y.world.addresses t ≡ Some at.0
-            there = target.there ∙ ap (λ a. Some a) (sym here)
+      -- a white object is kept
+      kept_step : {z : Traced} {answer : Addr} → at.0 ≡ now → is_white_in y t ≡ true → is_condemned_at x.segs at.0 ≡ true
+          → KeepsTo layout formats of x at z answer → IsFixStep layout formats of at_flip done x z y t answer.0
+      kept_step here white condemned (trace.moves s format answer over listed is fixed) =
+          moved_step here white condemned s over format listed answer is fixed
+      kept_step here white condemned (trace.marks s format over listed stays is) =
+          subst (λ (w : Traced). IsFixStep layout formats of at_flip done x w y t at.0) (sym is)
+          (marked_step here white condemned s over format listed stays)
 
-            by_mark : (b : Bool) → is_kept_at x.segs at.0 ≡ b
-                → IsFixStep layout formats of at_flip done x (record x { segs = if b then x.segs else kept_in_place x.segs at.0 }) y t at.0
-            by_mark true kept =
-                nothing_done layout formats of at_flip done x y stands t now o target.object target.there at.0 here
-                (stands.state.image.marks.white_there t at.0 there
-                ∙ and_right (is_condemned_word x.segs (word_of at.0)) (not (is_kept_at x.segs at.0)) (ap not kept))
-            by_mark false lost =
-                mark_step layout formats of at_flip done x y stands t at.0 o target.object there
-                (stands.state.image.marks.white_there t at.0 there
-                ∙ and_from (is_condemned_word x.segs (word_of at.0)) (not (is_kept_at x.segs at.0)) condemned_word (ap not lost))
-                (record x { segs = kept_in_place x.segs at.0 })
-                (ap (λ e. option_map_or (λ (p : Object). is_copying_pool y.world p.pool) e false) target.object ∙ isnt) refl
-                (marked_stands F layout formats of at_flip done x.amc x.segs y stands.state t at.0 there
-                (let within = found.in_arena F layout formats of at_flip done x y shaped stands at.0 t now o target in
-                omega (arith, within, stands.state.image.words.long)))
+      of_found : {z : Traced} {answer : Addr} → FindsObject y t at.0 now None → is_condemned_at x.segs at.0 ≡ true
+          → KeepsTo layout formats of x at z answer → IsFixStep layout formats of at_flip done x z y t answer.0
+      of_found (finding.white here is) condemned kept = kept_step here is condemned kept
+
+      nothing_kept : (to : Addr) → FindsObject y t at.0 now (Some to) → IsFixStep layout formats of at_flip done x x y t to.0
+      nothing_kept to (finding.there _ is black) =
+          nothing_done layout formats of at_flip done x y stands t now o target.object target.there to.0 is black
 
       pub each_step : {z : Traced} {answer : Addr} → FixesTo layout formats of x at z answer
           → IsFixStep layout formats of at_flip done x z y t answer.0
-      each_step (passes calm) = passed calm
-      each_step {z} (fixes s format answer condemned over listed moves fixed) =
-          let its = found.its_segment F layout formats of at_flip done x y shaped stands at.0 t now o target in
-          let pool : s.pool ≡ o.pool = ap (λ (u : Segment). u.pool) (same_Some s its.0 (sym over ∙ its.1)) ∙ its.2 in
-          let listed_there : slice_get formats o.pool ≡ Some (Some format) = ap (slice_get formats) (sym pool) ∙ listed in
-          let format_is : layout format.format ≡ pool_layout y.world o.pool = stands.state.pools.format_is o.pool format listed_there in
-          let copying : IsTrue (is_copying_pool y.world o.pool) = sym (stands.state.pools.moves_is o.pool format listed_there) ∙ moves in
-          found_step s over pool condemned format listed_there copying z.amc z.segs z.moves answer
-          (subst (λ (h : Layout). FixesAt h x.amc x.segs x.moves at (target_of of s) z.amc z.segs z.moves answer) format_is fixed)
-      each_step (marks s format condemned over listed stays is) =
-          let its = found.its_segment F layout formats of at_flip done x y shaped stands at.0 t now o target in
-          let pool : s.pool ≡ o.pool = ap (λ (u : Segment). u.pool) (same_Some s its.0 (sym over ∙ its.1)) ∙ its.2 in
-          let listed_there : slice_get formats o.pool ≡ Some (Some format) = ap (slice_get formats) (sym pool) ∙ listed in
-          let isnt : is_copying_pool y.world o.pool ≡ false = sym (stands.state.pools.moves_is o.pool format listed_there) ∙ stays in
-          subst (λ (w : Traced). IsFixStep layout formats of at_flip done x w y t at.0) (sym is)
-          (marked_step s over pool condemned format listed_there isnt)
+      each_step (finds to found_there) =
+          nothing_kept to (object_found F layout formats of at_flip done x y shaped stands at t now o target (Some to) found_there)
+      each_step (keeps answer nowhere kept) =
+          of_found (object_found F layout formats of at_flip done x y shaped stands at t now o target None nowhere) (white_is_condemned nowhere)
+          kept
 
 pub fix_is_a_step : {F : Type 0} → AFixIsAStep F
 fix_is_a_step {F} layout formats of at_flip done x z y at answer t now o shaped stands target fixed =

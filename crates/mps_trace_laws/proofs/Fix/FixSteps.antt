@@ -16,7 +16,7 @@ use Rattle.mps_seg.specs.Collecting.{is_condemned_at}
 use Rattle.mps_seg.specs.declared.buffer.Buffer.{Buffer}
 use Rattle.mps_amc.specs.Moving.{moved_to, kept_in_place, size_at}
 use Rattle.mps_amc.specs.Moving as moving
-use Rattle.mps_amc.specs.Amc.{AmcState, HasTail, tails_of, FixesAt, IsFixed, placement_of_copy, answer_of_fix, segs_fixed, moves_fixed, tails_after, with_place, AreWordsFixed}
+use Rattle.mps_amc.specs.Amc.{AmcState, HasTail, tails_of, IsFixed, placement_of_copy, answer_of_fix, segs_fixed, moves_fixed, tails_after, with_place, AreWordsFixed}
 use Rattle.mps_amc.specs.Amc as amc
 use Rattle.mps_amc.proofs.Tails.{tail_written}
 use Rattle.mps_trace.specs.GenState.{ChainsState}

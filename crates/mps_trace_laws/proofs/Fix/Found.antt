@@ -1,4 +1,4 @@
--- What the code finds at an address that means a live automatic object can be fixed.
+-- What stands at an address that means a live automatic object.
 use Rattle.std.proofs.Common.{◌≡◌, ◌∙◌, ◌⊎◌, ℕ, zero, suc, ◌+◌, ◌-◌, ◌%◌, ◌<◌, true, refl, sym, ap, List, [], ◌∷◌, ◌++◌, length, slice_index, map, Option, Some, None, Contains, subst, inl, inr, arith, false}
 use Rattle.std.proofs.lemmas.Bool.{cases_eq}
 use Rattle.std.proofs.lemmas.Option.{none-some, same_Some}
@@ -27,11 +27,10 @@ use Rattle.mps_laws.proofs.InOrder.{all_append}
 use Rattle.mps_trace_laws.proofs.Image.Targets.{pool_at_target}
 use Rattle.mps_laws.proofs.Positions.ApartRuns.{AreApart, all_in_order, ascending_with_run}
 use Rattle.mps_laws.proofs.Positions.Segments.{among_aligned}
-use Rattle.mps_trace.specs.Trace.{Traced, CanFixAt, CanKeep, target_of}
+use Rattle.mps_trace.specs.Trace.{Traced}
 use Rattle.mps_trace_laws.specs.Fix.Tracing.{setting_of, TracingStands}
 use Rattle.mps_trace_laws.proofs.Fix.Hands.{contains_among, in_hand}
 use Rattle.mps_format.specs.declared.pool.Policy.{Policy}
-use Rattle.mps_base.specs.declared.address.Addr.{Addr}
 
 -- ---- runs
 
@@ -108,7 +107,7 @@ module _ (F : Type 0) (layout : F → Layout) (formats : List (Option (Policy F)
           before = omega (arith, home.ends, aligned);
         }
 
-    is_open : IsOpenRun x.segs.grains (held_runs x.segs) x.segs.covered words
+    pub is_open : IsOpenRun x.segs.grains (held_runs x.segs) x.segs.covered words
     is_open =
         let hands = stands.state.hands.hands pool generation in
         let last = in_hand x.segs stands.state.held y.world.graph.objects y.world.graph.points y.world.point_memories
@@ -217,7 +216,7 @@ module _ (F : Type 0) (layout : F → Layout) (formats : List (Option (Policy F)
             within = omega (arith, within, positive, stands.state.image.words.long, e, size_is e);
           }
 
-      block_of : at ≡ now → IsBlockOf x.segs at (size_at f x.segs.words at)
+      pub block_of : at ≡ now → IsBlockOf x.segs at (size_at f x.segs.words at)
       block_of e =
           let run : run_at at (size_at f x.segs.words at) ≡ extent now (size_of o) =
           ap (λ n. run_at at n) (size_is e) ∙ ap (λ a. run_at a (size_of o)) e
@@ -245,7 +244,7 @@ module _ (F : Type 0) (layout : F → Layout) (formats : List (Option (Policy F)
       its_lawful : IsLawful f
       its_lawful = shaped.lawful o.pool
 
-      leads_to : (to : Address) → IsForwarded f x.segs.words at to → to % 8 ≡ 0
+      pub leads_to : (to : Address) → IsForwarded f x.segs.words at to → to % 8 ≡ 0
       leads_to to is =
           elim there_or_moved [
             | inl e ↦
@@ -257,50 +256,3 @@ module _ (F : Type 0) (layout : F → Layout) (formats : List (Option (Policy F)
                 let aligned = (stands.state.image.placed.address t now target.there).aligned in omega
                 (arith, aligned, is.leads, moved.leads)
           ]
-
-      pub can_keep : CanKeep layout formats of x at
-      can_keep =
-          let s = its_segment in
-          record {
-            segment = s.0;
-            over = s.1;
-            format = format;
-            listed = ap (slice_get formats) s.2 ∙ listed;
-            moving = λ moves.
-                let format_is : layout format.format ≡ f = stands.state.pools.format_is o.pool format listed in
-                let copies : IsTrue (is_copying_pool y.world s.0.pool) =
-                ap (is_copying_pool y.world) s.2 ∙ sym (stands.state.pools.moves_is o.pool format listed) ∙ moves
-                in
-                record {
-                  known = stands.state.pools.known s.0.pool copies;
-                  block =
-                      subst (λ (g : Layout). IsUnforwarded g x.segs.words at
-                      → BlockStands g x.segs.words at (size_at g x.segs.words at) × IsBlockOf x.segs at (size_at g x.segs.words at))
-                      (sym format_is)
-                      (λ isnt. let e = unforwarded_there isnt in (block_stands e, block_of e));
-                  leads =
-                      subst (λ (g : Layout). (to : Address) → IsForwarded g x.segs.words at to → to % 8 ≡ 0) (sym format_is) leads_to;
-                  tail = stands.state.tails.has s.0.pool s.0.generation copies;
-                  at_hand = λ some.
-                      let same = stands.state.tails.same s.0.pool (target_of of s.0) in
-                      subst (IsOpenRun x.segs.grains (held_runs x.segs) x.segs.covered) (sym same)
-                      (is_open s.0.pool (target_of of s.0) (omega (arith, some, ap (λ (r : Run). r.count) same)));
-                  room = let room = stands.room in omega (arith, room);
-                };
-          }
-
-    pub can_fix : CanFixAt layout formats of x at
-    can_fix = record {
-      aligned = is_aligned;
-      in_arena = in_arena;
-      condemned = λ is. let format = stands.state.pools.listed o.pool collected in can_keep format.0 format.1;
-    }
-
--- an address that means a live automatic object can be fixed
-pub target_can_be_fixed : {F : Type 0}
-    → (layout : F → Layout) (formats : List (Option (Policy F))) (of : ChainsState) (at_flip : List (Option Address)) (done : CellSet)
-    (x : Traced) (y : Collecting) (at : Addr) (t : Id) (now : Address) (o : Object)
-    → AreShaped y.world.graph.objects (pool_layout y.world) → TracingStands layout formats of at_flip done x y
-    → Target (setting_of x.segs at_flip y) y.world.addresses t at.0 now o → CanFixAt layout formats of x at.0
-target_can_be_fixed {F} layout formats of at_flip done x y at t now o shaped stands target =
-    can_fix F layout formats of at_flip done x y shaped stands at.0 t now o target

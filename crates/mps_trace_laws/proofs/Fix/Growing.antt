@@ -15,7 +15,7 @@ use Rattle.mps_laws.proofs.Positions.ApartRuns.{AreApart, put_apart}
 use Rattle.mps_laws.proofs.Positions.Segments.{IsAmong, IsAligned, among_aligned, among_with, among_new, among_cases, aligned_with, grains_with, of_in_segment, grain_of_word, found_segment, found_among, segment_bounds}
 use Rattle.mps_trace_laws.specs.Image.Memory.{pool_over_word, is_condemned_word}
 use Rattle.mps_trace_laws.specs.Fix.Tracing.{AreHeld, HasTables}
-use Rattle.mps_trace_laws.specs.Fix.Fixing.{Grows}
+use Rattle.mps_trace_laws.specs.Fix.Growing.{Grows}
 
 pub grows_not : (s : SegsState) → Grows s s
 grows_not s = record { same_grains = refl; pools = λ n pool e. e; condemned = λ n. refl }

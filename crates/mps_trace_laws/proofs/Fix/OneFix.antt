@@ -4,14 +4,12 @@ use Rattle.mps_base.specs.Address.{Address, word_of}
 use Rattle.mps_seg.specs.Segs.{SegsState}
 use Rattle.mps_abstract.specs.Colours.{Colours}
 use Rattle.mps_abstract.specs.Collecting.{Collecting}
-use Rattle.mps_trace_laws.specs.Image.Memory.{Memory, memory_in, words_of_arena, pool_over_word, is_condemned_word}
+use Rattle.mps_trace_laws.specs.Image.Memory.{Memory, words_of_arena, pool_over_word, is_condemned_word}
 use Rattle.mps_trace_laws.specs.Image.Image.{CellSet, ImageStands}
 use Rattle.mps_trace_laws.specs.Image.ArenaLaws.{AreSegmentsKept}
 use Rattle.mps_trace_laws.proofs.Image.ArenaLaws.{segments_change}
-use Rattle.mps_trace_laws.proofs.Image.Laws.{address_is_fixed}
 use Rattle.mps_trace_laws.specs.Fix.Tracing.{setting_of}
-use Rattle.mps_trace_laws.specs.Fix.Fixing.{Grows}
-use Rattle.mps_trace_laws.proofs.Fix.Found.{can_fix}
+use Rattle.mps_trace_laws.specs.Fix.Growing.{Grows}
 
 -- the image stands in segments that have grown
 module _ (s s' : SegsState) (grown : Grows s s') (at_flip : List (Option Address)) (y : Collecting) where

@@ -1,13 +1,12 @@
 -- What a fix and a scan do to ranks: they take exact segments alone, and make no block grey as a weak one.
-use Rattle.std.proofs.Common.{◌≡◌, ◌∙◌, ℕ, ◌+◌, Bool, false, refl, sym, ap, subst, List, Option, Some, None, Result, Ok, Err, inl, inr, arith, true}
+use Rattle.std.proofs.Common.{◌≡◌, ◌∙◌, ℕ, ◌+◌, Bool, false, refl, sym, ap, subst, List, Option, Some, None, Result, Ok, Err, inl, inr, arith}
 use Rattle.std.proofs.lemmas.Bool.{cases_lt, cases_eq}
 use Rattle.std.proofs.lemmas.List.{get_or-set_same, get_or-set_other, get_or_past, length-set}
-use Rattle.std.specs.Prelude.{slice_set, length, if◌then◌else◌}
+use Rattle.std.specs.Prelude.{slice_set, length}
 use Rattle.mps_base.specs.Address.{Address, Grain, Word, word_of, address_of_grain}
 use Rattle.mps_base.specs.Run.{with_run, without_run}
 use Rattle.mps_base.specs.Placement.{Placement, Place, NewSegment, OverLimit, NoFreeRun}
 use Rattle.mps_base.specs.Segment.{Segment, is_in_segment, segment_over, with_segment}
-use Rattle.mps_base.specs.Trail.{Moves}
 use Rattle.mps_base.specs.declared.address.Addr.{Addr}
 use Rattle.mps_base.specs.declared.names.Rank.{Rank}
 use Rattle.mps_base.specs.declared.names.Rank.TheVariants.{Exact}
@@ -17,12 +16,12 @@ use Rattle.mps_format.specs.Layout.{Layout}
 use Rattle.mps_seg.specs.Arena.{answer_of_placement}
 use Rattle.mps_seg.specs.Marks.{MarkTables, with_grey, without_marks}
 use Rattle.mps_seg.specs.Segs.{SegsState, segments_after}
-use Rattle.mps_seg.specs.Collecting.{rank_of, greying, keeping, first_grain_over, noting_in, is_kept_at}
-use Rattle.mps_amc.specs.Moving.{run_at, size_at, nailed, kept_in_place}
-use Rattle.mps_amc.specs.Amc.{AmcState, FixesAt, forwards, is_kept, keeps, IsFixed, placement_of_copy, segs_fixed, with_place}
+use Rattle.mps_seg.specs.Collecting.{rank_of, greying, keeping, first_grain_over, noting_in}
+use Rattle.mps_amc.specs.Moving.{run_at, size_at}
+use Rattle.mps_amc.specs.Amc.{placement_of_copy, segs_fixed, with_place}
 use Rattle.mps_trace.specs.GenState.{ChainsState}
 use Rattle.mps_laws.proofs.Positions.Segments.{among_cases, found_among}
-use Rattle.mps_trace.specs.Trace.{Traced, FixesTo, passes, fixes, marks}
+use Rattle.mps_trace.specs.Trace.{Traced, KeepsTo, FixesTo, moves, marks, finds, keeps, target_of}
 use Rattle.mps_trace.specs.Scan.{FixesCell, is_null, leads, ScansTo, begins, goes_on, Scanned, word_at, ScansOne}
 use Rattle.mps_trace_laws.specs.Fix.Housed.{AreAllExact, IsStrong}
 use Rattle.mps_trace_laws.proofs.Fix.Hands.{contains_among}
@@ -101,44 +100,29 @@ fixed_strong (Ok to) s at size strong =
 fixed_strong (Err why) s at size strong =
     greying_strong (keeping s at) at (record { exact = strong.exact; marks = strong.marks })
 
-nailed_strong : (s : SegsState) (at : Address) → IsStrong s → IsStrong (nailed s at)
-nailed_strong s at strong = of_test (is_kept_at s at)
-  where
-    of_test : (b : Bool) → IsStrong (if b then s else kept_in_place s at)
-    of_test true = strong
-    of_test false = greying_strong (keeping s at) at (record { exact = strong.exact; marks = strong.marks })
-
 noted_strong : (s : SegsState) (o : Option Grain) (target : Address) → IsStrong s → IsStrong (noting_in s o target)
 noted_strong s None target strong = strong
 noted_strong s (Some grain) target strong = record { exact = strong.exact; marks = strong.marks }
 
 -- ---- fixes
 
-module _ (f : Layout) (x : Traced) (at : Addr) (strong : IsStrong x.segs) where
-  kept_strong : (state' : AmcState) (s' : SegsState) (moves' : Moves) (pool generation size : ℕ) (answer : Addr)
-      → IsFixed f x.amc state' x.segs s' x.moves moves' at pool generation size answer → IsStrong s'
-  kept_strong state' s' moves' pool generation size answer fixed =
-      let p = placement_of_copy x.amc x.segs pool generation size in
-      let grown : IsStrong (with_place x.segs pool generation p) =
-      record { exact = exact_after p pool generation x.segs.segments strong.exact; marks = strong.marks }
-      in
-      let now = fixed_strong (answer_of_placement p) (with_place x.segs pool generation p) at.0 size grown in
-      subst IsStrong (sym fixed.state) (record { exact = now.exact; marks = now.marks })
-
-  fixed_at_strong : {generation : ℕ} {state' : AmcState} {s' : SegsState} {moves' : Moves} {answer : Addr}
-      → FixesAt f x.amc x.segs x.moves at generation state' s' moves' answer → IsStrong s'
-  fixed_at_strong (forwards to is) = strong
-  fixed_at_strong (is_kept unforwarded kept) = strong
-  fixed_at_strong {generation} (keeps {amc'} {s'} {moves'} t answer unforwarded lost over fixed) =
-      kept_strong amc' s' moves' t.pool generation (size_at f x.segs.words at.0) answer fixed
-
 module _ {F : Type 0} (layout : F → Layout) (formats : List (Option (Policy F))) (of : ChainsState) where
+  kept_strong : {x z : Traced} {at answer : Addr} → KeepsTo layout formats of x at z answer → IsStrong x.segs → IsStrong z.segs
+  kept_strong {x} {at = at} (moves t format answer over listed is fixed) strong =
+      let size = size_at (layout format.format) x.segs.words at.0 in
+      let p = placement_of_copy x.amc x.segs t.pool (target_of of t) size in
+      let grown : IsStrong (with_place x.segs t.pool (target_of of t) p) =
+      record { exact = exact_after p t.pool (target_of of t) x.segs.segments strong.exact; marks = strong.marks }
+      in
+      let now = fixed_strong (answer_of_placement p) (with_place x.segs t.pool (target_of of t) p) at.0 size grown in
+      subst IsStrong (sym fixed.state) (record { exact = now.exact; marks = now.marks })
+  kept_strong {x} {at = at} (marks t format over listed stays is) strong =
+      subst (λ (w : Traced). IsStrong w.segs) (sym is)
+      (greying_strong (keeping x.segs at.0) at.0 (record { exact = strong.exact; marks = strong.marks }))
+
   pub fix_strong : {x z : Traced} {at answer : Addr} → FixesTo layout formats of x at z answer → IsStrong x.segs → IsStrong z.segs
-  fix_strong (passes calm) strong = strong
-  fix_strong {x} {at = at} (fixes t format answer condemned over listed moves fixed) strong =
-      fixed_at_strong (layout format.format) x at strong fixed
-  fix_strong {x} {at = at} (marks t format condemned over listed stays is) strong =
-      subst (λ (w : Traced). IsStrong w.segs) (sym is) (nailed_strong x.segs at.0 strong)
+  fix_strong (finds to found) strong = strong
+  fix_strong (keeps answer white kept) strong = kept_strong kept strong
 
   -- ---- scans
 

@@ -1,5 +1,5 @@
 -- A block was kept where it lies: the state stands for the world in which its object stays.
-use Rattle.std.proofs.Common.{◌≡◌, ◌∙◌, ◌<◌, true, List, [], ◌∷◌, length, Option, Some, arith}
+use Rattle.std.proofs.Common.{◌≡◌, ◌∙◌, ◌<◌, true, List, [], length, Option, Some, arith}
 use Rattle.std.proofs.lemmas.List.{length-set}
 use Rattle.mps_base.specs.Address.{Address, Id, word_of}
 use Rattle.mps_seg.specs.Segs.{SegsState}
@@ -18,7 +18,7 @@ use Rattle.mps_trace_laws.specs.Image.Fixing.{IsMarkSet}
 use Rattle.mps_trace_laws.proofs.Image.Marked as marking
 use Rattle.mps_trace_laws.proofs.Image.SegmentMarks.{HasMarks, keeping_marks, greying_marks, greying_keeps}
 use Rattle.mps_trace_laws.specs.Fix.Tracing.{StateStands, setting_of}
-use Rattle.mps_trace_laws.proofs.Fix.Copying.{tables_kept, has_marks}
+use Rattle.mps_trace_laws.proofs.Fix.LongTables.{tables_kept, has_marks}
 use Rattle.mps_format.specs.declared.pool.Policy.{Policy}
 use Rattle.mps_abstract.specs.Fixing.{kept_by}
 

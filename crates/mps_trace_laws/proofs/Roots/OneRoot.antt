@@ -14,7 +14,7 @@ use Rattle.mps_trace_laws.proofs.Image.Scanning.{fix_leaves}
 use Rattle.mps_trace.specs.Trace.{Traced}
 use Rattle.mps_trace.specs.Roots.{FixesRoot, is_null, leads, CanFixRootAt}
 use Rattle.mps_trace_laws.specs.Fix.Tracing.{TracingStands, setting_of}
-use Rattle.mps_trace_laws.proofs.Fix.Found.{target_can_be_fixed}
+use Rattle.mps_trace_laws.proofs.Fix.CanFix.{target_can_be_fixed}
 use Rattle.mps_trace_laws.proofs.Fix.EachFix.{fix_is_a_step}
 use Rattle.mps_trace_laws.specs.Roots.OneRoot.{AreFixed, MeansLive, RefersTo, IsRootStep}
 use Rattle.mps_format.specs.declared.pool.Policy.{Policy}

@@ -1,5 +1,5 @@
 -- What is shown of the units of a collection, in words, each law a statement.
-use Rattle.std.specs.Prelude.{◌≡◌, ℕ, ◌+◌, ◌++◌, None, Option, List}
+use Rattle.std.specs.Prelude.{◌≡◌, ℕ, ◌++◌, None, Option, List}
 use Rattle.mps_base.specs.Address.{Address}
 use Rattle.mps_base.specs.declared.moves.Move.{Move}
 use Rattle.mps_format.specs.Layout.{Layout}

@@ -1,6 +1,6 @@
 -- When the segments and the moves of a collector represent the abstract collector between two units of a collection. Automatic pools
 -- are those that move blocks, and no object is weak.
-use Rattle.std.specs.Prelude.{◌≡◌, ℕ, ◌+◌, ◌*◌, ◌≤◌, true, false, IsTrue, Option, List, Contains}
+use Rattle.std.specs.Prelude.{◌≡◌, ◌+◌, ◌*◌, ◌≤◌, true, false, IsTrue, Option, List, Contains}
 use Rattle.mps_base.specs.Address.{Address, Id, word_of, words_of_grain, grain_of}
 use Rattle.mps_base.specs.Segment.{Segment, end_of_segment}
 use Rattle.mps_extents.specs.Table.{bit}

@@ -1,0 +1,87 @@
+-- A white block is kept by the policy that is read of its pool.
+use Rattle.std.proofs.Common.{ℕ, ◌<◌, ◌≡◌, true, false, Some, length, sym, ap, ◌∙◌, subst}
+use Rattle.mps_base.specs.Generation.{target_generation}
+use Rattle.mps_base.specs.Segment.{Segment, segment_over}
+use Rattle.mps_base.specs.Trail.{Moves}
+use Rattle.mps_base.specs.declared.address.Addr.{Addr}
+use Rattle.mps_format.specs.Layout.{Layout}
+use Rattle.mps_format.specs.declared.pool.Policy.{Policy}
+use Rattle.mps_seg.specs.Buffer.{IsAtHand}
+use Rattle.mps_seg.specs.Collecting.{info_of}
+use Rattle.mps_seg.specs.Segs.{SegsState}
+use Rattle.mps_seg.specs.declared.segment_info.SegmentInfo.{SegmentInfo}
+use Rattle.mps_amc.specs.Moving.{kept_in_place, size_at}
+use Rattle.mps_amc.specs.Amc.{HasTail, tail_of, IsFixed}
+use Rattle.mps_gen.specs.State.{generations_of}
+use Rattle.mps_trace.specs.Trace.{TraceState, Traced, traced, CanMove, CanKeep, KeepsTo, moves, marks, target_of}
+use Rattle.mps_trace.proofs.Known.{pool_is, target_is}
+
+-- that a block can be kept, as the fields of the collector have it
+pub can_there : {F : Type 0} (layout : F → Layout) (t t' : TraceState F) (s : SegsState) (m : Moves) (at : Addr) → t' ≡ t
+    → CanKeep layout t.formats t.chains (traced t s m) at → CanKeep layout t'.formats t'.chains (traced t' s m) at
+can_there {F} layout t t' s m at same can =
+    let P : TraceState F → Type 0 = λ u. CanKeep layout u.formats u.chains (traced u s m) at in subst P (sym same) can
+
+module _ {F : Type 0} (layout : F → Layout) (t : TraceState F) (s : SegsState) (m : Moves) (at : Addr)
+    (can : CanKeep layout t.formats t.chains (traced t s m) at) (got : Policy F) (got_is : got ≡ can.format)
+  where
+    abbrev x : Traced
+    x = traced t s m
+
+    -- its pool keeps it where it lies
+    pub marked : got.moves ≡ false → (s' : SegsState) → s' ≡ kept_in_place s at.0
+        → KeepsTo layout t.formats t.chains x at (traced t s' m) at
+    marked stays s' is =
+        marks can.segment can.format can.over can.listed (ap (λ (p : Policy F). p.moves) (sym got_is) ∙ stays)
+        (ap (λ (u : SegsState). let w : Traced = record x { segs = u } in w) is)
+
+    module _ (moving : got.moves ≡ true) (info : SegmentInfo)
+        (found : (u : Segment) → segment_over s.segments at.0 ≡ Some u → Some info ≡ Some (info_of s u))
+      where
+        moves_is : can.format.moves ≡ true
+        moves_is = ap (λ (p : Policy F). p.moves) (sym got_is) ∙ moving
+
+        pool_there : info.pool ≡ can.segment.pool
+        pool_there = pool_is t.formats t.chains s at info can.segment can.format can.over can.listed found
+
+        pub pool_known : info.pool < length t.chains.of_pool
+        pool_known = let P : ℕ → Type 0 = λ n. n < length t.chains.of_pool in subst P (sym pool_there) (can.moving moves_is).known
+
+        -- its pool moves it
+        pub can_move : CanMove (layout got.format) t.chains x at.0 can.segment
+        can_move =
+            let P : Policy F → Type 0 = λ p. CanMove (layout p.format) t.chains x at.0 can.segment in
+            subst P (sym got_is) (can.moving moves_is)
+
+        module _ (generation : ℕ) (target : generation ≡ target_generation (generations_of t.chains info.pool) info.generation) where
+          generation_there : generation ≡ target_of t.chains can.segment
+          generation_there =
+              target_is t.formats t.chains s at info can.segment can.format can.over can.listed found generation target
+
+          pub has_tail : HasTail t.amc info.pool generation
+          has_tail =
+              let P : ℕ → Type 0 = λ p. HasTail t.amc p generation in
+              let Q : ℕ → Type 0 = λ g. HasTail t.amc can.segment.pool g in
+              subst P (sym pool_there) (subst Q (sym generation_there) can_move.tail)
+
+          pub at_hand : IsAtHand s (tail_of t.amc info.pool generation)
+          at_hand =
+              let P : ℕ → Type 0 = λ p. IsAtHand s (tail_of t.amc p generation) in
+              let Q : ℕ → Type 0 = λ g. IsAtHand s (tail_of t.amc can.segment.pool g) in
+              subst P (sym pool_there) (subst Q (sym generation_there) can_move.at_hand)
+
+          pub moved : (y : Traced) (answer : Addr)
+              → IsFixed (layout got.format) t.amc y.amc s y.segs m y.moves at info.pool generation
+              (size_at (layout got.format) s.words at.0) answer
+              → KeepsTo layout t.formats t.chains x at y answer
+          moved y answer fixed =
+              let P : ℕ → Type 0 = λ p. IsFixed (layout got.format) t.amc y.amc s y.segs m y.moves at p generation
+              (size_at (layout got.format) s.words at.0) answer in
+              let Q : ℕ → Type 0 = λ g. IsFixed (layout got.format) t.amc y.amc s y.segs m y.moves at can.segment.pool g
+              (size_at (layout got.format) s.words at.0) answer in
+              let R : Policy F → Type 0 =
+              λ q. IsFixed (layout q.format) t.amc y.amc s y.segs m y.moves at can.segment.pool (target_of t.chains can.segment)
+              (size_at (layout q.format) s.words at.0) answer
+              in
+              moves can.segment can.format answer can.over can.listed moves_is
+              (subst R got_is (subst Q generation_there (subst P pool_there fixed)))
