@@ -10,12 +10,8 @@ use Rattle.mps_model.specs.Graph.{contains}
 use Rattle.mps_model.specs.World.{World, pool_is, is_weak_kind}
 use Rattle.mps_model.specs.Making.{is_weak_rank}
 use Rattle.mps_model.specs.Units.{is_ascending}
+use Rattle.mps_abstract.specs.ClientLaws.{AreApartFrom}
 use Rattle.mps_model.specs.WellFormed.{IsWellFormed, is_right_segment, are_apart, lies_within}
-
--- segments in ascending order, from an address on, none of them empty
-abbrev pub AreOrdered : (from : Address) → List Segment → Type 0
-AreOrdered from [] = Unit {0}
-AreOrdered from (s ∷ ss) = (from ≤ s.base) × (s.base < end_of_segment s) × AreOrdered (end_of_segment s) ss
 
 -- a segment is among these
 abbrev pub IsAmong : Segment → List Segment → Type 0
@@ -50,7 +46,7 @@ has_grains w s h =
     }
 
 ordered_from : (w : World) (from : Address) (s : Segment) (ss : List Segment) → list_all (is_right_segment w) (s ∷ ss) ≡ true
-    → are_apart (map grains_of_segment (s ∷ ss)) ≡ true → from ≤ s.base → AreOrdered from (s ∷ ss)
+    → are_apart (map grains_of_segment (s ∷ ss)) ≡ true → from ≤ s.base → AreApartFrom from (s ∷ ss)
 ordered_from w from s [] all apart low =
     let h = has_grains w s (and_parts (is_right_segment w s) true all).0 in
     (low, (let n = h.some in omega (arith, n)), tt)
@@ -67,14 +63,14 @@ ordered_from w from s (t ∷ ts) all apart low =
     )
 
 ordered : (w : World) (ss : List Segment) → list_all (is_right_segment w) ss ≡ true → are_apart (map grains_of_segment ss) ≡ true
-    → AreOrdered 1 ss
+    → AreApartFrom 1 ss
 ordered w [] all apart = tt
 ordered w (s ∷ ss) all apart =
     let h = has_grains w s (and_parts (is_right_segment w s) (list_all (is_right_segment w) ss) all).0 in
     ordered_from w 1 s ss all apart (let a = h.aligned in let b = h.first in omega (arith, a, b))
 
 -- the segments of a well-formed world are ordered
-pub segments_ordered : (w : World) → IsWellFormed w → AreOrdered 1 w.segments
+pub segments_ordered : (w : World) → IsWellFormed w → AreApartFrom 1 w.segments
 segments_ordered w f =
     let parts = and_parts (list_all (is_right_segment w) w.segments) (are_apart (map grains_of_segment w.segments)) f.segments in
     ordered w w.segments parts.0 parts.1
@@ -94,13 +90,13 @@ segment_has_grains w f s h =
 
 -- ---- which segment
 
-pub among_from : (from : Address) (s : Segment) (ss : List Segment) → AreOrdered from ss → IsAmong s ss → from ≤ s.base
+pub among_from : (from : Address) (s : Segment) (ss : List Segment) → AreApartFrom from ss → IsAmong s ss → from ≤ s.base
 among_from from s [] o h = absurd h
 among_from from s (t ∷ ts) o (inl e) = subst (λ (u : Segment). from ≤ u.base) e o.0
 among_from from s (t ∷ ts) o (inr h) = let later = among_from (end_of_segment t) s ts o.2 h in omega (arith, o.0, o.1, later)
 
 -- the segment in which an address lies is the one that is found
-pub over_among : (from : Address) (s : Segment) (ss : List Segment) (at : Address) → AreOrdered from ss → IsAmong s ss
+pub over_among : (from : Address) (s : Segment) (ss : List Segment) (at : Address) → AreApartFrom from ss → IsAmong s ss
     → is_in_segment s at ≡ true → segment_over ss at ≡ Some s
 over_among from s [] at o h inside = absurd h
 over_among from s (t ∷ ts) at o (inl e) inside =
@@ -112,7 +108,7 @@ over_among from s (t ∷ ts) at o (inr h) inside =
     ap (λ b. if b then Some t else segment_over ts at) outside ∙ over_among (end_of_segment t) s ts at o.2 h inside
 
 -- and so is the segment with a base
-pub held_among : (from : Address) (s : Segment) (ss : List Segment) → AreOrdered from ss → IsAmong s ss
+pub held_among : (from : Address) (s : Segment) (ss : List Segment) → AreApartFrom from ss → IsAmong s ss
     → find (λ t. t.base == s.base) ss ≡ Some s
 held_among from s [] o h = absurd h
 held_among from s (t ∷ ts) o (inl e) =
@@ -169,7 +165,7 @@ any_among test (s ∷ ss) h = elim (or_cases (test s) (list_any test ss) h) [
 ]
 
 -- their bases ascend
-pub bases_ascend : (above from : Address) (p : Segment → Bool) (ss : List Segment) → above < from → AreOrdered from ss
+pub bases_ascend : (above from : Address) (p : Segment → Bool) (ss : List Segment) → above < from → AreApartFrom from ss
     → is_ascending above (bases (filter p ss)) ≡ true
 bases_ascend above from p [] low o = refl
 bases_ascend above from p (s ∷ ss) low o =

@@ -20,7 +20,7 @@ use Rattle.mps_model.specs.History.{alloc_at, moves_of_alloc, unless_refused}
 use Rattle.mps_model.specs.WellFormed.{IsWellFormed}
 use Rattle.mps_abstract.specs.Colours.{AreDifferent}
 use Rattle.mps_abstract.specs.Collecting.{Collecting, Running, is_white_in}
-use Rattle.mps_abstract.proofs.HeldSegments.{AreOrdered}
+use Rattle.mps_abstract.specs.ClientLaws.{AreApartFrom}
 use Rattle.mps_abstract.proofs.Calls.ClientLists.{among_all, entry_is}
 use Rattle.mps_abstract.proofs.Calls.ClientCovered.{extent_of_last}
 use Rattle.mps_abstract.proofs.Calls.ClientBeside.{in_reservations, held_so, IsFound}
@@ -157,7 +157,7 @@ pub alloc_moves_more : (w : World) (m : Checked (Numbered Pool)) (words : ℕ) (
 alloc_moves_more w m words answer = moves_more w m words (is_refused answer)
 
 -- one more segment keeps the invariant
-pub more_keeps : (x : Collecting) → Running x → (after : World) → MayHoldMore x.world after → AreOrdered 1 after.segments
+pub more_keeps : (x : Collecting) → Running x → (after : World) → MayHoldMore x.world after → AreApartFrom 1 after.segments
     → Running (record x { world = after }) × (length after.addresses ≡ length x.world.addresses) ×
     (length after.graph.objects ≡ length x.world.graph.objects)
 more_keeps x run after holds_no_more in_order = (run, refl, refl)

@@ -20,9 +20,7 @@ use Rattle.mps_model.specs.Reply.{act, world_from}
 use Rattle.mps_model.specs.History.{moves_of_collector, moves_of_poll, own_segment, after_own_segment, judged_world, moved_world, asking, remembering, with_client_remembered, world_after, world_after_call, AreMovesOf, moves_of_commit, commit_of, unless_refused, moves_of_free}
 use Rattle.mps_abstract.specs.Colours.{AreDifferent}
 use Rattle.mps_abstract.specs.Collecting.{Collecting, Running}
-use Rattle.mps_abstract.specs.ClientLaws.{position_taken, collection_without, next_without, IsMarkedKept, IsReadKept, ClientsKeepRunning}
-use Rattle.mps_abstract.proofs.OwnAddresses.{well_formed_different}
-use Rattle.mps_abstract.proofs.HeldSegments.{AreOrdered, segments_ordered}
+use Rattle.mps_abstract.specs.ClientLaws.{AreApartFrom, IsWellPlaced, position_taken, collection_without, next_without, IsMarkedKept, IsReadKept, ClientsKeepRunning}
 use Rattle.mps_changes.specs.Change.{ForAct, accepted, refused, Change, Unchanged}
 use Rattle.mps_changes.proofs.ActChanges.{act_changes_so}
 use Rattle.mps_abstract.proofs.Calls.ClientByChanges.{unregisters, moves_itself, reserves, act_runs}
@@ -31,11 +29,6 @@ use Rattle.mps_abstract.proofs.Calls.ClientBlocks.{MayHoldMore, alloc_moves_more
 use Rattle.mps_abstract.proofs.Calls.ClientFrees.{freeing_keeps}
 use Rattle.mps_abstract.proofs.Calls.ClientReserves.{MayOwn, own_segment_owned, owned_asking, owned_graph, owned_keeps}
 use Rattle.mps_abstract.proofs.Calls.ClientReads.{HasTables, moves_leave}
-
--- what is known of the world after a call
-record IsFine (v : World) : Type 0 where
-  different : AreDifferent v.addresses
-  ordered : AreOrdered 1 v.segments
 
 -- no act changes which segments are held
 act_segments : (marked : Bool) (judged v : World) (c : Call) → (world_from v (act marked judged v c)).segments ≡ v.segments
@@ -128,9 +121,9 @@ module _ (w : World) (x : Collecting) (run : Running x) (formed : IsWellFormed x
 
   -- a call without moves of its own
   plain_keeps : (c : Call) (answer : Answer) (now : World) → now ≡ x.world → unregisters c ≡ false → moves_itself c ≡ false
-      → HasTables w x.world → IsMarkedKept x c answer → IsReadKept x c → IsFine (world_from now (act (is_block answer) w now c))
+      → HasTables w x.world → IsMarkedKept x c answer → IsReadKept x c → IsWellPlaced (world_from now (act (is_block answer) w now c))
       → Running (record x { world = world_from now (act (is_block answer) w now c) })
-  plain_keeps c answer now led stays quiet tables marked read fine =
+  plain_keeps c answer now led stays quiet tables marked read placed =
       subst (λ v. AreDifferent (world_from v (act (is_block answer) w v c)).addresses
       → Running (record x { world = world_from v (act (is_block answer) w v c) })) (sym led)
       (act_runs x run w c answer (record {
@@ -140,17 +133,17 @@ module _ (w : World) (x : Collecting) (run : Running x) (formed : IsWellFormed x
         as_many = λ h. formed.addresses;
         formed = λ h. formed;
         same_graph = λ h. absurd (true≢false (sym (reserve_moves c h) ∙ quiet));
-      }) stays) fine.different
+      }) stays) placed.different
 
   call_keeps : (c : Call) (ms : List Move) (answer : Answer)
       → asking (units_asked w c) (world_after_moves w (moves_of_collector c ms)) ≡ x.world → AreMovesOf w c answer ms
-      → IsMarkedKept x c answer → IsReadKept x c → IsFine (After c ms answer)
+      → IsMarkedKept x c answer → IsReadKept x c → IsWellPlaced (After c ms answer)
       → Running (record x {
         world = After c ms answer;
         running = collection_without (position_taken x.world c) x.running;
         next = next_without (position_taken x.world c) x.next;
       })
-  call_keeps (call.Reserve point head) ms answer led due marked read fine =
+  call_keeps (call.Reserve point head) ms answer led due marked read placed =
       let c = call.Reserve point head in
       let judged = world_after_moves w (moves_of_poll ms) in
       let after = moved_world w c ms in
@@ -159,7 +152,7 @@ module _ (w : World) (x : Collecting) (run : Running x) (formed : IsWellFormed x
       (own_segment_owned judged (own_segment ms) (number_named w point as_point))) in
       let same = sym (asked_graph (units_asked w c) judged) ∙ (ap (λ (v : World). v.graph) led ∙ sym (owned_graph x.world after owned)) in
       act_runs (record x { world = after })
-      (owned_keeps x run after owned (subst (AreOrdered 1) (act_segments (is_block answer) judged after c) fine.ordered))
+      (owned_keeps x run after owned (subst (AreApartFrom 1) (act_segments (is_block answer) judged after c) placed.apart))
       judged c answer (record {
         tables = record { tables = ap (λ (g : Graph). g.tables) (sym same); names = ap (λ (g : Graph). g.names) (sym same) };
         marked = tt;
@@ -167,18 +160,18 @@ module _ (w : World) (x : Collecting) (run : Running x) (formed : IsWellFormed x
         as_many = λ h. absurd (false≢true h);
         formed = λ h. absurd (true≢false h);
         same_graph = λ h. same;
-      }) refl fine.different
-  call_keeps (call.Commit point target) ms answer led due marked read fine =
+      }) refl placed.different
+  call_keeps (call.Commit point target) ms answer led due marked read placed =
       plain_keeps (call.Commit point target) answer (world_after_moves w ms)
       (ap (world_after_moves w) due ∙ (commit_leaves w (point_named w point) (is_accepted answer) ∙ led)) refl refl
-      (subst (HasTables w) led (moves_leave w [])) tt tt fine
-  call_keeps (call.Alloc pool words place) ms answer led due marked read fine =
+      (subst (HasTables w) led (moves_leave w [])) tt tt placed
+  call_keeps (call.Alloc pool words place) ms answer led due marked read placed =
       let after = world_after_moves w ms in
       let c = call.Alloc pool words place in
       let more = more_keeps x run after
       (subst (λ v. MayHoldMore v after) led (subst (λ those. MayHoldMore w (world_after_moves w those)) (sym due)
       (alloc_moves_more w (pool_named w pool) words answer)))
-      (subst (AreOrdered 1) (act_segments (is_block answer) w after c) fine.ordered) in
+      (subst (AreApartFrom 1) (act_segments (is_block answer) w after c) placed.apart) in
       act_runs (record x { world = after }) more.0 w c answer (record {
         tables = moves_leave w ms;
         marked = tt;
@@ -186,17 +179,17 @@ module _ (w : World) (x : Collecting) (run : Running x) (formed : IsWellFormed x
         as_many = λ h. more.1 ∙ (formed.addresses ∙ sym more.2);
         formed = λ h. absurd (true≢false h);
         same_graph = λ h. absurd (false≢true h);
-      }) refl fine.different
-  call_keeps (call.Free place) ms answer led due marked read fine =
+      }) refl placed.different
+  call_keeps (call.Free place) ms answer led due marked read placed =
       let after = world_after_moves w ms in
       let c = call.Free place in
       let freed = world_after_moves w (unless_refused answer (moves_of_free w (block_place_in w place))) in
-      let run_after = subst (λ those. AreOrdered 1 (world_after_moves w those).segments
+      let run_after = subst (λ those. AreApartFrom 1 (world_after_moves w those).segments
       → Running (record x { world = world_after_moves w those })) (sym due)
-      (subst (λ v. AreOrdered 1 (world_after_moves v (unless_refused answer (moves_of_free v (block_place_in v place)))).segments
+      (subst (λ v. AreApartFrom 1 (world_after_moves v (unless_refused answer (moves_of_free v (block_place_in v place)))).segments
       → Running (record x { world = world_after_moves v (unless_refused answer (moves_of_free v (block_place_in v place))) })) (sym led)
       (freeing_keeps x run formed live place answer))
-      (subst (AreOrdered 1) (act_segments (is_block answer) w after c) fine.ordered) in
+      (subst (AreApartFrom 1) (act_segments (is_block answer) w after c) placed.apart) in
       act_runs (record x { world = after }) run_after w c answer (record {
         tables = moves_leave w ms;
         marked = tt;
@@ -204,15 +197,15 @@ module _ (w : World) (x : Collecting) (run : Running x) (formed : IsWellFormed x
         as_many = λ h. absurd (false≢true h);
         formed = λ h. absurd (true≢false h);
         same_graph = λ h. absurd (false≢true h);
-      }) refl fine.different
-  call_keeps (call.Definalize slot) ms answer led due marked read fine =
+      }) refl placed.different
+  call_keeps (call.Definalize slot) ms answer led due marked read placed =
       subst (λ v. Running (record x {
         world = world_from v (act_definalize v slot);
         running = collection_without (position_taken x.world (call.Definalize slot)) x.running;
         next = next_without (position_taken x.world (call.Definalize slot)) x.next;
       })) (sym led) (definalize_keeps x run slot)
-  call_keeps c ms answer led due marked read fine =
-      plain_keeps c answer (moved_world w c ms) led refl refl (subst (HasTables w) led (same_tables (units_asked w c) w ms)) marked read fine
+  call_keeps c ms answer led due marked read placed =
+      plain_keeps c answer (moved_world w c ms) led refl refl (subst (HasTables w) led (same_tables (units_asked w c) w ms)) marked read placed
 
 -- ---- the whole step
 
@@ -224,9 +217,9 @@ clients_keep w x s run step =
     (λ b. if b then w else world_after_call w s.call s.moves s.answer) step.supported in
     let middle = call_keeps w x run step.well_formed step.blocks_live s.call s.moves s.answer step.collected step.moves_are_due
     step.marked_kept
-    step.read_kept (record {
-      different = subst (λ (v : World). AreDifferent v.addresses) leads (well_formed_different (world_after w s) step.well_formed_after);
-      ordered = subst (λ (v : World). AreOrdered 1 v.segments) leads (segments_ordered (world_after w s) step.well_formed_after);
+    step.read_kept (let after_call = subst IsWellPlaced leads step.well_placed in record {
+      different = after_call.different;
+      apart = after_call.apart;
     }) in
     subst (λ (v : World). Running (record x {
       world = v;

@@ -24,7 +24,8 @@ use Rattle.mps_abstract.specs.Collecting.{Collecting, Running}
 use Rattle.mps_abstract.proofs.Lists.{contains_append}
 use Rattle.mps_abstract.proofs.Addresses.{id_at-live}
 use Rattle.mps_abstract.proofs.Joining.{from_some}
-use Rattle.mps_abstract.proofs.HeldSegments.{AreOrdered, IsAmong, segments_ordered, over_among, held_among}
+use Rattle.mps_abstract.specs.ClientLaws.{AreApartFrom}
+use Rattle.mps_abstract.proofs.HeldSegments.{IsAmong, segments_ordered, over_among, held_among}
 use Rattle.mps_abstract.proofs.RightObjects.{object_has_words, pool_kind}
 use Rattle.mps_abstract.proofs.Homes.{lies_at}
 use Rattle.mps_abstract.proofs.FlipActs.FlipLists.{holds_show}
@@ -192,7 +193,7 @@ pool_exclusive w pool any automatic = of_pool (pool_at w pool) any automatic
     of_pool None a b = false≢true a
     of_pool (Some p) a b = exclusive p.kind a b
 
-module _ (x : Collecting) (run : Running x) (in_order : AreOrdered 1 x.world.segments) where
+module _ (x : Collecting) (run : Running x) (in_order : AreApartFrom 1 x.world.segments) where
   not_condemned : (s : Segment) → IsAmong s x.world.segments → pool_is is_any_size_kind x.world s.pool ≡ true
       → contains x.running.condemned_segments s.base ≡ false
   not_condemned s among any = elim (cases_Bool (contains x.running.condemned_segments s.base)) [
@@ -203,7 +204,7 @@ module _ (x : Collecting) (run : Running x) (in_order : AreOrdered 1 x.world.seg
 
   -- the world without a segment of a manual pool
   given_back : (s : Segment) → IsAmong s x.world.segments → pool_is is_any_size_kind x.world s.pool ≡ true
-      → AreOrdered 1 (without_segment x.world.segments s.base) → Running (record x { world = after_unseg x.world s.base })
+      → AreApartFrom 1 (without_segment x.world.segments s.base) → Running (record x { world = after_unseg x.world s.base })
   given_back s among any after =
       let outside = not_condemned s among any in
       subst (λ o. Running (record x { world = record x.world { segments = without_segment x.world.segments s.base; collection = o } }))
@@ -220,13 +221,13 @@ module _ (x : Collecting) (run : Running x) (in_order : AreOrdered 1 x.world.seg
           }) else x.running)) outside ∙ sym run.runs)
 
   pub give_back_keeps : (o : Option Segment) → ((s : Segment) → o ≡ Some s → IsAmong s x.world.segments)
-      → AreOrdered 1 (world_after_moves x.world (give_back_empty x.world o)).segments
+      → AreApartFrom 1 (world_after_moves x.world (give_back_empty x.world o)).segments
       → Running (record x { world = world_after_moves x.world (give_back_empty x.world o) })
   give_back_keeps None among after = run
   give_back_keeps (Some s) among after = of_test (pool_is is_any_size_kind x.world s.pool) (is_empty_segment x.world s) refl after
     where
       of_test : (a b : Bool) → pool_is is_any_size_kind x.world s.pool ≡ a
-          → AreOrdered 1 (world_after_moves x.world (if a && b then moves.Unseg (at_address s.base) ∷ [] else [])).segments
+          → AreApartFrom 1 (world_after_moves x.world (if a && b then moves.Unseg (at_address s.base) ∷ [] else [])).segments
           → Running (record x { world = world_after_moves x.world (if a && b then moves.Unseg (at_address s.base) ∷ [] else []) })
       of_test true true any fine = given_back s (among s refl) any fine
       of_test true false any fine = run
@@ -237,10 +238,10 @@ module _ (x : Collecting) (run : Running x) (in_order : AreOrdered 1 x.world.seg
 module _ (x : Collecting) (run : Running x) (formed : IsWellFormed x.world) where
   -- the moves of a free of a live manual block
   free_of_keeps : (id : Id) → is_live x.world id ≡ true → object_is is_automatic x.world id ≡ false
-      → AreOrdered 1 (world_after_moves x.world (free_of x.world (address_or_null x.world id))).segments
+      → AreApartFrom 1 (world_after_moves x.world (free_of x.world (address_or_null x.world id))).segments
       → Running (record x { world = world_after_moves x.world (free_of x.world (address_or_null x.world id)) })
   free_of_keeps id live manual fine =
-      subst (λ (v : World). AreOrdered 1 (world_after_moves v (give_back_empty v (segment_of x.world at))).segments
+      subst (λ (v : World). AreApartFrom 1 (world_after_moves v (give_back_empty v (segment_of x.world at))).segments
       → Running (record x { world = world_after_moves v (give_back_empty v (segment_of x.world at)) })) (sym leads)
       (λ ordered. give_back_keeps (record x { world = with_address x.world id None }) (manual_freed_keeps x run formed id manual)
       (segments_ordered x.world formed) (segment_of x.world at)
@@ -260,14 +261,14 @@ module _ (x : Collecting) (run : Running x) (formed : IsWellFormed x.world) wher
   free_moves_keeps : (m : Checked (Found (Option ℕ))) (refused : Bool)
       → ((f : Found (Option ℕ)) (id : Id) → m ≡ Ok f → f.value ≡ Some id
       → (is_live x.world id ≡ true) × (object_is is_automatic x.world id ≡ false))
-      → AreOrdered 1 (world_after_moves x.world (if refused then [] else moves_of_free x.world m)).segments
+      → AreApartFrom 1 (world_after_moves x.world (if refused then [] else moves_of_free x.world m)).segments
       → Running (record x { world = world_after_moves x.world (if refused then [] else moves_of_free x.world m) })
   free_moves_keeps m true right fine = run
   free_moves_keeps (Err why) false right fine = run
   free_moves_keeps (Ok f) false right fine = of_value f.value (λ id e. right f id refl e) fine
     where
       of_value : (o : Option ℕ) → ((id : Id) → o ≡ Some id → (is_live x.world id ≡ true) × (object_is is_automatic x.world id ≡ false))
-          → AreOrdered 1 (world_after_moves x.world (option_map_or (λ id. free_of x.world (address_or_null x.world id)) o [])).segments
+          → AreApartFrom 1 (world_after_moves x.world (option_map_or (λ id. free_of x.world (address_or_null x.world id)) o [])).segments
           → Running (record x {
             world = world_after_moves x.world
                 (option_map_or (λ id. free_of x.world (address_or_null x.world id)) o []);
@@ -288,7 +289,7 @@ module _ (x : Collecting) (run : Running x) (formed : IsWellFormed x.world) wher
       )
 
   pub freeing_keeps : list_all (is_live x.world) (ids_in_blocks x.world.graph) ≡ true → (place : Slot) (answer : Answer)
-      → AreOrdered 1 (world_after_moves x.world (unless_refused answer (moves_of_free x.world (block_place_in x.world place)))).segments
+      → AreApartFrom 1 (world_after_moves x.world (unless_refused answer (moves_of_free x.world (block_place_in x.world place)))).segments
       → Running (record x {
         world = world_after_moves x.world
             (unless_refused answer (moves_of_free x.world (block_place_in x.world place)));

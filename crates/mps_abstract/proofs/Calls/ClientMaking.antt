@@ -15,7 +15,8 @@ use Rattle.mps_abstract.specs.Collecting.{Collecting, Running, is_white_in}
 use Rattle.mps_abstract.proofs.Lists.{index_below, entry_that_is, entry_at-set_cases, entry_at-set_other}
 use Rattle.mps_abstract.proofs.Sweeping.{contains-above}
 use Rattle.mps_abstract.proofs.KeptRunning.{one_that_is}
-use Rattle.mps_abstract.proofs.HeldSegments.{AreOrdered, IsAmong, over_among, held_among}
+use Rattle.mps_abstract.specs.ClientLaws.{AreApartFrom}
+use Rattle.mps_abstract.proofs.HeldSegments.{IsAmong, over_among, held_among}
 use Rattle.mps_abstract.proofs.Calls.ClientLists.{length_last, last_cases, entry_last_cases, entry_last, entry_of_last}
 use Rattle.mps_abstract.proofs.Calls.ClientThings.{slice_get-last}
 use Rattle.mps_abstract.proofs.Calls.ClientChange.{IsChange, IsUsed, change_keeps}
@@ -244,7 +245,7 @@ module _ (x : Collecting) (run : Running x) where
 
   -- ---- other segments are held
 
-  module _ (ss : List Segment) (tails : List Tail) (in_order : AreOrdered 1 ss)
+  module _ (ss : List Segment) (tails : List Tail) (in_order : AreApartFrom 1 ss)
       (still : (t : Segment) → IsAmong t w.segments → contains x.running.condemned_segments t.base ≡ true → IsAmong t ss) where
     abbrev held_now : World
     held_now = record w { segments = ss; tails = tails }

@@ -17,7 +17,7 @@ use Rattle.mps_model.specs.Allocating.{Reserving, check_reserve, takes_head, lay
 use Rattle.mps_model.specs.Effect.{holding, segment_of_move}
 use Rattle.mps_model.specs.History.{rank_of_point, with_buffer, after_own_segment, asking}
 use Rattle.mps_abstract.specs.Collecting.{Collecting, Running}
-use Rattle.mps_abstract.proofs.HeldSegments.{AreOrdered}
+use Rattle.mps_abstract.specs.ClientLaws.{AreApartFrom}
 use Rattle.mps_abstract.proofs.Calls.ClientCells.{no_targets_yet}
 use Rattle.mps_abstract.proofs.Calls.ClientCovered.{extent_at_point}
 use Rattle.mps_abstract.proofs.Calls.ClientBeside.{held_so, in_reservations, same_Ok, not_Ok}
@@ -110,7 +110,7 @@ pub owned_graph : (w v : World) → MayOwn w v → v.graph ≡ w.graph
 owned_graph w v owns_nothing = refl
 owned_graph w v (owns_segment s memories same) = refl
 
-pub owned_keeps : (x : Collecting) → Running x → (v : World) → MayOwn x.world v → AreOrdered 1 v.segments → Running (record x { world = v })
+pub owned_keeps : (x : Collecting) → Running x → (v : World) → MayOwn x.world v → AreApartFrom 1 v.segments → Running (record x { world = v })
 owned_keeps x run v owns_nothing in_order = run
 owned_keeps x run v (owns_segment s memories same) in_order =
     let held = record x { world = record x.world { segments = with_segment s x.world.segments } } in

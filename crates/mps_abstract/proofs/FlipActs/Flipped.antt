@@ -26,7 +26,8 @@ use Rattle.mps_abstract.proofs.Addresses.{automatic_is_live, is_listed_automatic
 use Rattle.mps_abstract.proofs.Keeping.{is_condemned_if_white, not_white_outside, kept_if_not_white, not_white_if_kept}
 use Rattle.mps_abstract.proofs.Joining.{for_some}
 use Rattle.mps_abstract.proofs.OwnAddresses.{well_formed_different}
-use Rattle.mps_abstract.proofs.HeldSegments.{AreOrdered, segments_ordered, among_from, over_among, held_among, among_filtered, IsBaseOf, base_among, base_contained, any_among, bases_ascend}
+use Rattle.mps_abstract.specs.ClientLaws.{AreApartFrom}
+use Rattle.mps_abstract.proofs.HeldSegments.{segments_ordered, among_from, over_among, held_among, among_filtered, IsBaseOf, base_among, base_contained, any_among, bases_ascend}
 use Rattle.mps_abstract.proofs.FlipActs.FlipLists.{count_filtered, filtered_le}
 
 -- ---- a state without what the client holds in tables, areas and messages
@@ -106,7 +107,7 @@ module _ (w : World) (what : Condemnation) (others : List Id) (rest : IsAtRest w
   abbrev passes : Segment → Bool
   passes s = is_condemned_by (world_flipped w (condemned_zones w what)) what s
 
-  in_order : AreOrdered 1 w.segments
+  in_order : AreApartFrom 1 w.segments
   in_order = segments_ordered w rest.well_formed
 
   -- ---- what is condemned, pinned and outside
