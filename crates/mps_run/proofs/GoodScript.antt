@@ -1,5 +1,5 @@
 -- A run of a good script, without a fault and with memory, ends with status 0.
-use Rattle.std.proofs.Common.{◌≡◌, ◌≢◌, ℕ, ◌+◌, ◌<◌, ◌≤◌, Bool, true, false, not, ◌&&◌, ◌||◌, Some, Ok, Err, List, [], ◌∷◌, ◌++◌, length, take, drop, refl, sym, ap, subst, ◌∙◌, arith, append_assoc, length-append, inl, inr}
+use Rattle.std.proofs.Common.{◌≡◌, ◌≢◌, ℕ, ◌<◌, ◌≤◌, Bool, true, false, not, ◌&&◌, ◌||◌, Some, Ok, Err, List, [], ◌∷◌, ◌++◌, length, take, drop, refl, sym, ap, ◌∙◌, arith, append_assoc, length-append, inl, inr}
 use Rattle.std.specs.List.{list_all, list_any}
 use Rattle.std.proofs.lemmas.Grind.{flat_map-append}
 use Rattle.std.proofs.lemmas.List.{take-append-drop}
@@ -12,7 +12,7 @@ use Rattle.mps_script.specs.Script.{is_good, call_or_none, calls_of, begin_with_
 use Rattle.mps_report.specs.declared.stop.Stop.TheVariants as stop
 use Rattle.mps_report.specs.Reports.{status_of_ending}
 use Rattle.mps_run.specs.Ending.{Ending, HasCause, NoFaultRose}
-use Rattle.mps_run.specs.Leaving.{LeavesRun, Leaves, RunEndsAt, log_header}
+use Rattle.mps_run.specs.Leaving.{LeavesRun}
 use Rattle.mps_run.specs.Run.{RunsScript}
 use Rattle.mps_run.specs.Script.{Line, max_lines}
 

@@ -27,7 +27,7 @@ use Rattle.mps_run.specs.declared.bad_script_line.BadScriptLine.{BadScriptLine}
 use Rattle.mps_run.specs.declared.progress.Progress.{Progress}
 use Rattle.mps_run.specs.Ending.{Ending, IsFault, IsUnbegun, is_fault}
 use Rattle.mps_report.proofs.Outside.{risen_earlier, risen_later}
-use Rattle.mps_run.specs.Leaving.{StopsPrinting, Part, Nothing, SomeRecords, SomeAnswer, IsPartAt, IsOfNext, Begins, NeedsMemory, StopsReading, RunEndsAt, Leaves, LeavesRun, log_header, logged_of, printed_of}
+use Rattle.mps_run.specs.Leaving.{Part, Nothing, SomeRecords, SomeAnswer, IsPartAt, IsOfNext, Begins, NeedsMemory, StopsReading, RunEndsAt, Leaves, LeavesRun, log_header, logged_of, printed_of}
 use Rattle.mps_run.specs.Running.{IsBegun, IsPartOf, IsReason, LineStops}
 use Rattle.mps_run.specs.Script.{Line, answers_of, commands_of_call, commands_from, max_lines}
 use Rattle.mps_run.proofs.LineByLine.{first_line, commands_more, grammar_more}

@@ -4,6 +4,7 @@ pub mod GoodScript
 pub mod Leaving
 pub mod LineByLine
 pub mod LogFile
+pub mod Batches
 pub mod Pieces
 pub mod RecordBytes
 pub mod Records

@@ -43,25 +43,6 @@ pub moves_bytes : (line : ℕ) (moves : List Move) → flat_map (move_bytes line
 moves_bytes line [] = refl
 moves_bytes line (m ∷ ms) = ap (λ (p : List ℕ). move_bytes line m ++ p) (moves_bytes line ms)
 
-module _ (line : ℕ) (moves : List Move) (i : ℕ) (d : Move) (a b c : Outside) where
-  pub logs_move : i < length moves → Logs a b (records_bytes (records_of (take i moves) line))
-      → Logs b c (move_bytes line (get_or moves i d))
-      → Logs a c (records_bytes (records_of (take (i + 1) moves) line))
-  logs_move h before next =
-      subst (λ (p : List ℕ). Logs a c p)
-      (ap (λ (p : List ℕ). p ++ move_bytes line (get_or moves i d)) (sym (moves_bytes line (take i moves)))
-      ∙ (one_more (move_bytes line) moves i d h ∙ moves_bytes line (take (i + 1) moves)))
-      (logs_then a b c _ _ before next)
-
-  pub logs_part_of_moves : i < length moves → Logs a b (records_bytes (records_of (take i moves) line))
-      → LogsPart b c (move_bytes line (get_or moves i d)) → LogsPart a c (records_bytes (records_of moves line))
-  logs_part_of_moves h before next =
-      let later = flat_map (move_bytes line) (drop (i + 1) moves) in
-      subst (λ (p : List ℕ). LogsPart a c p)
-      (ap (λ (p : List ℕ). p ++ (move_bytes line (get_or moves i d) ++ later)) (sym (moves_bytes line (take i moves)))
-      ∙ (before_and_after (move_bytes line) moves i d h ∙ moves_bytes line moves))
-      (part_of_second a b c _ _ before (part_of_first b c _ later next))
-
 -- ---- records of a command
 
 module _ (line pools : ℕ) (moves : List Move) (call : Call) (given : Reply) (a b c : Outside) where

@@ -5,6 +5,7 @@ mod bad_script_line;
 mod laws;
 mod lines;
 mod log;
+mod log_moves;
 mod print;
 mod progress;
 mod run;

@@ -4,19 +4,20 @@ ghost use Rattle.mps_base.specs.Record.{record_bytes, records_bytes};
 ghost use Rattle.mps_event.specs.Grammar.{AreFields};
 ghost use Rattle.mps_event.specs.Event.{code_of};
 ghost use Rattle.mps_event.specs.declared.version.Version.TheVariants.{One};
-ghost use Rattle.mps_model.specs.Log.{record_of, records_of, records_of_accepted, records_of_command};
+ghost use Rattle.mps_model.specs.Log.{records_of, records_of_accepted, records_of_command};
 ghost use Rattle.mps_model.specs.Answer.{Replied};
 ghost use Rattle.mps_run.specs.Leaving.{log_header as header_of_log};
 ghost use Rattle.mps_report.specs.Streams.{Logs, LogsPart};
 
-use mps_base::{Addr, Move};
+use crate::log_moves::log_moves;
+use mps_base::Move;
 use mps_desk::{Desk, Failed};
 use mps_event::{Event, MFS_NUMBER, MVFF_NUMBER, Version, header_of, kind_number, put};
 use mps_model::{Call, Reply};
 use mps_report::log_all;
 
 /// The most bytes of a record with four fields, and room to spare.
-const MAX_RECORD_BYTES: usize = 64;
+pub(crate) const MAX_RECORD_BYTES: usize = 64;
 
 /// Writes the header of a log.
 pub fn log_header<D: Desk>(desk: &mut D) -> Result<(), Failed>
@@ -43,79 +44,6 @@ pub fn log_records<D: Desk>(
 {
     log_moves(desk, line, moves)?;
     log_command(desk, line, pools as u64, call, reply)
-}
-
-/// Writes the records of moves, in order.
-#[inline(always)]
-fn log_moves<D: Desk>(desk: &mut D, line: u32, moves: &[Move]) -> Result<(), Failed>
-    ensures logged { OnOk result (Logs (D.outside desk.old) (D.outside desk.new) (records_bytes (records_of moves.now line))) }
-    ensures failed { OnErr result (LogsPart (D.outside desk.old) (D.outside desk.new) (records_bytes (records_of moves.now line))) }
-{
-    for moved in moves {
-        log_move(desk, line, moved)?;
-    }
-    Ok(())
-}
-
-/// Writes the record of a move.
-#[inline(never)]
-fn log_move<D: Desk>(desk: &mut D, line: u32, moved: &Move) -> Result<(), Failed>
-    ensures logged { OnOk result (Logs (D.outside desk.old) (D.outside desk.new) (record_bytes (record_of moved.now line))) }
-    ensures failed { OnErr result (LogsPart (D.outside desk.old) (D.outside desk.new) (record_bytes (record_of moved.now line))) }
-{
-    match *moved {
-        Move::Seg {
-            base,
-            grains,
-            pool,
-            generation,
-        } => log_record(
-            desk,
-            line,
-            Event::SegAlloc,
-            &[base.0, grains as u64, pool as u64, generation as u64],
-        ),
-        Move::Unseg { base } => log_record(desk, line, Event::SegFree, &[base.0]),
-        Move::Flip {
-            zones,
-            chain,
-            generation,
-        } => log_record(
-            desk,
-            line,
-            Event::Flip,
-            &[zones.0, chain as u64, generation as u64],
-        ),
-        Move::End => log_record(desk, line, Event::End, &[]),
-        Move::Moved { from, to } => log_record(desk, line, Event::Move, &[from.0, to.0]),
-        Move::Stay { at } => log_record(desk, line, Event::Stay, &[at.0]),
-        Move::Splat { holder, cell } => {
-            log_record(desk, line, Event::Splat, &[holder.0, cell as u64])
-        }
-        Move::Post { at } => log_record(desk, line, Event::Post, &[at.0]),
-        Move::Commit { at, words, pool } => log_block(desk, line, Event::Commit, at, words, pool),
-        Move::Alloc { at, words, pool } => log_block(desk, line, Event::Alloc, at, words, pool),
-        Move::Free { at } => log_record(desk, line, Event::Free, &[at.0]),
-    }
-}
-
-/// Writes the record of an event that makes a block.
-#[inline(always)]
-fn log_block<D: Desk>(
-    desk: &mut D,
-    line: u32,
-    event: Event,
-    at: Addr,
-    words: u32,
-    pool: u32,
-) -> Result<(), Failed>
-    requires { AreFields One (code_of event) (at.0 ∷ words ∷ pool ∷ []) }
-    ensures logged { OnOk result (Logs (D.outside desk.old) (D.outside desk.new)
-        (record_bytes (record { line = line; code = code_of event; fields = at.0 ∷ words ∷ pool ∷ [] }))) }
-    ensures failed { OnErr result (LogsPart (D.outside desk.old) (D.outside desk.new)
-        (record_bytes (record { line = line; code = code_of event; fields = at.0 ∷ words ∷ pool ∷ [] }))) }
-{
-    log_record(desk, line, event, &[at.0, words as u64, pool as u64])
 }
 
 /// Writes the record that a command has by its reply. `pools` were made before it.
@@ -225,7 +153,7 @@ fn log_record<D: Desk>(desk: &mut D, line: u32, event: Event, fields: &[u64]) ->
 
 /// Writes a record to the log. As a rule a desk takes it whole; where it took a part, the rest follows.
 #[inline(always)]
-fn log_piece<D: Desk>(desk: &mut D, piece: &[u8]) -> Result<(), Failed>
+pub(crate) fn log_piece<D: Desk>(desk: &mut D, piece: &[u8]) -> Result<(), Failed>
     ensures logged { OnOk result (Logs (D.outside desk.old) (D.outside desk.new) piece.now) }
     ensures failed { OnErr result (LogsPart (D.outside desk.old) (D.outside desk.new) piece.now) }
 {
@@ -240,7 +168,7 @@ fn log_piece<D: Desk>(desk: &mut D, piece: &[u8]) -> Result<(), Failed>
 
 /// Puts a record at the beginning of the bytes, and returns its length.
 #[inline(always)]
-fn put_record(bytes: &mut [u8], line: u32, event: Event, fields: &[u64]) -> usize
+pub(crate) fn put_record(bytes: &mut [u8], line: u32, event: Event, fields: &[u64]) -> usize
     requires known { AreFields One (code_of event) fields.now }
     requires at_most { length fields.now ≤ 4 }
     requires fits { 64 ≤ length bytes.old }
