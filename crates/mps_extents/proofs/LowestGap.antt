@@ -1,8 +1,8 @@
 -- The lowest gap that fits among extents is the lowest run of clear bits.
-use Rattle.std.proofs.Common.{ℕ, ◌+◌, ◌<◌, ◌≡◌, Bool, true, false, List, [], ◌∷◌, length, set, refl, sym, ap, ◌∙◌, subst, inl, inr, arith, ◌≤◌, ◌⊎◌, cond, leb, ltb, ◌&&◌, Option, Some, None, ◌-◌, IfSome}
+use Rattle.std.proofs.Common.{ℕ, ◌+◌, ◌<◌, ◌≡◌, Bool, true, false, List, [], ◌∷◌, length, set, refl, sym, ap, ◌∙◌, subst, inl, inr, arith, ◌≤◌, ◌⊎◌, cond, leb, ltb, ◌&&◌, Option, Some, None, ◌-◌, IfSome, Contains}
 use Rattle.std.proofs.lemmas.Bool.{cases_lt, both_ways, false_from_ne_true, cond-true, cond-false, le-leb, lt-ltb, lt-leb, le-ltb, and_from, and_left, and_right}
-use Rattle.mps_base.proofs.Runs.{contains_first, contained_bounds, lowest_fitting_here, lowest_fitting_later, lowest_gap_here, last_gap_short, total-cons, total-le}
-use Rattle.mps_base.specs.Run.{Run, IsAscending, end_of, runs_within, total, gaps, lowest_fitting}
+use Rattle.mps_base.proofs.Runs.{contains_cases, contains_first, contains_later, contained_bounds, lowest_fitting_here, lowest_fitting_later, lowest_gap_here, last_gap_short}
+use Rattle.mps_base.specs.Run.{Run, IsAscending, end_of, runs_within, gaps, lowest_fitting}
 use Rattle.mps_bits.proofs.Ranges.{clear_run_from, clear_run_at}
 use Rattle.mps_bits.proofs.Searches.{lowest_from_is, lowest_from_none}
 use Rattle.mps_bits.specs.Table.{bit, is_clear_run, lowest_clear_run}
@@ -24,6 +24,27 @@ runs_within_later low high r rs (inl below) =
 runs_within_later low high r rs (inr above) =
     cond-false (leb low r.from && ltb r.from high) (r ∷ runs_within low high rs) (runs_within low high rs)
     (and_right (leb low r.from) (ltb r.from high) (le-ltb r.from high above))
+
+-- a run that begins within is one of the runs
+pub contains_within : (low high : ℕ) (rs : List Run) (t : Run) → Contains (runs_within low high rs) t → Contains rs t
+contains_within low high [] t there = there
+contains_within low high (r ∷ rs) t there =
+    let P : List Run → Type 0 = λ xs. Contains xs t in
+    let later = λ (out : (r.from < low) ⊎ (high ≤ r.from)).
+    let all : Contains (r ∷ rs) t =
+    contains_later rs t r (contains_within low high rs t (subst P (runs_within_later low high r rs out) there)) in all
+    in
+    elim (cases_lt r.from low) [
+      | inl before ↦ later (inl before)
+      | inr begun ↦ elim (cases_lt r.from high) [
+        | inl under ↦
+            elim (contains_cases (runs_within low high rs) t r (subst P (runs_within_here low high r rs begun under) there)) [
+              | inl same ↦ subst (λ (x : Run). Contains (r ∷ rs) x) same (contains_first rs r)
+              | inr rest ↦ contains_later rs t r (contains_within low high rs t rest)
+            ]
+        | inr past ↦ later (inr past)
+      ]
+    ]
 
 pub runs_within_ascending : (a end low high b : ℕ) (rs : List Run) → IsAscending a end rs → AreWhole low high rs → low ≤ b → b ≤ high
     → (b ≤ a) ⊎ (b ≡ low) → IsAscending b high (runs_within low high rs)
@@ -129,16 +150,6 @@ gap_fits bits low high n (r ∷ rs) some ascending same =
           (λ i above below. same i above (omega (arith, bounds.2)) ∙ uncovered_below r.from high (r ∷ rs) i following (omega arith)))
           (λ p above below. absurd (omega arith))
     ]
-
--- no gap fits where fewer words are free than are asked for
-pub no_gap_fits : (low high words : ℕ) (rs : List Run) → 0 < words → IsAscending low high rs → high < low + total rs + words
-    → lowest_fitting words (gaps low high rs) ≡ None
-no_gap_fits low high words [] some ascending short = last_gap_short words low high some (omega arith)
-no_gap_fits low high words (r ∷ rs) some ascending short =
-    let rest = total-le (end_of r) high rs ascending.2 in
-    let sum = total-cons r rs in
-    lowest_fitting_later words low r.from (gaps (end_of r) high rs) some (omega (arith, rest, sum, short, ascending.0))
-    ∙ no_gap_fits (end_of r) high words rs some ascending.2 (omega (arith, sum, short, ascending.0))
 
 module _
     (covered begins ends blocks : List Bool) (low high n : ℕ) (sound : AreSoundTables covered begins ends blocks)

@@ -189,6 +189,16 @@ impl Extents {
         self.blocks.next_set_below(low, high)
     }
 
+    /// Where the lowest block or reservation begins among those that begin from `low` on and below `high`.
+    pub fn first_covered(&self, low: usize, high: usize) -> Option<usize>
+        requires { high ≤ self.now.size }
+        ensures value { result ≡ first_run low high self.now.covered }
+        ensures first { IfSome result (λ at. IsFirstWithin low high self.now.covered at) }
+        ensures none { IfNone result (runs_within low high self.now.covered ≡ []) }
+    {
+        self.begins.next_set_below(low, high)
+    }
+
     /// Where the lowest gap of at least `words` words begins among the words from `low` on and below `high`.
     pub fn lowest_gap(&self, low: usize, high: usize, words: usize) -> Option<usize>
         requires nonzero { 0 < words }

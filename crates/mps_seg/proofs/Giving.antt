@@ -9,8 +9,8 @@ use Rattle.mps_seg.specs.declared.entry.Entry.{Entry}
 use Rattle.mps_seg.specs.declared.entry.Entry.TheVariants.{Free, First}
 use Rattle.mps_seg.specs.declared.segs.Segs.TheInside.{Inside}
 use Rattle.mps_seg.specs.Segs.{SegsState, IsEmptyAt}
-use Rattle.mps_seg.specs.Table.{segments_in, IsHeld, IsCounted}
-use Rattle.mps_seg.proofs.CoveredWords.{Noted, counted_after_give}
+use Rattle.mps_seg.specs.Table.{segments_in, IsHeld, AreGapsBounded}
+use Rattle.mps_seg.proofs.BoundedGaps.{Noted, bounded_after_give}
 use Rattle.mps_seg.proofs.Entries.{entry_at_base, entry_is_held, segments_after_give}
 use Rattle.mps_seg.proofs.HeldSegments.{held_after_give}
 use Rattle.mps_seg.proofs.Seen.{seen_by, IsSoundInside}
@@ -22,15 +22,15 @@ grains_read is is' = cc
 -- the segment t at an address has no block and no reservation
 pub record Giving (s : Inside) (base : ℕ) (t : Segment) : Type 0 where
   pub in_table : grain_of base < length s.table.items
-  pub in_free : grain_of base < length s.free
+  pub in_bounds : grain_of base < length s.bounds
   pub is : get_or s.table.items (grain_of base) Free ≡ First t.grains t.pool t.generation t.rank
   pub aligned : base ≡ address_of_grain (grain_of base)
   pub listed : Contains s.arena.held (record { from = grain_of base; count = t.grains })
   pub in_arena : grain_of base + t.grains ≤ s.arena.grains + 1
   pub held : IsHeld (record s.arena { held = without_run (grain_of base) s.arena.held }) (set s.table.items (grain_of base) Free)
       s.extents
-  pub counted : (firsts : List ℕ) → Noted s.firsts.items firsts (record { from = grain_of base; count = t.grains }) 0
-      → IsCounted (without_run (grain_of base) s.arena.held) (s.arena.grains + 1) firsts (set s.free (grain_of base) 0) s.extents.covered
+  pub bounded : (firsts : List ℕ) → Noted s.firsts.items firsts (record { from = grain_of base; count = t.grains }) 0
+      → AreGapsBounded (without_run (grain_of base) s.arena.held) (s.arena.grains + 1) firsts (set s.bounds (grain_of base) 0) s.extents.covered
   pub segments : segments_in (set s.table.items (grain_of base) Free) ≡ without_segment (segments_in s.table.items) base
 
 pub giving : (s : Inside) (seen : SegsState) (base : ℕ) (t : Segment) → IsSoundInside s
@@ -51,7 +51,7 @@ giving s seen base t sound is listed empty =
     let run = subst T (sym sound.0.held) (entry_is_held s.table.items grain t.grains t.pool t.generation t.rank at.is) in
     record {
       in_table = at.within;
-      in_free = omega (arith, at.within, sound.0.size, sound.1.free_size);
+      in_bounds = omega (arith, at.within, sound.0.size, sound.1.bounds_size);
       is = at.is;
       aligned = at.aligned;
       listed = run;
@@ -59,8 +59,8 @@ giving s seen base t sound is listed empty =
       held =
           held_after_give s.arena s.table.items s.extents sound.0 grain t.grains t.pool t.generation t.rank at.is
           (subst S high (subst R low none.empty));
-      counted = λ firsts noted.
-          counted_after_give s.arena.held (s.arena.grains + 1) s.firsts.items firsts s.free s.extents.covered mine sound.1
+      bounded = λ firsts noted.
+          bounded_after_give s.arena.held (s.arena.grains + 1) s.firsts.items firsts s.bounds s.extents.covered mine sound.1
           sound.0.ascending run noted;
       segments =
           segments_after_give s.table.items grain t.grains t.pool t.generation t.rank at.is

@@ -10,7 +10,7 @@ use Rattle.mps_base.specs.declared.names.Rank.{Rank}
 use Rattle.mps_arena.specs.Arena.{ArenaMemory, new_arena}
 use Rattle.mps_extents.specs.Extents.{nothing_covered, ExtentLists, AreWhole}
 use Rattle.mps_seg.specs.Segs.{IsOpenRun, LiesIn}
-use Rattle.mps_seg.specs.Table.{gaps_in_grains, segments_in, IsHeld, segments_of_entries, gaps_at, IsWholeAt}
+use Rattle.mps_seg.specs.Table.{IsClearOf, gaps_in_grains, segments_in, IsHeld, segments_of_entries, gaps_at, IsWholeAt}
 use Rattle.mps_seg.specs.declared.entry.Entry.{Entry}
 use Rattle.mps_seg.specs.declared.entry.Entry.TheVariants.{Free, First}
 use Rattle.mps_extents.proofs.ApartRuns.{contains_put, apart_from_put, apart_each}
@@ -253,11 +253,12 @@ module _ (arena : ArenaMemory) (table : List Entry) (ex : ExtentLists) (held : I
           in
           absurd (omega (arith, none.1))
 
-  -- a run in a gap of a held run of grains can be covered
-  pub gap_is_free : (grain n p g : ℕ) (k : Rank) (words start : ℕ) → get_or table grain Free ≡ First n p g k → 0 < words
+  -- the lowest gap that fits among the words of a held run of grains
+  pub clear_gap : (grain n p g : ℕ) (k : Rank) (words start : ℕ) → get_or table grain Free ≡ First n p g k → 0 < words
       → lowest_fitting words (gaps_in_grains grain n ex.covered) ≡ Some start
-      → IsOpenRun arena.grains (map grains_of_segment (segments_in table)) ex.covered (record { from = start; count = words })
-  gap_is_free grain n p g k words start is some lowest =
+      → (words_of_grain * grain ≤ start) × (start + words ≤ words_of_grain * grain + words_of_grain * n)
+      × IsClearOf (record { from = start; count = words }) ex.covered
+  clear_gap grain n p g k words start is some lowest =
       let low = words_of_grain * grain in
       let high = words_of_grain * grain + words_of_grain * n in
       let r : Run = record { from = start; count = words } in
@@ -265,30 +266,38 @@ module _ (arena : ArenaMemory) (table : List Entry) (ex : ExtentLists) (held : I
       let within =
       runs_within_ascending 0 ex.size low high low ex.covered held.covered_ascending whole.0 (omega arith) (omega arith) (inr refl)
       in
-      let gap = in_lowest_gap low high (runs_within low high ex.covered) words start some within lowest in
-      let apart = λ (t : Run) (there : Contains ex.covered t).
-      let here : (end_of r ≤ t.from) ⊎ (end_of t ≤ r.from) =
-      elim (side_of low high ex.covered t whole.0 there) [
-        | inl before ↦ inr (omega (arith, before, gap.above))
-        | inr rest ↦ elim rest [
-          | inl past ↦ inl (omega (arith, past, gap.below))
-          | inr inside ↦
-              apart_from_put low high (runs_within low high ex.covered) r t gap.ascending
-              (begins_within low high ex.covered t there inside.0 inside.1)
-        ]
-      ]
-      in here
-      in
+      let gap = in_lowest_gap low high (runs_within low high ex.covered) words start some within lowest in (
+        gap.above,
+        gap.below,
+        λ t there. elim (side_of low high ex.covered t whole.0 there) [
+          | inl before ↦ inr (omega (arith, before, gap.above))
+          | inr rest ↦ elim rest [
+            | inl past ↦ inl (omega (arith, past, gap.below))
+            | inr inside ↦
+                apart_from_put low high (runs_within low high ex.covered) r t gap.ascending
+                (begins_within low high ex.covered t there inside.0 inside.1)
+          ]
+        ],
+      )
+
+  -- a run in a gap of a held run of grains can be covered
+  pub gap_is_free : (grain n p g : ℕ) (k : Rank) (words start : ℕ) → get_or table grain Free ≡ First n p g k → 0 < words
+      → lowest_fitting words (gaps_in_grains grain n ex.covered) ≡ Some start
+      → IsOpenRun arena.grains (map grains_of_segment (segments_in table)) ex.covered (record { from = start; count = words })
+  gap_is_free grain n p g k words start is some lowest =
+      let r : Run = record { from = start; count = words } in
+      let whole = whole_at grain (First n p g k) is in
+      let gap = clear_gap grain n p g k words start is some lowest in
       let P : ℕ → Type 0 = λ size. IsAscending 0 size (with_run r ex.covered) in
       record {
         free =
             subst P held.covered_size
-            (put_apart 0 ex.size ex.covered r held.covered_ascending some (omega arith) (omega (arith, gap.below, whole.1)) apart);
+            (put_apart 0 ex.size ex.covered r held.covered_ascending some (omega arith) (omega (arith, gap.1, whole.1)) gap.2);
         inside = record {
           grains = record { from = grain; count = n };
           there = entry_is_held table grain n p g k is;
-          after = gap.above;
-          before = omega (arith, gap.below);
+          after = gap.0;
+          before = omega (arith, gap.1);
         };
       }
 

@@ -1,6 +1,7 @@
 pub mod BlockOver
-pub mod CoveredWords
+pub mod BoundedGaps
 pub mod Covering
+pub mod EmptySegments
 pub mod Entries
 pub mod FirstGrain
 pub mod Found

@@ -1,15 +1,15 @@
 -- What a caller sees of the tables, and what is always true of them.
 use Rattle.std.proofs.Common.{◌+◌}
 use Rattle.mps_seg.specs.Segs.{SegsState}
-use Rattle.mps_seg.specs.Table.{segs_state, IsHeld, IsCounted, IsMarked}
+use Rattle.mps_seg.specs.Table.{segs_state, IsHeld, AreGapsBounded, IsMarked}
 use Rattle.mps_seg.specs.declared.segs.Segs.TheInside.{Inside}
 
 abbrev pub seen_by : Inside → SegsState
 seen_by s = segs_state s.arena s.table.items s.extents s.marks s.condemned s.summaries.items
 
--- the segments are held, counted and marked
+-- the segments are held, their gaps are bounded, and the tables of marks are whole
 abbrev pub IsSoundInside : Inside → Type 0
 IsSoundInside s =
     IsHeld s.arena s.table.items s.extents
-    × IsCounted s.arena.held (s.arena.grains + 1) s.firsts.items s.free s.extents.covered
+    × AreGapsBounded s.arena.held (s.arena.grains + 1) s.firsts.items s.bounds s.extents.covered
     × IsMarked s.arena.grains s.marks s.condemned s.summaries.items

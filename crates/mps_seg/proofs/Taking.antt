@@ -11,8 +11,8 @@ use Rattle.mps_seg.specs.declared.entry.Entry.{Entry}
 use Rattle.mps_seg.specs.declared.entry.Entry.TheVariants.{First}
 use Rattle.mps_seg.specs.declared.segs.Segs.TheInside.{Inside}
 use Rattle.mps_seg.specs.Segs.{placement_for, segments_after, noted_for, IsOpenRun}
-use Rattle.mps_seg.specs.Table.{segments_in, IsHeld, IsCounted}
-use Rattle.mps_seg.proofs.CoveredWords.{Noted, counted_after_take}
+use Rattle.mps_seg.specs.Table.{segments_in, IsHeld, AreGapsBounded}
+use Rattle.mps_seg.proofs.BoundedGaps.{Noted, bounded_after_take}
 use Rattle.mps_seg.proofs.HeldSegments.{new_is_free, segments_after_take, held_after_take}
 use Rattle.mps_seg.proofs.Placements.{taken_at}
 use Rattle.mps_seg.proofs.Seen.{seen_by, IsSoundInside}
@@ -33,14 +33,14 @@ arena_with arena base words = record arena { held = with_run (new_run base words
 -- the arena took the grains at an address for a new segment
 pub record Taking (s : Inside) (base words pool generation : ℕ) (rank : Rank) : Type 0 where
   pub in_table : grain_of base < length s.table.items
-  pub in_free : grain_of base < length s.free
+  pub in_bounds : grain_of base < length s.bounds
   pub at_most : grain_of base < 2 ^ 32
   pub in_firsts : grain_of base + grains_needed words ≤ length s.firsts.items
   pub held_is : held_after (placement_in s.arena (grains_needed words)) s.arena.held ≡ with_run (new_run base words) s.arena.held
   pub held : IsHeld (arena_with s.arena base words) (set s.table.items (grain_of base) (new_entry words pool generation rank)) s.extents
-  pub counted : (firsts : List ℕ) → Noted s.firsts.items firsts (new_run base words) (grain_of base)
-      → IsCounted (with_run (new_run base words) s.arena.held) (s.arena.grains + 1) firsts
-      (set s.free (grain_of base) (words_of_grain * grains_needed words)) s.extents.covered
+  pub bounded : (firsts : List ℕ) → Noted s.firsts.items firsts (new_run base words) (grain_of base)
+      → AreGapsBounded (with_run (new_run base words) s.arena.held) (s.arena.grains + 1) firsts
+      (set s.bounds (grain_of base) (words_of_grain * grains_needed words)) s.extents.covered
   pub segments :
       segments_in (set s.table.items (grain_of base) (new_entry words pool generation rank))
       ≡ segments_after (placement_for (seen_by s) words) pool generation rank (segments_in s.table.items)
@@ -81,13 +81,13 @@ taking s base words pool generation rank sound nonzero answer =
     in
     record {
       in_table = omega (arith, gap.below, some, sound.0.size);
-      in_free = omega (arith, gap.below, some, sound.1.free_size);
+      in_bounds = omega (arith, gap.below, some, sound.1.bounds_size);
       at_most = omega (arith, gap.below, some, sound.0.at_most);
       in_firsts = omega (arith, gap.below, sound.1.firsts_size);
       held_is = ap (λ (p : Placement). held_after p arena.held) placement_is;
       held = held_after_take arena s.table.items s.extents sound.0 need grain pool generation rank some lowest;
-      counted = λ firsts noted.
-          counted_after_take arena s.table.items s.extents s.firsts.items firsts s.free need grain sound.0 sound.1 some lowest
+      bounded = λ firsts noted.
+          bounded_after_take arena s.table.items s.extents s.firsts.items firsts s.bounds need grain sound.0 sound.1 some lowest
           noted;
       segments =
           segments_after_take arena s.table.items s.extents sound.0 need grain pool generation rank some lowest

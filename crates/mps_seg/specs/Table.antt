@@ -1,7 +1,7 @@
 -- How the tables by grain represent the segments.
-use Rattle.std.specs.Prelude.{ℕ, suc, ◌==◌, ◌&&◌, if◌then◌else◌, ◌+◌, ◌-◌, ◌*◌, ◌≤◌, ◌<◌, ◌≡◌, Bool, Option, Some, None, List, [], ◌∷◌, length, get_or, slice_set, map, Contains}
+use Rattle.std.specs.Prelude.{ℕ, suc, ◌==◌, ◌&&◌, if◌then◌else◌, ◌+◌, ◌-◌, ◌*◌, ◌^◌, ◌≤◌, ◌<◌, ◌≡◌, ◌⊎◌, Bool, false, Option, Some, None, List, [], ◌∷◌, length, get_or, slice_set, map, Contains}
 use Rattle.mps_base.specs.declared.names.Rank.{Rank}
-use Rattle.mps_base.specs.Run.{Run, end_of, gaps, total, IsAscending, runs_within}
+use Rattle.mps_base.specs.Run.{Run, end_of, gaps, IsAscending, runs_within}
 use Rattle.mps_base.specs.Address.{Address, Grain, words_of_grain, grain_of, address_of_grain, max_grains}
 use Rattle.mps_base.specs.Segment.{Segment, grains_of_segment, same_rank}
 use Rattle.mps_arena.specs.Arena.{ArenaMemory}
@@ -70,16 +70,21 @@ or_zero (Some n) = n
 abbrev pub first_over : List Run → ℕ → ℕ
 first_over held grain = or_zero (run_over held grain)
 
--- how many words of a run of grains are covered
-abbrev pub covered_words_in : Run → List Run → ℕ
-covered_words_in grains covered = total (runs_within (words_of_grain * grains.from) (words_of_grain * end_of grains) covered)
+-- a run has no number in common with any of these runs
+abbrev pub IsClearOf : Run → List Run → Type 0
+IsClearOf r others = (t : Run) → Contains others t → (end_of r ≤ t.from) ⊎ (end_of t ≤ r.from)
 
--- the tables by grain have, for each grain, the first grain of the run in which it lies, and for each run how many of its words are free
-pub record IsCounted (held : List Run) (size : ℕ) (firsts free : List ℕ) (covered : List Run) : Type 0 where
+-- a run of words lies in a run of grains
+abbrev pub LiesInGrains : Run → (grains : Run) → Type 0
+LiesInGrains words grains = (words_of_grain * grains.from ≤ words.from) × (end_of words ≤ words_of_grain * end_of grains)
+
+-- the tables by grain have, for each grain, the first grain of the run in which it lies, and for each run a number than which no
+-- gap among its words is longer
+pub record AreGapsBounded (held : List Run) (size : ℕ) (firsts bounds : List ℕ) (covered : List Run) : Type 0 where
   pub firsts_size : length firsts ≡ size
-  pub free_size : length free ≡ size
+  pub bounds_size : length bounds ≡ size
   pub firsts_are : (grain : ℕ) → grain < size → get_or firsts grain 0 ≡ first_over held grain
-  pub free_is : (r : Run) → Contains held r → get_or free r.from 0 + covered_words_in r covered ≡ words_of_grain * r.count
+  pub bounded : (r gap : Run) → Contains held r → LiesInGrains gap r → IsClearOf gap covered → gap.count ≤ get_or bounds r.from 0
 
 -- the runs that begin in the words of n grains from a grain on, and the gaps between them
 abbrev pub runs_in_grains : (grain grains : ℕ) → List Run → List Run
@@ -95,6 +100,11 @@ gaps_at grain Free pool rank extents = []
 gaps_at grain (First grains of generation at) pool rank extents =
     if of == pool && same_rank at rank then gaps_in_grains grain grains extents.covered else []
 
+-- whether a segment begins at a grain with this entry, of the pool and the rank
+abbrev pub is_open_entry : (pool : ℕ) → Rank → Entry → Bool
+is_open_entry pool rank Free = false
+is_open_entry pool rank (First grains of generation at) = of == pool && same_rank at rank
+
 -- no extent has words on both sides of a bound of the segment that begins at a grain, and the segment lies in the arena
 abbrev pub IsWholeAt : (grain : ℕ) → Entry → ExtentLists → Type 0
 IsWholeAt grain Free extents = Unit {0}
@@ -102,22 +112,14 @@ IsWholeAt grain (First grains pool generation rank) extents =
     AreWhole (words_of_grain * grain) (words_of_grain * grain + words_of_grain * grains) extents.covered
     × (words_of_grain * grain + words_of_grain * grains ≤ extents.size)
 
--- how many words of the segment are free that begins at a grain
-abbrev pub IsFreeAt : (grain : ℕ) → Entry → (free : ℕ) → ExtentLists → Type 0
-IsFreeAt grain Free free extents = Unit {0}
-IsFreeAt grain (First grains pool generation rank) free extents =
-    free + total (runs_in_grains grain grains extents.covered) ≡ words_of_grain * grains
-
--- the first grain of the segment in which an address lies, and how many of its words are free
+-- the first grain of the segment in which an address lies
 abbrev pub first_at : (firsts : List ℕ) → Address → Grain
 first_at firsts at = get_or firsts (grain_of at) 0
 
-abbrev pub free_in : (firsts free : List ℕ) → Address → ℕ
-free_in firsts free at = get_or free (first_at firsts at) 0
+-- no gap is longer than this: an arena has fewer words
+abbrev pub any_gap : ℕ
+any_gap = 2 ^ 32 - 1
 
--- n words of that segment are covered, or free again
-abbrev pub with_fewer_free : (firsts free : List ℕ) → Address → (words : ℕ) → List ℕ
-with_fewer_free firsts free at words = slice_set free (first_at firsts at) (free_in firsts free at - words)
-
-abbrev pub with_more_free : (firsts free : List ℕ) → Address → (words : ℕ) → List ℕ
-with_more_free firsts free at words = slice_set free (first_at firsts at) (free_in firsts free at + words)
+-- words of that segment are free again, and may be a part of a longer gap
+abbrev pub with_any_gap : (firsts bounds : List ℕ) → Address → List ℕ
+with_any_gap firsts bounds at = slice_set bounds (first_at firsts at) any_gap

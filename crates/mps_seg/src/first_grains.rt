@@ -1,9 +1,9 @@
-// The table that has, for each grain, the first grain of the segment in which it lies, and how many words are free in that segment.
+// The table that has, for each grain, the first grain of the segment in which it lies, and a bound of the gaps of that segment.
 #![tactic(auto)]
 
-ghost use Rattle.std.specs.Prelude.{◌≡◌, ℕ, ◌+◌, ◌^◌, ◌<◌, ◌≤◌, ◌⊎◌, length, get_or};
+ghost use Rattle.std.specs.Prelude.{◌≡◌, ℕ, ◌+◌, ◌<◌, ◌≤◌, ◌⊎◌, length, get_or};
 ghost use Rattle.mps_base.specs.Address.{grain_of};
-ghost use Rattle.mps_seg.specs.Table.{first_at, free_in, with_fewer_free, with_more_free};
+ghost use Rattle.mps_seg.specs.Table.{first_at, with_any_gap};
 
 use mps_base::Addr;
 use mps_free::FreeWords;
@@ -20,26 +20,11 @@ pub(crate) fn note_first(firsts: &mut [u32], grain: usize, grains: usize, first:
     }
 }
 
-/// Of the segment in which an address lies `words` words fewer are free.
-pub(crate) fn use_free(firsts: &[u32], free: &mut FreeWords, at: Addr, words: u32)
+/// From now on the segment in which an address lies may have a gap of any length.
+pub(crate) fn allow_any_gap(firsts: &[u32], bounds: &mut FreeWords, at: Addr)
     requires in_firsts { grain_of at.0 < length firsts.now }
-    requires in_free { first_at firsts.now at.0 < length free.old }
-    requires enough { words ≤ free_in firsts.now free.old at.0 }
-    ensures { free.new ≡ with_fewer_free firsts.now free.old at.0 words }
+    requires in_bounds { first_at firsts.now at.0 < length bounds.old }
+    ensures { bounds.new ≡ with_any_gap firsts.now bounds.old at.0 }
 {
-    let first = firsts[at.grain()] as usize;
-    let before = free.at(first);
-    free.set(first, before - words);
-}
-
-/// Of the segment in which an address lies `words` words more are free.
-pub(crate) fn return_free(firsts: &[u32], free: &mut FreeWords, at: Addr, words: u32)
-    requires in_firsts { grain_of at.0 < length firsts.now }
-    requires in_free { first_at firsts.now at.0 < length free.old }
-    requires fits { free_in firsts.now free.old at.0 + words < 2 ^ 32 }
-    ensures { free.new ≡ with_more_free firsts.now free.old at.0 words }
-{
-    let first = firsts[at.grain()] as usize;
-    let before = free.at(first);
-    free.set(first, before + words);
+    bounds.set(firsts[at.grain()] as usize, u32::MAX);
 }

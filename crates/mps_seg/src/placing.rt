@@ -32,7 +32,7 @@ impl Segs {
         ensures moves { trail.new ≡ moves_after (placement_in_gaps self.old pool rank words) pool 0 trail.old }
         ensures free { IfOk result (λ at. CanCover self.new (record { from = word_of at.0; count = words })) }
     {
-        match self.lowest_gap(pool, rank, words) {
+        match self.note_lowest_gap(pool, rank, words) {
             Some(at) => Ok(at),
             None => self.take(trail, pool, words, 0, rank),
         }

@@ -19,7 +19,7 @@ mod words;
 
 use crate::SegmentInfo;
 use crate::entry::Entry;
-use crate::first_grains::{note_first, return_free, use_free};
+use crate::first_grains::{allow_any_gap, note_first};
 pub use freeing::Block;
 use mps_arena::Arena;
 use mps_base::{Addr, BYTES_OF_GRAIN, BYTES_OF_WORD, Move, Rank, Refusal, Trail, WORDS_OF_GRAIN};
@@ -36,7 +36,8 @@ pub struct Segs {
     arena: Arena,
     table: Vec<Entry>,
     firsts: Vec<u32>,
-    free: FreeWords,
+    // For the first grain of each segment a number than which no gap of the segment is longer.
+    bounds: FreeWords,
     extents: Extents,
     marks: Marks,
     condemned: Bits,
@@ -46,14 +47,14 @@ pub struct Segs {
 impl Model for Segs {
     ghost use Rattle.mps_seg.specs.Segs.{SegsState};
     ghost use Rattle.std.specs.Prelude.{◌+◌};
-    ghost use Rattle.mps_seg.specs.Table.{segs_state, IsHeld, IsCounted, IsMarked};
+    ghost use Rattle.mps_seg.specs.Table.{segs_state, IsHeld, AreGapsBounded, IsMarked};
 
     ghost Value = { SegsState };
 
     ghost view = { λ s. segs_state s.arena s.table.items s.extents s.marks s.condemned s.summaries.items };
 
     ghost invariant = { λ s. IsHeld s.arena s.table.items s.extents
-        × IsCounted s.arena.held (s.arena.grains + 1) s.firsts.items s.free s.extents.covered
+        × AreGapsBounded s.arena.held (s.arena.grains + 1) s.firsts.items s.bounds s.extents.covered
         × IsMarked s.arena.grains s.marks s.condemned s.summaries.items };
 }
 
@@ -70,7 +71,7 @@ impl Segs {
             firsts: vec![in alloc; 0u32; size]?,
             summaries: vec![in alloc; 0u64; size]?,
             condemned: Bits::new(alloc, size)?,
-            free: FreeWords::new(alloc, size)?,
+            bounds: FreeWords::new(alloc, size)?,
             arena: Arena::new(alloc, grains, limit)?,
             extents: Extents::new(alloc, WORDS_OF_GRAIN * size)?,
             marks: Marks::new(alloc, size)?,
@@ -110,7 +111,7 @@ impl Segs {
             generation,
             rank,
         };
-        self.free.set(first, WORDS_OF_GRAIN as u32 * grains);
+        self.bounds.set(first, WORDS_OF_GRAIN as u32 * grains);
         self.condemned.clear(first);
         self.summaries[first] = 0;
         note_first(&mut self.firsts, first, grains as usize, first as u32);
@@ -136,7 +137,7 @@ impl Segs {
         };
         self.arena.give_run(base, grains);
         self.table[grain] = Entry::Free;
-        self.free.set(grain, 0);
+        self.bounds.set(grain, 0);
         note_first(&mut self.firsts, grain, grains as usize, 0);
         trail.push(Move::Unseg { base });
     }
@@ -148,7 +149,9 @@ impl Segs {
         ensures complete { (s : Segment) → Contains self.now.segments s → s.base ≡ base.0 → result ≡ false → IsUsed self.now s }
     {
         let SegmentInfo { grains, .. } = self.segment(base);
-        self.free.at(base.grain()) as usize == WORDS_OF_GRAIN * grains as usize
+        let low = base.word();
+        let high = low + WORDS_OF_GRAIN * grains as usize;
+        self.extents.first_covered(low, high).is_none()
     }
 
     /// Covers `words` words from `at` on, which no block and no reservation covers, by a reservation.
@@ -162,7 +165,6 @@ impl Segs {
     {
         self.extents
             .cover((at.0 / BYTES_OF_WORD) as usize, words as usize);
-        use_free(&self.firsts, &mut self.free, at, words);
     }
 
     /// The lowest block of the segment at `base` that begins at or above `from`, an address in that segment.
@@ -218,7 +220,7 @@ impl Segs {
     {
         self.extents
             .uncover((at.0 / BYTES_OF_WORD) as usize, words as usize);
-        return_free(&self.firsts, &mut self.free, at, words);
+        allow_any_gap(&self.firsts, &mut self.bounds, at);
     }
 
     /// Covers `words` words from `at` on, which no block and no reservation covers, by a block.
@@ -232,7 +234,6 @@ impl Segs {
     {
         self.extents
             .commit_block((at.0 / BYTES_OF_WORD) as usize, words as usize);
-        use_free(&self.firsts, &mut self.free, at, words);
     }
 
     /// The reservation of `words` words that begins at `at` becomes a block. The words stay covered.
@@ -260,7 +261,7 @@ impl Segs {
         self.extents
             .drop_block((at.0 / BYTES_OF_WORD) as usize, words as usize);
         self.marks.clear((at.0 / BYTES_OF_WORD) as usize);
-        return_free(&self.firsts, &mut self.free, at, words);
+        allow_any_gap(&self.firsts, &mut self.bounds, at);
     }
 
     /// How many words the block has that begins at `at`.

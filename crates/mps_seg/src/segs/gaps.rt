@@ -1,21 +1,23 @@
 // The lowest gap that fits.
 #![tactic(auto)]
 
-ghost use Rattle.std.specs.Prelude.{◌≡◌, ◌+◌, ◌^◌, ◌<◌, ◌≤◌, IfSome, option_map};
+ghost use Rattle.std.specs.Prelude.{◌≡◌, ℕ, ◌+◌, ◌^◌, ◌<◌, ◌≤◌, List, IfSome, map, option_map};
 ghost use Rattle.mps_base.specs.Run.{IsAscending, lowest_fitting};
 ghost use Rattle.mps_base.specs.Address.{word_of, max_grains};
-ghost use Rattle.mps_base.specs.Segment.{same_rank, gaps_of};
-ghost use Rattle.mps_seg.specs.Table.{IsWholeAt, gaps_at};
-ghost use Rattle.mps_seg.specs.Segs.{at_word, CanCover, LiesInOpen};
+ghost use Rattle.mps_base.specs.Segment.{same_rank, gaps_of, grains_of_segment};
+ghost use Rattle.mps_arena.specs.Arena.{ArenaMemory};
+ghost use Rattle.mps_seg.specs.Table.{segments_in, is_open_entry, IsHeld, AreGapsBounded, IsWholeAt, gaps_at};
+ghost use Rattle.mps_seg.specs.Segs.{at_word, CanCover, IsOpenRun, LiesInOpen};
 
 use super::Segs;
 use crate::entry::Entry;
 use mps_base::{Addr, BYTES_OF_WORD, Rank, WORDS_OF_GRAIN};
 use mps_extents::Extents;
+use mps_free::FreeWords;
 
 impl Segs {
-    /// The lowest gap of at least `words` words in the segments of a pool and a rank. Segments in which fewer words are free are passed
-    /// over, 32 grains a step if that holds of all that begin there.
+    /// The lowest gap of at least `words` words in the segments of a pool and a rank. Segments whose gaps are known to be shorter are
+    /// passed over, 32 grains a step if that holds of all that begin there.
     pub fn lowest_gap(&self, pool: u32, rank: Rank, words: u32) -> Option<Addr>
         requires { 0 < words }
         ensures value { result ≡ option_map at_word (lowest_fitting words (gaps_of self.now.covered self.now.segments pool rank)) }
@@ -23,7 +25,7 @@ impl Segs {
         ensures in_segment { IfSome result (λ at. LiesInOpen self.now.segments pool rank at.0) }
     {
         let mut from = 0;
-        while let Some(grain) = self.free.lowest_with(words, from) {
+        while let Some(grain) = self.bounds.lowest_with(words, from) {
             let entry = self.table[grain];
             if let Some(word) = gap_after(&self.extents, grain, entry, pool, rank, words) {
                 return Some(Addr(BYTES_OF_WORD * word as u64));
@@ -31,6 +33,73 @@ impl Segs {
             from = grain + 1;
         }
         None
+    }
+
+    /// The same. Besides, from now on it is known of each segment that was searched in vain that its gaps are shorter.
+    pub(crate) fn note_lowest_gap(&mut self, pool: u32, rank: Rank, words: u32) -> Option<Addr>
+        requires { 0 < words }
+        ensures value { result ≡ option_map at_word (lowest_fitting words (gaps_of self.old.covered self.old.segments pool rank)) }
+        ensures free { IfSome result (λ at. CanCover self.old (record { from = word_of at.0; count = words })) }
+        ensures unchanged { self.new ≡ self.old }
+    {
+        let word = search(
+            &self.table,
+            &self.extents,
+            &mut self.bounds,
+            pool,
+            rank,
+            words,
+        )?;
+        Some(Addr(BYTES_OF_WORD * word as u64))
+    }
+}
+
+/// Where the lowest gap of at least `words` words begins in the segments of a pool and a rank. The bound of each such segment that is
+/// searched in vain becomes `words - 1`.
+fn search(
+    table: &[Entry],
+    extents: &Extents,
+    bounds: &mut FreeWords,
+    pool: u32,
+    rank: Rank,
+    words: u32,
+) -> Option<usize>
+    requires nonzero { 0 < words }
+    requires sound { (arena : ArenaMemory) × (firsts : List ℕ) × IsHeld arena table.now extents.now
+        × AreGapsBounded arena.held (arena.grains + 1) firsts bounds.old extents.now.covered }
+    ensures value { result ≡ lowest_fitting words (gaps_of extents.now.covered (segments_in table.now) pool rank) }
+    ensures free { IfSome result (λ word. (arena : ArenaMemory) → IsHeld arena table.now extents.now
+        → IsOpenRun arena.grains (map grains_of_segment (segments_in table.now)) extents.now.covered (record { from = word; count = words })) }
+    ensures at_most { IfSome result (λ word. word < 2 ^ 32) }
+    ensures bounded { (arena : ArenaMemory) (firsts : List ℕ) → IsHeld arena table.now extents.now
+        → AreGapsBounded arena.held (arena.grains + 1) firsts bounds.old extents.now.covered
+        → AreGapsBounded arena.held (arena.grains + 1) firsts bounds.new extents.now.covered }
+{
+    let mut from = 0;
+    while let Some(grain) = bounds.lowest_with(words, from) {
+        let entry = table[grain];
+        if let Some(word) = gap_after(extents, grain, entry, pool, rank, words) {
+            return Some(word);
+        }
+        if is_open(entry, pool, rank) {
+            bounds.set(grain, words - 1);
+        }
+        from = grain + 1;
+    }
+    None
+}
+
+/// Whether a segment of the pool and the rank begins at a grain with this entry.
+fn is_open(entry: Entry, pool: u32, rank: Rank) -> bool
+    ensures { result ≡ is_open_entry pool rank entry }
+{
+    match entry {
+        Entry::First {
+            pool: of,
+            rank: at,
+            ..
+        } => of == pool && is_same_rank(at, rank),
+        Entry::Free => false,
     }
 }
 

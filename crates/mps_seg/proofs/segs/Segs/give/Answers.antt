@@ -5,7 +5,7 @@ use Rattle.mps_base.specs.Segment.{Segment, without_segment}
 use Rattle.mps_seg.specs.declared.entry.Entry.TheVariants.{Free, First}
 use Rattle.mps_seg.specs.Segs.{SegsState}
 use Rattle.mps_seg.proofs.Seen.{seen_by}
-use Rattle.mps_seg.proofs.CoveredWords.{Noted}
+use Rattle.mps_seg.proofs.BoundedGaps.{Noted}
 use Rattle.mps_seg.proofs.Giving.{giving, grains_read}
 use Rattle.mps_seg.proofs.segs.Segs.give.Goals as goal
 
@@ -51,7 +51,7 @@ pub set-requires : goal.set-requires
 set-requires c =
     let empty = c.requires.empty in
     let facts = giving c.self.inside c.args.self.now c.args.base.0 empty.0 c.self.invariant c.self.view_is empty.1 empty.2 in
-    omega (arith, facts.in_free)
+    omega (arith, facts.in_bounds)
 
 pub note_first-requires : goal.note_first-requires
 note_first-requires c =
@@ -78,7 +78,7 @@ invariant_of-self c =
           let out' = subst (λ (n : ℕ). (g < grain) ⊎ (grain + n ≤ g)) (sym grains) out in
           c.note_first.ensures.unchanged g out' ∙ ap (λ (fs : List ℕ). get_or fs g 0) c.deref_mut.ensures.value;
     } in
-    rw (c.give_run.ensures, now, c.set.ensures) (facts.held, facts.counted c.note_first.new.firsts noted, c.self.invariant.2)
+    rw (c.give_run.ensures, now, c.set.ensures) (facts.held, facts.bounded c.note_first.new.firsts noted, c.self.invariant.2)
 
 pub returns-clause-state : goal.returns-clause-state
 returns-clause-state c =

@@ -23,7 +23,7 @@ gap_after-requires-clause-whole c =
     let s = c.self.inside in
     let lowest = c.in-Some.ensures.sound in
     let within : c.in-Some.grain < length s.table.items =
-    omega (arith, lowest.below, c.self.invariant.0.size, c.self.invariant.1.free_size)
+    omega (arith, lowest.below, c.self.invariant.0.size, c.self.invariant.1.bounds_size)
     in
     let read = entry_read s.table.items c.in-Some.grain c.index-entry.result.now within c.index-entry.ensures in
     whole_at s.arena s.table.items s.extents c.self.invariant.0 c.in-Some.grain c.index-entry.result.now (sym read)
@@ -34,7 +34,7 @@ returns-in-Some-gap_after-clause-value c =
     let table = s.table.items in
     let grain = c.in-Some.grain in
     let lowest = c.in-Some.ensures.sound in
-    let within : grain < length table = omega (arith, lowest.below, c.self.invariant.0.size, c.self.invariant.1.free_size) in
+    let within : grain < length table = omega (arith, lowest.below, c.self.invariant.0.size, c.self.invariant.1.bounds_size) in
     let read = entry_read table grain c.index-entry.result.now within c.index-entry.ensures in
     let P : Entry → Type 0 = λ e.
     Some c.in-Some-gap_after.word ≡ lowest_fitting c.args.words (gaps_at grain e c.args.pool c.args.rank s.extents)
@@ -45,7 +45,7 @@ returns-in-Some-gap_after-clause-value c =
     (later_gaps s.extents.covered c.args.pool c.args.rank (suc grain) (drop (suc grain) table)) (sym here)
     in
     let passed =
-    gaps_passed s.arena table s.extents s.firsts.items s.free c.self.invariant.0 c.self.invariant.1 c.args.pool c.args.rank c.args.words
+    gaps_passed s.arena table s.extents s.firsts.items s.bounds c.self.invariant.0 c.self.invariant.1 c.args.pool c.args.rank c.args.words
     c.requires c.loop-grain.from grain lowest.above (omega (arith, within)) lowest.lowest
     in
     ap (λ (o : Option ℕ). option_map at_word o)
@@ -63,7 +63,7 @@ returns-in-Some-gap_after-clause-free c =
     let grain = c.in-Some.grain in
     let word = c.in-Some-gap_after.word in
     let within : grain < length s.table.items =
-    omega (arith, c.in-Some.ensures.sound.below, c.self.invariant.0.size, c.self.invariant.1.free_size)
+    omega (arith, c.in-Some.ensures.sound.below, c.self.invariant.0.size, c.self.invariant.1.bounds_size)
     in
     let read = entry_read s.table.items grain c.index-entry.result.now within c.index-entry.ensures in
     let shifted : word_of (bytes_of_word * word) ≡ word = omega arith in
@@ -78,7 +78,7 @@ returns-in-Some-gap_after-clause-in_segment c =
     let s = c.self.inside in
     let grain = c.in-Some.grain in
     let within : grain < length s.table.items =
-    omega (arith, c.in-Some.ensures.sound.below, c.self.invariant.0.size, c.self.invariant.1.free_size)
+    omega (arith, c.in-Some.ensures.sound.below, c.self.invariant.0.size, c.self.invariant.1.bounds_size)
     in
     let read = entry_read s.table.items grain c.index-entry.result.now within c.index-entry.ensures in
     let R : SegsState → Type 0 = λ st. LiesInOpen st.segments c.args.pool c.args.rank (bytes_of_word * c.in-Some-gap_after.word) in
@@ -92,12 +92,12 @@ loop-grain-preserved c =
     let table = s.table.items in
     let grain = c.in-Some.grain in
     let lowest = c.in-Some.ensures.sound in
-    let within : grain < length table = omega (arith, lowest.below, c.self.invariant.0.size, c.self.invariant.1.free_size) in
+    let within : grain < length table = omega (arith, lowest.below, c.self.invariant.0.size, c.self.invariant.1.bounds_size) in
     let read = entry_read table grain c.index-entry.result.now within c.index-entry.ensures in
     let P : Entry → Type 0 = λ e. None ≡ lowest_fitting c.args.words (gaps_at grain e c.args.pool c.args.rank s.extents) in
     let here = subst P read c.in_default-gap_after.ensures.value in
     let passed =
-    gaps_passed s.arena table s.extents s.firsts.items s.free c.self.invariant.0 c.self.invariant.1 c.args.pool c.args.rank c.args.words
+    gaps_passed s.arena table s.extents s.firsts.items s.bounds c.self.invariant.0 c.self.invariant.1 c.args.pool c.args.rank c.args.words
     c.requires c.loop-grain.from grain lowest.above (omega (arith, within)) lowest.lowest
     in
     let R : ℕ → Type 0 =
@@ -118,9 +118,9 @@ returns-clause-value c =
     let s = c.self.inside in
     let table = s.table.items in
     let size = length table in
-    let same : length s.free ≡ size = omega (arith, c.self.invariant.0.size, c.self.invariant.1.free_size) in
+    let same : length s.bounds ≡ size = omega (arith, c.self.invariant.0.size, c.self.invariant.1.bounds_size) in
     let passed =
-    gaps_passed s.arena table s.extents s.firsts.items s.free c.self.invariant.0 c.self.invariant.1 c.args.pool c.args.rank c.args.words
+    gaps_passed s.arena table s.extents s.firsts.items s.bounds c.self.invariant.0 c.self.invariant.1 c.args.pool c.args.rank c.args.words
     c.requires c.loop-grain.from size c.loop-grain.invariant.0 (omega arith)
     (λ i above below inside. c.in_default.ensures.complete i above (omega (arith, same)) inside)
     in

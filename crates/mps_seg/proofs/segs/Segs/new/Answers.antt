@@ -7,8 +7,8 @@ use Rattle.mps_base.specs.Address.{words_of_grain}
 use Rattle.mps_marks.specs.Marks.{MarkTables, no_marks}
 use Rattle.mps_seg.proofs.Marked.{new_is_marked}
 use Rattle.mps_seg.specs.Segs.{new_segments}
-use Rattle.mps_seg.specs.Table.{segs_state, IsHeld, IsCounted, IsMarked}
-use Rattle.mps_seg.proofs.CoveredWords.{new_is_counted}
+use Rattle.mps_seg.specs.Table.{segs_state, IsHeld, AreGapsBounded, IsMarked}
+use Rattle.mps_seg.proofs.BoundedGaps.{new_is_bounded}
 use Rattle.mps_seg.proofs.Entries.{new_segments_in}
 use Rattle.mps_seg.proofs.HeldSegments.{new_is_held}
 use Rattle.mps_base.specs.Segment.{Segment}
@@ -23,11 +23,11 @@ invariant_of-result c =
     let n = c.args.grains + 1 in
     let firsts : c.in_ok-vec-2.field-0.items ≡ replicate n 0 = c.in_ok-vec-2.ensures.items_if_clones_equal (λ y h. h) in
     let C : ArenaMemory → Type 0 =
-    λ a. IsCounted a.held (a.grains + 1) c.in_ok-vec-2.field-0.items c.in_ok-new-2.field-0 c.in_ok-new-4.field-0.covered
+    λ a. AreGapsBounded a.held (a.grains + 1) c.in_ok-vec-2.field-0.items c.in_ok-new-2.field-0 c.in_ok-new-4.field-0.covered
     in
-    let D : ExtentLists → Type 0 = λ e. IsCounted [] n c.in_ok-vec-2.field-0.items c.in_ok-new-2.field-0 e.covered in
-    let E : List ℕ → Type 0 = λ fs. IsCounted [] n fs c.in_ok-new-2.field-0 [] in
-    let F : List ℕ → Type 0 = λ cs. IsCounted [] n (replicate n 0) cs [] in
+    let D : ExtentLists → Type 0 = λ e. AreGapsBounded [] n c.in_ok-vec-2.field-0.items c.in_ok-new-2.field-0 e.covered in
+    let E : List ℕ → Type 0 = λ fs. AreGapsBounded [] n fs c.in_ok-new-2.field-0 [] in
+    let F : List ℕ → Type 0 = λ cs. AreGapsBounded [] n (replicate n 0) cs [] in
     let summaries : c.in_ok-vec-3.field-0.items ≡ replicate n 0 = c.in_ok-vec-3.ensures.items_if_clones_equal (λ y h. h) in
     let marked : IsMarked c.in_ok-new-3.field-0.grains c.in_ok-new-5.field-0 c.in_ok-new.field-0 c.in_ok-vec-3.field-0.items =
     rw (c.in_ok-new-3.ensures, c.in_ok-new-5.ensures, c.in_ok-new.ensures, summaries) (new_is_marked c.args.grains)
@@ -35,7 +35,7 @@ invariant_of-result c =
       subst P (sym c.in_ok-new-3.ensures)
           (subst Q (sym entries) (subst R (sym c.in_ok-new-4.ensures) (new_is_held c.args.grains c.args.limit c.requires.at_most))),
       subst C (sym c.in_ok-new-3.ensures)
-          (subst D (sym c.in_ok-new-4.ensures) (subst E (sym firsts) (subst F (sym c.in_ok-new-2.ensures) (new_is_counted n)))),
+          (subst D (sym c.in_ok-new-4.ensures) (subst E (sym firsts) (subst F (sym c.in_ok-new-2.ensures) (new_is_bounded n)))),
       marked,
     )
 

@@ -6,7 +6,7 @@ use Rattle.mps_base.specs.Segment.{Segment, grains_of_segment}
 use Rattle.mps_arena.specs.Arena.{ArenaMemory, placement_in}
 use Rattle.mps_seg.specs.Segs.{SegsState, IsOpenRun, placement_for, segments_after, noted_for}
 use Rattle.mps_seg.specs.Table.{segments_in}
-use Rattle.mps_seg.proofs.CoveredWords.{Noted}
+use Rattle.mps_seg.proofs.BoundedGaps.{Noted}
 use Rattle.mps_seg.proofs.Placements.{refused_held}
 use Rattle.mps_seg.proofs.Covering.{run_at}
 use Rattle.mps_seg.proofs.Marked.{marked_taken}
@@ -30,7 +30,7 @@ set-requires c =
     let facts =
     taking s c.in_ok-base.base a.words a.pool a.generation a.rank c.self.invariant c.requires.nonzero c.in_ok-base.ensures.value
     in
-    omega (arith, facts.in_free)
+    omega (arith, facts.in_bounds)
 
 pub clear-requires : goal.clear-requires
 clear-requires c =
@@ -94,7 +94,7 @@ invariant_of-self-2 c =
     in
     rw (c.take_run.ensures.state, facts.held_is, now, c.set.ensures, c.clear.ensures.state) (
       facts.held,
-      facts.counted
+      facts.bounded
           c.note_first.new.firsts noted,
       marked,
     )
