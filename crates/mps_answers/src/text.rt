@@ -73,6 +73,9 @@ fn put_refusal(out: &mut [u8], at: usize, why: &Refusal) -> usize
         Refusal::Running => put(b"17", out, at),
         Refusal::BelowCommitted => put(b"18", out, at),
         Refusal::OutOfMemory => put(b"19", out, at),
+        Refusal::NotLinked => put(b"20", out, at),
+        Refusal::OldTwice => put(b"21", out, at),
+        Refusal::NotParked => put(b"22", out, at),
     }
 }
 

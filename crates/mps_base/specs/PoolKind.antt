@@ -38,6 +38,10 @@ mfs_number = 6
 abbrev pub mvff_number : ℕ
 mvff_number = 7
 
+-- a manual pool that frees its blocks by frames
+abbrev pub snc_number : ℕ
+snc_number = 8
+
 -- the number of an automatic pool's kind
 abbrev pub kind_number : Kind → ℕ
 kind_number Amc = amc_number

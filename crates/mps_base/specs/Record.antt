@@ -1,7 +1,7 @@
 -- Records of a log, and their bytes. A log is a header and then records without gaps. All numbers stand with their lowest
 -- byte first. A record is its code (2 bytes), the number of its fields (2 bytes), the line of the script whose command it
 -- belongs to (4 bytes, counted from 1), and its fields (8 bytes each).
-use Rattle.std.specs.Prelude.{◌≡◌, ℕ, List, [], ◌∷◌, ◌++◌, length, codes, refl}
+use Rattle.std.specs.Prelude.{◌≡◌, ℕ, ◌+◌, ◌*◌, List, [], ◌∷◌, ◌++◌, length, codes, refl}
 use Rattle.std.specs.Int.{bytes_low_first}
 use Rattle.std.specs.List.{flat_map}
 
@@ -81,6 +81,11 @@ label_code = 97
 abbrev pub number_bytes : (count number : ℕ) → List ℕ
 number_bytes count number = bytes_low_first 0 count number
 
+-- the number that bytes represent, the lowest first
+abbrev pub number_of_bytes : List ℕ → ℕ
+number_of_bytes [] = 0
+number_of_bytes (byte ∷ bytes) = byte + 256 * number_of_bytes bytes
+
 -- the 8 bytes with which a log of a version begins
 abbrev pub header_bytes : (version : ℕ) → List ℕ
 header_bytes version = codes "MPSLOG" ++ number_bytes 2 version
@@ -106,6 +111,10 @@ a_record_of_one_field = refl
 pub a_record_without_fields :
     record_bytes (record { line = 0x01020304; code = 33; fields = [] }) ≡ 33 ∷ 0 ∷ 0 ∷ 0 ∷ 4 ∷ 3 ∷ 2 ∷ 1 ∷ []
 a_record_without_fields = refl
+
+-- the bytes of `ring`
+pub a_number_is_read_back : number_of_bytes (0x72 ∷ 0x69 ∷ 0x6e ∷ 0x67 ∷ 0 ∷ 0 ∷ 0 ∷ 0 ∷ []) ≡ 0x676e6972
+a_number_is_read_back = refl
 
 pub the_header_of_version_two : header_bytes 2 ≡ 77 ∷ 80 ∷ 83 ∷ 76 ∷ 79 ∷ 71 ∷ 2 ∷ 0 ∷ []
 the_header_of_version_two = refl

@@ -70,6 +70,15 @@ pub enum Refusal {
     /// There is no memory for what the call makes.
     #[error("OutOfMemory")]
     OutOfMemory,
+    /// The object has no dependent.
+    #[error("NotLinked")]
+    NotLinked,
+    /// The transform has a pair with this old object.
+    #[error("OldTwice")]
+    OldTwice,
+    /// The arena is not parked.
+    #[error("NotParked")]
+    NotParked,
 }
 
 /// A flip came since the reservation: the client reserves again.

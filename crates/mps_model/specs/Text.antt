@@ -38,6 +38,9 @@ refusal_text (refusal.TooMany limit) = codes "16" ++ and_number limit
 refusal_text refusal.Running = codes "17"
 refusal_text refusal.BelowCommitted = codes "18"
 refusal_text refusal.OutOfMemory = codes "19"
+refusal_text refusal.NotLinked = codes "20"
+refusal_text refusal.OldTwice = codes "21"
+refusal_text refusal.NotParked = codes "22"
 
 -- the words of a dump, separated by one space
 abbrev pub words_text : List ℕ → List ℕ
