@@ -7,7 +7,7 @@ folder=$(mktemp -d)
 trap 'rm -rf "$folder"' EXIT
 cd "$folder" || exit 1
 mkdir crates
-for crate in mps_base mps_bits mps_free mps_arena mps_extents mps_marks mps_seg mps_manual; do
+for crate in mps_base mps_bits mps_gaps mps_arena mps_extents mps_marks mps_seg mps_manual; do
     mkdir "crates/$crate"
     for part in src specs proofs; do
         [ -d "$home/crates/$crate/$part" ] && cp -r "$home/crates/$crate/$part" "crates/$crate/$part"

@@ -6,7 +6,7 @@ home=$(cd "$(dirname "$0")/.." && pwd)
 folder=$(mktemp -d)
 cd "$folder" || exit 1
 mkdir crates
-for crate in mps_base mps_bits mps_free mps_arena mps_extents mps_marks mps_seg; do
+for crate in mps_base mps_bits mps_gaps mps_arena mps_extents mps_marks mps_seg; do
     mkdir "crates/$crate"
     for part in src specs proofs; do
         [ -d "$home/crates/$crate/$part" ] && cp -r "$home/crates/$crate/$part" "crates/$crate/$part"

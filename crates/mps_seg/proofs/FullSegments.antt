@@ -7,7 +7,7 @@ use Rattle.mps_base.specs.Segment.{same_rank}
 use Rattle.mps_base.specs.declared.names.Rank.{Rank}
 use Rattle.mps_arena.specs.Arena.{ArenaMemory}
 use Rattle.mps_extents.specs.Extents.{ExtentLists}
-use Rattle.mps_free.specs.Bounds.{HasNone}
+use Rattle.mps_gaps.specs.Bounds.{HasNone}
 use Rattle.mps_seg.specs.declared.entry.Entry.{Entry}
 use Rattle.mps_seg.specs.declared.entry.Entry.TheVariants.{Free, First}
 use Rattle.mps_seg.specs.Table.{gaps_at, gaps_in_grains, is_open_entry, IsHeld, AreGapsBounded}

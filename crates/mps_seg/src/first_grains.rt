@@ -6,7 +6,7 @@ ghost use Rattle.mps_base.specs.Address.{grain_of};
 ghost use Rattle.mps_seg.specs.Table.{first_at, with_any_gap};
 
 use mps_base::Addr;
-use mps_free::FreeWords;
+use mps_gaps::GapBounds;
 
 /// Writes for `grains` grains from `grain` on that their segment begins at `first`, or with 0 that they lie in none.
 pub(crate) fn note_first(firsts: &mut [u32], grain: usize, grains: usize, first: u32)
@@ -21,7 +21,7 @@ pub(crate) fn note_first(firsts: &mut [u32], grain: usize, grains: usize, first:
 }
 
 /// From now on the segment in which an address lies may have a gap of any length.
-pub(crate) fn allow_any_gap(firsts: &[u32], bounds: &mut FreeWords, at: Addr)
+pub(crate) fn allow_any_gap(firsts: &[u32], bounds: &mut GapBounds, at: Addr)
     requires in_firsts { grain_of at.0 < length firsts.now }
     requires in_bounds { first_at firsts.now at.0 < length bounds.old }
     ensures { bounds.new ≡ with_any_gap firsts.now bounds.old at.0 }

@@ -25,7 +25,7 @@ use mps_arena::Arena;
 use mps_base::{Addr, BYTES_OF_GRAIN, BYTES_OF_WORD, Move, Rank, Refusal, Trail, WORDS_OF_GRAIN};
 use mps_bits::Bits;
 use mps_extents::Extents;
-use mps_free::FreeWords;
+use mps_gaps::GapBounds;
 use mps_marks::Marks;
 use std::alloc::{AllocError, Global};
 use std::marker::Model;
@@ -37,7 +37,7 @@ pub struct Segs {
     table: Vec<Entry>,
     firsts: Vec<u32>,
     // For the first grain of each segment a number than which no gap of the segment is longer.
-    bounds: FreeWords,
+    bounds: GapBounds,
     extents: Extents,
     marks: Marks,
     condemned: Bits,
@@ -71,7 +71,7 @@ impl Segs {
             firsts: vec![in alloc; 0u32; size]?,
             summaries: vec![in alloc; 0u64; size]?,
             condemned: Bits::new(alloc, size)?,
-            bounds: FreeWords::new(alloc, size)?,
+            bounds: GapBounds::new(alloc, size)?,
             arena: Arena::new(alloc, grains, limit)?,
             extents: Extents::new(alloc, WORDS_OF_GRAIN * size)?,
             marks: Marks::new(alloc, size)?,

@@ -13,7 +13,7 @@ use super::Segs;
 use crate::entry::Entry;
 use mps_base::{Addr, BYTES_OF_WORD, Rank, WORDS_OF_GRAIN};
 use mps_extents::Extents;
-use mps_free::FreeWords;
+use mps_gaps::GapBounds;
 
 impl Segs {
     /// The lowest gap of at least `words` words in the segments of a pool and a rank. Segments whose gaps are known to be shorter are
@@ -59,7 +59,7 @@ impl Segs {
 fn search(
     table: &[Entry],
     extents: &Extents,
-    bounds: &mut FreeWords,
+    bounds: &mut GapBounds,
     pool: u32,
     rank: Rank,
     words: u32,

@@ -1,8 +1,8 @@
-// How many words are free, by index.
+// Bounds of gaps, by index.
 #![tactic(auto)]
 
 ghost use Rattle.std.specs.Prelude.{◌≡◌, ℕ, ◌*◌, ◌<◌, ◌≤◌, ◌+◌, ◌/◌, length, replicate, slice_index, slice_set, get_or, IfOk, IfSome, IfNone};
-ghost use Rattle.mps_free.specs.Bounds.{IsLowestWith, HasNone};
+ghost use Rattle.mps_gaps.specs.Bounds.{IsLowestWith, HasNone};
 
 use std::alloc::{AllocError, Global};
 use std::marker::Model;
@@ -10,17 +10,17 @@ use std::marker::Model;
 /// How many indexes have one bound together.
 const INDEXES_OF_GROUP: usize = 32;
 
-/// How many words are free at each index, none at first. Clauses see the list of these numbers.
+/// For each index a number of words than which no gap there is longer, 0 at first. Clauses see the list of these numbers.
 #[derive(Drop)]
-pub struct FreeWords {
+pub struct GapBounds {
     words: Vec<u32>,
     // For each group of indexes a number that none of theirs is above.
     bounds: Vec<u32>,
 }
 
-impl Model for FreeWords {
+impl Model for GapBounds {
     ghost use Rattle.std.specs.Prelude.{List, ℕ};
-    ghost use Rattle.mps_free.specs.Bounds.{IsBounded};
+    ghost use Rattle.mps_gaps.specs.Bounds.{IsBounded};
 
     ghost Value = { List ℕ };
 
@@ -29,18 +29,18 @@ impl Model for FreeWords {
     ghost invariant = { λ f. IsBounded f.words.items f.bounds.items };
 }
 
-impl FreeWords {
-    /// No word is free at n indexes. This is the only call that allocates.
-    pub fn new(alloc: Global, n: usize) -> Result<FreeWords, AllocError>
-        ensures { IfOk result (λ free. free ≡ replicate n 0) }
+impl GapBounds {
+    /// The bound 0 at n indexes. This is the only call that allocates.
+    pub fn new(alloc: Global, n: usize) -> Result<GapBounds, AllocError>
+        ensures { IfOk result (λ bounds. bounds ≡ replicate n 0) }
     {
-        Ok(FreeWords {
+        Ok(GapBounds {
             words: vec![in alloc; 0u32; n]?,
             bounds: vec![in alloc; 0u32; n.div_ceil(INDEXES_OF_GROUP)]?,
         })
     }
 
-    /// How many words are free at an index.
+    /// The bound at an index.
     pub fn at(&self, index: usize) -> u32
         requires { index < length self.now }
         ensures { result ≡ slice_index self.now index }
@@ -48,7 +48,7 @@ impl FreeWords {
         self.words[index]
     }
 
-    /// From now on `words` words are free at an index. The greatest number of its group is looked for only if one that was above half of
+    /// From now on `words` is the bound at an index. The greatest bound of its group is looked for only if one that was above half of
     /// the bound falls to half of it or less: so a sequence of blocks in one segment costs few searches, and a bound is less than twice the
     /// greatest number.
     #[inline(always)]
@@ -67,7 +67,7 @@ impl FreeWords {
         }
     }
 
-    /// The lowest index from `from` on at which at least `words` words are free. If no index of a group has enough, the whole group
+    /// The lowest index from `from` on whose bound is at least `words`. If no index of a group has enough, the whole group
     /// is one step.
     pub fn lowest_with(&self, words: u32, from: usize) -> Option<usize>
         ensures sound { IfSome result (λ index. IsLowestWith words from index self.now) }
@@ -102,7 +102,7 @@ fn greatest(words: &[u32], from: usize) -> u32
     most
 }
 
-/// The lowest index from `from` on, and in its group, at which at least `least` words are free.
+/// The lowest index from `from` on, and in its group, whose bound is at least `least`.
 fn lowest_of_group(words: &[u32], least: u32, from: usize) -> Option<usize>
     requires { from < length words.now }
     ensures sound { IfSome result (λ index. IsLowestWith least from index words.now) }

@@ -1,4 +1,4 @@
--- Numbers of free words by index, and bounds of groups of them.
+-- Numbers of words by index, and bounds of groups of them.
 use Rattle.std.specs.Prelude.{ℕ, ◌*◌, ◌/◌, ◌≤◌, ◌<◌, List, length, get_or}
 
 -- how many indexes have one bound together
@@ -10,11 +10,11 @@ pub record IsBounded (words bounds : List ℕ) : Type 0 where
   pub size : length words ≤ indexes_of_group * length bounds
   pub bounded : (i : ℕ) → get_or words i 0 ≤ get_or bounds (i / indexes_of_group) 0
 
--- at none of the indexes from one up to another are n words free
+-- at none of the indexes from one up to another is the number n or more
 abbrev pub HasNone : (n low high : ℕ) → List ℕ → Type 0
 HasNone n low high words = (i : ℕ) → low ≤ i → i < high → i < length words → get_or words i 0 < n
 
--- the lowest index from one on at which at least n words are free
+-- the lowest index from one on at which the number is n or more
 pub record IsLowestWith (n from index : ℕ) (words : List ℕ) : Type 0 where
   pub above : from ≤ index
   pub below : index < length words

@@ -1,5 +1,0 @@
-use Rattle.mps_free.specs.Bounds.{HasNone}
-use Rattle.mps_free.proofs.free_words.lowest_of_group.Given as goal
-
-abbrev pub invariant-loop-i : goal.invariant-loop-i
-invariant-loop-i l = HasNone l.least l.from l.i l.words
