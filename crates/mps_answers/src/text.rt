@@ -143,6 +143,8 @@ fn put_plain(out: &mut [u8], reply: &Reply) -> usize
             put_spaced(out, at, second)
         }
         Reply::Words(_, _) => 0,
+        Reply::Interned(number) => put_decimal(u64::from(number), out, 0),
+        Reply::Labelled(at, _) => put_word(out, 0, at.0),
         Reply::Refused(why) => {
             let at = put(b"refused ", out, 0);
             put_refusal(out, at, &why)

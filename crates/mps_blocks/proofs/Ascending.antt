@@ -10,7 +10,7 @@ use Rattle.std.proofs.lemmas.Bool.{lt-ltb, ltb-true, ltb-false, eq-eqb}
 use Rattle.std.proofs.lemmas.Map.Keys.{IsStrictlyIncreasing-from_sorted}
 use Rattle.mps_base.specs.Record.{Record, commit_code, alloc_code, move_code, stay_code, post_code, free_code, intern_code, label_code}
 use Rattle.mps_model.specs.Replay.{Block, Store, block_at, is_live, with_block, without_block, after_making, after_moving, after_touching, after_freeing, store_after}
-use Rattle.mps_blocks.specs.Replayed.{State, at_the_start, after_interning, after_labelling, replayed_after, replayed_from, replayed}
+use Rattle.mps_model.specs.Replayed.{State, at_the_start, after_interning, after_labelling, replayed_after, replayed_from, replayed}
 use Rattle.mps_blocks.specs.Listing.{addresses}
 
 -- an address lies below all of these blocks

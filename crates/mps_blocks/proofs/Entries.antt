@@ -9,7 +9,7 @@ use Rattle.mps_blocks.specs.declared.replay.Extent.{Extent}
 use Rattle.mps_blocks.specs.Entries.{block_of, store_of}
 use Rattle.mps_blocks.specs.declared.replay.ReplayFault.{ReplayFault}
 use Rattle.mps_blocks.specs.declared.replay.ReplayFault.TheVariants as fault
-use Rattle.mps_blocks.specs.Replayed.{State, after_labelling}
+use Rattle.mps_model.specs.Replayed.{State, after_labelling}
 use Rattle.mps_blocks.specs.Replaying.{Gives}
 use Rattle.mps_blocks.proofs.Ascending.{Ascends, ascends_with, ascends_without}
 use Rattle.mps_blocks.proofs.Stores.{at_with, at_without, same_store}

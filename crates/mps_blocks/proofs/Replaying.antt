@@ -21,7 +21,7 @@ use Rattle.mps_log_reader.specs.Input.{Buffered, ReadsMore, IsAtEnd}
 use Rattle.mps_log_reader.specs.Left.{left_of, LastGives}
 use Rattle.mps_log_reader.proofs.Left.{left_same, split_pending, nothing_left, fault_left, one_in_front, left_after_known}
 use Rattle.mps_log_reader.proofs.Records.{all_and_one, flat_one}
-use Rattle.mps_blocks.specs.Replayed.{State, after_interning, after_labelling, replayed_after, replayed_from}
+use Rattle.mps_model.specs.Replayed.{State, after_interning, after_labelling, replayed_after, replayed_from}
 use Rattle.mps_blocks.specs.Ending.{IsBadReplay}
 use Rattle.mps_blocks.specs.Replaying.{PendingReplays, NextReplays, AllReplay}
 

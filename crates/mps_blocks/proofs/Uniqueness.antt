@@ -22,7 +22,7 @@ use Rattle.mps_blocks.specs.declared.bad_replay.BadReplay.TheVariants as bad_rep
 use Rattle.mps_blocks.specs.BadReplay.{text_of_bad_replay}
 use Rattle.mps_log_reader.specs.Opening.{HasNoHeader}
 use Rattle.mps_log_reader.proofs.TwoReadings.{Extends, split, no_record, one_of, one_ending, same_version}
-use Rattle.mps_blocks.specs.Replayed.{State, at_the_start, replayed_after, replayed_from, replayed}
+use Rattle.mps_model.specs.Replayed.{State, at_the_start, replayed_after, replayed_from, replayed}
 use Rattle.mps_blocks.specs.Listing.{listing}
 use Rattle.mps_blocks.specs.Ending.{IsBadReplay, StopsAt, Replays}
 use Rattle.mps_blocks.specs.Listed.{Lists, ListedWith, IsUniqueList}

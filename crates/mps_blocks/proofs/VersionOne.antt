@@ -9,7 +9,7 @@ use Rattle.mps_base.specs.Record.{Record, intern_code, label_code}
 use Rattle.mps_event.specs.declared.version.Version.TheVariants.{One}
 use Rattle.mps_event.specs.Grammar.{AreFields, IsRecord}
 use Rattle.mps_model.specs.Replay.{Store, store_after, replay_from, replay}
-use Rattle.mps_blocks.specs.Replayed.{State, at_the_start, after_interning, after_labelling, replayed_after, replayed_from, replayed}
+use Rattle.mps_model.specs.Replayed.{State, at_the_start, after_interning, after_labelling, replayed_after, replayed_from, replayed}
 
 no_intern : (code : ℕ) (fields : List ℕ) (b : Bool) → eqb code intern_code ≡ b → AreFields One code fields → b ≡ false
 no_intern code fields false e h = refl

@@ -19,7 +19,7 @@ use Rattle.mps_log_reader.proofs.Stops.{other_than_verdict}
 use Rattle.mps_blocks.specs.declared.bad_replay.BadReplay.{BadReplay}
 use Rattle.mps_blocks.specs.declared.bad_replay.BadReplay.TheVariants as bad_replay
 use Rattle.mps_blocks.specs.BadReplay.{text_of_bad_replay}
-use Rattle.mps_blocks.specs.Replayed.{State, at_the_start}
+use Rattle.mps_model.specs.Replayed.{State, at_the_start}
 use Rattle.mps_blocks.specs.Listing.{listing}
 use Rattle.mps_blocks.specs.Ending.{StopsAt, Replays}
 use Rattle.mps_blocks.specs.Listed.{ListedWith, ListsPart, HasListed}

@@ -11,7 +11,7 @@ use Rattle.mps_log_reader.specs.Ending.{max_records}
 use Rattle.mps_log_reader.specs.LogPrefix.{LogPrefix}
 use Rattle.mps_blocks.specs.declared.bad_replay.BadReplay.{BadReplay}
 use Rattle.mps_blocks.specs.declared.bad_replay.BadReplay.TheVariants as bad_replay
-use Rattle.mps_blocks.specs.Replayed.{State, replayed_after, replayed}
+use Rattle.mps_model.specs.Replayed.{State, replayed_after, replayed}
 
 -- the rest begins with a record of the grammar, and it is a bad replay
 pub record IsBadReplay (version : Version) (state : State) (rest : List ℕ) : Type 0 where

@@ -1,5 +1,4 @@
 pub mod BadReplay
-pub mod Replayed
 pub mod Listing
 pub mod Entries
 pub mod Ending

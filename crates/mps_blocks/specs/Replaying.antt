@@ -15,7 +15,7 @@ use Rattle.mps_blocks.specs.declared.bad_replay.BadReplay.{BadReplay}
 use Rattle.mps_blocks.specs.declared.bad_replay.BadReplay.TheVariants as bad_replay
 use Rattle.mps_blocks.specs.declared.replay.ReplayFault.{ReplayFault}
 use Rattle.mps_blocks.specs.declared.replay.ReplayFault.TheVariants as fault
-use Rattle.mps_blocks.specs.Replayed.{State, replayed_after, replayed_from}
+use Rattle.mps_model.specs.Replayed.{State, replayed_after, replayed_from}
 use Rattle.mps_blocks.specs.Ending.{IsBadReplay, StopsAt, Replays}
 
 -- what a record gave: what it is to give, or a bad replay where it is to give none

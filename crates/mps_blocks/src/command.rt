@@ -10,7 +10,7 @@ ghost use Rattle.mps_report.specs.Reports.{ReportsStatus};
 ghost use Rattle.mps_blocks.specs.BadReplay.{text_of_bad_replay};
 ghost use Rattle.mps_log_reader.specs.Ending.{is_input_verdict, IsUnopened};
 ghost use Rattle.mps_report.specs.Streams.{LeavesLogAlone};
-ghost use Rattle.mps_blocks.specs.Replayed.{at_the_start};
+ghost use Rattle.mps_model.specs.Replayed.{at_the_start};
 ghost use Rattle.mps_blocks.specs.Listed.{ListedWith, IsUniqueList, ListsPart, HasListed, IsSilent};
 ghost use Rattle.mps_blocks.specs.Replaying.{PendingReplays, NextReplays, AllReplay, HasReplayed};
 

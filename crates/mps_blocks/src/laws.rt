@@ -8,7 +8,7 @@ ghost use Rattle.mps_event.specs.declared.version.Version.TheVariants.{One};
 ghost use Rattle.mps_event.specs.Grammar.{IsRecord};
 ghost use Rattle.mps_model.specs.Replay.{replay};
 ghost use Rattle.mps_blocks.specs.Listing.{addresses};
-ghost use Rattle.mps_blocks.specs.Replayed.{State, replayed};
+ghost use Rattle.mps_model.specs.Replayed.{State, replayed};
 
 /// A log of version 1 records what happens to blocks alone: its records replay here to the blocks to which the model replays them, and
 /// are bad replays here exactly where they are there.

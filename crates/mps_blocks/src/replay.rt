@@ -33,7 +33,7 @@ pub(crate) struct Replay {
 
 impl Model for Replay {
     ghost use Rattle.std.specs.Prelude.{⊤};
-    ghost use Rattle.mps_blocks.specs.Replayed.{State};
+    ghost use Rattle.mps_model.specs.Replayed.{State};
     ghost use Rattle.mps_blocks.specs.Entries.{store_of};
 
     ghost Value = { State };
@@ -42,7 +42,7 @@ impl Model for Replay {
 }
 
 impl Replay {
-    ghost use Rattle.mps_blocks.specs.Replayed.{at_the_start, replayed_after, after_interning, after_labelling};
+    ghost use Rattle.mps_model.specs.Replayed.{at_the_start, replayed_after, after_interning, after_labelling};
 
     /// Before the first record.
     pub(crate) fn new(alloc: Global) -> Replay

@@ -1,24 +1,27 @@
 -- What each call changes: the one walk over all calls and their checks.
 use Rattle.std.proofs.Common.{◌≡◌, ℕ, ◌+◌, Bool, true, false, refl, ap, sym, ◌∙◌, List, [], ◌∷◌, length, Option, Some, None, Ok, inl, inr}
-use Rattle.std.proofs.lemmas.Bool.{true≢false}
-use Rattle.std.specs.Prelude.{if◌then◌else◌, is_none, is_some, nat_le, nat_lt, not, slice_get, slice_set}
+use Rattle.std.proofs.Common.{arith}
+use Rattle.std.proofs.Math.Nat.{mod-lt}
+use Rattle.std.proofs.lemmas.Bool.{lt-ltb, true≢false}
+use Rattle.std.specs.Prelude.{◌%◌, if◌then◌else◌, is_none, is_some, nat_le, nat_lt, not, slice_get, slice_set}
 use Rattle.mps_base.specs.Staleness.{is_stale}
 use Rattle.mps_base.specs.declared.names.Name.{Name}
 use Rattle.mps_base.specs.declared.refusal.Refusal.TheVariants as refusal
 use Rattle.mps_model.specs.declared.call.Call.{Call}
 use Rattle.mps_model.specs.declared.call.Call.TheVariants as call
 use Rattle.mps_model.specs.declared.reply.Reply.TheVariants as reply
-use Rattle.mps_model.specs.Graph.{Graph, Object, Cell, NumberCell, AreaWord, PlainWord, Point, Reservation, position_of_first, thing_named, with_target_cell}
-use Rattle.mps_model.specs.World.{World, Pool, Dependency, block_of_word, id_at, is_automatic_kind, is_running}
-use Rattle.mps_model.specs.Checked.{Act, Checked, Found, Numbered, block_place_in, cells_of_body, chain_named, dependency_named, done, number_at, object_in, point_named, pool_named, reference_at, refuse_when, required, says, slot_in, tells, with_graph, word_in}
-use Rattle.mps_model.specs.Making.{graph_without_root, is_block_size, live_points, make_pool, may_have_point, most_chains, most_dependencies, most_points, most_pools, refuse_at_limit, refuse_root, refuse_taken}
+use Rattle.mps_model.specs.Graph.{Graph, Object, Cell, NumberCell, AreaWord, PlainWord, Point, Reservation, is_taken, position_of_first, thing_named, with_target_cell}
+use Rattle.mps_model.specs.Tagging.{tag_count}
+use Rattle.mps_model.specs.World.{World, Pool, Dependency, Unclamped, Clamped, Parked, block_of_word, id_at, is_automatic_kind, is_running}
+use Rattle.mps_model.specs.Checked.{Act, Checked, Found, Numbered, block_place_in, cells_of_body, chain_named, dependency_named, done, label_named, tag_at, number_at, object_in, point_named, pool_named, reference_at, refuse_when, required, says, slot_in, tells, with_graph, word_in}
+use Rattle.mps_model.specs.Making.{graph_without_root, is_block_size, live_points, make_pool, may_have_point, most_chains, most_dependencies, most_labels, most_points, most_pools, refuse_at_limit, refuse_root, refuse_taken}
 use Rattle.mps_model.specs.Placement.{ForAlloc, ForReserve, placement_of}
 use Rattle.mps_model.specs.Allocating.{Reserving, allows_size, block_in, check_reserve, refuse_without_place, with_reservation, with_reserved_cells, words_at, world_committed}
 use Rattle.mps_model.specs.Accessing.{Poked, AsBlock, AsMarked, AsNumber, act_poke_in, act_poked, held_in, poked, same_target}
 use Rattle.mps_model.specs.Collecting.{act_message_in, most_registrations}
 use Rattle.mps_model.specs.Reply.{act}
 use Rattle.mps_changes.proofs.Checks.{with_value, after_check, andthen, checked, unless, required-is, without_root}
-use Rattle.mps_changes.specs.Change.{ForAct, accepted, refused, changes_points, Now, Before, makes_pool, is_kind_made, GotNull, FromSlot, FromCell, FromWord, ShownPlain, ShownPinned, ShownPoked, IsWritten, WritesReference, WritesNumber, Change, Unchanged, Aside, SlotIs, WordIs, MessageTaken, TableMade, AreaMade, BlocksMade, TableDropped, AreaDropped, CellsAre, BlockWordIs, PlaceEmptied, Allocated, PoolMade, PointMade, PointDropped, Opened, Written, Closed, Committed, Registered, Unregistered}
+use Rattle.mps_changes.specs.Change.{ForAct, accepted, refused, changes_points, Now, Before, makes_pool, is_kind_made, GotNull, FromSlot, FromCell, FromWord, ShownPlain, ShownPinned, ShownPoked, IsWritten, WritesReference, WritesNumber, WritesTag, AsideIs, ArenaMade, LimitIs, ChainMade, StateIs, DependencyMade, DependencyIs, LabelMade, Change, Unchanged, Aside, SlotIs, WordIs, MessageTaken, TableMade, AreaMade, BlocksMade, TableDropped, AreaDropped, CellsAre, BlockWordIs, PlaceEmptied, Allocated, PoolMade, PointMade, PointDropped, Opened, Written, Closed, Committed, Registered, Unregistered}
 
 not_not : (b : Bool) → not b ≡ false → b ≡ true
 not_not true h = refl
@@ -84,14 +87,14 @@ module _ (marked : Bool) (judged v : World) where
       (TableDropped name) (AreaDropped name)
 
   pub act_changes_so : (c : Call) → Leads c (act marked judged v c)
-  act_changes_so (call.Arena grains limit) = accepted (Aside _ _ _ _ _ _ (λ h. absurd (true≢false h)) (λ h. refl))
+  act_changes_so (call.Arena grains limit) = accepted (Aside _ (ArenaMade grains limit refl))
   act_changes_so (call.Limit limit) =
       after_check (refuse_when (nat_lt limit (Rattle.mps_model.specs.World.committed v)) refusal.BelowCommitted)
-      (accepted (Aside _ _ _ _ _ _ (λ h. refl) (λ h. refl)))
+      (accepted (Aside _ (LimitIs limit)))
   act_changes_so call.Committed = accepted Unchanged
   act_changes_so (call.Chain chain count capacities) =
       after_check (refuse_taken v chain)
-      (after_check (refuse_at_limit (length v.chains) most_chains) (accepted (Aside _ _ _ _ _ _ (λ h. refl) (λ h. refl))))
+      (after_check (refuse_at_limit (length v.chains) most_chains) (accepted (Aside _ (ChainMade chain _))))
   act_changes_so (call.Pool pool kind format) = after_check (refuse_taken v pool) (made pool _ refl refl)
   act_changes_so (call.PoolOnChain pool kind format chain) =
       after_check (refuse_taken v pool) (andthen (chain_named v chain) (λ (on : Numbered (List ℕ)). made pool _ refl refl))
@@ -119,7 +122,7 @@ module _ (marked : Bool) (judged v : World) where
       accepted (PointDropped point p refl e (none_there p.value.reservation none))))
   act_changes_so (call.Dependency dependency) =
       after_check (refuse_taken v dependency) (after_check (refuse_at_limit (length v.dependencies) most_dependencies)
-      (accepted (Aside _ _ _ _ _ _ (λ h. refl) (λ h. absurd (true≢false h)))))
+      (accepted (Aside _ (DependencyMade dependency _ refl))))
   act_changes_so (call.Reserve point head) =
       with_value (check_reserve judged point head) (λ (r : Reserving) e.
       after_check (refuse_without_place (placement_of judged (ForReserve r.point.number (length r.cells))))
@@ -199,6 +202,22 @@ module _ (marked : Bool) (judged v : World) where
       andthen (slot_in v slot) (λ (from : Found (Option ℕ)). andthen (object_in v from.value) (λ (o : Numbered Object). accepted Unchanged))
   act_changes_so (call.Poke word value) =
       with_value (word_in v word) (λ (at : Found AreaWord) e. pokes word value at (block_of_word v value) e refl)
+  act_changes_so (call.SetTag slot cell tag) =
+      with_value (slot_in v slot) (λ (into : Found (Option ℕ)) e.
+      with_value (object_in v into.value) (λ (object : Numbered Object) g.
+      after_check (reference_at (cells_of_body object.value.body) cell)
+      (accepted (CellsAre object _ (record { slot = slot; from = into; there = e; is = g })
+      (WritesTag cell (tag % tag_count) (lt-ltb (tag % tag_count) tag_count (mod-lt tag (omega arith))))))))
+  act_changes_so (call.Tag slot cell) =
+      andthen (slot_in v slot) (λ (from : Found (Option ℕ)). andthen (object_in v from.value) (λ (object : Numbered Object).
+      andthen (tag_at (cells_of_body object.value.body) cell) (λ (tag : ℕ). accepted Unchanged)))
+  act_changes_so (call.Intern label) =
+      unless (is_taken v.graph label) refusal.NameTaken (λ free.
+      after_check (refuse_at_limit (length v.graph.labels) most_labels)
+      (accepted (Aside _ (LabelMade label refl free))))
+  act_changes_so (call.Label slot label) =
+      andthen (slot_in v slot) (λ (from : Found (Option ℕ)). andthen (object_in v from.value) (λ (object : Numbered Object).
+      andthen (label_named v label) (λ (found : Numbered Name). accepted Unchanged)))
   act_changes_so (call.Peek word) = andthen (word_in v word) (λ (at : Found AreaWord). accepted Unchanged)
   act_changes_so (call.Pin word slot) =
       with_value (word_in v word) (λ (at : Found AreaWord) e.
@@ -211,16 +230,16 @@ module _ (marked : Bool) (judged v : World) where
       with_value (held_in at.value) (λ (id : ℕ) g.
       accepted (SlotIs into (Some id) (Now slot e) (FromWord word at id f g)))))
   act_changes_so call.Start =
-      after_check (refuse_when (is_running judged) refusal.Running) (accepted (Aside _ _ _ _ _ _ (λ h. refl) (λ h. refl)))
+      after_check (refuse_when (is_running judged) refusal.Running) (accepted (Aside _ (StateIs Unclamped)))
   act_changes_so (call.StartChain chain generation) =
       andthen (chain_named judged chain) (λ (on : Numbered (List ℕ)).
       after_check (refuse_when (nat_le (length on.value) generation) refusal.BadIndex)
-      (after_check (refuse_when (is_running judged) refusal.Running) (accepted (Aside _ _ _ _ _ _ (λ h. refl) (λ h. refl)))))
+      (after_check (refuse_when (is_running judged) refusal.Running) (accepted (Aside _ (StateIs Unclamped)))))
   act_changes_so (call.Step units) = accepted Unchanged
-  act_changes_so call.Collect = accepted (Aside _ _ _ _ _ _ (λ h. refl) (λ h. refl))
-  act_changes_so call.Clamp = accepted (Aside _ _ _ _ _ _ (λ h. refl) (λ h. refl))
-  act_changes_so call.Park = accepted (Aside _ _ _ _ _ _ (λ h. refl) (λ h. refl))
-  act_changes_so call.Release = accepted (Aside _ _ _ _ _ _ (λ h. refl) (λ h. refl))
+  act_changes_so call.Collect = accepted (Aside _ (StateIs Parked))
+  act_changes_so call.Clamp = accepted (Aside _ (StateIs Clamped))
+  act_changes_so call.Park = accepted (Aside _ (StateIs Parked))
+  act_changes_so call.Release = accepted (Aside _ (StateIs Unclamped))
   act_changes_so (call.Finalize slot) =
       with_value (slot_in v slot) (λ (from : Found (Option ℕ)) e.
       with_value (object_in v from.value) (λ (object : Numbered Object) f.
@@ -237,15 +256,15 @@ module _ (marked : Bool) (judged v : World) where
       with_value (slot_in v slot) (λ (into : Found (Option ℕ)) e. takes_message slot into v.graph.messages e refl)
   act_changes_so (call.DependencyReset dependency) =
       andthen (dependency_named v dependency) (λ (d : Numbered Dependency).
-      accepted (Aside _ _ _ _ _ _ (λ h. refl) (λ h. absurd (true≢false h))))
+      accepted (Aside _ (DependencyIs d.number _ refl)))
   act_changes_so (call.DependencyAdd dependency slot) =
       andthen (dependency_named v dependency) (λ (d : Numbered Dependency). andthen (slot_in v slot) (λ (from : Found (Option ℕ)).
       andthen (object_in v from.value) (λ (object : Numbered Object).
-      accepted (Aside _ _ _ _ _ _ (λ h. refl) (λ h. absurd (true≢false h))))))
+      accepted (Aside _ (DependencyIs d.number _ refl)))))
   act_changes_so (call.DependencyMerge dependency source) =
       andthen (dependency_named v dependency) (λ (d : Numbered Dependency). andthen (dependency_named v source)
       (λ (e : Numbered Dependency).
-      accepted (Aside _ _ _ _ _ _ (λ h. refl) (λ h. absurd (true≢false h)))))
+      accepted (Aside _ (DependencyIs d.number _ refl))))
   act_changes_so (call.DependencyStale dependency) =
       andthen (dependency_named v dependency) (λ (d : Numbered Dependency). told (is_stale v.flips d.value.epoch d.value.zones))
   act_changes_so call.Live = accepted Unchanged

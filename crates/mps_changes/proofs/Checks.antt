@@ -5,7 +5,7 @@ use Rattle.std.specs.Prelude.{slice_get, slice_set}
 use Rattle.mps_base.specs.declared.names.Name.{Name}
 use Rattle.mps_base.specs.declared.refusal.Refusal.{Refusal}
 use Rattle.mps_base.specs.declared.refusal.Refusal.TheVariants as refusal
-use Rattle.mps_model.specs.Graph.{Graph, Point, Thing, ChainThing, PoolThing, TableThing, AreaThing, BlocksThing, PointThing, DependencyThing, TransformThing, CacheThing, entry_at, without_name}
+use Rattle.mps_model.specs.Graph.{Graph, Point, Thing, ChainThing, PoolThing, TableThing, AreaThing, BlocksThing, PointThing, DependencyThing, TransformThing, CacheThing, LabelThing, entry_at, without_name}
 use Rattle.mps_model.specs.World.{World, Pool}
 use Rattle.mps_model.specs.Checked.{Act, Checked, Numbered, ◌>>=◌, ◌>>◌, as_point, as_pool, number_named, numbered, required, refuse_when, point_named, pool_named}
 use Rattle.mps_model.specs.Making.{graph_without_root}
@@ -14,11 +14,12 @@ use Rattle.mps_changes.specs.Change.{ForAct, accepted, refused}
 -- a fact of a graph without a table, and of one without an area, holds of it without a root
 pub without_root : (Holds : Graph → Type 0) (g : Graph) (name : Name) (o : Option Thing) (left : Graph)
     → graph_without_root g name o ≡ Some left
-    → ((n : ℕ) → Holds (record g { tables = slice_set g.tables n None; names = without_name g.names name }))
-    → ((n : ℕ) → Holds (record g { areas = slice_set g.areas n None; names = without_name g.names name })) → Holds left
+    → ((n : ℕ) → o ≡ Some (TableThing n) → Holds (record g { tables = slice_set g.tables n None; names = without_name g.names name }))
+    → ((n : ℕ) → o ≡ Some (AreaThing n) → Holds (record g { areas = slice_set g.areas n None; names = without_name g.names name }))
+    → Holds left
 without_root Holds g name None left e table area = absurd (none-some left e)
-without_root Holds g name (Some (TableThing n)) left e table area = subst Holds (same_Some _ left e) (table n)
-without_root Holds g name (Some (AreaThing n)) left e table area = subst Holds (same_Some _ left e) (area n)
+without_root Holds g name (Some (TableThing n)) left e table area = subst Holds (same_Some _ left e) (table n refl)
+without_root Holds g name (Some (AreaThing n)) left e table area = subst Holds (same_Some _ left e) (area n refl)
 without_root Holds g name (Some (ChainThing n)) left e table area = absurd (none-some left e)
 without_root Holds g name (Some (PoolThing n)) left e table area = absurd (none-some left e)
 without_root Holds g name (Some (BlocksThing n)) left e table area = absurd (none-some left e)
@@ -26,6 +27,7 @@ without_root Holds g name (Some (PointThing n)) left e table area = absurd (none
 without_root Holds g name (Some (DependencyThing n)) left e table area = absurd (none-some left e)
 without_root Holds g name (Some (TransformThing n)) left e table area = absurd (none-some left e)
 without_root Holds g name (Some (CacheThing n)) left e table area = absurd (none-some left e)
+without_root Holds g name (Some (LabelThing n)) left e table area = absurd (none-some left e)
 
 pub with_value : {A : Type 0} {P : World → Type 0} (x : Checked A) {f : A → Checked Act} → ((a : A) → x ≡ Ok a → ForAct P (f a))
     → ForAct P (x >>= f)

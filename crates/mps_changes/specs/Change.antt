@@ -1,6 +1,6 @@
 -- What a call of the client may change of a world, as data: one case for each way, with what the call's checks found. Which call makes
 -- which change is said by one walk over all calls (`ActChanges`); facts of the worlds after calls then go by cases over changes.
-use Rattle.std.specs.Prelude.{◌≡◌, ◌⊎◌, ℕ, Bool, true, false, List, ◌∷◌, Option, Some, None, option_map, Ok, Err, slice_set}
+use Rattle.std.specs.Prelude.{◌≡◌, ◌⊎◌, ℕ, Bool, true, false, nat_lt, length, List, ◌∷◌, Option, Some, None, option_map, Ok, Err, slice_set}
 use Rattle.mps_base.specs.declared.refusal.Refusal.{Refusal}
 use Rattle.mps_model.specs.Reply.{act}
 use Rattle.mps_base.specs.Address.{Address}
@@ -9,13 +9,16 @@ use Rattle.mps_base.specs.declared.names.Rank.{Rank}
 use Rattle.mps_base.specs.declared.names.Slot.{Slot}
 use Rattle.mps_model.specs.declared.call.Call.{Call}
 use Rattle.mps_model.specs.declared.call.Call.TheVariants as call
-use Rattle.mps_model.specs.Graph.{Object, Cell, NumberCell, AreaWord, PlainWord, Hold, Point, Reservation, NamedThing, with_last, with_target_cell, graph_with_cells, position_of_first, without_first, without_name}
+use Rattle.mps_model.specs.Graph.{ChainThing, TableThing, AreaThing, DependencyThing, thing_named, is_taken, with_tag_cell, Object, Cell, NumberCell, AreaWord, PlainWord, Hold, Point, Reservation, NamedThing, with_last, with_target_cell, graph_with_cells, position_of_first, without_first, without_name}
 use Rattle.mps_model.specs.World.{World, Pool, PoolKind, Collected, OneSize, AnySize, ArenaState, Dependency, is_automatic_kind, block_of_word}
-use Rattle.mps_model.specs.Checked.{Act, Checked, Found, Numbered, block_place_in, cells_of_body, number_at, object_in, point_named, pool_named, reference_at, slot_in, with_graph, word_in}
+use Rattle.mps_model.specs.Checked.{Act, Checked, Found, Numbered, block_place_in, cells_of_body, named, number_at, object_in, point_named, pool_named, reference_at, slot_in, with_graph, word_in}
 use Rattle.mps_model.specs.Making.{graph_with_area, graph_with_blocks, graph_with_table, is_block_size, may_have_point, with_point, with_pool, without_point}
 use Rattle.mps_model.specs.Allocating.{Reserving, allows_size, check_reserve, graph_allocated, graph_with_word, with_block_place, with_reservation, with_reserved, with_slot, world_committed}
 use Rattle.mps_model.specs.Accessing.{AsBlock, held_in, hold_of, poked, with_word}
-use Rattle.mps_model.specs.Collecting.{without_registration}
+use Rattle.mps_model.specs.Tagging.{tag_count}
+use Rattle.mps_model.specs.Labelling.{graph_with_label}
+use Rattle.mps_model.specs.Dependency.{with_dependency}
+use Rattle.mps_model.specs.Collecting.{with_state, without_registration}
 
 -- a fact of the world of an act, unless it is refused
 pub data ForAct (P : World → Type 0) : Checked Act → Type 0 where
@@ -51,6 +54,17 @@ changes_points (call.InitNumber point cell value) = true
 changes_points (call.InitReference point cell source) = true
 changes_points (call.Commit point target) = true
 changes_points _ = false
+
+-- a world with what no object, root or collection of another knows of
+abbrev pub with_aside : (v u : World) → World
+with_aside v u = record v {
+  graph = record v.graph { names = u.graph.names; labels = u.graph.labels };
+  grains = u.grains;
+  limit = u.limit;
+  chains = u.chains;
+  state = u.state;
+  dependencies = u.dependencies;
+}
 
 -- an entry that a call found, in the world in which it takes effect or in the one in which it was judged
 pub data IsFoundBy {A : Type 0} (look : World → Slot → Checked (Found A)) (judged v : World) (found : Found A) : Type 0 where
@@ -98,24 +112,32 @@ module _ (marked : Bool) (c : Call) (judged v : World) where
 
   -- a change of one cell
   pub data IsWritten (cells : List Cell) : (List Cell → List Cell) → Type 0 where
+    WritesTag : (k tag : ℕ) → nat_lt tag tag_count ≡ true → IsWritten cells (λ old. with_tag_cell old k tag)
     WritesReference : (k : ℕ) (source : Slot) (from : Found (Option ℕ)) → slot_in v source ≡ Ok from
         → IsWritten cells (λ old. with_target_cell old k from.value)
     WritesNumber : (k was value : ℕ) → number_at cells k ≡ Ok was → IsWritten cells (λ old. slice_set old k (NumberCell value))
 
+  -- a change of what no object, root or collection knows of
+  pub data AsideIs : World → Type 0 where
+    ArenaMade : (grains limit : ℕ) → makes_arena c ≡ true → AsideIs (record v { grains = grains; limit = limit })
+    LimitIs : (limit : ℕ) → AsideIs (record v { limit = limit })
+    ChainMade : (name : Name) (capacities : List ℕ) → AsideIs (record v {
+      graph = named v.graph name (ChainThing (length v.chains));
+      chains = with_last v.chains capacities;
+    })
+    StateIs : (state : ArenaState) → AsideIs (with_state v state)
+    DependencyMade : (name : Name) (d : Dependency) → changes_dependencies c ≡ true → AsideIs (record v {
+      graph = named v.graph name (DependencyThing (length v.dependencies));
+      dependencies = with_last v.dependencies d;
+    })
+    DependencyIs : (number : ℕ) (d : Dependency) → changes_dependencies c ≡ true → AsideIs (with_dependency v number d)
+    LabelMade : (name : Name) → c ≡ call.Intern name → is_taken v.graph name ≡ false
+        → AsideIs (with_graph v (graph_with_label v.graph name))
+
   -- the worlds that the call may leave
   pub data Change : World → Type 0 where
     Unchanged : Change v
-    -- what no object, root or collection knows of
-    Aside : (names : List NamedThing) (grains limit : ℕ) (chains : List (List ℕ)) (state : ArenaState) (dependencies : List Dependency)
-        → (makes_arena c ≡ false → grains ≡ v.grains) → (changes_dependencies c ≡ false → dependencies ≡ v.dependencies)
-        → Change (record v {
-          graph = record v.graph { names = names };
-          grains = grains;
-          limit = limit;
-          chains = chains;
-          state = state;
-          dependencies = dependencies;
-        })
+    Aside : (u : World) → AsideIs u → Change (with_aside v u)
     -- roots
     SlotIs : (into : Found (Option ℕ)) (target : Option ℕ) → IsFoundBy slot_in judged v into → IsGot target
         → Change (with_graph v (with_slot v.graph into target))
@@ -126,9 +148,9 @@ module _ (marked : Bool) (c : Call) (judged v : World) where
     TableMade : (name : Name) (slots : ℕ) → Change (with_graph v (graph_with_table v.graph name slots))
     AreaMade : (name : Name) (words : ℕ) → Change (with_graph v (graph_with_area v.graph name words))
     BlocksMade : (name : Name) (places : ℕ) → c ≡ call.Blocks name places → Change (with_graph v (graph_with_blocks v.graph name places))
-    TableDropped : (name : Name) (n : ℕ)
+    TableDropped : (name : Name) (n : ℕ) → thing_named v.graph name ≡ Some (TableThing n)
         → Change (with_graph v (record v.graph { tables = slice_set v.graph.tables n None; names = without_name v.graph.names name }))
-    AreaDropped : (name : Name) (n : ℕ)
+    AreaDropped : (name : Name) (n : ℕ) → thing_named v.graph name ≡ Some (AreaThing n)
         → Change (with_graph v (record v.graph { areas = slice_set v.graph.areas n None; names = without_name v.graph.names name }))
     -- objects
     CellsAre : (object : Numbered Object) (change : List Cell → List Cell) → IsInSlot v object

@@ -14,6 +14,7 @@ use Rattle.mps_model.specs.Collecting.{without_registration}
 use Rattle.mps_model.specs.Reply.{act}
 pub use Rattle.mps_changes.specs.Change.{ForAct, accepted, refused, changes_dependencies, changes_points}
 pub use Rattle.mps_changes.proofs.Checks.{andthen}
+use Rattle.mps_changes.proofs.AsideFacts.{aside_is}
 use Rattle.mps_changes.specs.Change.{Change, Aside, CellsAre, BlockWordIs, Allocated, PoolMade, PointMade, PointDropped, Opened, Written, Closed, Committed, Unregistered}
 use Rattle.mps_changes.proofs.ActChanges.{of_changes, but}
 use Rattle.mps_laws.proofs.Entries.{GoesOn}
@@ -97,13 +98,13 @@ module _ {c : Call} {v : World} where
       left_so addresses pools owned flips collection dependencies (λ h. points)
 
   pub change_leaves : {marked : Bool} {judged u : World} → Change marked c judged v u → Leaves c v u
-  change_leaves (Aside names grains limit chains state dependencies _ same_dependencies) = record {
+  change_leaves (Aside u what) = record {
     addresses = same v.addresses v.addresses refl;
     pools = same v.pools v.pools refl;
     owned = same (owners v.graph) (owners v.graph) refl;
     flips = refl;
     collection = inl refl;
-    dependencies = same_dependencies;
+    dependencies = (aside_is what).dependencies;
     points = λ h. refl;
     objects = λ h. refl;
   }

@@ -20,6 +20,7 @@ pub mod Same
 pub mod JoiningMoves
 pub mod QuietSteps
 pub mod Naming
+pub mod Labels
 pub mod WellFormed
 pub mod WellFormedHistories
 pub mod MadeAgain

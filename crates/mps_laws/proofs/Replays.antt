@@ -10,3 +10,4 @@ pub mod FreeSteps
 pub mod ReserveSteps
 pub mod ReserveReplayed
 pub mod Replay
+pub mod LabelledLogs

@@ -13,6 +13,7 @@ use Rattle.mps_model.specs.Effect.{world_after_move, world_after_moves, after_se
 use Rattle.mps_model.specs.Policy.{units_asked}
 use Rattle.mps_model.specs.History.{after_own_segment, asking, moved_world, moves_of_poll, own_segment}
 use Rattle.mps_model.specs.Reply.{act}
+use Rattle.mps_changes.proofs.AsideFacts.{aside_is}
 use Rattle.mps_changes.specs.Change.{ForAct, makes_arena, Change, Aside}
 use Rattle.mps_changes.proofs.ActChanges.{of_changes}
 use Rattle.mps_laws.proofs.OwnSegments.{own_segment_taken}
@@ -24,78 +25,96 @@ pub record IsSameArena (before after : World) : Type 0 where
 pub itself : (w : World) → IsSameArena w w
 itself w = record { grains = refl; formats = refl }
 
-then_same : (u v w : World) → IsSameArena u v → IsSameArena v w → IsSameArena u w
-then_same u v w first second = record { grains = second.grains ∙ first.grains; formats = second.formats ∙ first.formats }
+-- what no move touches
+pub record IsLeftAlone (before after : World) : Type 0 where
+  pub grains : after.grains ≡ before.grains
+  pub formats : after.formats ≡ before.formats
+  pub names : after.graph.names ≡ before.graph.names
+  pub labels : after.graph.labels ≡ before.graph.labels
+
+left_alone : {w : World} → IsLeftAlone w w
+left_alone = record { grains = refl; formats = refl; names = refl; labels = refl }
+
+then_same : (u v w : World) → IsLeftAlone u v → IsLeftAlone v w → IsLeftAlone u w
+then_same u v w first second = record {
+  grains = second.grains ∙ first.grains;
+  formats = second.formats ∙ first.formats;
+  names = second.names ∙ first.names;
+  labels = second.labels ∙ first.labels;
+}
 
 -- ---- moves
 
-one_same : (w : World) (o : Option ℕ) (change : ℕ → World) → ((id : ℕ) → IsSameArena w (change id)) → IsSameArena w (where_one w o change)
-one_same w None change each = itself w
+one_same : (w : World) (o : Option ℕ) (change : ℕ → World) → ((id : ℕ) → IsLeftAlone w (change id)) → IsLeftAlone w (where_one w o change)
+one_same w None change each = left_alone
 one_same w (Some id) change each = each id
 
-free_same : (w : World) (id at : ℕ) → IsSameArena w (after_free w id at)
+free_same : (w : World) (id at : ℕ) → IsLeftAlone w (after_free w id at)
 free_same w id at =
-    elim (object_is is_automatic w id) as (λ b. IsSameArena w (if b then with_collection (with_address w id None)
+    elim (object_is is_automatic w id) as (λ b. IsLeftAlone w (if b then with_collection (with_address w id None)
     (reclaiming (segment_base_of w at)) else with_address w id None)) [
-      | true ↦ record { grains = refl; formats = refl }
-      | false ↦ record { grains = refl; formats = refl }
+      | true ↦ record { grains = refl; formats = refl; names = refl; labels = refl }
+      | false ↦ record { grains = refl; formats = refl; names = refl; labels = refl }
     ]
 
-segment_same : (w : World) (s : Segment) → IsSameArena w (after_segment w s)
+segment_same : (w : World) (s : Segment) → IsLeftAlone w (after_segment w s)
 segment_same w s =
-    elim (is_copying_pool w s.pool) as (λ b. IsSameArena w (if b then with_tail (holding w s) s.pool s.generation (words_of_segment s)
+    elim (is_copying_pool w s.pool) as (λ b. IsLeftAlone w (if b then with_tail (holding w s) s.pool s.generation (words_of_segment s)
     else holding w s)) [
-      | true ↦ record { grains = refl; formats = refl }
-      | false ↦ record { grains = refl; formats = refl }
+      | true ↦ record { grains = refl; formats = refl; names = refl; labels = refl }
+      | false ↦ record { grains = refl; formats = refl; names = refl; labels = refl }
     ]
 
-move_same : (w : World) (m : Move) → IsSameArena w (world_after_move w m)
+move_same : (w : World) (m : Move) → IsLeftAlone w (world_after_move w m)
 move_same w (moves.Seg base grains pool generation) = segment_same w (segment_of_move base.0 grains pool generation)
-move_same w (moves.Unseg base) = record { grains = refl; formats = refl }
-move_same w (moves.Flip zones chain generation) = record { grains = refl; formats = refl }
-move_same w moves.End = record { grains = refl; formats = refl }
+move_same w (moves.Unseg base) = record { grains = refl; formats = refl; names = refl; labels = refl }
+move_same w (moves.Flip zones chain generation) = record { grains = refl; formats = refl; names = refl; labels = refl }
+move_same w moves.End = record { grains = refl; formats = refl; names = refl; labels = refl }
 move_same w (moves.Moved from to) =
-    one_same w (id_at w from.0) (λ id. after_moved w id to.0) (λ id. record { grains = refl; formats = refl })
+    one_same w (id_at w from.0) (λ id. after_moved w id to.0) (λ id. record { grains = refl; formats = refl; names = refl; labels = refl })
 move_same w (moves.Stay at) =
-    one_same w (id_at w at.0) (λ id. with_collection w (placing id)) (λ id. record { grains = refl; formats = refl })
+    one_same w (id_at w at.0) (λ id. with_collection w (placing id)) (λ id. record { grains = refl; formats = refl; names = refl; labels = refl })
 move_same w (moves.Splat holder cell) =
-    one_same w (id_at w holder.0) (λ id. after_splat w id cell) (λ id. record { grains = refl; formats = refl })
-move_same w (moves.Post at) = one_same w (id_at w at.0) (after_post w) (λ id. record { grains = refl; formats = refl })
-move_same w (moves.Commit at words pool) = record { grains = refl; formats = refl }
-move_same w (moves.Alloc at words pool) = record { grains = refl; formats = refl }
+    one_same w (id_at w holder.0) (λ id. after_splat w id cell) (λ id. record { grains = refl; formats = refl; names = refl; labels = refl })
+move_same w (moves.Post at) = one_same w (id_at w at.0) (after_post w) (λ id. record { grains = refl; formats = refl; names = refl; labels = refl })
+move_same w (moves.Commit at words pool) = record { grains = refl; formats = refl; names = refl; labels = refl }
+move_same w (moves.Alloc at words pool) = record { grains = refl; formats = refl; names = refl; labels = refl }
 move_same w (moves.Free at) = one_same w (id_at w at.0) (λ id. after_free w id at.0) (λ id. free_same w id at.0)
 
-moves_same : (w : World) (ms : List Move) → IsSameArena w (world_after_moves w ms)
-moves_same w [] = itself w
+moves_same : (w : World) (ms : List Move) → IsLeftAlone w (world_after_moves w ms)
+moves_same w [] = left_alone
 moves_same w (m ∷ ms) =
     then_same w (world_after_move w m) (world_after_moves (world_after_move w m) ms) (move_same w m) (moves_same (world_after_move w m) ms)
 
-asked_same : (units : Option ℕ) (w : World) → IsSameArena w (asking units w)
-asked_same None w = itself w
-asked_same (Some units) w = record { grains = refl; formats = refl }
+asked_same : (units : Option ℕ) (w : World) → IsLeftAlone w (asking units w)
+asked_same None w = left_alone
+asked_same (Some units) w = record { grains = refl; formats = refl; names = refl; labels = refl }
 
-own_same : (w : World) (ms : List Move) (number : Option ℕ) → IsSameArena w (after_own_segment w ms number)
+own_same : (w : World) (ms : List Move) (number : Option ℕ) → IsLeftAlone w (after_own_segment w ms number)
 own_same w ms number =
-    own_segment_taken (IsSameArena w) w (itself w) (λ s. record { grains = refl; formats = refl })
-    (λ s n r. record { grains = refl; formats = refl }) ms number
+    own_segment_taken (IsLeftAlone w) w left_alone (λ s. record { grains = refl; formats = refl; names = refl; labels = refl })
+    (λ s n r. record { grains = refl; formats = refl; names = refl; labels = refl }) ms number
 
 -- the moves of a call
-pub moved_same : (w : World) (c : Call) (ms : List Move) → IsSameArena w (moved_world w c ms)
-moved_same w (call.Reserve name head) ms =
+pub moved_alone : (w : World) (c : Call) (ms : List Move) → IsLeftAlone w (moved_world w c ms)
+moved_alone w (call.Reserve name head) ms =
     let polled = world_after_moves w (moves_of_poll ms) in
     let owned = after_own_segment polled (own_segment ms) (number_named w name as_point) in
     then_same w owned (asking (units_asked w (call.Reserve name head)) owned)
     (then_same w polled owned (moves_same w (moves_of_poll ms)) (own_same polled (own_segment ms) (number_named w name as_point)))
     (asked_same (units_asked w (call.Reserve name head)) owned)
-moved_same w (call.Step units) ms =
+moved_alone w (call.Step units) ms =
     then_same w (world_after_moves w ms) (asking (units_asked w (call.Step units)) (world_after_moves w ms)) (moves_same w ms)
     (asked_same (units_asked w (call.Step units)) (world_after_moves w ms))
-moved_same w _ ms = moves_same w ms
+moved_alone w _ ms = moves_same w ms
+
+pub moved_same : (w : World) (c : Call) (ms : List Move) → IsSameArena w (moved_world w c ms)
+moved_same w c ms = let alone = moved_alone w c ms in record { grains = alone.grains; formats = alone.formats }
 
 -- ---- acts
 
 change_same : {marked : Bool} {c : Call} {judged v u : World} → makes_arena c ≡ false → Change marked c judged v u → IsSameArena v u
-change_same h (Aside names grains limit chains state dependencies same _) = record { grains = same h; formats = refl }
+change_same h (Aside u what) = record { grains = (aside_is what).grains h; formats = refl }
 change_same h _ = record { grains = refl; formats = refl }
 
 pub act_same : (marked : Bool) (judged v : World) (c : Call) → makes_arena c ≡ false → ForAct (IsSameArena v) (act marked judged v c)

@@ -15,6 +15,8 @@ use Rattle.mps_model.specs.History.{IsLegalStep, IsLegalFrom, judged_world, move
 use Rattle.mps_changes.specs.Change.{makes_arena}
 use Rattle.mps_laws.specs.WellFormed.{ReachedWorldsAreWellFormed}
 use Rattle.mps_laws.proofs.Positions.LegalMoves.{HasLayout}
+use Rattle.mps_model.specs.Graph.{empty_graph}
+use Rattle.mps_laws.proofs.Labels.{AreNamed, labels_after}
 use Rattle.mps_laws.proofs.Acts.{for_world}
 use Rattle.mps_laws.proofs.Replays.FreeSteps.{BlocksAreLive}
 use Rattle.mps_laws.proofs.Replays.Replay.{limit_after, legal_step_replayed, live_after, empty_layout}
@@ -52,6 +54,7 @@ record IsKeptWell (w : World) : Type 0 where
   pub slots : SlotsAreLive w
   pub client : ClientIsLive w
   pub sound : IsSoundGraph w
+  pub named : AreNamed w.graph
 
 which : {A B : Type 0} (b : Bool) → MatchBool b A B → ((b ≡ true) × A) ⊎ ((b ≡ false) × B)
 which true a = inl (refl, a)
@@ -79,6 +82,7 @@ step_kept w s plain k legal =
       slots = sound.1;
       client = client_after w s k.client legal;
       sound = sound.0;
+      named = labels_after w s k.named;
     }
 
 steps_kept : (w : World) (h : History) → list_any (λ (later : Step). makes_arena later.call) h ≡ false → IsKeptWell w → IsLegalFrom w h
@@ -103,8 +107,11 @@ empty_sound formats = record {
   messages = refl;
 }
 
+none_labelled : AreNamed empty_graph
+none_labelled number label e = absurd (Rattle.std.proofs.lemmas.Option.none-some label e)
+
 empty_kept : (formats : ℕ → Layout) → IsKeptWell (empty_world_of formats)
-empty_kept formats = record { layout = empty_layout formats; blocks = refl; slots = refl; client = refl; sound = empty_sound formats }
+empty_kept formats = record { layout = empty_layout formats; blocks = refl; slots = refl; client = refl; sound = empty_sound formats; named = none_labelled }
 
 -- the first command makes the arena
 first_arena : (formats : ℕ → Layout) (line grains most : ℕ) (ms : List Move) (answer : Answer)
@@ -122,6 +129,7 @@ first_arena formats line grains most ms answer legal =
       slots = sound.1;
       client = client_after w s k.client legal;
       sound = sound.0;
+      named = labels_after w s k.named;
     }
   where
     limited : (b : Bool) → is_unsupported answer ≡ b
@@ -162,8 +170,8 @@ not_true false e = refl
 
 pub reached_are_well_formed : ReachedWorldsAreWellFormed
 reached_are_well_formed formats [] once legal =
-    let k = empty_kept formats in well_formed (empty_world_of formats) k.layout k.sound k.client
+    let k = empty_kept formats in well_formed (empty_world_of formats) k.layout k.sound k.named k.client
 reached_are_well_formed formats (s ∷ ss) once legal =
     let k = steps_kept (world_after (empty_world_of formats) s) ss (not_true (list_any (λ (later : Step). makes_arena later.call) ss) once)
     (first_kept formats s legal.0) legal.1 in
-    well_formed (world_after_steps (world_after (empty_world_of formats) s) ss) k.layout k.sound k.client
+    well_formed (world_after_steps (world_after (empty_world_of formats) s) ss) k.layout k.sound k.named k.client

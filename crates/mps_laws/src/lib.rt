@@ -6,7 +6,7 @@ ghost use Rattle.mps_laws.specs.OneHistory.{LogTellsOneHistory};
 ghost use Rattle.mps_laws.specs.Held.{HeldObjectsAreLive, GetsReachLiveObjects};
 ghost use Rattle.mps_laws.specs.Staying.{HeldBlocksStay, HeldThroughoutStays, AddressesStayRight};
 ghost use Rattle.mps_laws.specs.Depending.{FreshDependenciesHold};
-ghost use Rattle.mps_laws.specs.Replay.{StepReplaysToLiveBlocks, LogReplaysToLiveBlocks};
+ghost use Rattle.mps_laws.specs.Replay.{StepReplaysToLiveBlocks, LogReplaysToLiveBlocks, LabelledLogReplays};
 ghost use Rattle.mps_laws.specs.Flipping.{StepFlipsOnceAtMost, FlipsAreNoMoreThanSteps};
 ghost use Rattle.mps_laws.specs.WellFormed.{ReachedWorldsAreWellFormed, ArenaMadeAgainLeavesSegments};
 
@@ -20,6 +20,13 @@ pub fn a_log_tells_one_history()
 pub fn a_log_replays_to_the_live_blocks()
     ensures step { StepReplaysToLiveBlocks }
     ensures log { LogReplaysToLiveBlocks }
+{}
+
+/// The log of version 2 of a legal history, in which names are interned and addresses labelled, replays without a bad record to exactly
+/// the live blocks and as many interned names as there are labels. So each name is interned by the number of those before it, and
+/// each labelled address is that of a live block.
+pub fn a_labelled_log_replays()
+    ensures { LabelledLogReplays }
 {}
 
 /// What a client holds is live, after each step: whatever stands in a slot, a hold of an area word, a message, a live

@@ -7,7 +7,7 @@ use Rattle.mps_base.specs.declared.refusal.Refusal.TheVariants as refusal
 use Rattle.mps_model.specs.declared.reply.Reply.{Reply}
 use Rattle.mps_model.specs.declared.reply.Reply.TheVariants as reply
 use Rattle.mps_model.specs.Answer.{Answer, Replied}
-use Rattle.mps_model.specs.Graph.{Graph, Cell, HeadCell, NumberCell, ReferenceCell, Body, Automatic, Manual, Object, Point, AreaWord, Thing, ChainThing, PoolThing, TableThing, AreaThing, BlocksThing, PointThing, DependencyThing, thing_named, entry_at, object_at, with_last}
+use Rattle.mps_model.specs.Graph.{Graph, Cell, HeadCell, NumberCell, ReferenceCell, Body, Automatic, Manual, Object, Point, AreaWord, Thing, ChainThing, PoolThing, TableThing, AreaThing, BlocksThing, PointThing, DependencyThing, LabelThing, thing_named, entry_at, object_at, with_last}
 use Rattle.mps_model.specs.World.{World, Pool, Dependency}
 
 -- an answer, and the world after it
@@ -82,6 +82,10 @@ abbrev pub as_dependency : Thing → Option ℕ
 as_dependency (DependencyThing number) = Some number
 as_dependency _ = None
 
+abbrev pub as_label : Thing → Option ℕ
+as_label (LabelThing number) = Some number
+as_label _ = None
+
 -- the number of the thing of the wanted kind that has this name
 abbrev pub number_named : World → Name → (Thing → Option ℕ) → Option ℕ
 number_named w name as_wanted = option_and_then as_wanted (thing_named w.graph name)
@@ -115,6 +119,12 @@ abbrev pub dependency_named : World → Name → Checked (Numbered Dependency)
 dependency_named w name = do
   number ← required (number_named w name as_dependency) refusal.BadName
   numbered number (slice_get w.dependencies number)
+
+-- the label of this name
+abbrev pub label_named : World → Name → Checked (Numbered Name)
+label_named w name = do
+  number ← required (number_named w name as_label) refusal.BadName
+  numbered number (slice_get w.graph.labels number)
 
 -- an entry of a list in a list of lists: the number of the list, the list, the index, and what stands there
 pub record Found (A : Type 0) : Type 0 where
@@ -186,6 +196,18 @@ abbrev pub reference_in : Cell → Checked (Option ℕ)
 reference_in (ReferenceCell target tag) = Ok target
 reference_in HeadCell = Err refusal.NotARef
 reference_in (NumberCell number) = Err refusal.NotARef
+
+-- the tag of a reference
+abbrev pub tag_in : Cell → Checked ℕ
+tag_in (ReferenceCell target tag) = Ok tag
+tag_in HeadCell = Err refusal.NotARef
+tag_in (NumberCell number) = Err refusal.NotARef
+
+-- the tag of the reference in cell k
+abbrev pub tag_at : List Cell → (k : ℕ) → Checked ℕ
+tag_at cells k = do
+  cell ← cell_of cells k
+  tag_in cell
 
 -- the number in cell k
 abbrev pub number_at : List Cell → (k : ℕ) → Checked ℕ

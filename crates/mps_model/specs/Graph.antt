@@ -58,6 +58,7 @@ pub data Thing : Type 0 where
   DependencyThing : (number : ℕ) → Thing
   TransformThing : (number : ℕ) → Thing
   CacheThing : (number : ℕ) → Thing
+  LabelThing : (number : ℕ) → Thing
 
 pub record NamedThing : Type 0 where
   pub name : Name
@@ -251,6 +252,16 @@ retargeted (NumberCell number) target = NumberCell number
 -- cell k refers to another target, and keeps its tag
 abbrev pub with_target_cell : List Cell → (k : ℕ) → (target : Option ℕ) → List Cell
 with_target_cell cells k target = option_map_or (λ cell. slice_set cells k (retargeted cell target)) (slice_get cells k) cells
+
+-- a reference with another tag; other cells stay
+abbrev pub tagged : Cell → (tag : ℕ) → Cell
+tagged (ReferenceCell target old) tag = ReferenceCell target tag
+tagged HeadCell tag = HeadCell
+tagged (NumberCell number) tag = NumberCell number
+
+-- the reference in cell k has another tag, and refers to what it did
+abbrev pub with_tag_cell : List Cell → (k tag : ℕ) → List Cell
+with_tag_cell cells k tag = option_map_or (λ cell. slice_set cells k (tagged cell tag)) (slice_get cells k) cells
 
 abbrev pub body_with_cells : Body → (List Cell → List Cell) → Body
 body_with_cells (Automatic head cells is_weak) change = Automatic head (change cells) is_weak

@@ -3,6 +3,7 @@ pub mod Answer
 pub mod Step
 pub mod Log
 pub mod Replay
+pub mod Replayed
 pub mod Graph
 pub mod Reachable
 pub mod Collection
@@ -13,6 +14,8 @@ pub mod Checked
 pub mod Making
 pub mod Allocating
 pub mod Accessing
+pub mod Tagging
+pub mod Labelling
 pub mod Dependency
 pub mod Collecting
 pub mod Reply

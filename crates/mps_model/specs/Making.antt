@@ -32,6 +32,9 @@ most_chains = 16
 abbrev pub most_dependencies : ℕ
 most_dependencies = 256
 
+abbrev pub most_labels : ℕ
+most_labels = 256
+
 -- how many tables, areas and tables of blocks are live
 abbrev pub live_roots : Graph → ℕ
 live_roots g = count_by is_some g.tables + count_by is_some g.areas + length g.blocks

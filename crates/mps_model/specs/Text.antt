@@ -64,6 +64,8 @@ reply_text reply.None_ = codes "none"
 reply_text (reply.Head head) = head_text head
 reply_text (reply.Pair these those) = decimal these ++ and_number those
 reply_text (reply.Words at count) = []
+reply_text (reply.Interned number) = decimal number
+reply_text (reply.Labelled at number) = word_text at.0
 reply_text (reply.Refused why) = codes "refused " ++ refusal_text why
 reply_text reply.Unsupported = codes "unsupported"
 
@@ -83,6 +85,11 @@ a_refusal_prints_its_numbers = refl
 pub a_dump_prints_its_words : text_of_answer (Dumped (0x100000301 ∷ 0 ∷ 7 ∷ [])) ≡ codes "0x100000301 0x0 0x7"
 unfolding digits
 a_dump_prints_its_words = refl
+
+-- the number of a label isn't printed
+pub a_labelled_object_prints_its_address : reply_text (reply.Labelled (record { 0 = 0x1000 }) 3) ≡ codes "0x1000"
+unfolding digits
+a_labelled_object_prints_its_address = refl
 
 pub a_mapped_head : reply_text (reply.Head 0x600000302) ≡ codes "m:3:6"
 unfolding digits

@@ -1,14 +1,15 @@
 -- What holds of every world that a legal history reaches in which only the first command makes an arena, as in any script.
-use Rattle.std.specs.Prelude.{◌≡◌, ℕ, Bool, true, false, not, ◌&&◌, ◌||◌, ◌==◌, nat_lt, nat_le, IsTrue, if◌then◌else◌, Option, Some, None, List, [], ◌∷◌, ◌++◌, map, length, filter, refl}
+use Rattle.std.specs.Prelude.{◌≡◌, ℕ, Bool, true, false, not, ◌&&◌, ◌||◌, ◌==◌, nat_lt, nat_le, IsTrue, if◌then◌else◌, Option, Some, None, List, [], ◌∷◌, ◌++◌, map, length, filter, replicate, codes, ◌+◌, refl}
 use Rattle.std.proofs.Common.{arith}
 use Rattle.std.specs.List.{list_any, list_all}
 use Rattle.std.specs.Option.{option_map_or}
 use Rattle.mps_base.specs.Address.{Id, address_of_grain}
 use Rattle.mps_base.specs.Run.{Run, end_of, in_order}
 use Rattle.mps_base.specs.Segment.{Segment, same_rank, words_of_segment, grains_of_segment}
+use Rattle.mps_base.specs.declared.names.Name.{Name}
 use Rattle.mps_base.specs.declared.names.Kind.TheVariants as kind
 use Rattle.mps_base.specs.declared.names.Rank.TheVariants as rank
-use Rattle.mps_model.specs.Graph.{Cell, HeadCell, NumberCell, ReferenceCell, Body, Automatic, Manual, Object, Reservation, Point, AreaWord, PlainWord, Hold, is_automatic, is_weak_object, new_cells, targets_of_cells, with_target_cell, graph_with_cells, empty_graph, ids_in_slots, ids_in_blocks}
+use Rattle.mps_model.specs.Graph.{Graph, Thing, TableThing, LabelThing, NamedThing, thing_named, Cell, HeadCell, NumberCell, ReferenceCell, Body, Automatic, Manual, Object, Reservation, Point, AreaWord, PlainWord, Hold, is_automatic, is_weak_object, new_cells, targets_of_cells, with_target_cell, graph_with_cells, empty_graph, ids_in_slots, ids_in_blocks}
 use Rattle.mps_model.specs.World.{World, Pool, PointMemory, Tail, is_automatic_kind, is_weak_kind, pool_is, pool_at, is_live, is_live_and, live_ids, object_is, pool_of, words_of, extent, covered, shown_word, lies_in, Collected, empty_run, empty_world}
 use Rattle.mps_model.specs.Making.{is_weak_rank, is_block_size}
 
@@ -109,6 +110,18 @@ abbrev pub are_right_words : World → Option (List AreaWord) → Bool
 are_right_words w None = true
 are_right_words w (Some words) = list_all (is_right_word w) words
 
+-- ---- labels
+
+-- whether a name represents the label of this number
+abbrev pub is_label : (number : ℕ) → Option Thing → Bool
+is_label number (Some (LabelThing its_number)) = its_number == number
+is_label number _ = false
+
+-- whether names represent the labels of this number and of those after it
+abbrev pub are_labels : Graph → (number : ℕ) → List Name → Bool
+are_labels g number [] = true
+are_labels g number (name ∷ names) = is_label number (thing_named g name) && are_labels g (number + 1) names
+
 abbrev pub is_live_automatic : World → (id : Id) → Bool
 is_live_automatic w id = is_live w id && object_is is_automatic w id
 
@@ -133,6 +146,12 @@ pub record IsWellFormed (w : World) : Type 0 where
   -- registrations and messages are of live automatic objects
   pub registered : IsTrue (list_all (is_live_automatic w) w.graph.registered)
   pub messages : IsTrue (list_all (is_live_automatic w) w.graph.messages)
+  -- each label is a name, which represents it by its number: so no name is a label twice
+  pub labels : IsTrue (are_labels w.graph 0 w.graph.labels)
+
+-- the name of a label
+abbrev ring : Name
+ring = record { bytes = codes "ring" ++ replicate 12 0 }
 
 -- a weak object at 0x2000, in its own segment, refers to one at 0x1000, and a word of an area holds that one
 abbrev small_world : World
@@ -150,6 +169,8 @@ small_world = record empty_world {
           reservation = Some (record { head = 0x201; cells = HeadCell ∷ NumberCell 0 ∷ []; is_doomed = false });
         }) ∷ [];
     registered = 0 ∷ [];
+    names = record { name = ring; thing = LabelThing 0 } ∷ [];
+    labels = ring ∷ [];
   };
   grains = 4;
   limit = 4;
@@ -175,6 +196,7 @@ small_world_is_well_formed = record {
   blocks = refl;
   registered = refl;
   messages = refl;
+  labels = refl;
 }
 
 -- what breaks it, a fact at a time
@@ -199,6 +221,19 @@ an_object_without_an_entry w = let h : 1 ≡ 2 = w.addresses in omega (arith, h)
 
 pub a_dead_one_registered : IsWellFormed (record small_world { addresses = None ∷ Some 0x2000 ∷ [] }) → ⊥
 a_dead_one_registered w = let h : false ≡ true = w.registered in absurd cc
+
+-- the small world with these names and labels
+abbrev with_labels : List NamedThing → List Name → World
+with_labels names labels = record small_world { graph = record small_world.graph { names = names; labels = labels } }
+
+pub a_label_without_a_name : IsWellFormed (with_labels [] (ring ∷ [])) → ⊥
+a_label_without_a_name w = let h : false ≡ true = w.labels in absurd cc
+
+pub a_label_twice : IsWellFormed (with_labels (record { name = ring; thing = LabelThing 0 } ∷ []) (ring ∷ ring ∷ [])) → ⊥
+a_label_twice w = let h : false ≡ true = w.labels in absurd cc
+
+pub a_label_by_the_name_of_a_table : IsWellFormed (with_labels (record { name = ring; thing = TableThing 0 } ∷ []) (ring ∷ [])) → ⊥
+a_label_by_the_name_of_a_table w = let h : false ≡ true = w.labels in absurd cc
 
 pub a_reference_to_nothing : IsWellFormed (record small_world {
   graph = graph_with_cells small_world.graph 1

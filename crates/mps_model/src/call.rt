@@ -175,6 +175,28 @@ pub enum Call {
         slot: Slot,
     },
 
+    // Tags and labels.
+    /// `settag S K N`: writes the tag of a reference cell, modulo 8.
+    SetTag {
+        slot: Slot,
+        cell: u64,
+        tag: u64,
+    },
+    /// `tag S K`: the tag of a reference cell.
+    Tag {
+        slot: Slot,
+        cell: u64,
+    },
+    /// `intern L`: makes a label of the log.
+    Intern {
+        label: Name,
+    },
+    /// `label S L`: labels an object in the log.
+    Label {
+        slot: Slot,
+        label: Name,
+    },
+
     // Areas.
     /// `poke A.I VALUE`: stores a word into an area.
     Poke {

@@ -32,6 +32,10 @@ pub enum Reply {
     Pair(u64, u64),
     /// N words from an address on, in hexadecimal; the runner prints them from the arena.
     Words(Addr, u32),
+    /// The number of a label, in decimal.
+    Interned(u32),
+    /// The address of an object that was labelled, in hexadecimal, and the number of its label.
+    Labelled(Addr, u32),
     /// `refused`, its number and its numbers.
     Refused(Refusal),
     /// `unsupported`: the command is not built yet.

@@ -25,6 +25,7 @@ pub mod Stepping
 pub mod OtherCommands
 pub mod Refusing
 pub mod WrongAnswers
+pub mod Labelled
 pub mod WrongMoves
 pub mod ThreeToReclaim
 pub mod WrongUnits

@@ -23,6 +23,7 @@ pub mod ReadingOn
 pub mod Stepping
 pub mod OtherCommands
 pub mod WrongAnswers
+pub mod Labelled
 pub mod WrongMoves
 pub mod WrongUnits
 pub mod KeptReferences

@@ -25,6 +25,7 @@ ghost use Rattle.mps_model_examples.specs.PostedInPlace.{PostedInPlaceIsLegal};
 ghost use Rattle.mps_model_examples.specs.ReadingOn.{ReadingOnIsLegal};
 ghost use Rattle.mps_model_examples.specs.Stepping.{SteppingIsLegal};
 ghost use Rattle.mps_model_examples.specs.OtherCommands.{OtherCommandsIsLegal};
+ghost use Rattle.mps_model_examples.specs.Labelled.{LabelledIsLegal, LabelledIsReplayed, OthersAreNoLabels, NoTagIsLost};
 ghost use Rattle.mps_model_examples.specs.WrongAnswers.{FlippedWithoutFlip, CommitAcrossFlip, LimitBesideGap, LimitBesideRun, StaleWithoutFlip, FreshAfterMove, GetOfOldPlace};
 ghost use Rattle.mps_model_examples.specs.WrongMoves.{SplatOfReachable, TwoPostsForOne, MoveOfPinned, FreeOfWaiting, StayBesideRoom, MarkedInPlace, UnknownFree, MoveAfterSplat};
 ghost use Rattle.mps_model_examples.specs.WrongUnits.{CollectWithoutMoves, StartDoesAll, TwoUnitsForOne, ReclaimedDownwards, WeakScannedAsExact, PollWhereClamped};
@@ -370,4 +371,26 @@ pub fn placements_compute()
 /// A whole collection posts a block that was registered twice once.
 pub fn posts_are_exact()
     ensures { PostsAreExact }
+{}
+
+/// A history in which a reference is tagged and an object is labelled is legal. The script: `arena 8 8; table t 4; pool p amc front; ap x p
+/// exact; reserve x f:3:1; commit x t.0; put t.0 1 t.0; tag t.0 1; settag t.0 1 5; tag t.0 1; settag t.0 1 9; tag t.0 1; tag t.0 2; get t.1
+/// t.0 1; intern b; intern d; label t.0 b; label t.2 b; label t.0 t; table b 1`.
+pub fn labelled_is_legal()
+    ensures { LabelledIsLegal }
+{}
+
+/// Its log of version 2 replays to the object and two interned names.
+pub fn labelled_is_replayed()
+    ensures { LabelledIsReplayed }
+{}
+
+/// An `intern` doesn't answer another number than that of the labels before it, nor a `label` another number or place than its own.
+pub fn others_are_no_labels()
+    ensures { OthersAreNoLabels }
+{}
+
+/// A reference that is splatted keeps its tag.
+pub fn no_tag_is_lost()
+    ensures { NoTagIsLost }
 {}

@@ -2,4 +2,5 @@ pub mod Making
 pub mod Allocating
 pub mod Accessing
 pub mod Collecting
+pub mod Labelling
 pub mod Placing

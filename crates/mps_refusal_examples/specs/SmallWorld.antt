@@ -8,7 +8,7 @@ use Rattle.mps_base.specs.declared.names.Kind.TheVariants as kind
 use Rattle.mps_base.specs.declared.names.Rank.{Rank}
 use Rattle.mps_base.specs.declared.names.Rank.TheVariants as rank
 use Rattle.mps_model.specs.Fields.{head_word}
-use Rattle.mps_model.specs.Graph.{Cell, HeadCell, NumberCell, ReferenceCell, Automatic, Manual, Object, Reservation, Point, PlainWord, Hold, Thing, ChainThing, PoolThing, TableThing, AreaThing, BlocksThing, PointThing, DependencyThing, NamedThing, empty_graph}
+use Rattle.mps_model.specs.Graph.{Cell, HeadCell, NumberCell, ReferenceCell, Automatic, Manual, Object, Reservation, Point, PlainWord, Hold, Thing, ChainThing, PoolThing, TableThing, AreaThing, BlocksThing, PointThing, DependencyThing, LabelThing, NamedThing, empty_graph}
 use Rattle.mps_model.specs.Collection.{Collection}
 use Rattle.mps_model.specs.World.{World, PoolKind, Pool, Collected, OneSize, AnySize, Dependency, PointMemory, empty_run, empty_world}
 
@@ -58,6 +58,10 @@ mfs_pool = name (codes "mfs")
 
 abbrev pub mvff_pool : Name
 mvff_pool = name (codes "mvff")
+
+-- the label 0
+abbrev pub a_label : Name
+a_label = name (codes "label")
 
 -- a point of the AMC pool without reservation
 abbrev pub idle_point : Name
@@ -200,6 +204,7 @@ things =
     ∷ called doomed_point (PointThing 2)
     ∷ called amcz_point (PointThing 3)
     ∷ called lo_point (PointThing 4)
+    ∷ called a_label (LabelThing 0)
     ∷ []
 
 -- the pools in the order of their numbers
@@ -234,6 +239,7 @@ small = record empty_world {
         ∷ [];
     registered = 0 ∷ [];
     names = things;
+    labels = a_label ∷ [];
   };
   grains = 6;
   limit = 5;
@@ -256,6 +262,7 @@ crowded free = record small {
   graph = record small.graph {
     tables = small.graph.tables ++ None ∷ replicate (253 - free) (Some (None ∷ []));
     points = small.graph.points ++ None ∷ replicate (251 - free) (exact_point 0 None);
+    labels = small.graph.labels ++ replicate (255 - free) a_label;
   };
   pools = small.pools ++ replicate (57 - free) (manual_pool AnySize);
   chains = small.chains ++ replicate (15 - free) (1 ∷ []);

@@ -5,6 +5,7 @@
 ghost use Rattle.mps_refusal_examples.specs.Making.{ArenaAnswers, PoolsAnswer, RootsAnswer, PointsAnswer};
 ghost use Rattle.mps_refusal_examples.specs.Allocating.{ReservationsAnswer, InitStores, ManualBlocksAnswer};
 ghost use Rattle.mps_refusal_examples.specs.Accessing.{CellsAnswer, SlotsAnswer, AreasAnswer};
+ghost use Rattle.mps_refusal_examples.specs.Labelling.{TagsAnswer, LabelsAnswer};
 ghost use Rattle.mps_refusal_examples.specs.Collecting.{CollectionsAnswer, FinalizationAnswers, DependenciesAnswer};
 ghost use Rattle.mps_refusal_examples.specs.Placing.{AreGapsByRank, AreBuffersByPoint};
 
@@ -81,4 +82,14 @@ pub fn gaps_are_by_rank()
 /// Blocks of an AMCZ pool lie in the buffer of their point.
 pub fn buffers_are_by_point()
     ensures { AreBuffersByPoint }
+{}
+
+/// `settag` and `tag`.
+pub fn tags_answer()
+    ensures { TagsAnswer }
+{}
+
+/// `intern`, if no label is left and if one is, and `label`.
+pub fn labels_answer()
+    ensures { LabelsAnswer }
 {}

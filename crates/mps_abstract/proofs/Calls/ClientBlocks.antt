@@ -123,9 +123,7 @@ module _ (x : Collecting) (run : Running x) (as_many : length x.world.addresses 
         };
       } in
       aside_keeps made (made_keeps x run new at as_many different (λ t none. absurd (false≢true none)))
-      x.world.grains x.world.limit x.world.chains x.world.graph.names
-      (slice_set x.world.graph.blocks place.number (slice_set place.list place.index (Some (length x.world.graph.objects)))) x.world.state
-      x.world.dependencies
+      x.world (slice_set x.world.graph.blocks place.number (slice_set place.list place.index (Some (length x.world.graph.objects))))
 
 -- ---- the segment that an alloc takes
 

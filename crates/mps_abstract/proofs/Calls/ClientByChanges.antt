@@ -14,14 +14,14 @@ use Rattle.mps_model.specs.Checked.{Act, Checked, Found, Numbered, slot_in}
 use Rattle.mps_model.specs.Allocating.{with_slot}
 use Rattle.mps_model.specs.Making.{graph_with_table, graph_with_area, graph_with_blocks}
 use Rattle.mps_model.specs.Reply.{act, world_from}
-use Rattle.mps_changes.specs.Change.{ForAct, accepted, refused, IsFoundBy, Now, Before, makes_pool, IsGot, GotNull, FromSlot, FromCell, FromWord, FromMessage, IsShown, ShownPlain, ShownPinned, ShownPoked, IsWritten, WritesReference, WritesNumber, Change, Unchanged, Aside, SlotIs, WordIs, MessageTaken, TableMade, AreaMade, BlocksMade, TableDropped, AreaDropped, CellsAre, BlockWordIs, PlaceEmptied, Allocated, PoolMade, PointMade, PointDropped, Opened, Written, Closed, Committed, Registered, Unregistered}
+use Rattle.mps_changes.specs.Change.{ForAct, accepted, refused, IsFoundBy, Now, Before, makes_pool, IsGot, GotNull, FromSlot, FromCell, FromWord, FromMessage, IsShown, ShownPlain, ShownPinned, ShownPoked, IsWritten, WritesTag, WritesReference, WritesNumber, Change, Unchanged, Aside, SlotIs, WordIs, MessageTaken, TableMade, AreaMade, BlocksMade, TableDropped, AreaDropped, CellsAre, BlockWordIs, PlaceEmptied, Allocated, PoolMade, PointMade, PointDropped, Opened, Written, Closed, Committed, Registered, Unregistered}
 use Rattle.mps_changes.proofs.ActChanges.{act_changes_so, but}
 use Rattle.mps_abstract.specs.Colours.{AreDifferent}
 use Rattle.mps_abstract.specs.Collecting.{Collecting, Running}
 use Rattle.mps_abstract.specs.ClientLaws.{IsMarkedKept, IsReadKept}
 use Rattle.mps_abstract.proofs.Lists.{contains_here, contains_later}
 use Rattle.mps_abstract.proofs.Addresses.{listed_is_live}
-use Rattle.mps_abstract.proofs.Calls.ClientCells.{length_set, length_with_target, targets_written, targets_retargeted}
+use Rattle.mps_abstract.proofs.Calls.ClientCells.{length_set, length_with_tag, length_with_target, targets_tagged, targets_written, targets_retargeted}
 use Rattle.mps_abstract.proofs.Calls.ClientBeside.{IsRightlyHeld, IsFound, roots_keep, slot_found, word_found, slot_held, point_found, same_Ok}
 use Rattle.mps_abstract.proofs.Calls.ClientRoots.{object_found, held_word, still_slots, still_holds, still_messages, held_by_parts, slots_written, slot_keeps, slot_right, hold_right, word_keeps, as_block_black, new_table, new_area, dropped_table, dropped_area}
 use Rattle.mps_abstract.proofs.Calls.ClientPoints.{with_point_keeps, without_point_keeps, with_reserved_keeps, written_keeps}
@@ -112,6 +112,7 @@ module _ (x : Collecting) (run : Running x) (judged : World) (c : Call) (answer 
   written_many : {cells : List Cell} {change : List Cell → List Cell} → IsWritten (is_block answer) c judged w cells change
       → (old : List Cell) → length (change old) ≡ length old
   written_many (WritesReference k source from e) old = length_with_target old k from.value
+  written_many (WritesTag k tag low) old = length_with_tag old k tag
   written_many (WritesNumber k was value there) old = length_set old k (NumberCell value)
 
   written_right : {cells : List Cell} {change : List Cell → List Cell} → IsWritten (is_block answer) c judged w cells change
@@ -121,6 +122,7 @@ module _ (x : Collecting) (run : Running x) (judged : World) (c : Call) (answer 
     | inl was ↦ inl was
     | inr new ↦ inr (slot_held w.graph from t (slot_found w source from e) new)
   ]
+  written_right (WritesTag k tag low) old t h = inl (targets_tagged old k tag t h)
   written_right (WritesNumber k was value there) old t h = elim (targets_written old k (NumberCell value) t h) [
     | inl was ↦ inl was
     | inr none ↦ absurd (none-some t none)
@@ -137,8 +139,8 @@ module _ (x : Collecting) (run : Running x) (judged : World) (c : Call) (answer 
 
   pub change_runs : {u : World} → unregisters c ≡ false → AreDifferent u.addresses → Change (is_block answer) c judged w u → P u
   change_runs h different Unchanged = run
-  change_runs h different (Aside names grains limit chains state dependencies _ _) =
-      aside_keeps x run grains limit chains names w.graph.blocks state dependencies
+  change_runs h different (Aside u what) =
+      aside_keeps x run u w.graph.blocks
   change_runs h different (SlotIs into target found got) = slot_keeps x run into target (slots_there into found) (got_right got)
   change_runs h different (WordIs place at word e shown) = word_keeps x run at word (word_found w place at e) (shown_right shown)
   change_runs h different (MessageTaken slot into id ids e are) =
@@ -156,18 +158,17 @@ module _ (x : Collecting) (run : Running x) (judged : World) (c : Call) (answer 
   change_runs h different (BlocksMade name places e) =
       roots_keep x run (graph_with_blocks w.graph name places)
       (held_by_parts x run w.graph.tables w.graph.areas w.graph.messages (still_slots x run) (still_holds x run) (still_messages x run))
-  change_runs h different (TableDropped name n) =
+  change_runs h different (TableDropped name n named) =
       roots_keep x run (record w.graph { tables = slice_set w.graph.tables n None; names = without_name w.graph.names name })
       (held_by_parts x run (slice_set w.graph.tables n None) w.graph.areas w.graph.messages (dropped_table x run n) (still_holds x run) (still_messages x run))
-  change_runs h different (AreaDropped name n) =
+  change_runs h different (AreaDropped name n named) =
       roots_keep x run (record w.graph { areas = slice_set w.graph.areas n None; names = without_name w.graph.names name })
       (held_by_parts x run w.graph.tables (slice_set w.graph.areas n None) w.graph.messages (still_slots x run) (dropped_area x run n) (still_messages x run))
   change_runs h different (CellsAre object change held write) =
       with_cells_keeps x run object.number change (record { as_many = written_many write; referred = written_right write })
   change_runs h different (BlockWordIs id k value) = with_word_keeps x run id k value
   change_runs h different (PlaceEmptied from place e found) =
-      aside_keeps x run w.grains w.limit w.chains w.graph.names
-      (slice_set w.graph.blocks place.number (slice_set place.list place.index None)) w.state w.dependencies
+      aside_keeps x run w (slice_set w.graph.blocks place.number (slice_set place.list place.index None))
   change_runs h different (Allocated pool p words into place at e of kind size found) =
       allocated_keeps x run (known.as_many (ap allocates e)) p.number words at place different
   change_runs h different (PoolMade name p e made) = with_pool_keeps x run (known.formed (pool_moves_nothing c e)) name p

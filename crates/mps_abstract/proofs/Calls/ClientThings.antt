@@ -7,10 +7,11 @@ use Rattle.std.specs.List.{list_all}
 use Rattle.std.specs.Option.{option_map_or}
 use Rattle.mps_base.specs.Address.{Id}
 use Rattle.mps_base.specs.declared.names.Name.{Name}
-use Rattle.mps_model.specs.Graph.{Object, NamedThing, Slots, with_last, object_at}
-use Rattle.mps_model.specs.World.{World, Pool, PoolKind, ArenaState, Dependency, is_automatic_kind, is_copying_kind, is_copying_pool, is_copying_object}
+use Rattle.mps_model.specs.Graph.{Object, Slots, with_last, object_at}
+use Rattle.mps_model.specs.World.{World, Pool, PoolKind, is_automatic_kind, is_copying_kind, is_copying_pool, is_copying_object}
 use Rattle.mps_model.specs.Making.{with_pool}
 use Rattle.mps_model.specs.WellFormed.{IsWellFormed, is_right_object, is_right_body}
+use Rattle.mps_changes.specs.Change.{with_aside}
 use Rattle.mps_abstract.specs.Collecting.{Collecting, Running}
 use Rattle.mps_abstract.proofs.Calls.ClientBeside.{beside_keeps}
 
@@ -62,32 +63,17 @@ module _ (x : Collecting) (run : Running x) where
   abbrev P : World → Type 0
   P v = Running (record x { world = v })
 
-  -- what no collection looks at changed
-  pub aside_keeps : (grains limit : ℕ) (chains : List (List ℕ)) (names : List NamedThing) (blocks : List Slots) (state : ArenaState)
-      (dependencies : List Dependency)
-      → P (record w {
-        graph = record w.graph { names = names; blocks = blocks };
-        grains = grains;
-        limit = limit;
-        chains = chains;
-        state = state;
-        dependencies = dependencies;
-      })
-  aside_keeps grains limit chains names blocks state dependencies = beside_keeps x run (record w {
-    graph = record w.graph { names = names; blocks = blocks };
-    grains = grains;
-    limit = limit;
-    chains = chains;
-    state = state;
-    dependencies = dependencies;
-  }) (record {
+  -- a world with what no collection looks at of another, and with these tables of blocks
+  abbrev pub beside : (u : World) → List Slots → World
+  beside u blocks = let v = with_aside w u in record v { graph = record v.graph { blocks = blocks } }
+
+  pub aside_keeps : (u : World) (blocks : List Slots) → P (beside u blocks)
+  aside_keeps u blocks = beside_keeps x run (beside u blocks) (record {
     copying = λ id is h. h;
     automatic_pools = λ pool h. h;
     held = λ id h. inl h;
     holds = λ base h. h;
   })
-
-  -- ---- dependencies
 
   -- ---- pools
 

@@ -105,7 +105,7 @@ block_is_live w place found id live e f =
 -- ---- the moves of a free
 
 module _ (limit pools line : ℕ) (w : World) (laid : HasLayout limit w) where
-  address_there : (id : ℕ) → is_live w id ≡ true → entry_at w.addresses id ≡ Some (address_or_null w id)
+  pub address_there : (id : ℕ) → is_live w id ≡ true → entry_at w.addresses id ≡ Some (address_or_null w id)
   address_there id h = of_one (entry_at w.addresses id) h
     where
       of_one : (o : Option ℕ) → is_some o ≡ true → o ≡ Some (option_map_or (λ at. at) o 0)

@@ -159,7 +159,7 @@ pub reached_from_empty : (formats : ℕ → Layout) (h : History) → IsLegalFro
 reached_from_empty formats h legal = (steps_replayed 1 0 (empty_world_of formats) h (empty_layout formats) refl legal).0
 
 -- the live blocks are those of what lies where
-blocks_live : (limit : ℕ) (w : World) → HasLayout limit w → live_blocks w ≡ blocks_of (occupancy_of w)
+pub blocks_live : (limit : ℕ) (w : World) → HasLayout limit w → live_blocks w ≡ blocks_of (occupancy_of w)
 blocks_live limit w laid = live_blocks-stored w (omega (arith, laid.lengths, length-map w.graph.objects shape_of))
 
 pub log_replays : LogReplaysToLiveBlocks

@@ -65,7 +65,7 @@ quiet_accepted store pools (call.PoolMfs pool words) line = refl
 quiet_accepted store pools (call.PoolMvff pool) line = refl
 quiet_accepted store pools _ line = refl
 
-quiet_command : (store : Store) (pools : ℕ) (c : Call) (answer : Answer) (line : ℕ)
+pub quiet_command : (store : Store) (pools : ℕ) (c : Call) (answer : Answer) (line : ℕ)
     → replay_from store (records_of_command pools c answer line) ≡ Some store
 quiet_command store pools c answer line =
     elim (is_accepted answer) as (λ b. replay_from store (if b then records_of_accepted pools c line else []) ≡ Some store) [

@@ -2,11 +2,11 @@
 -- say, and whatever holds ids holds those of objects of the right kind. By parts, each of which is passed on where it isn't touched.
 use Rattle.std.proofs.Common.{◌≡◌, ◌∙◌, ◌⊎◌, ℕ, zero, suc, ◌*◌, Bool, true, false, refl, sym, ap, List, [], ◌∷◌, ◌++◌, Option, Some, None, subst, inl, inr}
 use Rattle.std.proofs.lemmas.Bool.{false≢true, and_parts, and_from, or_cases, eqb-true}
-use Rattle.std.proofs.lemmas.Option.{none-some, same_Some}
-use Rattle.std.specs.Prelude.{map, slice_get, slice_set, not, ◌&&◌, ◌||◌, ◌==◌, nat_lt, if◌then◌else◌, is_some, replicate}
+use Rattle.std.proofs.lemmas.Option.{none-some, same_Some, slice_get-map}
+use Rattle.std.specs.Prelude.{map, slice_get, slice_set, not, ◌&&◌, ◌||◌, ◌==◌, nat_lt, if◌then◌else◌, is_some, option_map, replicate}
 use Rattle.std.specs.Option.{option_map_or}
 use Rattle.std.specs.List.{list_all, flat_map}
-use Rattle.mps_model.specs.Graph.{Graph, Object, Body, Automatic, Manual, Cell, HeadCell, NumberCell, ReferenceCell, Point, Reservation, AreaWord, PlainWord, Hold, Slots, contains, entries, entry_at, object_at, size_of, is_automatic, target_of_cell, targets_of_cells, slots_of, ids_in_slots, ids_in_blocks, with_last, without_first, retargeted, with_target_cell}
+use Rattle.mps_model.specs.Graph.{Graph, Object, Body, Automatic, Manual, Cell, HeadCell, NumberCell, ReferenceCell, Point, Reservation, AreaWord, PlainWord, Hold, Slots, contains, entries, entry_at, object_at, size_of, is_automatic, target_of_cell, targets_of_cells, slots_of, ids_in_slots, ids_in_blocks, with_last, without_first, retargeted, tagged, with_tag_cell, with_target_cell}
 use Rattle.mps_model.specs.World.{World, Pool, object_is, is_live, words_of, is_copying_object, is_copying_pool, pool_at, is_automatic_kind, is_weak_kind}
 use Rattle.mps_model.specs.Making.{is_weak_rank}
 use Rattle.mps_model.specs.WellFormed.{is_shaped, are_shaped, are_right_cells, is_right_body, is_right_object, is_live_automatic}
@@ -190,6 +190,18 @@ number_shape number value HeadCell h = h
 number_shape number value (NumberCell other) h = h
 number_shape number value (ReferenceCell old tag) h = h
 
+tagged_shape : (tag : ℕ) → nat_lt tag 8 ≡ true → (c like : Cell) → is_shaped like c ≡ true → is_shaped like (tagged c tag) ≡ true
+tagged_shape tag low HeadCell like h = h
+tagged_shape tag low (NumberCell number) like h = h
+tagged_shape tag low (ReferenceCell target old) HeadCell h = h
+tagged_shape tag low (ReferenceCell target old) (NumberCell number) h = h
+tagged_shape tag low (ReferenceCell target old) (ReferenceCell other its_tag) h = low
+
+pub tagged_target : (c : Cell) (tag : ℕ) → target_of_cell (tagged c tag) ≡ target_of_cell c
+tagged_target HeadCell tag = refl
+tagged_target (NumberCell number) tag = refl
+tagged_target (ReferenceCell target old) tag = refl
+
 -- cells keep their shapes, and what they refer to passes the test
 abbrev pub AreRight : (test : ℕ → Bool) → (likes cells : List Cell) → Type 0
 AreRight test likes cells = (are_shaped likes cells ≡ true) × All test (targets_of_cells cells)
@@ -205,6 +217,20 @@ right_target_cell test likes cells k target p h = of_cell (slice_get cells k) re
     of_cell (Some c) e = (
       shaped_set likes cells k c (retargeted c target) e (retargeted_shape target c) h.0,
       targets_set test cells k (retargeted c target) h.1 (retargeted_target test target c p),
+    )
+
+pub right_tag_cell : (test : ℕ → Bool) (likes cells : List Cell) (k tag : ℕ) → nat_lt tag 8 ≡ true → AreRight test likes cells
+    → AreRight test likes (with_tag_cell cells k tag)
+right_tag_cell test likes cells k tag low h = of_cell (slice_get cells k) refl
+  where
+    of_cell : (o : Option Cell) → slice_get cells k ≡ o
+        → AreRight test likes (option_map_or (λ cell. slice_set cells k (tagged cell tag)) o cells)
+    of_cell None e = h
+    of_cell (Some c) e = (
+      shaped_set likes cells k c (tagged c tag) e (tagged_shape tag low c) h.0,
+      targets_set test cells k (tagged c tag) h.1 (subst (PassesOrNull test) (sym (tagged_target c tag))
+          (entry-passes test (map target_of_cell cells) k (target_of_cell c) h.1 (slice_get-map target_of_cell cells k
+          ∙ ap (option_map target_of_cell) e))),
     )
 
 pub right_number_cell : (test : ℕ → Bool) (likes cells : List Cell) (k number value : ℕ) → slice_get cells k ≡ Some (NumberCell number)

@@ -23,9 +23,9 @@ use Rattle.mps_laws.proofs.Lookups.{slice_get-kept, entry_within_set, slice_get-
 use Rattle.mps_laws.proofs.Positions.LaidOut.{kind_in}
 use Rattle.mps_laws.proofs.Sound.PoolKinds.{kind_of_pool}
 use Rattle.mps_laws.proofs.Acts.{ForAct, point_named-is, pool_named-is}
-use Rattle.mps_laws.proofs.Sound.SoundGraph.{All, PassesOrNull, AreRight, IsSoundGraph, IsRightPoint, Grows, IsEdited, auto, manual, is_sound_word, is_sound_reservation, all-weaker, all-append, all-at, all-written, all-last, all-without, all-ended, entries-written, entry-passes, entries-none, each-written, each-at, each-replicated, each-weaker, edited, grows_alike, untouched, auto_kept, manual_kept, right_target_cell, right_number_cell, reservation_kept}
+use Rattle.mps_laws.proofs.Sound.SoundGraph.{All, PassesOrNull, AreRight, IsSoundGraph, IsRightPoint, Grows, IsEdited, auto, manual, is_sound_word, is_sound_reservation, all-weaker, all-append, all-at, all-written, all-last, all-without, all-ended, entries-written, entry-passes, entries-none, each-written, each-at, each-replicated, each-weaker, edited, grows_alike, untouched, auto_kept, manual_kept, right_target_cell, right_tag_cell, right_number_cell, reservation_kept}
 use Rattle.mps_laws.proofs.Sound.SoundActs.{table_passes, slot_passes, object_cells, reference_passes, held_written, slot_written, word_written, cells_changed, reservation_written, object_added, place_written, block_word_written, pin_is_sound, block_lies, hold_is_sound}
-use Rattle.mps_changes.specs.Change.{IsFoundBy, Now, Before, IsGot, GotNull, FromSlot, FromCell, FromWord, FromMessage, IsShown, ShownPlain, ShownPinned, ShownPoked, IsWritten, WritesReference, WritesNumber, Change, Unchanged, Aside, SlotIs, WordIs, MessageTaken, TableMade, AreaMade, BlocksMade, TableDropped, AreaDropped, CellsAre, BlockWordIs, PlaceEmptied, Allocated, PoolMade, PointMade, PointDropped, Opened, Written, Closed, Committed, Registered, Unregistered}
+use Rattle.mps_changes.specs.Change.{IsFoundBy, Now, Before, IsGot, GotNull, FromSlot, FromCell, FromWord, FromMessage, IsShown, ShownPlain, ShownPinned, ShownPoked, IsWritten, WritesTag, WritesReference, WritesNumber, Change, Unchanged, Aside, SlotIs, WordIs, MessageTaken, TableMade, AreaMade, BlocksMade, TableDropped, AreaDropped, CellsAre, BlockWordIs, PlaceEmptied, Allocated, PoolMade, PointMade, PointDropped, Opened, Written, Closed, Committed, Registered, Unregistered}
 use Rattle.mps_changes.proofs.ActChanges.{but, of_changes}
 use Rattle.mps_laws.proofs.Acts.{written_length}
 use Rattle.mps_laws.proofs.FoundBy.{found_by, slot_found, word_found, object_found, number_found}
@@ -168,6 +168,7 @@ module _ (judged v : World) (j : IsSoundGraph judged) (grown : Grows judged v) (
       → AreRight (auto v) likes cells → AreRight (auto v) likes (change cells)
   written_right {cells = cells} (WritesReference k source from e) likes h =
       right_target_cell (auto v) likes cells k from.value (slot_passes v s source from e) h
+  written_right {cells = cells} (WritesTag k tag low) likes h = right_tag_cell (auto v) likes cells k tag low h
   written_right {cells = cells} (WritesNumber k was value there) likes h =
       right_number_cell (auto v) likes cells k was value (number_found cells k was there) h
 
@@ -199,7 +200,7 @@ module _ (judged v : World) (j : IsSoundGraph judged) (grown : Grows judged v) (
   pub change_sound : {marked : Bool} {c : Call} {u : World} → (is_finalize c ≡ true → All (is_live v) (ids_in_slots v.graph))
       → Rattle.mps_laws.proofs.Replays.Steps.is_reserve c ≡ false → Change marked c judged v u → IsSoundGraph u
   change_sound live other Unchanged = s
-  change_sound live other (Aside names grains limit chains state dependencies _ _) =
+  change_sound live other (Aside u what) =
       as_it_was refl refl refl refl refl refl refl refl refl refl
   change_sound live other (SlotIs into target found got) = slot_written v s into target (slots_pass into found) (got_passes got)
   change_sound live other (WordIs place at word e shown) = word_written v s place at word e (shown_sound shown)
@@ -212,10 +213,10 @@ module _ (judged v : World) (j : IsSoundGraph judged) (grown : Grows judged v) (
   change_sound live other (TableMade name slots) = new_table v s name slots
   change_sound live other (AreaMade name words) = new_area v s name words
   change_sound live other (BlocksMade name places e) = new_blocks v s name places
-  change_sound live other (TableDropped name n) =
+  change_sound live other (TableDropped name n named) =
       held_written v s (record v.graph { tables = slice_set v.graph.tables n None; names = without_name v.graph.names name }) refl refl
       (inr (all-written (auto v) slots_of v.graph.tables n None s.slots refl)) (inl refl) (inl refl) (inl refl) (inl refl)
-  change_sound live other (AreaDropped name n) =
+  change_sound live other (AreaDropped name n named) =
       held_written v s (record v.graph { areas = slice_set v.graph.areas n None; names = without_name v.graph.names name }) refl refl
       (inl refl)
       (inr (λ k area h. elim (entry_within_set v.graph.areas n k area None h) [

@@ -20,12 +20,12 @@ use Rattle.mps_model.specs.Reply.{act}
 use Rattle.mps_model.specs.History.{HeldAreLive, is_held_rightly}
 use Rattle.mps_laws.proofs.Acts.{ForAct, point_named-is}
 use Rattle.mps_changes.proofs.ActChanges.{but, of_changes}
-use Rattle.mps_changes.specs.Change.{IsFoundBy, Now, Before, IsInSlot, IsGot, GotNull, FromSlot, FromCell, FromWord, FromMessage, IsShown, ShownPlain, ShownPinned, ShownPoked, IsWritten, WritesReference, WritesNumber, Change, Unchanged, Aside, SlotIs, WordIs, MessageTaken, TableMade, AreaMade, BlocksMade, TableDropped, AreaDropped, CellsAre, BlockWordIs, PlaceEmptied, Allocated, PoolMade, PointMade, PointDropped, Opened, Written, Closed, Committed, Registered, Unregistered}
+use Rattle.mps_changes.specs.Change.{IsFoundBy, Now, Before, IsInSlot, IsGot, GotNull, FromSlot, FromCell, FromWord, FromMessage, IsShown, ShownPlain, ShownPinned, ShownPoked, IsWritten, WritesTag, WritesReference, WritesNumber, Change, Unchanged, Aside, SlotIs, WordIs, MessageTaken, TableMade, AreaMade, BlocksMade, TableDropped, AreaDropped, CellsAre, BlockWordIs, PlaceEmptied, Allocated, PoolMade, PointMade, PointDropped, Opened, Written, Closed, Committed, Registered, Unregistered}
 use Rattle.mps_laws.proofs.FoundBy.{object_found, reference_found, slot_found, word_found}
 use Rattle.mps_laws.proofs.Sound.SoundGraph.{all-at, entry-passes}
 use Rattle.mps_laws.proofs.Lookups.{entry_is_there}
 use Rattle.mps_laws.proofs.QuietSteps.{IsSound}
-use Rattle.mps_laws.proofs.Sound.HeldIds.{All, PassesOrNull, cell_written, target_written}
+use Rattle.mps_laws.proofs.Sound.HeldIds.{All, PassesOrNull, cell_written, tag_written, target_written}
 use Rattle.mps_laws.proofs.Sound.Referred.{SoundParts, sound_parts, word_of_block_written}
 use Rattle.mps_laws.proofs.Sound.SoundEffects.{MayBeHeld, cells_sound, reservation_sound, slot_passes, slot_sound, word_sound}
 use Rattle.mps_laws.proofs.Sound.SoundChanges.{area_gone_sound, area_sound, blocks_sound, message_sound, point_gone_sound, point_sound, registrations_sound, sound_again, table_gone_sound, table_sound}
@@ -80,10 +80,10 @@ module _ (w : World) (rest : w.collection ≡ None) (sound : IsSound w) where
   left s same = record { sound = s; formats_kept = same }
 
   -- names, pools and numbers of the world change
-  renamed : {u : World} → u.graph ≡ record w.graph { names = u.graph.names } → u.addresses ≡ w.addresses → u.collection ≡ w.collection
+  renamed : {u : World} → u.graph ≡ record w.graph { names = u.graph.names; labels = u.graph.labels } → u.addresses ≡ w.addresses → u.collection ≡ w.collection
       → u.formats ≡ w.formats → LeavesSound w.formats u
   renamed {u} graph addresses collection formats =
-      let v = record w { graph = record w.graph { names = u.graph.names } } in
+      let v = record w { graph = record w.graph { names = u.graph.names; labels = u.graph.labels } } in
       let named : IsSound v = resting_sound v rest (record {
         client = sound.live.client;
         blocks = sound.live.blocks;
@@ -155,6 +155,7 @@ module _ (w : World) (rest : w.collection ≡ None) (sound : IsSound w) where
       → (old : List Cell) → All (is_live w) (targets_of_cells old) → All (is_live w) (targets_of_cells (change old))
   written_live (WritesReference k source from e) old all =
       target_written (is_live w) old k from.value all (slot_passes (is_live w) w source from e parts.held)
+  written_live (WritesTag k tag low) old all = tag_written (is_live w) old k tag all
   written_live (WritesNumber k was value there) old all = cell_written (is_live w) old k (NumberCell value) all tt
 
   slots_there : (into : Found (Option ℕ)) → IsFoundBy slot_in w w into → entry_at w.graph.tables into.number ≡ Some into.list
@@ -165,7 +166,7 @@ module _ (w : World) (rest : w.collection ≡ None) (sound : IsSound w) where
 
   pub change_sound : {marked : Bool} {c : Call} {u : World} → may_move c ≡ false → Change marked c w w u → LeavesSound w.formats u
   change_sound h Unchanged = left sound refl
-  change_sound h (Aside names grains limit chains state dependencies _ _) = renamed refl refl refl refl
+  change_sound h (Aside u what) = renamed refl refl refl refl
   change_sound h (SlotIs into target found got) =
       left (slot_sound w sound into target (slots_there into found) (may_be_held target (got_live got))) refl
   change_sound h (WordIs place at word e shown) =
@@ -179,8 +180,8 @@ module _ (w : World) (rest : w.collection ≡ None) (sound : IsSound w) where
   change_sound h (TableMade name slots) = left (table_sound w sound name slots) refl
   change_sound h (AreaMade name words) = left (area_sound w sound name words) refl
   change_sound h (BlocksMade name places e) = left (blocks_sound w sound name places) refl
-  change_sound h (TableDropped name n) = left (table_gone_sound w sound n name) refl
-  change_sound h (AreaDropped name n) = left (area_gone_sound w sound n name) refl
+  change_sound h (TableDropped name n named) = left (table_gone_sound w sound n name) refl
+  change_sound h (AreaDropped name n named) = left (area_gone_sound w sound n name) refl
   change_sound h (CellsAre object change held write) =
       left (cells_sound w sound object.number change (λ r o is.
       subst (λ (x : Object). All (is_live w) (targets_of (object_with_cells x change)))

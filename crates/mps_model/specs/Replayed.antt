@@ -1,4 +1,5 @@
--- Replaying a log of either version: which blocks live after some of its records, and how many names were interned by then.
+-- Replaying a log of either version: which blocks live after some of its records, and how many names were interned by then. Of
+-- the blocks it is the replay of records of blocks alone.
 use Rattle.std.specs.Prelude.{◌≡◌, ℕ, ◌+◌, ◌==◌, ◌&&◌, nat_lt, if◌then◌else◌, Option, Some, None, option_map, option_and_then, List, [], ◌∷◌, slice_index, refl}
 use Rattle.mps_base.specs.Record.{Record, flip_code, commit_code, alloc_code, move_code, stay_code, post_code, free_code, intern_code, label_code}
 use Rattle.mps_model.specs.Replay.{Block, Store, is_live, store_after}
