@@ -9,6 +9,7 @@ use Rattle.mps_commands.specs.RightAnswer.{HasFewFlips}
 use Rattle.mps_format.specs.Layout.{Layout}
 use Rattle.mps_model.specs.World as world
 use Rattle.mps_model.specs.World.{World}
+use Rattle.mps_refinement.proofs.Parts.Resting.{at_rest, registered_at_rest}
 use Rattle.mps_refinement.specs.Collecting.{can_collect, is_empty, most_flips}
 use Rattle.mps_format.specs.Pools.{is_moved_or_manual}
 use Rattle.mps_refinement.specs.State.{HeapState}
@@ -66,4 +67,6 @@ module _ {F : Type 0} where
           lt-ltb h.points.flips most_flips (omega (arith, flips, below))
 
       registered : is_empty h.finals.registered ≡ is_empty w.graph.registered
-      registered = ap is_empty st.parts.registered ∙ empty_alike (address_of_id w.addresses) w.graph.registered
+      registered =
+          ap is_empty (registered_at_rest layout st.past h w st.parts (at_rest st.time).time)
+          ∙ empty_alike (address_of_id w.addresses) w.graph.registered

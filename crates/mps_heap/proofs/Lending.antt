@@ -39,7 +39,8 @@ use Rattle.mps_refinement.specs.StandsForSome.{StandsForSome, StandsWith}
 use Rattle.mps_refinement.proofs.Lookups.BlockRuns.{run_is, words_are}
 use Rattle.mps_refinement.proofs.Lookups.Blocks.{begins_at_object}
 use Rattle.mps_refinement.proofs.Lookups.BlockWords.{store_is_right}
-use Rattle.mps_refinement.proofs.Worlds.Known.{known}
+use Rattle.mps_refinement.proofs.Parts.Resting.{at_rest, image_at_rest}
+use Rattle.mps_refinement.proofs.Worlds.Known.{known_now}
 use Rattle.mps_refinement.proofs.Lookups.LiveObjects.{IsObject, object_then}
 use Rattle.mps_refinement.proofs.Lookups.Loans.{block_borrowed, fits_ours}
 use Rattle.mps_refinement.specs.Storing.{AreRight, stores}
@@ -75,10 +76,10 @@ module _ {F : Type 0} (layout : F → Layout) (h : HeapState F) (place : Slot) w
   pub borrowed_is_right : (words : List ℕ) → IsBlockBorrowed h place words → ComesToWords layout h (λ w. words_of_block w place) (Ok words)
   borrowed_is_right words borrowed w st =
       let n = named words borrowed in
-      let b = block_borrowed layout h w st.past st.parts st.reached place n.entry borrowed.at n.place_is n.block_is in
+      let b = block_borrowed layout h w st.past st.parts (known_now st) place n.entry borrowed.at n.place_is n.block_is in
       let count = b.one (length words) borrowed.are.whole in
       let image : words_at w.graph b.id ≡ words =
-      block_words layout st.past h w st.parts (known w st.reached) borrowed.at b.id b.block
+      block_words layout st.past h w st.parts (known_now st) borrowed.at b.id b.block
       ∙ sym b.words
       ∙ ap (λ k. slice_range h.segs.words (word_of borrowed.at) (word_of borrowed.at + k)) (sym count)
       ∙ sym borrowed.are.value in
@@ -90,7 +91,7 @@ module _ {F : Type 0} (layout : F → Layout) (h : HeapState F) (place : Slot) w
   no_block_is_right why none w st =
       same_err (λ a b. Unit {0}) (block_place_in h place >>= (λ (from : Entry Address). block_in h from)) (words_of_block w place) why
       (same_then (place_same layout st.past h w st.parts place) (λ entry found is.
-      told (λ id. words_at w.graph id) (block_same layout st.past h w st.parts (known w st.reached) place.index entry found is.fit))) none
+      told (λ id. words_at w.graph id) (block_same layout st.past h w st.parts (known_now st) place.index entry found is.fit))) none
 
   -- ---- what is left
 
@@ -161,7 +162,7 @@ module _ {F : Type 0} (layout : F → Layout) (h : HeapState F) (place : Slot) (
       let n = named layout h place wr.words wr.borrowed in
       let at = wr.borrowed.at in
       let st = s.stands in
-      let b = block_borrowed layout h s.world st.past st.parts st.reached place n.entry at n.place_is n.block_is in
+      let b = block_borrowed layout h s.world st.past st.parts (known_now st) place n.entry at n.place_is n.block_is in
       let count = wr.count ∙ b.one (length wr.words) wr.borrowed.are.whole in
       let words =
       ap (λ n. stored_words h.segs.words n wr.left) (let e : word_of at + 0 ≡ word_of at = omega arith in e)
@@ -192,7 +193,7 @@ module _ {F : Type 0} (layout : F → Layout) (h : HeapState F) (w : World) (st 
   abbrev AreAfterHead : Address → List ℕ → Type 0
   AreAfterHead at found = (words : List ℕ) → AreBlockWords h at words → found ≡ drop 1 words
 
-  module _ (b : Block F) (o : Numbered Object) (is : IsObject layout h w b o) where
+  module _ (b : Block F) (o : Numbered Object) (is : IsObject layout st.past h w b o) where
     -- both checks that the object is of a leaf pool, by what they find
     abbrev own_checks : (leaf over : Bool) → Checked Address
     own_checks leaf over = refuse_when (not leaf) refusal.WrongPool >> (refuse_when (not over) refusal.NullRef >> Ok b.at)
@@ -209,17 +210,18 @@ module _ {F : Type 0} (layout : F → Layout) (h : HeapState F) (w : World) (st 
 
     over_is : is_block_over h.segs b.at b.at ≡ true
     over_is =
-        let s = setting layout st.past h w st.parts (known w st.reached) in
+        let s = setting layout st.past h w st.parts (known_now st) in
         begins_at_object s w.addresses st.parts.image.placed h.segs st.parts.image.runs.blocks o.number b.at o.value is.address is.object
 
     image_is : (words : List ℕ) → AreBlockWords h b.at words → image_of w o.number ≡ words
     image_is words are =
-        let s = setting layout st.past h w st.parts (known w st.reached) in
+        let s = setting layout st.past h w st.parts (known_now st) in
         let parts = st.parts in
+        let now = at_rest st.time in
         let size = run_is s w.addresses parts.image.placed h.segs parts.image.runs.blocks o.number b.at o.value is.address is.object
         (length words) are.whole in
         ap (λ x. option_map_or (λ (q : Object). image_of_body w q.body) x []) is.object
-        ∙ sym (words_are h.segs w parts.image parts.at_rest (reached_sound w st.reached parts.at_rest) o.number b.at o.value is.address
+        ∙ sym (words_are h.segs w (image_at_rest layout st.past h w parts now.time) now.none (reached_sound w st.reached now.none) o.number b.at o.value is.address
         is.object)
         ∙ sym (ap (λ n. slice_range h.segs.words (word_of b.at) (word_of b.at + n)) size)
         ∙ sym are.value
@@ -238,7 +240,7 @@ module _ {F : Type 0} (layout : F → Layout) (h : HeapState F) (w : World) (st 
         (checks (spec.is_leaf_pool w o.value.pool))) (sym over_is) (of_leaf (spec.is_leaf_pool w o.value.pool)))
 
   leaf_same : (slot : Slot) → Same AreAfterHead (leaf_named layout h slot) (words_of_leaf w slot)
-  leaf_same slot = object_then layout st.past h w st.parts (known w st.reached) slot (λ b o is. checks_same b o is)
+  leaf_same slot = object_then layout st.past h w st.parts (known_now st) slot (λ b o is. checks_same b o is)
 
 module _ {F : Type 0} (layout : F → Layout) (h : HeapState F) (slot : Slot) where
   pub leaf_is_right : (words : List ℕ) → IsLeafBorrowed layout h slot words → ComesToWords layout h (λ w. words_of_leaf w slot) (Ok words)

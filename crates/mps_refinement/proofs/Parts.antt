@@ -1,6 +1,8 @@
 -- The parts of a heap represent those of a world, after each kind of change.
 pub mod Counts
 pub mod Numbering
+pub mod Registered
+pub mod Resting
 pub mod Ordering
 pub mod EntryWritten
 pub mod PartsByKind
@@ -8,6 +10,8 @@ pub mod PartsWritten
 pub mod BlockParts
 pub mod ClearedWords
 pub mod PointWritten
+pub mod SegmentsTaken
+pub mod Unforwarded
 pub mod ReservedImage
 pub mod ReservedParts
 pub mod BlockPlaces

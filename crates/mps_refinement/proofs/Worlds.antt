@@ -1,6 +1,9 @@
 -- What is known of reached worlds, and steps from one to the next.
 pub mod RestingActs
 pub mod RestingSteps
+pub mod RunningSteps
+pub mod RunningActs
+pub mod FlipKept
 pub mod Reached
 pub mod Steps
 pub mod Known

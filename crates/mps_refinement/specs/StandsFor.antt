@@ -1,7 +1,8 @@
 -- When the state of a heap represents a world of the model.
-use Rattle.std.specs.Prelude.{◌≡◌, ℕ, ◌+◌, ◌%◌, ◌<◌, ◌≤◌, ◌==◌, Bool, true, false, not, IsTrue, Option, Some, None, option_map, IsSome, List, [], map, length, slice_get}
+use Rattle.std.specs.Prelude.{◌≡◌, ℕ, ◌+◌, ◌%◌, ◌<◌, ◌≤◌, ◌==◌, Bool, true, false, not, IsTrue, Option, Some, None, option_map, IsSome, List, [], map, length, slice_get, ◌∷◌, Contains}
+use Rattle.std.proofs.Common.{◌∙◌, ap, arith, inl, inr, lit<, refl, subst, suc, sym, zero}
 use Rattle.std.specs.Option.{option_map_or}
-use Rattle.mps_base.specs.Address.{Address, Id, Word, max_grains, word_of}
+use Rattle.mps_base.specs.Address.{Address, Id, Word, max_grains, word_of, grain_of}
 use Rattle.mps_base.specs.declared.names.Name.{Name}
 use Rattle.mps_base.specs.Name.{same_name}
 use Rattle.mps_extents.specs.Table.{bit}
@@ -10,15 +11,14 @@ use Rattle.mps_buffer.specs.declared.point.Point.{Point}
 use Rattle.mps_buffer.specs.Points.{PointsState, point_at}
 use Rattle.mps_seg.specs.Buffer.{run_of}
 use Rattle.mps_format.specs.Layout.{Layout, IsLawful}
-use Rattle.mps_trace_laws.specs.Image.AtRest.{StandsAtRest}
-use Rattle.mps_trace_laws.specs.Image.Memory.{words_of_arena}
+use Rattle.mps_trace_laws.specs.Image.Memory.{words_of_arena, Setting, memory_in, pool_layout, setting_in}
 use Rattle.mps_laws.specs.Replay.{reached}
 use Rattle.mps_laws.specs.WellFormed.{is_arena_made_once}
 use Rattle.mps_laws.proofs.Naming.{AreTakenOnce}
 use Rattle.mps_ld.specs.State.{LdState}
 use Rattle.mps_ld.specs.Flips.{AreFlips}
 use Rattle.mps_model.specs.Graph as graph
-use Rattle.mps_model.specs.Graph.{Graph, AreaWord, PlainWord, Hold, Reservation, Slots, thing_in, entry_at}
+use Rattle.mps_model.specs.Graph.{Graph, AreaWord, PlainWord, Hold, Reservation, Slots, thing_in, entry_at, contains}
 use Rattle.mps_model.specs.Making.{live_roots, live_slots, live_points}
 use Rattle.mps_model.specs.Step.{History}
 use Rattle.mps_model.specs.History.{IsLegalHistoryOf}
@@ -36,9 +36,39 @@ use Rattle.mps_heap_spec.specs.declared.arena.ArenaState.TheVariants as arena
 use Rattle.mps_format.specs.declared.pool.Pool.{Pool}
 use Rattle.mps_format.specs.declared.pool.Pool.TheVariants as pool
 use Rattle.mps_refinement.specs.Numbering.{AreNumbered, AreOrdered}
+use Rattle.mps_base.specs.Segment.{Segment}
+use Rattle.mps_base.specs.declared.names.Rank.TheVariants.{Exact}
+use Rattle.mps_abstract.specs.Colours.{AreAllScanned, Colours, is_white}
+use Rattle.mps_abstract.specs.Collecting.{AreAllExamined, Collecting, Running}
+use Rattle.mps_trace_laws.specs.Image.Image.{MeansAt, Stands, no_colours}
+use Rattle.mps_seg.specs.Segs.{SegsState}
 
--- What the heap doesn't keep: the model's number of what is kept under a key.
+-- ---- whether a collection runs
+
+-- What the heap doesn't keep of a running collection: the addresses at its flip, what it condemned, whose words are still read, the
+-- colours of objects, and whether it has begun to reclaim.
+pub record Time : Type 0 where
+  pub at_flip : List (Option Address)
+  pub condemned : List Id
+  pub is_read : Id → Bool
+  pub colours : Colours
+  pub is_reclaiming : Bool
+
+-- that of a heap at rest: nothing is condemned or grey, and all words are read
+abbrev pub time_at_rest : Time
+time_at_rest = record { at_flip = []; condemned = []; is_read = λ id. true; colours = no_colours; is_reclaiming = false }
+
+-- the segments of an arena represent a world at a time
+abbrev pub setting_at : Time → SegsState → World → Setting
+setting_at t s w =
+    setting_in s w.graph.objects w.graph.points w.point_memories (pool_layout w) t.at_flip t.condemned t.is_read
+
+abbrev pub StandsAt : Time → SegsState → World → Type 0
+StandsAt t s w = Stands (setting_at t s w) (memory_in s) w.addresses t.colours
+
+-- What the heap doesn't keep: the model's number of what is kept under a key, and its time.
 pub record Past : Type 0 where
+  pub time : Time
   pub table_number : ℕ → ℕ
   pub area_number : ℕ → ℕ
   pub point_number : ℕ → ℕ
@@ -145,28 +175,33 @@ pub record AreNamed {F : Type 0} (past : Past) (h : HeapState F) (names : List g
       → same_name name other ≡ true
   pub once : AreTakenOnce names
 
--- ---- the arena if no collection runs
+-- ---- the arena
 
--- it has no more grains than an arena may have, no segment is condemned, no block is marked as kept, and open reservations lie in it, at
--- words, also those that a flip ended
-pub record IsArenaAtRest (grains : ℕ) (condemned kept_marks : List Bool) (points : PointsState) : Type 0 where
+-- it has no more grains than an arena may have, and open reservations lie in it, at words, also those that a flip ended
+pub record IsArena (grains : ℕ) (points : PointsState) : Type 0 where
   pub at_most : grains ≤ max_grains
-  pub not_condemned : (grain : ℕ) → bit condemned grain ≡ false
-  pub not_kept : (n : Word) → bit kept_marks n ≡ false
   pub within : (key : ℕ) (p : Point) (held : Held) → point_at points key ≡ Some p → p.reservation ≡ Some held
       → word_of held.at.0 + held.words ≤ words_of_arena grains
   pub aligned : (key : ℕ) (p : Point) (held : Held) → point_at points key ≡ Some p → p.reservation ≡ Some held → held.at.0 % 8 ≡ 0
 
+-- ---- registrations
+
+-- each registration has an address that means its object: the one of now, or that at the flip
+abbrev pub AreRegistered : (addresses at_flip : List (Option Address)) → List Address → List Id → Type 0
+AreRegistered addresses at_flip [] [] = Unit {0}
+AreRegistered addresses at_flip (a ∷ ats) (id ∷ ids) = MeansAt addresses at_flip a id × AreRegistered addresses at_flip ats ids
+AreRegistered addresses at_flip _ _ = ⊥
+
 -- ---- all of it
 
--- the parts of a heap represent those of a world in which no collection runs
+-- the parts of a heap represent those of a world, at a time
 pub record AreParts {F : Type 0} (layout : F → Layout) (past : Past) (h : HeapState F) (w : World) : Type 0 where
   -- the arena: its size and its limit, its segments, and its words, marks and runs
   pub grains : h.segs.grains ≡ w.grains
   pub limit : h.segs.limit ≡ w.limit
   pub segments : h.segs.segments ≡ w.segments
-  pub image : StandsAtRest h.segs w
-  pub resting : IsArenaAtRest h.segs.grains h.segs.condemned h.segs.marks.kept h.points
+  pub image : StandsAt past.time h.segs w
+  pub arena : IsArena h.segs.grains h.points
   -- the roots, tables in the order in which they were made, and how many there are
   pub tables : AreNumbered (AreSlots w.addresses) past.table_number (kept h.roots.tables) w.graph.tables
   pub ordered : AreOrdered past.table_number h.roots.order (kept h.roots.tables) w.graph.tables
@@ -179,7 +214,7 @@ pub record AreParts {F : Type 0} (layout : F → Layout) (past : Past) (h : Heap
       w.graph.points
   pub points_counted : h.live_points ≡ live_points w.graph
   -- registrations and messages
-  pub registered : h.finals.registered ≡ map (address_of_id w.addresses) w.graph.registered
+  pub registered : AreRegistered w.addresses past.time.at_flip h.finals.registered w.graph.registered
   pub messages : h.finals.messages ≡ map (address_of_id w.addresses) w.graph.messages
   -- flips and dependencies
   pub flips : AreFlips h.epochs w.flips
@@ -192,8 +227,53 @@ pub record AreParts {F : Type 0} (layout : F → Layout) (past : Past) (h : Heap
   pub chains : w.chains ≡ []
   pub names : AreNamed past h w.graph.names
   pub state : w.state ≡ state_of h.arena
-  -- no collection runs
-  pub at_rest : w.collection ≡ None
+
+-- ---- what is known of the collection that runs, if one does
+
+-- there are at most as many addresses at the flip as objects, and an object of a pool that doesn't move has kept its own
+pub record AreOfFlip (at_flip : List (Option Address)) (w : World) : Type 0 where
+  pub made : length at_flip ≤ length w.graph.objects
+  pub still : (id : Id) (from to : Address) → world.is_copying_object w id ≡ false → entry_at at_flip id ≡ Some from
+      → entry_at w.addresses id ≡ Some to → from ≡ to
+
+-- of the held segments those that begin at these addresses are condemned, and no others
+abbrev pub AreCondemnedIn : (condemned : List Bool) → List Segment → (bases : List Address) → Type 0
+AreCondemnedIn condemned held bases = (t : Segment) → Contains held t → bit condemned (grain_of t.base) ≡ contains bases t.base
+
+-- what segments and a time are where no collection runs: no segment is condemned, and no block is marked as kept
+pub record Rests (t : Time) (s : SegsState) (w : World) : Type 0 where
+  pub none : w.collection ≡ None
+  pub time : t ≡ time_at_rest
+  pub not_condemned : (grain : ℕ) → bit s.condemned grain ≡ false
+  pub not_kept : (n : Word) → bit s.marks.kept n ≡ false
+
+-- once it reclaims, only what isn't white is read, nothing is grey, all registrations were examined, and no address at the flip counts
+pub record IsReclaiming (t : Time) (x : Collecting) : Type 0 where
+  pub none_at_flip : t.at_flip ≡ []
+  pub read : t.is_read ≡ (λ id. not (is_white t.condemned t.colours id))
+  pub scanned : AreAllScanned x.colours
+  pub examined : AreAllExamined x
+
+-- what segments and a time are to a state of the abstract collector: a collection runs in the world, and they are those of that state
+pub record Runs (t : Time) (s : SegsState) (w : World) (x : Collecting) : Type 0 where
+  pub world : x.world ≡ w
+  pub invariant : Running x
+  pub condemned_ids : t.condemned ≡ x.running.condemned
+  pub colours : t.colours ≡ x.colours
+  -- until it reclaims all words are read
+  pub tracing : t.is_reclaiming ≡ false → t.is_read ≡ (λ id. true)
+  pub reclaiming : t.is_reclaiming ≡ true → IsReclaiming t x
+  pub condemned : AreCondemnedIn s.condemned w.segments x.running.condemned_segments
+  pub flip : AreOfFlip t.at_flip w
+
+-- that a collection may run between two calls: no call leaves one running yet, so nothing is of this type
+abbrev pub MayRunBetweenCalls : Type 0
+MayRunBetweenCalls = ⊥
+
+-- at a time no collection runs, or one does
+pub data IsInTime (t : Time) (s : SegsState) (w : World) : Type 0 where
+  rests : Rests t s w → IsInTime t s w
+  runs : (x : Collecting) → Runs t s w x → MayRunBetweenCalls → IsInTime t s w
 
 -- a legal history reaches a world, in which the arena is made by the first command alone
 pub record IsReached (w : World) : Type 0 where
@@ -206,4 +286,54 @@ pub record IsReached (w : World) : Type 0 where
 pub record StandsFor {F : Type 0} (layout : F → Layout) (h : HeapState F) (w : World) : Type 0 where
   pub past : Past
   pub parts : AreParts layout past h w
+  pub time : IsInTime past.time h.segs w
   pub reached : IsReached w
+
+-- ---- vectors: object 0 was at 0x1000 at the flip, and is at 0x2000 now
+
+abbrev now_at : List (Option Address)
+now_at = Some 0x2000 ∷ []
+
+abbrev was_at : List (Option Address)
+was_at = Some 0x1000 ∷ []
+
+pub registered_before_the_flip : AreRegistered now_at was_at (0x1000 ∷ []) (0 ∷ [])
+registered_before_the_flip = (inr refl, tt)
+
+pub registered_since_the_flip : AreRegistered now_at was_at (0x2000 ∷ []) (0 ∷ [])
+registered_since_the_flip = (inl refl, tt)
+
+pub registered_elsewhere : AreRegistered now_at was_at (0x3000 ∷ []) (0 ∷ []) → ⊥
+registered_elsewhere are = elim are.0 [
+  | inl now ↦ let e : ◌≡◌ {A = ℕ} 0x2000 0x3000 = ap (λ (o : Option Address). option_map_or (λ at. at) o 0) now in omega (arith, e)
+  | inr was ↦ let e : ◌≡◌ {A = ℕ} 0x1000 0x3000 = ap (λ (o : Option Address). option_map_or (λ at. at) o 0) was in omega (arith, e)
+]
+
+-- at rest no address at the flip counts
+pub registered_at_an_old_address : AreRegistered now_at time_at_rest.at_flip (0x1000 ∷ []) (0 ∷ []) → ⊥
+registered_at_an_old_address are = elim are.0 [
+  | inl now ↦ let e : ◌≡◌ {A = ℕ} 0x2000 0x1000 = ap (λ (o : Option Address). option_map_or (λ at. at) o 0) now in omega (arith, e)
+  | inr was ↦ let e : ◌≡◌ {A = ℕ} 0 0x1000 = ap (λ (o : Option Address). option_map_or (λ at. at) o 0) was in omega (arith, e)
+]
+
+abbrev segment_at_0x1000 : Segment
+segment_at_0x1000 = record { base = 0x1000; grains = 1; pool = 0; generation = 0; rank = Exact }
+
+pub one_is_condemned : AreCondemnedIn (false ∷ true ∷ []) (segment_at_0x1000 ∷ []) (0x1000 ∷ [])
+unfolding bit
+one_is_condemned t (zero, less, is) =
+    subst (λ (u : Segment). bit (false ∷ true ∷ []) (grain_of u.base) ≡ contains (0x1000 ∷ []) u.base) is refl
+one_is_condemned t (suc n, less, is) = absurd (omega (arith, less))
+
+pub one_has_no_bit : AreCondemnedIn (false ∷ false ∷ []) (segment_at_0x1000 ∷ []) (0x1000 ∷ []) → ⊥
+unfolding bit
+one_has_no_bit are = let e : false ≡ true = are segment_at_0x1000 (0, lit< tt, refl) in absurd cc
+
+pub more_addresses_than_objects : (w : World) → w.graph.objects ≡ [] → AreOfFlip was_at w → ⊥
+more_addresses_than_objects w none are =
+    let made : 1 ≤ length w.graph.objects = are.made in let e : length w.graph.objects ≡ 0 = ap length none in omega (arith, made, e)
+
+pub a_condemned_segment_at_rest : (t : Time) (s : SegsState) (w : World) → s.condemned ≡ true ∷ [] → Rests t s w → ⊥
+unfolding bit
+a_condemned_segment_at_rest t s w condemned rest =
+    let e : true ≡ false = sym (ap (λ bits. bit bits 0) condemned) ∙ rest.not_condemned 0 in absurd cc

@@ -185,7 +185,7 @@ exclusive (Collected kind) any automatic = false≢true any
 exclusive (OneSize words) any automatic = false≢true any
 exclusive AnySize any automatic = false≢true automatic
 
-pool_exclusive : (w : World) (pool : ℕ) → pool_is is_any_size_kind w pool ≡ true → pool_is is_automatic_kind w pool ≡ true → ⊥
+pub pool_exclusive : (w : World) (pool : ℕ) → pool_is is_any_size_kind w pool ≡ true → pool_is is_automatic_kind w pool ≡ true → ⊥
 pool_exclusive w pool any automatic = of_pool (pool_at w pool) any automatic
   where
     of_pool : (o : Option Pool) → option_map_or (λ (p : Pool). is_any_size_kind p.kind) o false ≡ true

@@ -14,22 +14,20 @@ use Rattle.mps_seg.specs.Segs.{segments_after}
 use Rattle.mps_laws.proofs.Acts.{pool_named-is}
 use Rattle.mps_laws.proofs.Lookups.{entry_at-at_last}
 use Rattle.mps_laws.proofs.Sound.PoolKinds.{manual_not_copying}
-use Rattle.mps_laws.proofs.QuietSteps as quiet
 use Rattle.mps_laws.proofs.QuietSteps.{IsSound}
-use Rattle.mps_laws.proofs.Sound.SoundChanges.{made_sound, sound_again, with_made}
+use Rattle.mps_laws.proofs.Sound.SoundChanges.{made_sound, sound_again, with_made, made_lives}
 use Rattle.mps_laws.proofs.Sound.SoundEffects.{place_sound}
-use Rattle.mps_model.specs.declared.call.Call.TheVariants as call
 use Rattle.mps_model.specs.declared.reply.Reply.TheVariants as reply
 use Rattle.mps_model.specs.Answer.{Answer, Replied}
-use Rattle.mps_model.specs.Graph.{Manual, Object, entry_at, with_last}
+use Rattle.mps_model.specs.Graph.{Manual, Object, entry_at, with_last, ids_in_blocks}
 use Rattle.mps_model.specs.World.{World, Pool, is_automatic_kind, is_copying_pool, is_live, with_tail}
 use Rattle.mps_model.specs.Checked.{Act, Checked, Found, Numbered, ◌>>=◌, ◌>>◌, block_place_in, done, pool_named, refuse_when, with_graph}
 use Rattle.mps_model.specs.Allocating.{act_alloc, address_of_placement, allows_size, graph_allocated, refuse_without_place, with_block_place}
 use Rattle.mps_model.specs.Placement.{ForAlloc, placement_of}
 use Rattle.mps_model.specs.Effect.{holding, segment_of_move, world_after_moves}
-use Rattle.mps_model.specs.History.{alloc_at, moves_of_alloc, unless_refused, with_client_remembered}
-use Rattle.mps_refinement.specs.RightStep.{step_of}
-use Rattle.mps_refinement.proofs.Worlds.RestingSteps.{done_step}
+use Rattle.mps_model.specs.History.{alloc_at, moves_of_alloc, unless_refused}
+use Rattle.mps_laws.proofs.Sound.HeldIds.{all-weaker, place_written}
+use Rattle.std.specs.List.{list_all}
 
 abbrev ok : Answer
 ok = Replied reply.Ok
@@ -65,7 +63,8 @@ module _ (w v : World) (words : ℕ) (place : Slot) where
   pub alloc_is : (pool : Name) → act_alloc w v pool words place ≡ alloc_from (pool_named w pool)
   alloc_is pool = refl
 
-module _ (w : World) (rest : w.collection ≡ None) (sound : IsSound w) (lengths : length w.addresses ≡ length w.graph.objects) (pool : Name)
+module _ (w : World) (sound : w.collection ≡ None → IsSound w) (blocks : list_all (is_live w) (ids_in_blocks w.graph) ≡ true)
+    (lengths : length w.addresses ≡ length w.graph.objects) (pool : Name)
     (words : ℕ) (place : Slot) (p : Numbered Pool) (pool_is : pool_named w pool ≡ Ok p) (manual : is_automatic_kind p.value.kind ≡ false)
     (found : Found (Option ℕ)) (place_is : block_place_in w place ≡ Ok found) (has : slice_get w.graph.blocks found.number
     ≡ Some found.list)
@@ -94,7 +93,7 @@ module _ (w : World) (rest : w.collection ≡ None) (sound : IsSound w) (lengths
   not_copying : is_copying_pool w p.number ≡ false
   not_copying = manual_not_copying w.pools p.number p.value (pool_named-is w pool p pool_is) manual
 
-  moved_at : (x : Placement) → world_after_moves w (alloc_at p.number words x)
+  pub moved_at : (x : Placement) → world_after_moves w (alloc_at p.number words x)
       ≡ record w { segments = segments_after x p.number 0 rank.Exact w.segments }
   moved_at (Place word) = refl
   moved_at (NewSegment grain grains) =
@@ -103,10 +102,10 @@ module _ (w : World) (rest : w.collection ≡ None) (sound : IsSound w) (lengths
   moved_at (OverLimit committed need limit) = refl
   moved_at (NoFreeRun need longest) = refl
 
-  due : moves_made ≡ unless_refused ok (moves_of_alloc w (pool_named w pool) words)
+  pub due : moves_made ≡ unless_refused ok (moves_of_alloc w (pool_named w pool) words)
   due = sym (ap (λ x. moves_of_alloc w x words) pool_is ∙ ap (alloc_at p.number words) q_is)
 
-  comes : act_alloc w (world_after_moves w moves_made) pool words place ≡ done world_made
+  pub comes : act_alloc w (world_after_moves w moves_made) pool words place ≡ done world_made
   comes =
       ap (λ v. act_alloc w v pool words place) (moved_at q) ∙ alloc_is w world_moved words place pool
       ∙ ap (alloc_from w world_moved words place) pool_is ∙ ap (alloc_manual w world_moved words place p) manual
@@ -114,19 +113,23 @@ module _ (w : World) (rest : w.collection ≡ None) (sound : IsSound w) (lengths
       ∙ ap (alloc_empty w world_moved words place p found) empty ∙ ap (alloc_placed w world_moved words place p found) q_is
       ∙ ap (λ x. x >> alloc_made w world_moved words place p found at) room
 
-  sound_made : IsSound world_made
-  sound_made =
+  new_lives : is_live (with_made w new_object at) (length w.graph.objects) ≡ true
+  new_lives =
+      ap (λ n. is_some (entry_at (with_last w.addresses (Some at)) n)) (sym lengths) ∙ ap is_some (entry_at-at_last w.addresses
+      (Some at))
+
+  pub sound_made : w.collection ≡ None → IsSound world_made
+  sound_made rest =
       let made = with_made w new_object at in
       let first : IsSound made =
-      made_sound w new_object at sound lengths (λ r. refl) (λ c e. absurd (none-some c (sym rest ∙ e))) in
-      let live : is_live made (length w.graph.objects) ≡ true =
-      ap (λ n. is_some (entry_at (with_last w.addresses (Some at)) n)) (sym lengths) ∙ ap is_some (entry_at-at_last w.addresses
-      (Some at)) in
-      let placed = place_sound made first found (Some (length w.graph.objects)) has live in
+      made_sound w new_object at (sound rest) lengths (λ r. refl) (λ c e. absurd (none-some c (sym rest ∙ e))) in
+      let placed = place_sound made first found (Some (length w.graph.objects)) has new_lives in
       sound_again (with_graph made (with_block_place made.graph found (Some (length w.graph.objects)))) world_made
       refl refl refl refl placed
 
-  pub made_rightly : (line : ℕ)
-      → quiet.IsRight w (step_of line (call.Alloc pool words place) moves_made ok) (with_client_remembered world_made)
-  made_rightly line =
-      done_step w world_made line (call.Alloc pool words place) moves_made tt due comes tt sound_made
+  -- blocks in places are live
+  pub blocks_made : list_all (is_live world_made) (ids_in_blocks world_made.graph) ≡ true
+  blocks_made =
+      place_written (is_live (with_made w new_object at)) w.graph
+      (all-weaker (is_live w) (is_live (with_made w new_object at)) (made_lives w new_object at) (ids_in_blocks w.graph) blocks) found
+      (Some (length w.graph.objects)) has new_lives

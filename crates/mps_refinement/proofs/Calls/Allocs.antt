@@ -1,5 +1,5 @@
 -- `alloc`: from its outcome to a right step.
-use Rattle.std.proofs.Common.{◌≡◌, ◌∙◌, ℕ, ◌<◌, Bool, true, false, refl, sym, ap, subst, [], ◌∷◌, ◌++◌, Option, Some, None, Ok, Err, is_some, arith}
+use Rattle.std.proofs.Common.{◌≡◌, ◌∙◌, ℕ, ◌<◌, Bool, true, false, refl, sym, ap, subst, [], ◌∷◌, ◌++◌, Option, Some, None, Ok, Err, is_some, arith, ◌+◌, List, length}
 use Rattle.std.proofs.lemmas.Bool.{and_parts, false≢true, leb-true, ltb-true, ne_eqb}
 use Rattle.std.proofs.lemmas.Option.{slice_get-map}
 use Rattle.std.specs.Prelude.{◌==◌, ◌&&◌, ◌||◌, nat_le, not, slice_get, option_map, if◌then◌else◌}
@@ -28,11 +28,11 @@ use Rattle.mps_model.specs.Answer.{Answer, Replied}
 use Rattle.mps_model.specs.Checked as checked
 use Rattle.mps_model.specs.Checked.{Checked, Found, Numbered, ◌>>=◌, ◌>>◌, refuse_when, required}
 use Rattle.mps_model.specs.Graph.{entries, entry_at}
-use Rattle.mps_model.specs.History.{alloc_at}
+use Rattle.mps_model.specs.History.{alloc_at, moves_of_alloc, unless_refused, with_client_remembered}
 use Rattle.mps_model.specs.Making.{is_block_size}
 use Rattle.mps_model.specs.Placement.{ForAlloc, placement_of}
 use Rattle.mps_model.specs.World as world
-use Rattle.mps_model.specs.World.{World, Collected, OneSize, AnySize, PoolKind, is_automatic_kind, is_live}
+use Rattle.mps_model.specs.World.{World, Collected, OneSize, AnySize, PoolKind, is_automatic_kind, is_live, is_copying_pool, pool_is as is_pool}
 use Rattle.mps_heap_spec.specs.Coming.{ComesMoving, Moved}
 use Rattle.mps_heap_spec.specs.Finding.{block_place_in, pool_named}
 use Rattle.mps_heap_spec.specs.declared.found.Entry.{Entry}
@@ -43,23 +43,33 @@ use Rattle.mps_format.specs.Pools.{is_automatic_pool, size_of_pool}
 use Rattle.mps_format.specs.declared.pool.Pool.{Pool}
 use Rattle.mps_format.specs.declared.pool.Pool.TheVariants as pool
 use Rattle.mps_seg.specs.Placing.{placement_in_gaps}
-use Rattle.mps_seg.specs.Segs.{moves_after}
+use Rattle.mps_seg.specs.Segs.{moves_after, segments_after}
 use Rattle.mps_refinement.specs.Answering.{answer_to, says_ok}
 use Rattle.mps_refinement.specs.RightStep.{IsRight, IsRightIn, step_of}
-use Rattle.mps_refinement.specs.StandsFor.{AreParts, IsPool, IsReached, Past, address_of_target}
-use Rattle.mps_refinement.proofs.Parts.AllocatedParts.{parts_made, segments_made}
+use Rattle.mps_refinement.specs.StandsFor.{AreParts, IsPool, IsReached, Past, address_of_target, AreOfFlip, IsInTime}
+use Rattle.mps_refinement.proofs.Parts.AllocatedParts.{parts_made, segments_made, noted_clear}
 use Rattle.mps_refinement.proofs.Calls.AllocatingStep as allocating
-use Rattle.mps_refinement.proofs.Calls.AllocatingStep.{alloc_empty, alloc_from, alloc_in, alloc_is, alloc_manual, alloc_placed, alloc_sized, made_rightly}
+use Rattle.mps_refinement.proofs.Calls.AllocatingStep.{alloc_empty, alloc_from, alloc_in, alloc_is, alloc_manual, alloc_placed, alloc_sized}
 use Rattle.mps_refinement.proofs.Lookups.Found.{some_there}
-use Rattle.mps_refinement.proofs.Worlds.Known.{IsKnown, known}
+use Rattle.mps_refinement.proofs.Worlds.Known.{IsKnown}
 use Rattle.mps_refinement.proofs.Lookups.Lookups.{IsPlaceEntry, IsPlaceFound, IsPoolFound, place_same, pool_same}
-use Rattle.mps_refinement.proofs.Worlds.PlacedOnce.{is_sized, placed_once}
+use Rattle.mps_refinement.proofs.Worlds.PlacedOnce.{is_sized}
 use Rattle.mps_refinement.proofs.Worlds.Placing.{IsSameArena, gaps_agree}
-use Rattle.mps_refinement.proofs.Worlds.Reached.{reached_sound}
-use Rattle.mps_refinement.proofs.Worlds.ReachedGraph.{reached_graph}
-use Rattle.mps_refinement.proofs.Worlds.Ready.{laid_out}
-use Rattle.mps_refinement.proofs.Calls.RightFrom.{right_from}
-use Rattle.mps_refinement.proofs.Calls.RightRefusals.{IsRightOutcome, outcome_is_right, refusal_is_right}
+use Rattle.mps_base.specs.declared.moves.Move.{Move}
+use Rattle.mps_model.specs.Effect.{world_after_moves}
+use Rattle.mps_model.specs.Reply.{act, answer_from, world_from}
+use Rattle.mps_laws.proofs.Acts.{for_world, pool_named-is}
+use Rattle.mps_laws.proofs.Positions.LaidOut.{IsLaidOut}
+use Rattle.mps_laws.proofs.Positions.LegalMoves.{HasLayout}
+use Rattle.mps_laws.proofs.Replays.ManualSteps.{alloc_step}
+use Rattle.mps_laws.proofs.Sound.PoolKinds.{manual_not_copying}
+use Rattle.mps_laws.proofs.QuietSteps.{IsSound}
+use Rattle.mps_laws.proofs.Positions.Segments.{IsAmong}
+use Rattle.mps_laws.proofs.Replays.Steps.{remembered_kept}
+use Rattle.mps_refinement.proofs.Worlds.FlipKept.{flips_kept}
+use Rattle.mps_refinement.proofs.Parts.SegmentsTaken.{condemned_held, condemned_stay}
+use Rattle.mps_refinement.proofs.Worlds.RestingActs.{resting_sound}
+use Rattle.mps_refinement.proofs.Calls.RightOwn.{IsOwn, IsRightOutcome, done_is_right, outcome_is_right, refusal_is_right}
 
 -- ---- each check, against the model's
 
@@ -149,14 +159,24 @@ module _ {F : Type 0} (layout : F → Layout) (h : HeapState F) (trail : Moves) 
       ≡ (pool_named h name >>= (λ (from : Kept (Pool F)). from_pool from (is_automatic_pool from.value)))
   outcome_is = refl
 
-  module _ (w : World) (line : ℕ) (past : Past) (parts : AreParts layout past h w) (reached : IsReached w) where
-    own : IsKnown w
-    own = known w reached
+  module _ (w : World) (line : ℕ) (past : Past) (parts : AreParts layout past h w) (own : IsKnown past.time w)
+      (reach : IsReached w) (time : IsInTime past.time h.segs w) where
+    is_own : IsOwn w (call.Alloc name words place)
+    is_own = record {
+      arena = refl;
+      collected = λ ms answer. refl;
+      legal = λ ms. tt;
+      marked = λ y answer. tt;
+      read = λ y. tt;
+      possible = λ answer. tt;
+      unasked = λ why. refl;
+      still = refl;
+      judged = λ ms. refl;
+    }
 
     refused_outcome : (why : Refusal) → act_alloc w w name words place ≡ Err why → IsRightAlloc w line (Err why)
     refused_outcome why e =
-        refusal_is_right layout h trail none (call.Alloc name words place) w line past parts reached refl
-        (λ why. record { judged = refl; moved = refl; due = refl; marked = tt; supported = refl }) why e
+        refusal_is_right layout h trail none (call.Alloc name words place) w line past parts own reach time is_own why e
 
     arena_is : IsSameArena h.segs w
     arena_is = record {
@@ -189,7 +209,7 @@ module _ {F : Type 0} (layout : F → Layout) (h : HeapState F) (trail : Moves) 
       unfolding size
       has_same =
           size_alike layout w.formats from.value p.value words pool_found.fit manual
-          (all-at (λ (x : world.Pool). is_sized x.kind ≡ true) w.pools p.number p.value (placed_once w reached).sized pool_found.has)
+          (all-at (λ (x : world.Pool). is_sized x.kind ≡ true) w.pools p.number p.value own.once.sized pool_found.has)
 
       -- ---- where the place is found
 
@@ -220,29 +240,93 @@ module _ {F : Type 0} (layout : F → Layout) (h : HeapState F) (trail : Moves) 
           entry_there : slice_get found.list found.index ≡ Some found.value
           entry_there = ap (slice_get found.list) is.found_index ∙ is.there
 
-          ok : Answer
+          abbrev ok : Answer
           ok = Replied reply.Ok
 
           accepted : (q : Placement) → placement_of w (ForAlloc p.number words) ≡ q → refuse_without_place q ≡ Ok tt
               → IsRightAlloc w line (Ok (made_at p.number into q (record { 0 = address_of_placement q })))
           accepted q q_is room =
-              let sound = reached_sound w reached parts.at_rest in
-              let v = allocating.world_made w parts.at_rest sound own.formed.addresses name words place p pool_is manual found place_is
+              let sound : w.collection ≡ None → IsSound w = (λ rest. resting_sound w rest own.live) in
+              let v = allocating.world_made w sound own.live.blocks own.formed.addresses name words place p pool_is manual found place_is
               is.has
               allowed empty q q_is room in
               let ms = alloc_at p.number words q in
+              let due : ms ≡ unless_refused ok (moves_of_alloc w (checked.pool_named w name) words) =
+              allocating.due w sound own.live.blocks own.formed.addresses name words place p pool_is manual found place_is is.has allowed
+              empty
+              q q_is room in
+              let comes : act_alloc w (world_after_moves w ms) name words place ≡ checked.done v =
+              allocating.comes w sound own.live.blocks own.formed.addresses name words place p pool_is manual found place_is is.has allowed
+              empty q q_is room in
+              let automatic : is_pool is_automatic_kind w p.number ≡ false =
+              ap (λ o. option_map_or (λ (x : world.Pool). is_automatic_kind x.kind) o false) (pool_named-is w name p pool_is) ∙ manual in
+              let not_copying : is_copying_pool w p.number ≡ false =
+              manual_not_copying w.pools p.number p.value (pool_named-is w name p pool_is) manual in
+              let after : HasLayout (w.grains + 1) v =
+              layout_made v ms due comes in
               subst (λ ns. IsRightIn layout w (step_of line (call.Alloc name words place) ns (Replied reply.Ok))
               (made_at p.number into q (record { 0 = address_of_placement q })).state) (sym (moves_are trail q p.number words none room))
-              (right_from layout w v (step_of line (call.Alloc name words place) ms (Replied reply.Ok))
-              (made_at p.number into q (record { 0 = address_of_placement q })).state reached
-              (made_rightly w parts.at_rest sound own.formed.addresses name words place p pool_is manual found place_is is.has allowed
-              empty q
-              q_is room line) parts.at_rest refl refl
-              (λ r. record {
-                past = past;
-                parts = parts_made layout past h w parts own (reached_graph w reached) (placed_once w reached) p.number words
-                    (some_words p.value.kind words allowed) q place.index into found is (laid_out w reached) (laid_out v r);
+              (done_is_right layout h trail none (call.Alloc name words place) w line past parts own reach time is_own ms
+              (made_at p.number into q (record { 0 = address_of_placement q })).state v (record {
+                due = due;
+                comes = comes;
+                sound = allocating.sound_made w sound own.live.blocks own.formed.addresses name words place p pool_is manual found place_is
+                    is.has allowed empty q q_is room;
+                blocks = allocating.blocks_made w sound own.live.blocks own.formed.addresses name words place p pool_is manual found
+                    place_is
+                    is.has allowed empty q q_is room;
+                laid = after;
+                has = record {
+                  past = past;
+                  timed = refl;
+                  parts = parts_made layout past h w parts own own.graph own.once p.number words
+                      (some_words p.value.kind words allowed) q time automatic not_copying place.index into found is own.laid after;
+                };
+                keeps = record {
+                  rest = λ rest. rest;
+                  not_condemned = λ not_condemned grain. noted_clear q h.segs.condemned grain (not_condemned grain);
+                  not_kept = λ not_condemned not_kept. not_kept;
+                  flip = λ of.
+                      let moved : AreOfFlip past.time.at_flip (world_after_moves w ms) =
+                      subst (AreOfFlip past.time.at_flip) (sym (moved_is w sound q q_is room))
+                      (record { made = of.made; still = of.still }) in
+                      subst (λ x. AreOfFlip past.time.at_flip (world_from (world_after_moves w ms) x)) comes
+                      (for_world (AreOfFlip past.time.at_flip) (world_after_moves w ms)
+                      (act false w (world_after_moves w ms) (call.Alloc name words place))
+                      (flips_kept false w (world_after_moves w ms) (call.Alloc name words place) past.time.at_flip
+                      (lengths_moved w sound q q_is room) moved) moved);
+                  condemned = λ y same run marked.
+                      condemned_stay q p.number 0 rank.Exact (w.grains + 1) w.segments h.segs.condemned own.laid.aligned
+                      own.laid.ascending after.aligned after.ascending y.running.condemned_segments marked
+                      (λ base held. let u = condemned_held y run base held in
+                      (u.0, subst (λ (x : World). IsAmong u.0 x.segments) same u.1, u.2));
+                };
+                formats = refl;
               }))
+            where
+              moved_is : (u : World) (sound : w.collection ≡ None → IsSound w) (q : Placement)
+                  → placement_of w (ForAlloc p.number words) ≡ q → refuse_without_place q ≡ Ok tt
+                  → world_after_moves w (alloc_at p.number words q)
+                  ≡ record w { segments = segments_after q p.number 0 rank.Exact w.segments }
+              moved_is u sound q q_is room =
+                  allocating.moved_at w sound own.live.blocks own.formed.addresses name words place p pool_is manual found place_is is.has
+                  allowed empty q q_is room q
+
+              lengths_moved : (u : World) (sound : w.collection ≡ None → IsSound w) (q : Placement)
+                  → placement_of w (ForAlloc p.number words) ≡ q → refuse_without_place q ≡ Ok tt
+                  → length (world_after_moves w (alloc_at p.number words q)).addresses
+                  ≡ length (world_after_moves w (alloc_at p.number words q)).graph.objects
+              lengths_moved u sound q q_is room =
+                  subst (λ (x : World). length x.addresses ≡ length x.graph.objects) (sym (moved_is u sound q q_is room))
+                  own.formed.addresses
+
+              layout_made : (v : World) (ms : List Move) → ms ≡ unless_refused ok (moves_of_alloc w (checked.pool_named w name) words)
+                  → act_alloc w (world_after_moves w ms) name words place ≡ checked.done v → HasLayout (w.grains + 1) v
+              layout_made v ms due comes =
+                  let r = alloc_step (w.grains + 1) 0 line w own.laid name words place ms ok refl due
+                  (ap answer_from (sym comes)) in
+                  subst (IsLaidOut (w.grains + 1)) (remembered_kept v)
+                  (subst (λ x. HasLayout (w.grains + 1) (with_client_remembered (world_from (world_after_moves w ms) x))) comes r.layout)
 
           of_placement : (q : Placement) → placement_of w (ForAlloc p.number words) ≡ q → IsRightAlloc w line (placed_at p.number into q)
           of_placement (Place word) e = accepted (Place word) e refl

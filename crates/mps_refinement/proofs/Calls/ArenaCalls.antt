@@ -1,12 +1,11 @@
 -- `limit`, `committed`, `clamp`, `park` and `release`.
-use Rattle.std.proofs.Common.{◌≡◌, ◌∙◌, ℕ, ◌+◌, false, refl, sym, ap, subst, List, [], ◌∷◌, map, Ok}
+use Rattle.std.proofs.Common.{◌≡◌, ◌∙◌, ℕ, ◌+◌, false, refl, sym, ap, subst, List, [], ◌∷◌, map, Ok, true}
 use Rattle.std.proofs.lemmas.List.Sums.{sum_by-cons}
 use Rattle.std.specs.Prelude.{nat_lt, sum_by}
 use Rattle.mps_base.specs.Run.{Run, total}
 use Rattle.mps_base.specs.Segment.{Segment, grains_of_segment}
 use Rattle.mps_base.specs.declared.refusal.Refusal.TheVariants as refusal
 use Rattle.mps_format.specs.Layout.{Layout}
-use Rattle.mps_changes.specs.Change.{makes_arena}
 use Rattle.mps_laws.proofs.Same.{Same, fits, same_next, same_refuse_when}
 use Rattle.mps_model.specs.declared.call.Call.{Call}
 use Rattle.mps_model.specs.declared.call.Call.TheVariants as call
@@ -23,11 +22,13 @@ use Rattle.mps_heap_spec.specs.State.{HeapState}
 use Rattle.mps_heap_spec.specs.declared.arena.ArenaState.{ArenaState}
 use Rattle.mps_heap_spec.specs.declared.arena.ArenaState.TheVariants as arena
 use Rattle.mps_refinement.specs.Answering.{answer_to, says_number, says_ok}
-use Rattle.mps_refinement.specs.RightStep.{IsRight}
+use Rattle.mps_refinement.specs.RightStep.{IsRight, IsRightIn, step_of}
 use Rattle.mps_refinement.specs.StandsFor.{AreParts, Past, state_of}
 use Rattle.mps_refinement.proofs.Parts.PartsMade.{arena_changed}
-use Rattle.mps_refinement.proofs.Worlds.RestingActs.{may_move}
-use Rattle.mps_refinement.proofs.Worlds.Steps.{HasParts, Leads, answer_is_right, quiet_is_right}
+use Rattle.mps_refinement.proofs.Worlds.Steps.{HasParts, Leads, answer_is_right, quiet_is_right, resting_is_right}
+use Rattle.mps_refinement.proofs.Parts.Resting.{at_rest}
+use Rattle.mps_refinement.proofs.Worlds.RunningActs.{is_poke}
+use Rattle.mps_refinement.specs.QuietCalls.{never_moves}
 
 -- ---- the grains that are held
 
@@ -42,21 +43,25 @@ module _ {F : Type 0} (layout : F → Layout) (h : HeapState F) (w : World) (pas
   held_grains_are =
       total_of_segments h.segs.segments ∙ ap (λ (ss : List Segment). sum_by (λ (s : Segment). s.grains) ss) parts.segments
 
-  limit_same : (limit : ℕ) → Same (Leads layout says_ok) (limit_set h limit) (act false w w (call.Limit limit))
+  limit_same : (limit : ℕ) → Same (Leads layout says_ok h past w) (limit_set h limit) (act false w w (call.Limit limit))
   limit_same limit =
       same_next (same_refuse_when (nat_lt limit (held_grains h)) (nat_lt limit (committed w)) refusal.BelowCommitted
       (ap (nat_lt limit) held_grains_are))
       (fits (record {
         answer = refl;
+        marks = (refl, refl);
+        formats = refl;
         has = record {
           past = past;
+          timed = refl;
           parts = arena_changed layout past h w parts limit h.arena w.state h.names parts.state (λ n. refl);
         };
       }))
 
-  state_has : (arena : ArenaState) → HasParts layout (with_arena h arena) (with_state w (state_of arena))
+  state_has : (arena : ArenaState) → HasParts layout past.time (with_arena h arena) (with_state w (state_of arena))
   state_has arena = record {
     past = past;
+    timed = refl;
     parts = subst (λ (l : ℕ). AreParts layout past (with_arena h arena) (record w { limit = l; state = state_of arena })) parts.limit
         (arena_changed layout past h w parts h.segs.limit arena (state_of arena) h.names refl (λ n. refl));
   }
@@ -75,23 +80,28 @@ module _ {F : Type 0} (layout : F → Layout) (h : HeapState F) where
       fits (record { answer = ap says_number (sym (held_grains_are layout h w past parts)); world = refl })) (ap Ok is)
 
   -- the arena's state
-  state_is_right : (c : Call) (arena : ArenaState) (after : HeapState F) → may_move c ≡ false
-      → makes_arena c ≡ false
+  state_is_right : (c : Call) (arena : ArenaState) (after : HeapState F) → never_moves c ≡ true
+      → is_poke c ≡ false
       → ((w : World) → act false w w c ≡ done (with_state w (state_of arena))) → after ≡ with_arena h arena
       → IsRight layout h c [] (Replied reply.Ok) after
   state_is_right c arena after quiet once acts is =
       quiet_is_right layout says_ok h c quiet once (λ a. refl) (ours.done (with_arena h arena)) (Ok tt) after
       (λ w past parts reached.
-      subst (λ x. Same (Leads layout says_ok) (ours.done (with_arena h arena)) x) (sym (acts w))
-      (fits (record { answer = refl; has = state_has layout h w past parts arena })))
+      subst (λ x. Same (Leads layout says_ok h past w) (ours.done (with_arena h arena)) x) (sym (acts w))
+      (fits (record { answer = refl; marks = (refl, refl); formats = refl; has = state_has layout h w past parts arena })))
       (record { answer = refl; state = is })
 
   pub clamp_is_right : (after : HeapState F) → after ≡ with_arena h arena.Clamped → IsRight layout h call.Clamp [] (Replied reply.Ok) after
   clamp_is_right after is = state_is_right call.Clamp arena.Clamped after refl refl (λ w. refl) is
 
-  pub park_is_right : (after : HeapState F) → after ≡ with_arena h arena.Parked → IsRight layout h call.Park [] (Replied reply.Ok) after
-  park_is_right after is = state_is_right call.Park arena.Parked after refl refl (λ w. refl) is
-
   pub release_is_right : (after : HeapState F) → after ≡ with_arena h arena.Unclamped
       → IsRight layout h call.Release [] (Replied reply.Ok) after
   release_is_right after is = state_is_right call.Release arena.Unclamped after refl refl (λ w. refl) is
+
+  -- if no collection runs there is nothing to finish
+  pub park_is_right : (after : HeapState F) → after ≡ with_arena h arena.Parked → IsRight layout h call.Park [] (Replied reply.Ok) after
+  park_is_right after is w line st =
+      subst (λ s. IsRightIn layout w (step_of line call.Park [] (Replied reply.Ok)) s) (sym is)
+      (resting_is_right layout w line call.Park (Replied reply.Ok) refl refl refl st.reached st.past.time h.segs
+      (done (with_state w (state_of arena.Parked))) (with_arena h arena.Parked) (at_rest st.time) (refl, refl) refl refl
+      (state_has layout h w st.past st.parts arena.Parked))

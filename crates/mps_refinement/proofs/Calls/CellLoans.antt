@@ -1,10 +1,7 @@
 -- A loan of number cells of an object: what the borrower leaves in them is what a `setnum` of each leaves, and each is right.
 use Rattle.std.proofs.Common.{◌≡◌, ℕ, ◌+◌, ◌<◌, false}
 use Rattle.mps_base.specs.Address.{word_of}
-use Rattle.mps_base.specs.declared.refusal.Refusal.TheVariants as refusal
 use Rattle.mps_format.specs.Layout.{Layout}
-use Rattle.mps_model.specs.declared.call.Call.TheVariants as call
-use Rattle.mps_model.specs.declared.reply.Reply.TheVariants as reply
 use Rattle.mps_heap_spec.specs.declared.found.Block.{Block}
 
 module _ {F : Type 0} (layout : F → Layout) where

@@ -9,30 +9,30 @@ use Rattle.mps_base.specs.declared.names.Slot.{Slot}
 use Rattle.mps_buffer.specs.declared.point.Held.{Held}
 use Rattle.mps_buffer.specs.declared.point.Point.{Point}
 use Rattle.mps_buffer.specs.Points.{after_close, point_at, with_point}
+use Rattle.mps_seg.specs.Collecting.{is_white_at}
 use Rattle.mps_format.specs.Layout.{Layout}
 use Rattle.mps_trace_laws.proofs.Image.ArenaLaws.{points_change}
-use Rattle.mps_trace_laws.specs.Image.AtRest.{StandsAtRest}
-use Rattle.mps_trace_laws.specs.Image.Image.{black_cells, no_colours}
-use Rattle.mps_trace_laws.specs.Image.Memory.{live_reservation, memory_in, pool_layout, setting_at_rest}
+use Rattle.mps_trace_laws.specs.Image.Image.{black_cells}
+use Rattle.mps_trace_laws.specs.Image.Memory.{live_reservation, memory_in, words_of_arena}
 use Rattle.mps_laws.proofs.Sound.HeldIds.{All}
 use Rattle.mps_laws.proofs.Positions.LegalMoves.{HasLayout}
 use Rattle.mps_laws.proofs.Lookups.{entry_at-set_other, entry_at-set_same, entry_is_there, entry_within}
 use Rattle.mps_laws.proofs.QuietSteps.{IsSound}
-use Rattle.mps_laws.proofs.Sound.SoundChanges.{made_sound, with_made}
+use Rattle.mps_laws.proofs.Sound.SoundChanges.{made_sound, with_made, made_lives}
 use Rattle.mps_laws.proofs.Sound.SoundEffects.{reservation_gone_sound, slot_sound}
 use Rattle.mps_laws.proofs.Sound.SoundGraph.{PassesOrNull, all-at}
 use Rattle.mps_model.specs.Allocating as model
 use Rattle.mps_model.specs.Allocating.{act_commit, reserved_address, world_committed}
 use Rattle.mps_model.specs.Checked.{Found, Numbered, with_graph}
 use Rattle.mps_model.specs.Graph as graph
-use Rattle.mps_model.specs.Graph.{Automatic, Object, Reservation, entry_at, is_live_reservation, slots_of, targets_of, targets_of_point, with_last}
+use Rattle.mps_model.specs.Graph.{Automatic, Object, Reservation, entry_at, is_live_reservation, slots_of, targets_of, targets_of_point, with_last, ids_in_blocks}
 use Rattle.mps_model.specs.World.{World, PointMemory, extent_of_reservation, is_copying_pool, is_live, is_running, reserved_extents}
 use Rattle.mps_heap_spec.specs.Allocating.{with_closed}
 use Rattle.mps_heap_spec.specs.declared.found.Entry.{Entry}
 use Rattle.mps_heap_spec.specs.declared.found.Kept.{Kept}
 use Rattle.mps_heap_spec.specs.Objects.{with_slot}
 use Rattle.mps_heap_spec.specs.State.{HeapState}
-use Rattle.mps_refinement.specs.StandsFor.{AreParts, IsHeld, IsPoint, NoneHeld, Past, address_of_target}
+use Rattle.mps_refinement.specs.StandsFor.{AreParts, IsHeld, IsPoint, NoneHeld, Past, address_of_target, StandsAt, setting_at}
 use Rattle.mps_refinement.proofs.Parts.CommittedParts.{heap_made, made_parts, world_made}
 use Rattle.mps_refinement.proofs.Parts.Counts.{reservation_written_points}
 use Rattle.mps_refinement.proofs.Worlds.Known.{IsKnown}
@@ -41,6 +41,7 @@ use Rattle.mps_refinement.proofs.Parts.Numbering.{numbered_written}
 use Rattle.mps_refinement.proofs.Parts.ObjectMore.{id_still, slots_still}
 use Rattle.mps_refinement.proofs.Parts.PartsWritten.{slot_written}
 use Rattle.mps_refinement.proofs.Parts.PointWritten.{other_point, points_anew, points_there, resting_points, written_point}
+use Rattle.std.specs.List.{list_all}
 
 -- a point without a reservation that a flip had ended covers what it covered
 extents_closed : (ps : List (Option graph.Point)) (ms : List PointMemory) (n : ℕ) (q : graph.Point) → entry_at ps n ≡ Some q
@@ -58,7 +59,8 @@ extents_closed (Some p ∷ ps) (m ∷ ms) (suc n) q e none =
     ap (λ xs. extent_of_reservation p.reservation m ++ xs) (extents_closed ps ms n q e none)
 
 module _ {F : Type 0} (layout : F → Layout) (past : Past) (h : HeapState F) (w : World) (parts : AreParts layout past h w)
-    (laid : HasLayout (w.grains + 1) w) (knows : IsKnown w) (sound : IsSound w) (k : Kept Point) (n : Numbered graph.Point)
+    (laid : HasLayout (w.grains + 1) w) (knows : IsKnown past.time w) (sound : w.collection ≡ None → IsSound w) (k : Kept Point)
+    (n : Numbered graph.Point)
     (found : IsPointFound past h w k n) (held : Held) (r : Reservation) (reserved : k.value.reservation ≡ Some held)
     (open_there : n.value.reservation ≡ Some r) (is : IsHeld (length w.flips) held r found.fit.memory.reserved_at) where
   -- ---- a flip ended the reservation
@@ -84,10 +86,10 @@ module _ {F : Type 0} (layout : F → Layout) (past : Past) (h : HeapState F) (w
             (λ f. apart (sym f)))) ∙ e
       ]
 
-  image_closed : r.is_doomed ≡ true → StandsAtRest h.segs (with_graph w (model.with_reservation w.graph n None))
+  image_closed : r.is_doomed ≡ true → StandsAt past.time h.segs (with_graph w (model.with_reservation w.graph n None))
   image_closed doomed =
-      points_change (setting_at_rest h.segs w.graph.objects w.graph.points w.point_memories (pool_layout w)) (memory_in h.segs) w.addresses
-      no_colours (black_cells [] no_colours) points_closed w.point_memories parts.image
+      points_change (setting_at past.time h.segs w) (memory_in h.segs) w.addresses
+      past.time.colours (black_cells past.time.condemned past.time.colours) points_closed w.point_memories parts.image
       (λ i x m e has. (was_live i x e, has)) was_live
       (extents_closed w.graph.points w.point_memories n.number n.value found.has (no_extent doomed))
 
@@ -112,9 +114,9 @@ module _ {F : Type 0} (layout : F → Layout) (past : Past) (h : HeapState F) (w
         limit = refl;
         segments_are = parts.segments;
         image = image_closed doomed;
-        resting =
-            resting_points h.segs.grains h.segs.condemned h.segs.marks.kept h.points
-            (with_point h.points k.key (Some (after_close k.value))) parts.resting (λ key x other e f.
+        arena =
+            resting_points h.segs.grains h.points
+            (with_point h.points k.key (Some (after_close k.value))) parts.arena (λ key x other e f.
             elim (cases_eq key k.key) [
               | inl here ↦
                   let own : after_close k.value ≡ x =
@@ -148,18 +150,20 @@ module _ {F : Type 0} (layout : F → Layout) (past : Past) (h : HeapState F) (w
       (ap (λ o. option_map_or graph.targets_of_reservation o []) open_there
       ∙ ap (λ b. if b then [] else graph.targets_of_cells r.cells) live) all
 
-  module _ (live : r.is_doomed ≡ false) (target : Slot) (entry : Entry Address) (slot : Found (Option ℕ))
+  module _ (live : r.is_doomed ≡ false) (wide : is_white_at h.segs held.at.0 ≡ true
+      → length h.segs.marks.kept ≡ words_of_arena h.segs.grains)
+      (target : Slot) (entry : Entry Address) (slot : Found (Option ℕ))
       (slot_is : IsSlotFound past h w target entry slot) where
     abbrev pub made_heap : HeapState F
     made_heap =
         heap_made layout past h w parts laid knows k.key n found.number k.value found.kept found.has found.fit held r reserved open_there is
-        live
+        live wide
 
     abbrev pub made_world : World
     made_world =
         world_made layout past h w parts laid knows k.key n found.number k.value found.kept found.has found.fit held r reserved
         open_there is
-        live
+        live wide
 
     abbrev pub at : Address
     at = found.fit.memory.reserved_at
@@ -203,7 +207,7 @@ module _ {F : Type 0} (layout : F → Layout) (past : Past) (h : HeapState F) (w
         slot_written layout past made_heap made_world
         (made_parts layout past h w parts laid knows k.key n found.number k.value found.kept found.has found.fit held r reserved
         open_there is
-        live)
+        live wide)
         target.index entry slot held.at.0 (Some (length w.graph.objects)) slot_there
         (is.at ∙ sym (ap (λ o. option_map_or (λ (a : Address). a) o 0) new_there))
 
@@ -212,14 +216,21 @@ module _ {F : Type 0} (layout : F → Layout) (past : Past) (h : HeapState F) (w
     abbrev ended : World
     ended = with_graph w (model.with_reservation w.graph n None)
 
-    pub block_sound : IsSound (with_graph made_world (model.with_slot made_world.graph slot (Some (length w.graph.objects))))
-    block_sound =
+    pub block_sound : w.collection ≡ None
+        → IsSound (with_graph made_world (model.with_slot made_world.graph slot (Some (length w.graph.objects))))
+    block_sound rest =
         let o : Object = model.committed_object n.value r in
-        let first : IsSound ended = reservation_gone_sound w sound n in
+        let first : IsSound ended = reservation_gone_sound w (sound rest) n in
         let second : IsSound (with_made ended o at) =
-        made_sound ended o at first numbered (λ rest. targets_live live) (λ c e. absurd (none-some c (sym parts.at_rest ∙ e))) in
+        made_sound ended o at first numbered (λ running. targets_live live) (λ c e. absurd (none-some c (sym rest ∙ e))) in
         slot_sound (with_made ended o at) second slot (Some (length w.graph.objects)) slot_is.fit.has
         (record {
           live = ap is_some new_there;
-          rightly = λ c e. absurd (none-some c (sym parts.at_rest ∙ e));
+          rightly = λ c e. absurd (none-some c (sym rest ∙ e));
         })
+
+    -- blocks in places are live after it
+    pub blocks_live : list_all (is_live made_world) (ids_in_blocks w.graph) ≡ true
+    blocks_live =
+        Rattle.mps_laws.proofs.Sound.HeldIds.all-weaker (is_live w) (is_live (with_made ended (model.committed_object n.value r) at))
+        (made_lives ended (model.committed_object n.value r) at) (ids_in_blocks w.graph) knows.live.blocks

@@ -36,7 +36,7 @@ use Rattle.mps_refinement.proofs.Lookups.Lookups.{IsDependencyFound, dependency_
 use Rattle.mps_refinement.proofs.Calls.MakingSteps.{MakesAlike, checks_then, first_passed, free_name, making_is_right, taken_same}
 use Rattle.mps_refinement.proofs.Parts.Named.{ThingsStay, named_alike, named_made}
 use Rattle.mps_refinement.proofs.Parts.PartsMade.{dependencies_changed, state_of_dependencies}
-use Rattle.mps_refinement.proofs.Worlds.Steps.{HasParts, Leads, SaysOnly, answer_is_right_in, quiet_is_right}
+use Rattle.mps_refinement.proofs.Worlds.Steps.{HasParts, Leads, SaysOnly, answer_is_right_in, quiet_is_right, KeepsMarks}
 
 module _ {F : Type 0} (layout : F → Layout) (h : HeapState F) (w : World) (past : Past) (parts : AreParts layout past h w) where
   -- a dependency on nothing, as of now
@@ -53,12 +53,13 @@ module _ {F : Type 0} (layout : F → Layout) (h : HeapState F) (w : World) (pas
 
   dependency_parts : (name : Name) (number : ℕ) (after : HeapState F)
       → Rattle.mps_names.specs.State.thing_named h.names name ≡ Rattle.std.specs.Prelude.None → MakesDependency h name number after
-      → HasParts layout after (record w {
+      → HasParts layout past.time after (record w {
         graph = Rattle.mps_model.specs.Checked.named w.graph name (graph.DependencyThing (length w.dependencies));
         dependencies = with_last w.dependencies new_now;
       })
   dependency_parts name number after free makes = record {
     past = past;
+    timed = refl;
     parts = subst (λ s. AreParts layout past s (record w {
       graph = record w.graph { names = with_last w.graph.names (record { name = name; thing = graph.DependencyThing count }) };
       dependencies = with_last w.dependencies new_now;
@@ -96,7 +97,7 @@ module _ {F : Type 0} (layout : F → Layout) (h : HeapState F) (w : World) (pas
       }
 
   dependency_alike : (name : Name)
-      → MakesAlike layout h w (call.Dependency name) (check_dependency h name) (MakesDependency h name)
+      → MakesAlike layout past h w (call.Dependency name) (check_dependency h name) (MakesDependency h name)
   dependency_alike name = record {
     models = model.refuse_taken w name >> refuse_at_limit (length w.dependencies) most_dependencies;
     made = record w {
@@ -107,6 +108,8 @@ module _ {F : Type 0} (layout : F → Layout) (h : HeapState F) (w : World) (pas
     alike = same_next (taken_same layout past h w parts name)
         (same_refuse_when (nat_le most_dependencies (length h.dependencies)) (nat_le most_dependencies (length w.dependencies))
         (refusal.TooMany most_dependencies) (ap (nat_le most_dependencies) count_is));
+    formats = refl;
+    marks = λ key after makes. subst (λ (s : HeapState F). KeepsMarks h.segs s.segs) (sym makes.state) (refl, refl);
     has = λ number after ok makes.
         dependency_parts name number after
         (free_name h name
@@ -117,9 +120,10 @@ module _ {F : Type 0} (layout : F → Layout) (h : HeapState F) (w : World) (pas
 
   dependency_written : (d : Kept LdState) (e : Numbered Dependency) → IsDependencyFound past h w d e → (state : LdState)
       (new : Dependency) → state ≡ kept_of new
-      → HasParts layout (with_dependency h d.key state) (model_dependency.with_dependency w e.number new)
+      → HasParts layout past.time (with_dependency h d.key state) (model_dependency.with_dependency w e.number new)
   dependency_written d e found state new is = record {
     past = past;
+    timed = refl;
     parts = subst (λ n. AreParts layout past (with_dependency h d.key state) (model_dependency.with_dependency w n new)) (sym found.number)
         (dependencies_changed layout past h w parts (slice_set h.dependencies d.key state) h.names (slice_set w.dependencies d.key new)
         w.graph.names
@@ -135,18 +139,26 @@ module _ {F : Type 0} (layout : F → Layout) (h : HeapState F) (w : World) (pas
         })));
   }
 
-  reset_same : (name : Name) → Same (Leads layout says_ok) (dependency_reset h name) (act false w w (call.DependencyReset name))
+  reset_same : (name : Name) → Same (Leads layout says_ok h past w) (dependency_reset h name) (act false w w (call.DependencyReset name))
   reset_same name =
       same_then (dependency_same layout past h w parts name) (λ d e found.
-      fits (record { answer = refl; has = dependency_written d e found (reset_at h.epochs) new_now reset_is }))
+      fits (record {
+        answer = refl;
+        marks = (refl, refl);
+        formats = refl;
+        has = dependency_written d e found
+            (reset_at h.epochs) new_now reset_is;
+      }))
 
   merge_same : (name source : Name)
-      → Same (Leads layout says_ok) (dependency_merged h name source) (act false w w (call.DependencyMerge name source))
+      → Same (Leads layout says_ok h past w) (dependency_merged h name source) (act false w w (call.DependencyMerge name source))
   merge_same name source =
       same_then (dependency_same layout past h w parts name) (λ d e found.
       same_then (dependency_same layout past h w parts source) (λ x y other.
       fits (record {
         answer = refl;
+        marks = (refl, refl);
+        formats = refl;
         has = dependency_written d e found (after_merge d.value x.value) (model_dependency.merged e.value y.value)
             (ap (λ z. after_merge z x.value) found.fit ∙ ap (after_merge (kept_of e.value)) other.fit);
       })))

@@ -19,7 +19,6 @@ use Rattle.mps_heap_spec.specs.declared.found.Kept.{Kept}
 use Rattle.mps_heap_spec.specs.State.{HeapState}
 use Rattle.mps_refinement.specs.RightStep.{IsRight}
 use Rattle.mps_refinement.specs.StandsFor.{AreParts, Past, kept_of}
-use Rattle.mps_refinement.proofs.Worlds.Known.{known}
 use Rattle.mps_refinement.proofs.Lookups.LiveObjects.{object_then}
 use Rattle.mps_refinement.proofs.Lookups.Lookups.{IsDependencyFound, dependency_same}
 use Rattle.mps_refinement.proofs.Parts.PartsWritten.{dependencies_written}
@@ -42,11 +41,14 @@ module _ {F : Type 0} (layout : F → Layout) (h : HeapState F) where
       → ComesToTheSame layout says_ok h (call.DependencyAdd name slot) (dependency_added layout h name slot)
   added_same name slot w past parts reached =
       same_then (dependency_same layout past h w parts name) (λ x y found.
-      object_then layout past h w parts (known w reached) slot (λ b n is.
+      object_then layout past h w parts reached slot (λ b n is.
       fits (record {
         answer = refl;
+        marks = (refl, refl);
+        formats = refl;
         has = record {
           past = past;
+          timed = refl;
           parts = dependency_written layout past h w parts x y found (with_address x.value b.at)
               (with_added y.value n.number (address_or_null w n.number))
               (ap₂ with_address found.fit (sym (ap (λ o. option_map_or (λ at. at) o 0) is.address)));

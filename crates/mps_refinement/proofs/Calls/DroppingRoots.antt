@@ -40,7 +40,7 @@ module _ {F : Type 0} (layout : F → Layout) (h : HeapState F) (name : Name) (w
 
   table_left : (key : ℕ) (items : List Address) → thing_named h.names name ≡ Some (thing.Table key) → kept h.roots.tables key ≡ Some items
       → (names : NamesState) → Updates h.names names name None
-      → HasParts layout
+      → HasParts layout past.time
       (without_root h (record h.roots { tables = without h.roots.tables key; order = without_key h.roots.order key }) names (length items))
       (with_graph w (record w.graph {
         tables = slice_set w.graph.tables (past.table_number key) None;
@@ -48,6 +48,7 @@ module _ {F : Type 0} (layout : F → Layout) (h : HeapState F) (name : Name) (w
       }))
   table_left key items was there names updates = record {
     past = past;
+    timed = refl;
     parts = roots_changed layout past h w parts past.table_number past.area_number roots (h.live_roots - 1)
         (h.live_slots - length items) names (slice_set w.graph.tables (past.table_number key) None) w.graph.areas w.graph.blocks
         (without_name w.graph.names name) (record {
@@ -91,13 +92,14 @@ module _ {F : Type 0} (layout : F → Layout) (h : HeapState F) (name : Name) (w
 
   area_left : (key : ℕ) (items : List Stored) → thing_named h.names name ≡ Some (thing.Area key) → kept h.roots.areas key ≡ Some items
       → (names : NamesState) → Updates h.names names name None
-      → HasParts layout (without_root h (record h.roots { areas = without h.roots.areas key }) names (length items))
+      → HasParts layout past.time (without_root h (record h.roots { areas = without h.roots.areas key }) names (length items))
       (with_graph w (record w.graph {
         areas = slice_set w.graph.areas (past.area_number key) None;
         names = without_name w.graph.names name;
       }))
   area_left key items was there names updates = record {
     past = past;
+    timed = refl;
     parts = roots_changed layout past h w parts past.table_number past.area_number roots (h.live_roots - 1)
         (h.live_slots - length items) names w.graph.tables (slice_set w.graph.areas (past.area_number key) None) w.graph.blocks
         (without_name w.graph.names name) (record {
@@ -143,7 +145,7 @@ module _ {F : Type 0} (layout : F → Layout) (h : HeapState F) (name : Name) (w
   models o = required (graph_without_root w.graph name o) refusal.BadName >>= (λ dropped. done (with_graph w dropped))
 
   abbrev Alike : Checked (NamesState → HeapState F) → Checked Act → Type 0
-  Alike x y = Same (DropsTo layout h name (call.DropRoot name) (root_dropped h name)) x y
+  Alike x y = Same (DropsTo layout h name (call.DropRoot name) (root_dropped h name) past w) x y
 
   by_thing : (o : Option Thing) → thing_named h.names name ≡ o → Alike (ours o) (models (option_map (numbered_thing past) o))
   by_thing None e = same.refused
@@ -157,7 +159,7 @@ module _ {F : Type 0} (layout : F → Layout) (h : HeapState F) (name : Name) (w
         length slots,
       )) o))
       (models (Some (graph.TableThing (past.table_number key))))) (sym items.1)
-      (fits (record { answer = refl; has = table_left key items.0 e items.1 }))
+      (fits (record { answer = refl; marks = λ names. (refl, refl); formats = refl; has = table_left key items.0 e items.1 }))
   by_thing (Some (thing.Area key)) e =
       let items = some_there (kept h.roots.areas key) (parts.names.there name (thing.Area key) e) in
       subst (λ o. Alike (ours_left (option_map (λ (words : List Stored). (
@@ -167,10 +169,10 @@ module _ {F : Type 0} (layout : F → Layout) (h : HeapState F) (name : Name) (w
         length words,
       )) o))
       (models (Some (graph.AreaThing (past.area_number key))))) (sym items.1)
-      (fits (record { answer = refl; has = area_left key items.0 e items.1 }))
+      (fits (record { answer = refl; marks = λ names. (refl, refl); formats = refl; has = area_left key items.0 e items.1 }))
   by_thing (Some _) e = same.refused
 
-  root_alike : DropsAlike layout h name (call.DropRoot name) (root_dropped h name) w
+  root_alike : DropsAlike layout h name (call.DropRoot name) (root_dropped h name) past w
   root_alike =
       subst (λ o. Alike (ours (thing_named h.names name)) (models o)) (sym (parts.names.named name))
       (by_thing (thing_named h.names name) refl)

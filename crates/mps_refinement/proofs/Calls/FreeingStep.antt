@@ -1,43 +1,47 @@
 -- A `free` where no collection runs: a legal step, whose moves free the block, and give its segment back where nothing is left in it.
 use Rattle.std.proofs.Common.{◌≡◌, ◌∙◌, ℕ, zero, suc, Bool, true, false, refl, sym, ap, List, [], ◌∷◌, Option, Some, None, Ok, inl, inr}
-use Rattle.std.proofs.lemmas.Bool.{ne_eqb, and_from}
+use Rattle.std.proofs.lemmas.Bool.{ne_eqb, and_from, and_parts}
 use Rattle.std.proofs.lemmas.Option.{none-some}
-use Rattle.std.specs.Prelude.{◌==◌, ◌&&◌, not, slice_get, slice_set, if◌then◌else◌}
+use Rattle.std.specs.Prelude.{◌==◌, ◌&&◌, not, slice_get, slice_set, if◌then◌else◌, option_map}
 use Rattle.std.specs.List.{flat_map, list_all}
 use Rattle.std.specs.Option.{option_map_or}
 use Rattle.mps_base.specs.Address.{Address, Id}
-use Rattle.mps_base.specs.Segment.{Segment, segment_over, without_segment}
+use Rattle.mps_base.specs.Segment.{Segment, segment_over, without_segment, is_in_segment}
 use Rattle.mps_base.specs.declared.moves.Move.{Move}
 use Rattle.mps_base.specs.declared.moves.Move.TheVariants as moves
 use Rattle.mps_base.specs.declared.names.Slot.{Slot}
 use Rattle.mps_laws.proofs.Finding.{id_at-there}
-use Rattle.mps_laws.proofs.Sound.HeldIds.{All, all-append, held_again}
-use Rattle.mps_laws.proofs.QuietSteps as quiet
+use Rattle.mps_laws.proofs.Sound.HeldIds.{All, all-append, held_again, all-weaker, place_written}
 use Rattle.mps_laws.proofs.QuietSteps.{IsSound}
-use Rattle.mps_laws.proofs.Sound.SoundChanges.{gone_sound, sound_again}
+use Rattle.mps_laws.proofs.Sound.SoundChanges.{gone_sound, sound_again, lives_otherwise, others_live}
 use Rattle.mps_laws.proofs.Sound.SoundEffects.{place_sound}
-use Rattle.mps_laws.proofs.Sound.SoundGraph.{IsSoundGraph, auto}
+use Rattle.mps_laws.proofs.Sound.SoundGraph.{IsSoundGraph, auto, all-at as all-in, entry-passes}
 use Rattle.mps_model.proofs.AtRest.{with_collection-none}
-use Rattle.mps_model.specs.declared.call.Call.TheVariants as call
 use Rattle.mps_model.specs.declared.reply.Reply.TheVariants as reply
 use Rattle.mps_model.specs.Answer.{Answer, Replied}
-use Rattle.mps_model.specs.Graph.{Slots, entries, entry_at, ids_in_blocks}
-use Rattle.mps_model.specs.World.{World, is_any_size_kind, is_empty_segment, pool_is, segment_of}
+use Rattle.mps_model.specs.Graph.{Slots, entries, entry_at, ids_in_blocks, contains, without_first}
+use Rattle.mps_model.specs.World.{World, is_any_size_kind, is_empty_segment, pool_is, segment_of, is_live}
 use Rattle.mps_model.specs.Checked.{Found, ◌>>=◌, ◌>>◌, block_place_in, done, with_graph, required}
 use Rattle.mps_model.specs.Allocating.{act_free, block_in, with_block_place}
 use Rattle.mps_model.specs.Accessing.{address_or_null}
 use Rattle.mps_model.specs.Effect.{after_free, after_unseg, giving_back, reclaiming, segment_base_of, where_one, with_address, with_collection, world_after_move, world_after_moves}
 use Rattle.mps_model.specs.Flip.{at_address}
-use Rattle.mps_model.specs.History.{free_of, give_back_empty, moves_of_free, unless_refused, with_client_remembered}
-use Rattle.mps_refinement.specs.RightStep.{step_of}
+use Rattle.mps_model.specs.History.{free_of, give_back_empty, moves_of_free, unless_refused}
 use Rattle.mps_refinement.proofs.Worlds.PlacedOnce.{ArePlacedOnce, IsIn, written_cases}
 use Rattle.mps_refinement.proofs.Worlds.PlacesByMoves.{places_of}
-use Rattle.mps_refinement.proofs.Worlds.RestingSteps.{done_step}
 use Rattle.mps_refinement.proofs.Parts.StillHeld.{held_others, target_others}
 use Rattle.mps_base.specs.declared.refusal.Refusal.TheVariants as refusal
+use Rattle.mps_laws.proofs.Positions.Segments.{IsAmong, found_among}
+use Rattle.mps_model.specs.Collection.{Collection}
 
 abbrev ok : Answer
 ok = Replied reply.Ok
+
+-- a fact of all blocks in places is one of each
+all_places : (test : ℕ → Bool) (blocks : List Slots) → All test (flat_map entries blocks) → (n i id : ℕ) → IsIn blocks n i id
+    → test id ≡ true
+all_places test blocks all n i id is =
+    entry-passes test is.row i (Some id) (all-in test entries blocks n is.row all is.table) is.entry
 
 -- a fact of each block in a place is one of all
 pub all_in_places : (test : ℕ → Bool) (blocks : List Slots) → ((n i id : ℕ) → IsIn blocks n i id → test id ≡ true)
@@ -55,7 +59,10 @@ all_in_places test (row ∷ rows) each =
         and_from (test id) (list_all test (entries xs)) (f zero id refl)
         (in_row xs (λ i j e. f (suc i) j e))
 
-module _ (w : World) (rest : w.collection ≡ None) (graph : IsSoundGraph w) (sound : IsSound w) (once : ArePlacedOnce (places_of w))
+module _ (w : World) (outside : (c : Collection) → w.collection ≡ Some c → (t : Segment) → IsAmong t w.segments
+    → pool_is is_any_size_kind w t.pool ≡ true → contains c.condemned_segments t.base ≡ false)
+    (graph : IsSoundGraph w) (sound : w.collection ≡ None → IsSound w) (blocks : list_all (is_live w) (ids_in_blocks w.graph) ≡ true)
+    (once : ArePlacedOnce (places_of w))
     (place : Slot) (found : Found (Option ℕ)) (place_is : block_place_in w place ≡ Ok found)
     (has : slice_get w.graph.blocks found.number ≡ Some found.list) (entry : slice_get found.list found.index ≡ Some found.value) (id : Id)
     (at : Address) (value : found.value ≡ Some id) (there : entry_at w.addresses id ≡ Some at) (manual : auto w id ≡ false)
@@ -82,25 +89,43 @@ module _ (w : World) (rest : w.collection ≡ None) (graph : IsSoundGraph w) (so
       ap (λ o. where_one w o (λ n. after_free w n at)) (id_at-there w at id different there)
       ∙ ap (λ b. if b then with_collection (with_address w id None) (reclaiming (segment_base_of w at)) else with_address w id None) manual
 
-  moved_is : world_after_moves w moves_freed ≡ world_moved
+  pub moved_is : world_after_moves w moves_freed ≡ world_moved
   moved_is =
-      elim given as (λ b. world_after_moves w (moves.Free (at_address at) ∷ (if b then moves.Unseg (at_address t.base) ∷ [] else []))
+      elim given as (λ b. (pool_is is_any_size_kind w t.pool && is_empty_segment (with_address w id None) t) ≡ b
+      → world_after_moves w (moves.Free (at_address at) ∷ (if b then moves.Unseg (at_address t.base) ∷ [] else []))
       ≡ record w { addresses = slice_set w.addresses id None; segments = if b then without_segment w.segments t.base else w.segments }) [
-        | true ↦
+        | true ↦ λ is.
             ap (λ v. after_unseg v t.base) block_freed
-            ∙ with_collection-none
-            (record (with_address w id None) { segments = without_segment w.segments t.base }) (giving_back t.base) rest
-        | false ↦ block_freed
-      ]
+            ∙ of_collection (and_parts (pool_is is_any_size_kind w t.pool) (is_empty_segment (with_address w id None) t) is).0
+            w.collection refl
+        | false ↦ λ isnt. block_freed
+      ] is_given
+    where
+      of_collection : pool_is is_any_size_kind w t.pool ≡ true → (o : Option Collection) → w.collection ≡ o
+          → after_unseg (with_address w id None) t.base
+          ≡ record w { addresses = slice_set w.addresses id None; segments = without_segment w.segments t.base }
+      of_collection any None e =
+          with_collection-none (record (with_address w id None) { segments = without_segment w.segments t.base }) (giving_back t.base) e
+      of_collection any (Some c) e =
+          let kept : option_map (giving_back t.base) w.collection ≡ w.collection =
+          ap (option_map (giving_back t.base)) e
+          ∙ ap (λ b. Some (if b then reclaiming t.base (record c { condemned_segments = without_first c.condemned_segments t.base }) else
+          c))
+          (outside c e t (found_among (λ s. is_in_segment s at) w.segments t over).0 any) ∙ sym e in
+          ap (λ x. record w {
+            addresses = slice_set w.addresses id None;
+            segments = without_segment w.segments t.base;
+            collection = x;
+          }) kept
 
-  due : moves_freed ≡ unless_refused ok (moves_of_free w (block_place_in w place))
+  pub due : moves_freed ≡ unless_refused ok (moves_of_free w (block_place_in w place))
   due = sym (ap (moves_of_free w) place_is ∙ ap (λ o. option_map_or (λ n. free_of w (address_or_null w n)) o []) value
       ∙ ap (λ o. free_of w (option_map_or (λ a. a) o 0)) there
       ∙ ap (λ v. moves.Free (at_address at) ∷ give_back_empty v (segment_of w at)) block_freed
       ∙ ap (λ o. moves.Free (at_address at) ∷ give_back_empty (with_address w id None) o) over
       ∙ ap (λ b. moves.Free (at_address at) ∷ (if b then moves.Unseg (at_address t.base) ∷ [] else [])) is_given)
 
-  comes : act_free (world_after_moves w moves_freed) place ≡ done world_freed
+  pub comes : act_free (world_after_moves w moves_freed) place ≡ done world_freed
   comes =
       ap (λ v. act_free v place) moved_is
       ∙ ap (λ x. x >>= (λ (p : Found (Option ℕ)). block_in p >> done (with_graph world_moved (with_block_place w.graph p None)))) place_is
@@ -119,16 +144,22 @@ module _ (w : World) (rest : w.collection ≡ None) (graph : IsSoundGraph w) (so
             }))))
       ])
 
-  sound_freed : IsSound world_freed
-  sound_freed =
+  pub sound_freed : w.collection ≡ None → IsSound world_freed
+  sound_freed rest =
       let placed = with_graph w (with_block_place w.graph found None) in
-      let emptied = place_sound w sound found None has tt in
+      let emptied = place_sound w (sound rest) found None has tt in
       let gone = gone_sound placed id emptied
       (held_again (λ j. not (id == j)) w.graph placed.graph refl refl refl refl (held_others w graph id manual)) place_others
       (λ r j live. target_others w graph id manual j) in
       sound_again (with_address placed id None) world_freed refl refl refl refl gone
 
-  pub freed_rightly : (line : ℕ)
-      → quiet.IsRight w (step_of line (call.Free place) moves_freed ok) (with_client_remembered world_freed)
-  freed_rightly line =
-      done_step w world_freed line (call.Free place) moves_freed tt due comes tt sound_freed
+  -- blocks in places are live
+  pub blocks_freed : list_all (is_live world_freed) (ids_in_blocks world_freed.graph) ≡ true
+  blocks_freed =
+      all-weaker (lives_otherwise w id) (is_live (with_address w id None)) (others_live w id)
+      (ids_in_blocks (with_block_place w.graph found None))
+      (all_in_places (lives_otherwise w id) (with_block_place w.graph found None).blocks (λ n i j is.
+      and_from (is_live w j) (not (id == j))
+      (all_places (is_live w) (with_block_place w.graph found None).blocks
+      (place_written (is_live w) w.graph blocks found None has tt) n i j is)
+      (all_places (λ j. not (id == j)) (with_block_place w.graph found None).blocks place_others n i j is)))

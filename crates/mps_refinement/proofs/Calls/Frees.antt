@@ -1,9 +1,9 @@
 -- `free`: from its outcome to a right step.
-use Rattle.std.proofs.Common.{◌≡◌, ◌∙◌, ℕ, Bool, true, false, refl, sym, ap, subst, [], ◌∷◌, ◌++◌, Option, Some, None, Ok, Err}
-use Rattle.std.proofs.lemmas.Option.{slice_get-map, same_Some}
+use Rattle.std.proofs.Common.{◌≡◌, ◌∙◌, ℕ, Bool, true, false, refl, sym, ap, subst, [], ◌∷◌, ◌++◌, Option, Some, None, Ok, Err, ◌⊎◌, ◌+◌, List, Contains, inl, inr}
+use Rattle.std.proofs.lemmas.Option.{slice_get-map, same_Some, none-some}
 use Rattle.std.specs.Prelude.{◌==◌, ◌&&◌, slice_get, option_map, if◌then◌else◌}
 use Rattle.std.specs.Option.{option_map_or}
-use Rattle.mps_base.specs.Address.{Address, Id}
+use Rattle.mps_base.specs.Address.{Address, Id, grain_of, word_of}
 use Rattle.mps_base.specs.Segment.{Segment, segment_over}
 use Rattle.mps_base.specs.Trail.{Moves, with_move}
 use Rattle.mps_base.specs.declared.moves.Move.TheVariants as moves
@@ -15,15 +15,15 @@ use Rattle.mps_laws.proofs.Acts.{required-is}
 use Rattle.mps_laws.proofs.Sound.PoolsThere.{all-at}
 use Rattle.mps_laws.proofs.Same as same
 use Rattle.mps_laws.proofs.Same.{Same, fits}
-use Rattle.mps_laws.proofs.Positions.Segments.{among_aligned, found_among}
-use Rattle.mps_base.specs.Segment.{is_in_segment}
+use Rattle.mps_laws.proofs.Positions.Segments.{among_aligned, found_among, IsAmong, among_without, same_by_base}
+use Rattle.mps_base.specs.Segment.{is_in_segment, without_segment}
 use Rattle.mps_trace.specs.Manual.{any_size, block_removed, segs_after_free, is_unused, moves_freed, moves_given_back}
 use Rattle.mps_model.specs.Allocating as model
 use Rattle.mps_model.specs.declared.call.Call.TheVariants as call
 use Rattle.mps_model.specs.Checked as checked
 use Rattle.mps_model.specs.Checked.{Checked, Found, ◌>>=◌, ◌>>◌, done, required}
-use Rattle.mps_model.specs.Effect.{with_address}
-use Rattle.mps_model.specs.World.{World, Pool, is_any_size_kind, is_empty_segment, pool_is, is_automatic_kind}
+use Rattle.mps_model.specs.Effect.{with_address, world_after_moves}
+use Rattle.mps_model.specs.World.{World, Pool, is_any_size_kind, is_empty_segment, pool_is, is_automatic_kind, is_copying_pool}
 use Rattle.mps_heap_spec.specs.Coming.{ComesMoving, Moved}
 use Rattle.mps_heap_spec.specs.Finding.{block_place_in}
 use Rattle.mps_heap_spec.specs.declared.found.Entry.{Entry}
@@ -32,24 +32,40 @@ use Rattle.mps_heap_spec.specs.State.{HeapState}
 use Rattle.mps_format.specs.Pools.{size_of_pool}
 use Rattle.mps_refinement.specs.Answering.{answer_to, says_ok}
 use Rattle.mps_refinement.specs.RightStep.{IsRight, step_of, IsRightIn}
-use Rattle.mps_refinement.specs.StandsFor.{AreParts, IsReached, Past}
+use Rattle.mps_refinement.specs.StandsFor.{AreParts, IsReached, Past, IsInTime, Time, rests, runs}
 use Rattle.mps_refinement.proofs.Lookups.Blocks.{same_address}
-use Rattle.mps_refinement.proofs.Parts.FreedParts.{any_size_alike, freed_is, not_automatic, parts_freed, segments_freed, unused_is}
+use Rattle.mps_refinement.proofs.Parts.FreedParts.{any_size_alike, freed_is, not_automatic, parts_freed, segments_freed, unused_is, flip_after, segs_condemned, segs_kept}
 use Rattle.mps_refinement.proofs.Calls.FreeingStep as freeing
-use Rattle.mps_refinement.proofs.Calls.FreeingStep.{freed_rightly}
-use Rattle.mps_refinement.proofs.Worlds.Known.{IsKnown, known}
+use Rattle.mps_refinement.proofs.Worlds.Known.{IsKnown}
 use Rattle.mps_refinement.proofs.Lookups.LiveObjects.{IsLiveBlock, live_block}
 use Rattle.mps_refinement.proofs.Lookups.Lookups.{IsPlaceEntry, IsPlaceFound, place_same}
 use Rattle.mps_refinement.proofs.Lookups.ManualBlocks.{IsBlock, block_same, setting}
-use Rattle.mps_refinement.proofs.Worlds.PlacedOnce.{is_sized, placed_once}
-use Rattle.mps_refinement.proofs.Worlds.Reached.{reached_sound}
-use Rattle.mps_refinement.proofs.Worlds.ReachedGraph.{reached_graph}
-use Rattle.mps_refinement.proofs.Worlds.Ready.{laid_out}
-use Rattle.mps_refinement.proofs.Calls.RightFrom.{right_from}
-use Rattle.mps_refinement.proofs.Calls.RightRefusals.{IsRightOutcome, outcome_is_right, refusal_is_right}
+use Rattle.mps_refinement.proofs.Worlds.PlacedOnce.{is_sized, ArePlacedOnce}
 use Rattle.mps_seg.specs.Segs.{SegsState}
 use Rattle.mps_model.specs.Answer.{Replied}
 use Rattle.mps_model.specs.declared.reply.Reply.TheVariants as reply
+use Rattle.std.proofs.lemmas.Bool.{cases_Bool}
+use Rattle.mps_base.specs.declared.moves.Move.{Move}
+use Rattle.mps_extents.specs.Table.{bit}
+use Rattle.mps_abstract.proofs.Calls.ClientFrees.{pool_exclusive}
+use Rattle.mps_laws.proofs.Replays.FreeSteps.{free_step}
+use Rattle.mps_laws.proofs.Positions.LaidOut.{IsLaidOut}
+use Rattle.mps_laws.proofs.Positions.LegalMoves.{HasLayout}
+use Rattle.mps_laws.proofs.Sound.PoolKinds.{manual_not_copying}
+use Rattle.mps_laws.proofs.QuietSteps.{IsSound}
+use Rattle.mps_laws.proofs.Sound.SoundGraph.{IsSoundGraph, auto}
+use Rattle.mps_laws.proofs.Replays.Steps.{remembered_kept}
+use Rattle.mps_model.specs.Collection as model_collection
+use Rattle.mps_model.specs.Collection.{Collection}
+use Rattle.mps_model.specs.Graph.{contains, entry_at}
+use Rattle.mps_model.specs.History.{moves_of_free, unless_refused, with_client_remembered}
+use Rattle.mps_model.specs.Reply.{world_from}
+use Rattle.mps_refinement.proofs.Worlds.PlacesByMoves.{places_of}
+use Rattle.mps_refinement.proofs.Parts.CommittedParts.{segment_there}
+use Rattle.mps_refinement.proofs.Parts.PointWritten.{none_set}
+use Rattle.mps_refinement.proofs.Parts.SegmentsTaken.{condemned_held, contained_among}
+use Rattle.mps_refinement.proofs.Worlds.RestingActs.{resting_sound}
+use Rattle.mps_refinement.proofs.Calls.RightOwn.{IsOwn, IsRightOutcome, done_is_right, outcome_is_right, refusal_is_right}
 
 -- the moves of a free, where the trail had none
 moves_are : (size : ℕ) (s : SegsState) (trail : Moves) (at : Address) (t : Segment) → trail.moves ≡ []
@@ -80,14 +96,51 @@ module _ {F : Type 0} (layout : F → Layout) (h : HeapState F) (trail : Moves) 
   abbrev IsRightFree : World → ℕ → Checked (Moved F (Unit {0})) → Type 0
   IsRightFree w line o = IsRightOutcome layout h trail none (call.Free place) w line o
 
-  module _ (w : World) (line : ℕ) (past : Past) (parts : AreParts layout past h w) (reached : IsReached w) where
-    own : IsKnown w
-    own = known w reached
+  module _ (w : World) (line : ℕ) (past : Past) (parts : AreParts layout past h w) (own : IsKnown past.time w)
+      (reach : IsReached w) (time : IsInTime past.time h.segs w) where
+    is_own : IsOwn w (call.Free place)
+    is_own = record {
+      arena = refl;
+      collected = λ ms answer. refl;
+      legal = λ ms. tt;
+      marked = λ y answer. tt;
+      read = λ y. tt;
+      possible = λ answer. tt;
+      unasked = λ why. refl;
+      still = refl;
+      judged = λ ms. refl;
+    }
+
+    sound : w.collection ≡ None → IsSound w
+    sound rest = resting_sound w rest own.live
+
+    -- no segment that may be given back is condemned
+    outside : (c : Collection) → w.collection ≡ Some c → (t : Segment) → IsAmong t w.segments
+        → pool_is is_any_size_kind w t.pool ≡ true → contains c.condemned_segments t.base ≡ false
+    outside c e t there any = of_time past.time time
+      where
+        of_time : (x : Time) → IsInTime x h.segs w → contains c.condemned_segments t.base ≡ false
+        of_time x (rests rest) = absurd (none-some c (sym rest.none ∙ e))
+        of_time x (runs y r may) =
+            subst (λ (d : model_collection.Collection). contains d.condemned_segments t.base ≡ false)
+            (same_Some y.running c (sym r.invariant.runs ∙ ap (λ (v : World). v.collection) r.world ∙ e))
+            (of_bool (cases_Bool (contains y.running.condemned_segments t.base)))
+          where
+            of_bool : (contains y.running.condemned_segments t.base ≡ true) ⊎ (contains y.running.condemned_segments t.base ≡ false)
+                → contains y.running.condemned_segments t.base ≡ false
+            of_bool (inl is) =
+                let u = condemned_held y r.invariant t.base is in
+                let one : u.0 ≡ t =
+                same_by_base 1 (w.grains + 1) w.segments u.0 t own.laid.ascending
+                (subst (λ (v : World). IsAmong u.0 v.segments) r.world u.1) there u.2 in
+                absurd (pool_exclusive w t.pool any
+                (sym (ap (λ (v : World). pool_is is_automatic_kind v t.pool) r.world)
+                ∙ ap (λ (s : Segment). pool_is is_automatic_kind y.world s.pool) (sym one) ∙ u.3))
+            of_bool (inr isnt) = isnt
 
     refused_outcome : (why : Refusal) → model.act_free w place ≡ Err why → IsRightFree w line (Err why)
     refused_outcome why e =
-        refusal_is_right layout h trail none (call.Free place) w line past parts reached refl
-        (λ why. record { judged = refl; moved = refl; due = refl; marked = tt; supported = refl }) why e
+        refusal_is_right layout h trail none (call.Free place) w line past parts own reach time is_own why e
 
     -- from the block on
     abbrev from_block : (entry : Entry Address) → Address → Checked (Moved F (Unit {0}))
@@ -133,7 +186,7 @@ module _ {F : Type 0} (layout : F → Layout) (h : HeapState F) (trail : Moves) 
             same_Some live.models b.pool (sym live.has ∙ b.of) in
             any_size_alike layout w.formats live.pool live.models live.fit
             (ap (λ (q : Pool). is_automatic_kind q.kind) same ∙ b.right.kind)
-            (all-at (λ (q : Pool). is_sized q.kind ≡ true) w.pools b.object.pool live.models (placed_once w reached).sized live.has)
+            (all-at (λ (q : Pool). is_sized q.kind ≡ true) w.pools b.object.pool live.models own.once.sized live.has)
             ∙ sym models
 
         over : segment_over w.segments at ≡ Some t
@@ -141,10 +194,10 @@ module _ {F : Type 0} (layout : F → Layout) (h : HeapState F) (trail : Moves) 
 
         is_given : (pool_is is_any_size_kind w t.pool && is_empty_segment (with_address w id None) t) ≡ given
         is_given =
-            let laid = laid_out w reached in
+            let laid = own.laid in
             let aligned = among_aligned t w.segments laid.aligned (found_among (λ s. is_in_segment s at) w.segments t over).0 in
             ap (λ c. c && is_empty_segment (with_address w id None) t) (sym any_size_is)
-            ∙ ap (λ c. (size == any_size) && c) (sym (unused_is layout past h w parts own (reached_graph w reached) at id b t aligned))
+            ∙ ap (λ c. (size == any_size) && c) (sym (unused_is layout past h w parts own own.graph at id b time t aligned))
 
         entry_there : slice_get found.list found.index ≡ Some found.value
         entry_there = ap (slice_get found.list) is.found_index ∙ is.there
@@ -167,16 +220,53 @@ module _ {F : Type 0} (layout : F → Layout) (h : HeapState F) (trail : Moves) 
               trail = moves_freed size h.segs trail (record { 0 = at });
             }))) size_is
 
+        graph : IsSoundGraph w
+        graph = own.graph
+
+        abbrev once : ArePlacedOnce (places_of w)
+        once = own.once
+
+        abbrev differ : (i j : ℕ) (a : Address) → entry_at w.addresses i ≡ Some a → entry_at w.addresses j ≡ Some a → i ≡ j
+        differ = same_address (setting layout past h w parts own) w.addresses parts.image.placed
+
+        abbrev manual : auto w id ≡ false
+        manual = not_automatic layout past h w parts own graph at id b time
+
+        abbrev v : World
+        v =
+            freeing.world_freed w outside graph sound own.live.blocks once place found place_is is.has entry_there id at value b.address
+            manual differ t over given is_given
+
+        abbrev ms : List Move
+        ms =
+            freeing.moves_freed w outside graph sound own.live.blocks once place found place_is is.has entry_there id at value b.address
+            manual differ t over given is_given
+
+        due : ms ≡ unless_refused (Replied reply.Ok) (moves_of_free w (checked.block_place_in w place))
+        due =
+            freeing.due w outside graph sound own.live.blocks once place found place_is is.has entry_there id at value b.address manual
+            differ t over given is_given
+
+        comes : model.act_free (world_after_moves w ms) place ≡ done v
+        comes =
+            freeing.comes w outside graph sound own.live.blocks once place found place_is is.has entry_there id at value b.address manual
+            differ t over given is_given
+
+        layout_freed : HasLayout (w.grains + 1) v
+        layout_freed =
+            let r = free_step (w.grains + 1) 0 line w own.laid place ms (Replied reply.Ok) own.live.blocks refl due in
+            subst (IsLaidOut (w.grains + 1)) (remembered_kept v)
+            (subst (λ x. HasLayout (w.grains + 1) (with_client_remembered (world_from (world_after_moves w ms) x))) comes r.layout)
+
+        among : IsAmong t w.segments
+        among = (found_among (λ s. is_in_segment s at) w.segments t over).0
+
+        not_copying : is_copying_pool w t.pool ≡ false
+        not_copying =
+            manual_not_copying w.pools t.pool b.pool (ap (slice_get w.pools) live.of ∙ b.of) b.right.kind
+
         accepted_outcome : IsRightFree w line (from_block entry at)
         accepted_outcome =
-            let graph = reached_graph w reached in
-            let differ = same_address (setting layout past h w parts own) w.addresses parts.image.placed in
-            let once = placed_once w reached in
-            let manual = not_automatic layout past h w parts own graph at id b in
-            let v = freeing.world_freed w parts.at_rest graph (reached_sound w reached parts.at_rest) once place found place_is is.has
-            entry_there id at value b.address manual differ t over given is_given in
-            let ms = freeing.moves_freed w parts.at_rest graph (reached_sound w reached parts.at_rest) once place found place_is is.has
-            entry_there id at value b.address manual differ t over given is_given in
             subst (IsRightFree w line) (sym outcome_is)
             (subst (λ ns. IsRightIn layout w
             (step_of line (call.Free place) ns (Replied reply.Ok))
@@ -185,16 +275,43 @@ module _ {F : Type 0} (layout : F → Layout) (h : HeapState F) (trail : Moves) 
             (subst (λ segs. IsRightIn layout w
             (step_of line (call.Free place) ms (Replied reply.Ok))
             (with_block_place (record h { segs = segs }) entry 0)) (sym (freed_is size h.segs at t live.over))
-            (right_from layout w v (step_of line (call.Free place) ms
-            (Replied reply.Ok))
-            (with_block_place (record h { segs = segments_freed h.segs at t given }) entry 0) reached
-            (freed_rightly w parts.at_rest graph (reached_sound w reached parts.at_rest) once place found place_is is.has entry_there id at
-            value b.address manual differ t over given is_given line) parts.at_rest refl refl
-            (λ r. record {
-              past = past;
-              parts = parts_freed layout past h w parts own graph at id b place.index entry found is value once t given (laid_out w reached)
-                  (laid_out v r);
+            (done_is_right layout h trail none (call.Free place) w line past parts own reach time is_own ms
+            (with_block_place (record h { segs = segments_freed h.segs at t given }) entry 0) v (record {
+              due = due;
+              comes = comes;
+              sound =
+                  freeing.sound_freed w outside graph sound own.live.blocks once place found place_is is.has entry_there id at value
+                  b.address manual differ t over given is_given;
+              blocks =
+                  freeing.blocks_freed w outside graph sound own.live.blocks once place found place_is is.has entry_there id at value
+                  b.address manual differ t over given is_given;
+              laid = layout_freed;
+              has = record {
+                past = past;
+                timed = refl;
+                parts = parts_freed layout past h w parts own graph at id b time place.index entry found is value once t given among
+                    not_copying own.laid layout_freed;
+              };
+              keeps = record {
+                rest = λ rest. rest;
+                not_condemned = λ not_condemned grain. ap (λ bits. bit bits grain) (segs_condemned layout past h w parts own graph at id b time t given)
+                    ∙ not_condemned grain;
+                not_kept = λ not_condemned not_kept n. ap (λ bits. bit bits n) (segs_kept layout past h w parts own graph at id b time t given)
+                    ∙ none_set h.segs.marks.kept (word_of at) n (not_kept n);
+                flip = flip_after layout past h w parts own graph at id b time v.graph.blocks v.segments;
+                condemned = λ y same run marked u there.
+                    ap (λ bits. bit bits (grain_of u.base)) (segs_condemned layout past h w parts own graph at id b time t given)
+                    ∙ marked u (still_held given u there);
+              };
+              formats = refl;
             }))))
+          where
+            still_held : (g : Bool) (u : Segment) → Contains (if g then without_segment w.segments t.base else w.segments) u
+                → Contains w.segments u
+            still_held true u there =
+                segment_there u w.segments (among_without t.base u w.segments
+                (contained_among (without_segment w.segments t.base) u there))
+            still_held false u there = there
 
     -- ---- the checks
 

@@ -14,9 +14,9 @@ use Rattle.mps_model.specs.World.{World, extent, extents_of, live_ids, numbers_o
 use Rattle.mps_heap_spec.specs.State.{HeapState}
 use Rattle.mps_refinement.specs.Answering.{says_pair}
 use Rattle.mps_refinement.specs.RightStep.{IsRight}
-use Rattle.mps_refinement.specs.StandsFor.{AreParts, IsReached, Past}
-use Rattle.mps_refinement.proofs.Worlds.Reached.{reached_well_formed}
+use Rattle.mps_refinement.specs.StandsFor.{AreParts, Past}
 use Rattle.mps_refinement.proofs.Worlds.Steps.{answer_is_right}
+use Rattle.mps_model.specs.WellFormed.{IsWellFormed}
 
 -- ---- runs in order
 
@@ -83,9 +83,9 @@ total_of_extents f first (o ∷ os) (Some at ∷ addresses) long sizes =
 -- ---- the call
 
 module _ {F : Type 0} (layout : F → Layout) (h : HeapState F) (w : World) (past : Past) (parts : AreParts layout past h w)
-    (reached : IsReached w) where
+    (formed : IsWellFormed w) where
   long : length w.addresses ≡ length w.graph.objects
-  long = (reached_well_formed w reached).addresses
+  long = formed.addresses
 
   pub blocks_are_counted : length h.segs.blocks ≡ length (live_ids w)
   blocks_are_counted =
@@ -105,7 +105,8 @@ live_is_right layout h result is =
     (λ w past parts reached.
     fits (record {
       answer =
-          ap (λ n. Replied (reply.Pair n (sum_by (words_of w) (live_ids w)))) (sym (blocks_are_counted layout h w past parts reached))
-          ∙ ap (λ n. Replied (reply.Pair (length h.segs.blocks) n)) (sym (words_are_counted layout h w past parts reached));
+          ap (λ n. Replied (reply.Pair n (sum_by (words_of w) (live_ids w))))
+          (sym (blocks_are_counted layout h w past parts reached.formed))
+          ∙ ap (λ n. Replied (reply.Pair (length h.segs.blocks) n)) (sym (words_are_counted layout h w past parts reached.formed));
       world = refl;
     })) (ap Ok is)

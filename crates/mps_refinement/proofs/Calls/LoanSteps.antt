@@ -1,4 +1,5 @@
 -- A loan of words of a manual block: what the borrower leaves in them is what a store of each word leaves, and each store is right.
+use Rattle.mps_refinement.proofs.Worlds.Known.{known_now}
 use Rattle.std.proofs.Common.{◌≡◌, ◌∙◌, ℕ, zero, suc, ◌+◌, ◌*◌, ◌-◌, ◌<◌, ◌≤◌, refl, sym, ap, subst, List, [], ◌∷◌, ◌++◌, length, take, drop, get_or, inl, inr, Ok, Contains, arith, length-append}
 use Rattle.std.proofs.lemmas.Bool.{cases_lt}
 use Rattle.std.proofs.lemmas.List.{ext_get_or, get_or-append_right, get_or-drop, get_or-set_other, get_or-set_same, get_or-take, get_or_append_left, length-drop, length-set}
@@ -156,7 +157,7 @@ pub block_loan_is_right : {F : Type 0} (layout : F → Layout) (line : ℕ) (pla
     → Contains h.segs.blocks (record { from = word_of at; count = length new }) → (w : World) → StandsFor layout h w
     → AreRight layout w (stores line place 0 new) (with_words h (arena.with_words h.segs.words (word_of at) new))
 block_loan_is_right layout line place at h entry new place_is block_is run w st =
-    let borrowed = block_borrowed layout h w st.past st.parts st.reached place entry at place_is block_is in
+    let borrowed = block_borrowed layout h w st.past st.parts (known_now st) place entry at place_is block_is in
     let count = borrowed.one (length new) run in
     let right = loan_is_right layout line place at h entry 0 new place_is block_is (λ i low.
     subst (λ j. word_in_block h at j ≡ Ok (word_of at + j)) (let e : i ≡ 0 + i = omega arith in e)

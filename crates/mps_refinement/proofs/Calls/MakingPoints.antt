@@ -11,9 +11,8 @@ use Rattle.mps_buffer.specs.declared.point.Held.{Held}
 use Rattle.mps_buffer.specs.declared.point.Point.{Point}
 use Rattle.mps_buffer.specs.Points.{new_point, point_at, with_point}
 use Rattle.mps_format.specs.Layout.{Layout}
-use Rattle.mps_trace_laws.specs.Image.AtRest.{StandsAtRest}
-use Rattle.mps_trace_laws.specs.Image.Image.{black_cells, no_colours}
-use Rattle.mps_trace_laws.specs.Image.Memory.{memory_in, pool_layout, setting_at_rest}
+use Rattle.mps_trace_laws.specs.Image.Image.{black_cells}
+use Rattle.mps_trace_laws.specs.Image.Memory.{memory_in}
 use Rattle.mps_trace_laws.proofs.Image.ArenaLaws.{points_change}
 use Rattle.mps_laws.proofs.Lookups.{slice_get-at_last, slice_get-kept, slice_get-set_other}
 use Rattle.mps_laws.proofs.Same.{Alike, Same, fits, same_next, same_refuse_when, same_then}
@@ -40,7 +39,7 @@ use Rattle.mps_refinement.specs.Answering.{answer_to, says_ok}
 use Rattle.mps_refinement.specs.Making.{IsRightMaking}
 use Rattle.mps_refinement.specs.Numbering.{renumbered}
 use Rattle.mps_refinement.specs.RightStep.{IsRight}
-use Rattle.mps_refinement.specs.StandsFor.{AreHeldAlike, BothHeld, NoneHeld, AreParts, IsPoint, IsReached, IsThere, Past}
+use Rattle.mps_refinement.specs.StandsFor.{AreHeldAlike, BothHeld, NoneHeld, AreParts, IsPoint, IsThere, Past, StandsAt, setting_at}
 use Rattle.mps_refinement.proofs.Parts.Counts.{point_dropped_points, point_made_points}
 use Rattle.mps_refinement.proofs.Calls.DroppingSteps.{DropsAlike, DropsTo, dropping_is_right, ours_ok}
 use Rattle.mps_refinement.proofs.Lookups.Found.{AreFound, same_found}
@@ -53,8 +52,8 @@ use Rattle.mps_refinement.proofs.Parts.PartsMade.{points_changed, state_of_point
 use Rattle.mps_refinement.proofs.Parts.PointImage.{dropped_back, dropped_live, extents_more, extents_without, made_back, made_live, right_points_long}
 use Rattle.mps_refinement.proofs.Parts.PointWritten.{resting_points}
 use Rattle.mps_refinement.proofs.Lookups.PoolKinds.{copying_by_number, may_have_point_alike}
-use Rattle.mps_refinement.proofs.Worlds.Reached.{reached_well_formed}
-use Rattle.mps_refinement.proofs.Worlds.Steps.{HasParts}
+use Rattle.mps_refinement.proofs.Worlds.Steps.{HasParts, KeepsMarks}
+use Rattle.mps_refinement.proofs.Worlds.Known.{IsKnown}
 
 -- ---- one memory, and others
 
@@ -103,9 +102,9 @@ pub point_name : {F : Type 0} (h : HeapState F) (name : Name) (p : Kept Point) �
 point_name h name p e = named_by (thing_named h.names name) (point_at h.points) p e
 
 module _ {F : Type 0} (layout : F → Layout) (h : HeapState F) (w : World) (past : Past) (parts : AreParts layout past h w)
-    (reached : IsReached w) where
+    (known : IsKnown past.time w) where
   long : length w.graph.points ≡ length w.point_memories
-  long = right_points_long w w.graph.points w.point_memories (reached_well_formed w reached).points
+  long = right_points_long w w.graph.points w.point_memories known.formed.points
 
   -- ---- a point is made
 
@@ -114,22 +113,24 @@ module _ {F : Type 0} (layout : F → Layout) (h : HeapState F) (w : World) (pas
     new_of number = record { pool = number; rank = at_rank; reservation = None }
 
     image_made : (q : graph.Point) → q.reservation ≡ None
-        → StandsAtRest h.segs (record w {
+        → StandsAt past.time h.segs (record w {
           graph = record w.graph { points = with_last w.graph.points (Some q) };
           point_memories = with_last w.point_memories no_memory;
         })
     image_made q none =
-        points_change (setting_at_rest h.segs w.graph.objects w.graph.points w.point_memories (pool_layout w)) (memory_in h.segs)
+        points_change (setting_at past.time h.segs w) (memory_in h.segs)
         w.addresses
-        no_colours (black_cells [] no_colours) (with_last w.graph.points (Some q)) (with_last w.point_memories no_memory) parts.image
+        past.time.colours (black_cells past.time.condemned past.time.colours) (with_last w.graph.points (Some q))
+        (with_last w.point_memories no_memory) parts.image
         (made_back w.graph.points w.point_memories q no_memory long none) (made_live w.graph.points w.point_memories q none)
         (extents_more w.graph.points w.point_memories q no_memory long none)
 
     point_parts : (of : Kept (Pool F)) (number : Numbered world.Pool) → IsPoolFound layout h w of number → (key : ℕ)
         (after : HeapState F) → thing_named h.names name ≡ None → MakesPoint h name of at_rank key after
-        → HasParts layout after (model.with_point w name number.number at_rank)
+        → HasParts layout past.time after (model.with_point w name number.number at_rank)
     point_parts of number found key after free makes = record {
       past = record past { point_number = numbers };
+      timed = refl;
       parts = subst (λ s. AreParts layout (record past { point_number = numbers }) s (model.with_point w name number.number at_rank))
           (sym (makes.state ∙ ap (λ ps. record h { points = ps; live_points = h.live_points + 1; names = after.names }) makes.point.made))
           (points_changed layout past h w parts numbers points (h.live_points + 1) after.names
@@ -142,9 +143,9 @@ module _ {F : Type 0} (layout : F → Layout) (h : HeapState F) (w : World) (pas
                 new_fits;
             points_counted = ap (λ n. n + 1) parts.points_counted ∙ sym (point_made_points w.graph (new_of number.number));
             image_stands = image_made (new_of number.number) refl;
-            resting_still =
-                resting_points h.segs.grains h.segs.condemned h.segs.marks.kept h.points
-                (record h.points { points = points }) parts.resting was_reserved;
+            open_still =
+                resting_points h.segs.grains h.points
+                (record h.points { points = points }) parts.arena was_reserved;
             names_are = named_made past (record past { point_number = numbers }) h made w.graph.names parts.names name (thing.Point key)
                 (graph.PointThing count) makes.names free (ap graph.PointThing (renumbered_here past.point_number key count))
                 (points_renumbered past h key count makes.point.was_free) stay (ap is_some now)
@@ -252,47 +253,61 @@ module _ {F : Type 0} (layout : F → Layout) (h : HeapState F) (w : World) (pas
     same_passed x y (fits fit) = fits tt
     same_passed x y Rattle.mps_laws.proofs.Same.refused = Rattle.mps_laws.proofs.Same.refused
 
-    point_alike : MakesAlike layout h w (call.Point name pool at_rank) (without_answer (check_point h name pool at_rank))
+    point_alike : MakesAlike layout past h w (call.Point name pool at_rank) (without_answer (check_point h name pool at_rank))
         (MakesPointIn h name pool at_rank)
     point_alike = record {
       models = without_answer model_check;
       made = made_of model_check;
       comes = comes_of (model.refuse_taken w name) (models.pool_named w pool);
       alike = same_passed (check_point h name pool at_rank) model_check check_same;
+      formats = formats_of model_check;
+      marks = λ key after m. subst (λ (s : HeapState F). KeepsMarks h.segs s.segs) (sym m.makes.state) (refl, refl);
       has = λ key after ok makes. has key after makes;
     }
       where
-        has : (key : ℕ) (after : HeapState F) → MakesPointIn h name pool at_rank key after → HasParts layout after (made_of model_check)
+        formats_of : (x : Checked (Numbered world.Pool)) → (made_of x).formats ≡ w.formats
+        formats_of (Ok of) = refl
+        formats_of (Err why) = refl
+
+        has : (key : ℕ) (after : HeapState F) → MakesPointIn h name pool at_rank key after → HasParts layout past.time after
+            (made_of model_check)
         has key after m =
             let y = ours_ok (IsPoolFound layout h w) (check_point h name pool at_rank) model_check m.of check_same m.found in
             let free = free_name h name (first_passed (refuse_taken h name)
             (pool_named h pool >>= (λ of. refuse_when (not (may_have_point of.value at_rank)) refusal.WrongPool
             >> (refuse_at_limit h.live_points most_points >> Ok of))) m.of m.found).1 in
-            subst (λ x. HasParts layout after (made_of x)) (sym y.1) (point_parts m.of y.0 y.2 key after free m.makes)
+            subst (λ x. HasParts layout past.time after (made_of x)) (sym y.1) (point_parts m.of y.0 y.2 key after free m.makes)
 
   -- ---- a point is dropped
 
   module _ (name : Name) where
     image_dropped : (number : ℕ) (q : graph.Point) → entry_at w.graph.points number ≡ Some q → q.reservation ≡ None
-        → StandsAtRest h.segs (record w {
+        → StandsAt past.time h.segs (record w {
           graph = record w.graph { points = slice_set w.graph.points number None };
           point_memories = slice_set w.point_memories number no_memory;
         })
     image_dropped number q there none =
-        points_change (setting_at_rest h.segs w.graph.objects w.graph.points w.point_memories (pool_layout w)) (memory_in h.segs)
+        points_change (setting_at past.time h.segs w) (memory_in h.segs)
         w.addresses
-        no_colours (black_cells [] no_colours) (slice_set w.graph.points number None) (slice_set w.point_memories number no_memory)
+        past.time.colours (black_cells past.time.condemned past.time.colours) (slice_set w.graph.points number None)
+        (slice_set w.point_memories number no_memory)
         parts.image (dropped_back w.graph.points w.point_memories number no_memory) (dropped_live w.graph.points w.point_memories number)
         (extents_without w.graph.points w.point_memories number q no_memory there none)
 
     point_left : (p : Kept Point) (q : Numbered graph.Point) → IsPointFound past h w p q → point_named h name ≡ Ok p
         → q.value.reservation ≡ None → (names : NamesState) → Updates h.names names name None
-        → HasParts layout (record h { points = with_point h.points p.key None; live_points = h.live_points - 1; names = names })
+        → HasParts layout past.time (record h { points = with_point h.points p.key None; live_points = h.live_points - 1; names = names })
         (without_point w name q.number)
     point_left p q found named none names updates =
-        subst (λ n. HasParts layout (record h { points = with_point h.points p.key None; live_points = h.live_points - 1; names = names })
+        subst (λ n. HasParts layout past.time (record h {
+          points = with_point h.points p.key None;
+          live_points = h.live_points - 1;
+          names
+              = names;
+        })
         (without_point w name n)) (sym found.number) (record {
           past = past;
+          timed = refl;
           parts = points_changed layout past h w parts past.point_number points (h.live_points - 1) names
               (slice_set w.graph.points number None) (slice_set w.point_memories number no_memory)
               (without_name w.graph.names name) (record {
@@ -305,9 +320,9 @@ module _ {F : Type 0} (layout : F → Layout) (h : HeapState F) (w : World) (pas
                     (λ memory has. slice_get-set_other w.point_memories number n no_memory (other_than n y there) ∙ has) fit);
                 points_counted = ap (λ n. n - 1) parts.points_counted ∙ sym (point_dropped_points w.graph number q.value there_now);
                 image_stands = image_dropped number q.value there_now none;
-                resting_still =
-                    resting_points h.segs.grains h.segs.condemned h.segs.marks.kept h.points
-                    (record h.points { points = points }) parts.resting was_reserved;
+                open_still =
+                    resting_points h.segs.grains h.points
+                    (record h.points { points = points }) parts.arena was_reserved;
                 names_are = named_dropped past h (record h {
                   points = record h.points { points = points };
                   live_points = h.live_points - 1;
@@ -359,7 +374,7 @@ module _ {F : Type 0} (layout : F → Layout) (h : HeapState F) (w : World) (pas
     models_then q is_open = refuse_when is_open refusal.Open >> done (without_point w name q.number)
 
     abbrev Drops : Checked (NamesState → HeapState F) → Checked models.Act → Type 0
-    Drops x y = Same (DropsTo layout h name (call.DropPoint name) (point_dropped h name)) x y
+    Drops x y = Same (DropsTo layout h name (call.DropPoint name) (point_dropped h name) past w) x y
 
     by_reservation : (p : Kept Point) (q : Numbered graph.Point)
         → AreFound (IsPointFound past h w) (point_named h name) (models.point_named w name) p q → (b : Bool)
@@ -368,12 +383,14 @@ module _ {F : Type 0} (layout : F → Layout) (h : HeapState F) (w : World) (pas
     by_reservation p q found false e =
         fits (record {
           answer = refl;
+          marks = λ names. (refl, refl);
+          formats = refl;
           has = point_left p q found.fit found.ours
               (none_held (length w.flips) found.fit.fit.memory.reserved_at p.value.reservation q.value.reservation
               found.fit.fit.reservation e);
         })
 
-    point_drops : DropsAlike layout h name (call.DropPoint name) (point_dropped h name) w
+    point_drops : DropsAlike layout h name (call.DropPoint name) (point_dropped h name) past w
     point_drops =
         same_then (same_found (point_same layout past h w parts name)) (λ p q found.
         let same = held_alike (length w.flips) found.fit.fit.memory.reserved_at p.value.reservation q.value.reservation
@@ -390,11 +407,11 @@ pub point_is_right : {F : Type 0} (layout : F → Layout) (h : HeapState F) (nam
 point_is_right layout h name pool at_rank result after making =
     making_is_right layout h (call.Point name pool at_rank) (without_answer (check_point h name pool at_rank))
     (MakesPointIn h name pool at_rank)
-    refl refl (λ w past parts reached. point_alike layout h w past parts reached name pool at_rank) result after making
+    refl refl (λ w past parts known. point_alike layout h w past parts known name pool at_rank) result after making
 
 pub droppoint_is_right : {F : Type 0} (layout : F → Layout) (h : HeapState F) (name : Name) (result : Result (Unit {0}) Refusal)
     (after : HeapState F) → IsDropping h name (point_dropped h name) result after
     → IsRight layout h (call.DropPoint name) [] (answer_to says_ok result) after
 droppoint_is_right layout h name result after dropping =
     dropping_is_right layout h name (call.DropPoint name) (point_dropped h name) refl refl
-    (λ w past parts reached. point_drops layout h w past parts reached name) result after dropping
+    (λ w past parts known. point_drops layout h w past parts known name) result after dropping

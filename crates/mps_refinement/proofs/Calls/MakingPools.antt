@@ -2,8 +2,8 @@
 use Rattle.std.proofs.Common.{◌≡◌, ◌∙◌, ℕ, ◌+◌, false, refl, sym, ap, subst, List, [], ◌∷◌, ◌++◌, length, Some, None, inl, inr, arith}
 use Rattle.std.proofs.lemmas.Bool.{cases_order}
 use Rattle.std.proofs.lemmas.List.{length-append, map-append}
-use Rattle.std.proofs.lemmas.Option.{none-some, same_Some}
-use Rattle.std.specs.Prelude.{Result, nat_le, not, slice_get}
+use Rattle.std.proofs.lemmas.Option.{none-some, same_Some, slice_get-map}
+use Rattle.std.specs.Prelude.{Result, nat_le, not, slice_get, option_map}
 use Rattle.std.specs.Option.{option_map_or}
 use Rattle.mps_base.specs.declared.names.Kind.{Kind}
 use Rattle.mps_base.specs.declared.names.Name.{Name}
@@ -11,10 +11,8 @@ use Rattle.mps_base.specs.declared.refusal.Refusal.{Refusal}
 use Rattle.mps_base.specs.declared.refusal.Refusal.TheVariants as refusal
 use Rattle.mps_format.specs.Layout.{Layout}
 use Rattle.mps_trace_laws.specs.Image.Memory.{memory_in, pool_layout}
-use Rattle.mps_laws.proofs.Held.{any_kind}
-use Rattle.mps_laws.proofs.LegalHistories.{kept_by_steps}
 use Rattle.mps_laws.proofs.Lookups.{entry_is_there, length-with_last, slice_get-after_last, slice_get-at_last, slice_get-kept, slice_get-last, there_is}
-use Rattle.mps_laws.proofs.Sound.PoolsThere.{HasPools, IsPointPoolThere, all-at, step_has_pools}
+use Rattle.mps_laws.proofs.Sound.PoolsThere.{IsPointPoolThere, all-at, IsPoolThere}
 use Rattle.mps_laws.proofs.Same.{Alike, same_next, same_refuse_when}
 use Rattle.mps_model.specs.declared.call.Call.{Call}
 use Rattle.mps_model.specs.declared.call.Call.TheVariants as call
@@ -34,23 +32,19 @@ use Rattle.mps_format.specs.Pools.{size_of_pool}
 use Rattle.mps_format.specs.declared.pool.Pool.{Pool}
 use Rattle.mps_format.specs.declared.pool.Pool.TheVariants as pool
 use Rattle.mps_refinement.specs.Making.{IsRightMaking, IsRightMakingIn, MeansLayout}
-use Rattle.mps_refinement.specs.StandsFor.{AreParts, ArePools, IsPool, IsReached, Past}
+use Rattle.mps_refinement.specs.StandsFor.{AreParts, ArePools, IsPool, Past, setting_at}
 use Rattle.mps_refinement.proofs.Calls.MakingSteps.{MakesAlike, checks_then, first_passed, free_name, making_is_right, making_is_right_in, taken_same}
 use Rattle.mps_refinement.proofs.Parts.Named.{ThingsStay, named_made}
 use Rattle.mps_refinement.proofs.Parts.Numbering.{fitting_there}
 use Rattle.mps_refinement.proofs.Parts.PartsMade.{pools_changed, state_of_pools}
 use Rattle.mps_refinement.proofs.Parts.PoolImage.{other_formats_stand}
-use Rattle.mps_refinement.proofs.Worlds.Steps.{HasParts}
-
--- in a world that is reached each point is of a pool that there is
-pub reached_has_pools : (w : World) → IsReached w → HasPools w
-reached_has_pools w r =
-    subst HasPools (sym r.is)
-    (kept_by_steps HasPools (λ s. Unit {0}) (λ v s has any answered. step_has_pools v s has answered) (empty_world_of w.formats) r.history
-    (record { of_objects = tt; of_points = tt }) (any_kind r.history) r.legal)
+use Rattle.mps_refinement.proofs.Worlds.Steps.{HasParts, KeepsMarks}
+use Rattle.mps_trace_laws.specs.Image.Image.{black_cells}
+use Rattle.mps_laws.proofs.LeftByActs.{owners}
+use Rattle.mps_refinement.proofs.Worlds.Known.{IsKnown}
 
 module _ {F : Type 0} (layout : F → Layout) (h : HeapState F) (name : Name) (p : Pool F) where
-  module _ (w : World) (past : Past) (parts : AreParts layout past h w) (reached : IsReached w) (q : world.Pool)
+  module _ (w : World) (past : Past) (parts : AreParts layout past h w) (known : IsKnown past.time w) (q : world.Pool)
       (fit : IsPool layout w.formats p q) where
     abbrev pools : List world.Pool
     pools = with_last w.pools q
@@ -81,16 +75,27 @@ module _ {F : Type 0} (layout : F → Layout) (h : HeapState F) (name : Name) (p
     copying_as_before : (n : ℕ) (x : graph.Point) → entry_at w.graph.points n ≡ Some x
         → world.is_copying_pool (record w { pools = pools }) x.pool ≡ world.is_copying_pool w x.pool
     copying_as_before n x there =
-        let low = all-at (IsPointPoolThere w.pools) w.graph.points n (Some x) (reached_has_pools w reached).of_points
+        let low = all-at (IsPointPoolThere w.pools) w.graph.points n (Some x) known.pools.of_points
         (entry_is_there w.graph.points n x there) in
         let of = there_is w.pools x.pool low in
         ap (λ o. option_map_or (λ (y : world.Pool). is_copying_kind y.kind) o false)
         (slice_get-kept w.pools q of.0 x.pool of.1 ∙ sym of.1)
 
+    -- so are the formats of the pools that objects have
+    format_as_before : (id : ℕ) (o : graph.Object) → slice_get w.graph.objects id ≡ Some o
+        → pool_layout (record w { pools = pools }) o.pool ≡ pool_layout w o.pool
+    format_as_before id o there =
+        let low = all-at (IsPoolThere w.pools) (owners w.graph) id o.pool known.pools.of_objects
+        (slice_get-map (λ (x : graph.Object). x.pool) w.graph.objects id ∙ ap (option_map (λ (x : graph.Object). x.pool)) there) in
+        let of = there_is w.pools o.pool low in
+        ap (λ x. w.formats (option_map_or (λ (y : world.Pool). y.format) x 0))
+        (slice_get-kept w.pools q of.0 o.pool of.1 ∙ sym of.1)
+
     pool_parts : (number : ℕ) (after : HeapState F) → thing_named h.names name ≡ None → MakesPool h name p number after
-        → HasParts layout after (model.with_pool w name q)
+        → HasParts layout past.time after (model.with_pool w name q)
     pool_parts number after free makes = record {
       past = past;
+      timed = refl;
       parts = subst (λ s. AreParts layout past s (model.with_pool w name q)) (sym makes.state)
           (pools_changed layout past h w parts (h.pools ++ p ∷ []) (h.sizes ++ size_of_pool p ∷ []) after.names pools
           (with_last w.graph.names (record { name = name; thing = graph.PoolThing (length w.pools) })) (record {
@@ -105,8 +110,8 @@ module _ {F : Type 0} (layout : F → Layout) (h : HeapState F) (name : Name) (p
               buffer = is.buffer;
               reservation = is.reservation;
             });
-            image_stands = other_formats_stand h.segs w.graph.objects w.graph.points w.point_memories (pool_layout w)
-                (pool_layout (record w { pools = pools })) (memory_in h.segs) w.addresses parts.image;
+            image_stands = other_formats_stand (setting_at past.time h.segs w) (pool_layout (record w { pools = pools })) (memory_in h.segs)
+                w.addresses past.time.colours (black_cells past.time.condemned past.time.colours) format_as_before parts.image;
             names_are = named_made past past h made w.graph.names parts.names name (thing.Pool number) (graph.PoolThing (length w.pools))
                 makes.names free (ap graph.PoolThing (makes.number_is ∙ sym parts.pools.count)) (λ other there. refl) stay
                 (let e = makes.number_is in omega (arith, e, longer))
@@ -138,13 +143,15 @@ module _ {F : Type 0} (layout : F → Layout) (h : HeapState F) (name : Name) (p
     pool_alike : (c : Call)
         → act false w w c
         ≡ (model.refuse_taken w name >> (refuse_at_limit (length w.pools) most_pools >> done (model.with_pool w name q)))
-        → MakesAlike layout h w c (check_pool h name) (MakesPool h name p)
+        → MakesAlike layout past h w c (check_pool h name) (MakesPool h name p)
     pool_alike c is = record {
       models = model.refuse_taken w name >> refuse_at_limit (length w.pools) most_pools;
       made = model.with_pool w name q;
       comes = is ∙ checks_then (model.refuse_taken w name) (refuse_at_limit (length w.pools) most_pools)
           (done (model.with_pool w name q));
       alike = same_next (taken_same layout past h w parts name) limit_same;
+      formats = refl;
+      marks = λ key after makes. subst (λ (s : HeapState F). KeepsMarks h.segs s.segs) (sym makes.state) (refl, refl);
       has = λ number after ok makes.
           pool_parts number after
           (free_name h name (first_passed (refuse_taken h name) (refuse_at_limit (length h.pools) most_pools) tt ok).1) makes;
@@ -157,7 +164,7 @@ module _ {F : Type 0} (layout : F → Layout) (h : HeapState F) (name : Name) (p
         → act false w w (call.PoolMfs name words)
         ≡ (model.refuse_taken w name >> (refuse_size words
         >> (refuse_at_limit (length w.pools) most_pools >> done (model.with_pool w name q))))
-        → MakesAlike layout h w (call.PoolMfs name words) (check_pool_of_size h name words) (MakesPool h name p)
+        → MakesAlike layout past h w (call.PoolMfs name words) (check_pool_of_size h name words) (MakesPool h name p)
     pool_of_size_alike words is = record {
       models = model.refuse_taken w name >> (refuse_size words >> refuse_at_limit (length w.pools) most_pools);
       made = model.with_pool w name q;
@@ -168,6 +175,8 @@ module _ {F : Type 0} (layout : F → Layout) (h : HeapState F) (name : Name) (p
           (done (model.with_pool w name q));
       alike = same_next (taken_same layout past h w parts name)
           (same_next (same_refuse_when (not (is_block_size words)) (not (is_block_size words)) refusal.BadSize refl) limit_same);
+      formats = refl;
+      marks = λ key after makes. subst (λ (s : HeapState F). KeepsMarks h.segs s.segs) (sym makes.state) (refl, refl);
       has = λ number after ok makes.
           pool_parts number after
           (free_name h name (first_passed (refuse_taken h name) (refuse_size words >> refuse_at_limit (length h.pools) most_pools) tt ok).1)

@@ -29,7 +29,7 @@ use Rattle.mps_refinement.proofs.Parts.Named.{ThingsStay, areas_renumbered, name
 use Rattle.mps_refinement.proofs.Parts.Numbering.{kept_alike, numbered_made, renumbered_here}
 use Rattle.mps_refinement.proofs.Parts.Ordering.{ordered_alike, ordered_made}
 use Rattle.mps_refinement.proofs.Parts.PartsMade.{AreOtherRoots, past_of_roots, roots_changed}
-use Rattle.mps_refinement.proofs.Worlds.Steps.{HasParts}
+use Rattle.mps_refinement.proofs.Worlds.Steps.{HasParts, KeepsMarks}
 
 -- what is kept under other keys is kept still
 pub kept_more : {A : Type 0} (before after : ℕ → Option A) (key : ℕ) → before key ≡ None
@@ -46,9 +46,10 @@ module _ {F : Type 0} (layout : F → Layout) (h : HeapState F) (name : Name) (s
     -- ---- tables
 
     table_parts : (key : ℕ) (after : HeapState F) → check_root h name slots ≡ Ok tt → MakesTable h name slots key after
-        → HasParts layout after (with_graph w (graph_with_table w.graph name slots))
+        → HasParts layout past.time after (with_graph w (graph_with_table w.graph name slots))
     table_parts key after passed makes = record {
       past = past_of_roots layout past h w parts numbers past.area_number;
+      timed = refl;
       parts = subst (λ s. AreParts layout (past_of_roots layout past h w parts numbers past.area_number) s
           (with_graph w (graph_with_table w.graph name slots))) (sym makes.state)
           (roots_changed layout past h w parts numbers past.area_number after.roots (h.live_roots + 1) (h.live_slots + slots) after.names
@@ -98,22 +99,25 @@ module _ {F : Type 0} (layout : F → Layout) (h : HeapState F) (name : Name) (s
               (nothing_there (kept h.roots.tables key) makes.table.tables.free);
         }
 
-    table_alike : MakesAlike layout h w (call.Table name slots) (check_root h name slots) (MakesTable h name slots)
+    table_alike : MakesAlike layout past h w (call.Table name slots) (check_root h name slots) (MakesTable h name slots)
     table_alike = record {
       models = model.refuse_taken w name >> model.refuse_root w slots;
       made = with_graph w (graph_with_table w.graph name slots);
       comes = checks_then (model.refuse_taken w name) (model.refuse_root w slots)
           (done (with_graph w (graph_with_table w.graph name slots)));
       alike = same_next (taken_same layout past h w parts name) (root_same layout past h w parts slots);
+      formats = refl;
+      marks = λ key after makes. subst (λ (s : HeapState F). KeepsMarks h.segs s.segs) (sym makes.state) (refl, refl);
       has = table_parts;
     }
 
     -- ---- areas
 
     area_parts : (key : ℕ) (after : HeapState F) → check_root h name slots ≡ Ok tt → MakesArea h name slots key after
-        → HasParts layout after (with_graph w (graph_with_area w.graph name slots))
+        → HasParts layout past.time after (with_graph w (graph_with_area w.graph name slots))
     area_parts key after passed makes = record {
       past = past_of_roots layout past h w parts past.table_number numbers;
+      timed = refl;
       parts = subst (λ s. AreParts layout (past_of_roots layout past h w parts past.table_number numbers) s
           (with_graph w (graph_with_area w.graph name slots))) (sym makes.state)
           (roots_changed layout past h w parts past.table_number numbers after.roots (h.live_roots + 1) (h.live_slots + slots) after.names
@@ -163,22 +167,25 @@ module _ {F : Type 0} (layout : F → Layout) (h : HeapState F) (name : Name) (s
               (nothing_there (kept h.roots.areas key) makes.area.areas.free);
         }
 
-    area_alike : MakesAlike layout h w (call.Area name slots) (check_root h name slots) (MakesArea h name slots)
+    area_alike : MakesAlike layout past h w (call.Area name slots) (check_root h name slots) (MakesArea h name slots)
     area_alike = record {
       models = model.refuse_taken w name >> model.refuse_root w slots;
       made = with_graph w (graph_with_area w.graph name slots);
       comes = checks_then (model.refuse_taken w name) (model.refuse_root w slots)
           (done (with_graph w (graph_with_area w.graph name slots)));
       alike = same_next (taken_same layout past h w parts name) (root_same layout past h w parts slots);
+      formats = refl;
+      marks = λ key after makes. subst (λ (s : HeapState F). KeepsMarks h.segs s.segs) (sym makes.state) (refl, refl);
       has = area_parts;
     }
 
     -- ---- tables of blocks
 
     blocks_parts : (number : ℕ) (after : HeapState F) → check_root h name slots ≡ Ok tt → MakesBlocks h name slots number after
-        → HasParts layout after (with_graph w (graph_with_blocks w.graph name slots))
+        → HasParts layout past.time after (with_graph w (graph_with_blocks w.graph name slots))
     blocks_parts number after passed makes = record {
       past = past;
+      timed = refl;
       parts = subst (λ s. AreParts layout past s (with_graph w (graph_with_blocks w.graph name slots))) (sym makes.state)
           (roots_changed layout past h w parts past.table_number past.area_number roots (h.live_roots + 1) (h.live_slots + slots)
           after.names w.graph.tables w.graph.areas blocks
@@ -235,13 +242,15 @@ module _ {F : Type 0} (layout : F → Layout) (h : HeapState F) (name : Name) (s
               (λ there. let e = makes.number_is in omega (arith, e, there));
         }
 
-    blocks_alike : MakesAlike layout h w (call.Blocks name slots) (check_root h name slots) (MakesBlocks h name slots)
+    blocks_alike : MakesAlike layout past h w (call.Blocks name slots) (check_root h name slots) (MakesBlocks h name slots)
     blocks_alike = record {
       models = model.refuse_taken w name >> model.refuse_root w slots;
       made = with_graph w (graph_with_blocks w.graph name slots);
       comes = checks_then (model.refuse_taken w name) (model.refuse_root w slots)
           (done (with_graph w (graph_with_blocks w.graph name slots)));
       alike = same_next (taken_same layout past h w parts name) (root_same layout past h w parts slots);
+      formats = refl;
+      marks = λ key after makes. subst (λ (s : HeapState F). KeepsMarks h.segs s.segs) (sym makes.state) (refl, refl);
       has = blocks_parts;
     }
 

@@ -1,12 +1,11 @@
 -- Calls that make a thing: where the checks of the heap and of the model come to the same, and what is made stands for what the model
 -- makes, the call is right.
-use Rattle.std.proofs.Common.{◌≡◌, ◌∙◌, ℕ, ◌+◌, Bool, true, false, refl, sym, ap, [], Option, Some, None, Ok, Err}
+use Rattle.std.proofs.Common.{◌≡◌, ◌∙◌, ℕ, ◌+◌, Bool, true, false, refl, sym, ap, [], Option, Some, None, Ok, Err, subst}
 use Rattle.std.specs.Prelude.{Result, is_some, nat_le, nat_lt, option_map}
 use Rattle.mps_base.specs.declared.names.Name.{Name}
 use Rattle.mps_base.specs.declared.refusal.Refusal.{Refusal}
 use Rattle.mps_base.specs.declared.refusal.Refusal.TheVariants as refusal
 use Rattle.mps_format.specs.Layout.{Layout}
-use Rattle.mps_changes.specs.Change.{makes_arena}
 use Rattle.mps_laws.proofs.Same.{Alike, Same, fits, same_err, same_next, same_ok, same_refuse_when}
 use Rattle.mps_model.specs.declared.call.Call.{Call}
 use Rattle.mps_model.specs.declared.reply.Reply.TheVariants as reply
@@ -23,10 +22,12 @@ use Rattle.mps_heap_spec.specs.Making.{IsMaking, IsUntouched, Refused, OutOfMemo
 use Rattle.mps_heap_spec.specs.State.{HeapState}
 use Rattle.mps_refinement.specs.Making.{IsRightMaking, IsRightMakingIn, answer_of_making}
 use Rattle.mps_refinement.specs.RightStep.{IsRightIn, step_of}
-use Rattle.mps_refinement.specs.StandsFor.{AreParts, IsReached, Past, StandsFor, numbered_thing}
-use Rattle.mps_refinement.proofs.Parts.PartsMade.{untouched_stands}
-use Rattle.mps_refinement.proofs.Worlds.RestingActs.{may_move}
-use Rattle.mps_refinement.proofs.Worlds.Steps.{HasParts, answered_is_right}
+use Rattle.mps_refinement.specs.StandsFor.{AreParts, Past, StandsFor, numbered_thing}
+use Rattle.mps_refinement.proofs.Parts.PartsMade.{untouched_stands, untouched_parts}
+use Rattle.mps_refinement.proofs.Worlds.Steps.{HasParts, KeepsMarks, plain_is_right}
+use Rattle.mps_refinement.proofs.Worlds.Known.{IsKnown, known_now}
+use Rattle.mps_refinement.proofs.Worlds.RunningActs.{is_poke}
+use Rattle.mps_refinement.specs.QuietCalls.{never_moves}
 
 -- ---- checks that were passed
 
@@ -81,19 +82,22 @@ alike_passed x y Rattle.mps_laws.proofs.Same.refused e = absurd cc
 -- ---- the step
 
 -- in a world: the model makes the same checks and then this world, for which the state stands once the thing is made
-pub record MakesAlike {F : Type 0} (layout : F → Layout) (h : HeapState F) (w : World) (c : Call) (checks : Checked (Unit {0}))
+pub record MakesAlike {F : Type 0} (layout : F → Layout) (past : Past) (h : HeapState F) (w : World) (c : Call)
+    (checks : Checked (Unit {0}))
     (Makes : ℕ → HeapState F → Type 0) : Type 0 where
   pub models : Checked (Unit {0})
   pub made : World
   pub comes : act false w w c ≡ (models >> done made)
   pub alike : Alike checks models
-  pub has : (key : ℕ) (after : HeapState F) → checks ≡ Ok tt → Makes key after → HasParts layout after made
+  pub formats : made.formats ≡ w.formats
+  pub marks : (key : ℕ) (after : HeapState F) → Makes key after → KeepsMarks h.segs after.segs
+  pub has : (key : ℕ) (after : HeapState F) → checks ≡ Ok tt → Makes key after → HasParts layout past.time after made
 
 module _ {F : Type 0} (layout : F → Layout) (h : HeapState F) (c : Call) (checks : Checked (Unit {0}))
     (Makes : ℕ → HeapState F → Type 0) where
   -- in each world that has something
-  pub making_is_right_in : (Has : World → Type 0) → may_move c ≡ false → makes_arena c ≡ false
-      → ((w : World) (past : Past) → Has w → AreParts layout past h w → IsReached w → MakesAlike layout h w c checks Makes)
+  pub making_is_right_in : (Has : World → Type 0) → never_moves c ≡ true → is_poke c ≡ false
+      → ((w : World) (past : Past) → Has w → AreParts layout past h w → IsKnown past.time w → MakesAlike layout past h w c checks Makes)
       → (result : Result ℕ Refusal) (after : HeapState F) → IsMaking h checks Makes result after
       → IsRightMakingIn layout Has h c result after
   making_is_right_in Has quiet arena alike result after making = of_making making
@@ -105,18 +109,22 @@ module _ {F : Type 0} (layout : F → Layout) (h : HeapState F) (c : Call) (chec
 
       refused_right : (why : Refusal) → checks ≡ Err why → (after : HeapState F) → IsUntouched h after → Right (Err why) after
       refused_right why e after untouched = λ w line has st.
-          let m = alike w st.past has st.parts st.reached in
-          let still = untouched_stands layout h after w untouched st in
-          answered_is_right layout w line c (answer_of_making {A = ℕ} (Err why)) (Err why) after quiet arena refl st.reached
-          st.parts.at_rest
-          (m.comes ∙ ap (λ x. x >> done m.made) (same_err (λ a b. Unit {0}) checks m.models why m.alike e)) refl
-          (record { past = still.past; parts = still.parts })
+          let m = alike w st.past has st.parts (known_now st) in
+          plain_is_right layout w line c (answer_of_making {A = ℕ} (Err why)) (Err why) h after quiet arena refl st
+          (subst (λ (s : HeapState F). KeepsMarks h.segs s.segs) (sym untouched.state) (refl, refl))
+          (m.comes ∙ ap (λ x. x >> done m.made) (same_err (λ a b. Unit {0}) checks m.models why m.alike e)) refl refl
+          (record {
+            past = st.past;
+            timed = refl;
+            parts = subst (λ s. AreParts layout st.past s w) (sym untouched.state)
+                (untouched_parts layout st.past h w st.parts after.names untouched.names);
+          })
 
       made_right : (key : ℕ) → checks ≡ Ok tt → (after : HeapState F) → Makes key after → Right (Ok key) after
       made_right key e after makes = λ w line has st.
-          let m = alike w st.past has st.parts st.reached in
-          answered_is_right layout w line c (Replied reply.Ok) (done m.made) after quiet arena refl st.reached st.parts.at_rest
-          (m.comes ∙ ap (λ x. x >> done m.made) (alike_passed checks m.models m.alike e)) refl (m.has key after e makes)
+          let m = alike w st.past has st.parts (known_now st) in
+          plain_is_right layout w line c (Replied reply.Ok) (done m.made) h after quiet arena refl st (m.marks key after makes)
+          (m.comes ∙ ap (λ x. x >> done m.made) (alike_passed checks m.models m.alike e)) refl m.formats (m.has key after e makes)
 
       of_making : {result : Result ℕ Refusal} {after : HeapState F} → IsMaking h checks Makes result after
           → IsRightMakingIn layout Has h c result after
@@ -133,8 +141,8 @@ module _ {F : Type 0} (layout : F → Layout) (h : HeapState F) (c : Call) (chec
         out_of_memory = λ is. absurd cc;
       }
 
-  pub making_is_right : may_move c ≡ false → makes_arena c ≡ false
-      → ((w : World) (past : Past) → AreParts layout past h w → IsReached w → MakesAlike layout h w c checks Makes)
+  pub making_is_right : never_moves c ≡ true → is_poke c ≡ false
+      → ((w : World) (past : Past) → AreParts layout past h w → IsKnown past.time w → MakesAlike layout past h w c checks Makes)
       → (result : Result ℕ Refusal) (after : HeapState F) → IsMaking h checks Makes result after
       → IsRightMaking layout h c result after
   making_is_right quiet arena alike result after making =

@@ -21,7 +21,7 @@ use Rattle.mps_heap_spec.specs.Arena.{new_heap}
 use Rattle.mps_refinement.specs.NewHeap.{NoNames, arena_step, new_world}
 use Rattle.mps_refinement.specs.Numbering.{AreNumbered}
 use Rattle.mps_refinement.specs.RightStep.{IsRightIn}
-use Rattle.mps_refinement.specs.StandsFor.{AreParts, Past, numbered_thing}
+use Rattle.mps_refinement.specs.StandsFor.{AreParts, Past, numbered_thing, rests, time_at_rest}
 use Rattle.mps_refinement.proofs.Worlds.RestingActs.{resting_sound}
 
 -- nothing is kept under any key of a row of nothing
@@ -51,7 +51,7 @@ module _ {F : Type 0} (layout : F → Layout) (formats : ℕ → Layout) (lawful
 
   -- nothing has a number yet
   abbrev no_past : Past
-  no_past = record { table_number = λ key. key; area_number = λ key. key; point_number = λ key. key }
+  no_past = record { time = time_at_rest; table_number = λ key. key; area_number = λ key. key; point_number = λ key. key }
 
   no_point : (key : ℕ) → point_at no_points key ≡ None
   no_point key = none_kept Point max_points key
@@ -62,10 +62,8 @@ module _ {F : Type 0} (layout : F → Layout) (formats : ℕ → Layout) (lawful
     limit = refl;
     segments = refl;
     image = new_arena_stands grains limit (pool_layout world_then);
-    resting = record {
+    arena = record {
       at_most = at_most;
-      not_condemned = λ grain. clear_bit (grains + 1) grain;
-      not_kept = λ n. clear_bit (words_of_grain * (grains + 1)) n;
       within = λ key p held is. absurd (none-some p (sym (no_point key) ∙ is));
       aligned = λ key p held is. absurd (none-some p (sym (no_point key) ∙ is));
     };
@@ -77,7 +75,7 @@ module _ {F : Type 0} (layout : F → Layout) (formats : ℕ → Layout) (lawful
     slots_counted = refl;
     points = none_numbered no_point;
     points_counted = refl;
-    registered = refl;
+    registered = tt;
     messages = refl;
     flips = none_yet;
     point_flips = refl;
@@ -93,7 +91,6 @@ module _ {F : Type 0} (layout : F → Layout) (formats : ℕ → Layout) (lawful
       once = tt;
     };
     state = refl;
-    at_rest = refl;
   }
 
   -- the step of `arena` is legal, and what the world after it is
@@ -111,6 +108,12 @@ module _ {F : Type 0} (layout : F → Layout) (formats : ℕ → Layout) (lawful
     stands = record {
       past = no_past;
       parts = new_parts;
+      time = rests (record {
+        none = refl;
+        time = refl;
+        not_condemned = λ grain. clear_bit (grains + 1) grain;
+        not_kept = λ n. clear_bit (words_of_grain * (grains + 1)) n;
+      });
       reached = record {
         history = arena_step line grains limit ∷ [];
         legal = ((arena_right line).legal, tt);

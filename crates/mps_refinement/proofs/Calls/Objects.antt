@@ -1,16 +1,16 @@
 -- The calls on objects are right: `head`, `addr`, `num`, `setnum`, `get`, `put`.
 use Rattle.std.proofs.Common.{◌≡◌, ◌∙◌, ℕ, ◌+◌, refl, sym, ap, subst, List, [], Option, Some, None, inl, arith}
 use Rattle.std.proofs.lemmas.Option.{none-some}
-use Rattle.std.specs.Prelude.{slice_get, slice_set}
+use Rattle.std.specs.Prelude.{slice_get, slice_set, Bool, true, false, not, Ok}
 use Rattle.std.specs.Option.{option_map_or}
 use Rattle.mps_base.specs.Address.{Address, Id}
 use Rattle.mps_base.specs.declared.names.Slot.{Slot}
 use Rattle.mps_format.specs.Layout.{Layout, IsLawful}
 use Rattle.mps_trace_laws.proofs.Image.CellChanged.{target_changed}
 use Rattle.mps_trace_laws.proofs.Image.ClientLaws.{cell_of_an_object_is_written}
-use Rattle.mps_trace_laws.specs.Image.Image.{IsCellWord, IsFixedWord, no_colours}
-use Rattle.mps_trace_laws.specs.Image.Memory.{Lies, memory_in, setting_at_rest, pool_layout}
-use Rattle.mps_laws.proofs.Same.{Same, fits, same_then}
+use Rattle.mps_trace_laws.specs.Image.Image.{IsCellWord, IsFixedWord}
+use Rattle.mps_trace_laws.specs.Image.Memory.{Lies, memory_in}
+use Rattle.mps_laws.proofs.Same.{Same, fits, same_then, Alike, same_weaker}
 use Rattle.mps_laws.proofs.Sound.SoundGraph.{PassesOrNull}
 use Rattle.mps_model.specs.declared.call.Call.TheVariants as call
 use Rattle.mps_model.specs.Allocating.{with_slot}
@@ -26,16 +26,20 @@ use Rattle.mps_heap_spec.specs.declared.found.Entry.{Entry}
 use Rattle.mps_heap_spec.specs.Objects.{head_in, address_in, number_in, number_set, reference_got, reference_put, with_word}
 use Rattle.mps_heap_spec.specs.State.{HeapState}
 use Rattle.mps_refinement.specs.RightStep.{IsRight}
-use Rattle.mps_refinement.specs.StandsFor.{AreParts, Past, address_of_target}
+use Rattle.mps_refinement.specs.StandsFor.{AreParts, Past, address_of_target, setting_at}
 use Rattle.mps_refinement.proofs.Lookups.Cells.{retargeted_is, target_is}
 use Rattle.mps_refinement.proofs.Lookups.Found.{again, in_a_row, same_drop, some_there}
-use Rattle.mps_refinement.proofs.Worlds.Known.{IsKnown, known}
-use Rattle.mps_refinement.proofs.Lookups.LiveObjects.{IsNumberOf, IsObject, IsReferenceOf, number_same, object_at_same, object_lawful, object_then, reference_same, slot_may_read, target_address}
+use Rattle.mps_refinement.proofs.Worlds.Known.{IsKnown, is_kept_at}
+use Rattle.mps_refinement.proofs.Lookups.LiveObjects.{IsNumberOf, IsObject, IsReferenceOf, number_same, object_at_same, object_lawful, object_then, reference_same, slot_may_read, target_address, fixed_reference_same}
 use Rattle.mps_refinement.proofs.Lookups.Lookups.{slot_same}
 use Rattle.mps_refinement.proofs.Parts.PartsWritten.{slot_written, words_written}
 use Rattle.mps_refinement.proofs.Calls.Readings.{act_reading, reading_is_right, says_ok}
 pub use Rattle.mps_refinement.specs.Answering.{says_head, says_number, says_word}
-use Rattle.mps_refinement.proofs.Worlds.Steps.{ComesToTheSame, answer_to, quiet_is_right}
+use Rattle.mps_refinement.proofs.Worlds.Steps.{ComesToTheSame, answer_to, quiet_is_right, Leads}
+use Rattle.std.proofs.lemmas.Bool.{false≢true}
+use Rattle.mps_abstract.specs.Colours.{is_black, is_white}
+use Rattle.mps_laws.proofs.Same as same
+use Rattle.mps_model.specs.Accessing.{act_get}
 
 -- ---- a cell is written
 
@@ -55,17 +59,17 @@ target_live w (Some other) live id e =
     some_there (entry_at w.addresses id) (subst (PassesOrNull (is_live w)) e live)
 
 module _ {F : Type 0} (layout : F → Layout) (past : Past) (h : HeapState F) (w : World) (parts : AreParts layout past h w)
-    (b : Block F) (n : Numbered Object) (is : IsObject layout h w b n) where
+    (b : Block F) (n : Numbered Object) (is : IsObject layout past h w b n) where
   -- the words stand for the objects, where a cell and its word are written
   pub cell_written : (k word value : ℕ) (new : Cell) (change : List Cell → List Cell)
       → Lies w.graph.objects w.addresses n.number k n.value word → change is.cells ≡ slice_set is.cells k new
-      → IsFixedWord [] w.addresses no_colours b.head new value
+      → IsFixedWord past.time.condemned w.addresses past.time.colours b.head new value
       → AreParts layout past (with_word h word value) (with_graph w (graph_with_cells w.graph n.number change))
   cell_written k word value new change lies changes fixed =
       words_written layout past h w parts (slice_set h.segs.words word value) (graph_with_cells w.graph n.number change).objects
       (cell_of_an_object_is_written
-      (setting_at_rest h.segs w.graph.objects w.graph.points w.point_memories (pool_layout w)) w.graph (memory_in h.segs) w.addresses
-      no_colours n.number k n.value b.head is.cells is.is_weak word new value change refl is.body changes parts.image lies fixed)
+      (setting_at past.time h.segs w) w.graph (memory_in h.segs) w.addresses
+      past.time.colours n.number k n.value b.head is.cells is.is_weak word new value change refl is.body changes parts.image lies fixed)
 
   pub number_written : (k value : ℕ) (cell : CellFound) (number : ℕ) → IsNumberOf w n k cell number
       → AreParts layout past (with_word h cell.word value)
@@ -75,23 +79,34 @@ module _ {F : Type 0} (layout : F → Layout) (past : Past) (h : HeapState F) (w
       (record { holds = refl; not_white = λ t e. absurd (none-some t e) })
 
   pub reference_written : (k : ℕ) (target : Option ℕ) (cell : CellFound) (old : Option ℕ) → PassesOrNull (is_live w) target
-      → IsReferenceOf w n k cell old
+      → PassesOrNull (is_kept_at past.time) target
+      → IsReferenceOf past.time w n k cell old
       → AreParts layout past (with_word h cell.word (retargeted (layout b.format) cell.value (address_of_target w.addresses target)))
       (with_graph w (graph_with_cells w.graph n.number (λ cells. with_target_cell cells k target)))
-  reference_written k target cell old live found =
+  reference_written k target cell old live kept found =
       let value = retargeted (layout b.format) cell.value (address_of_target w.addresses target) in
       cell_written k cell.word value (ReferenceCell target found.tag) (λ cells. with_target_cell cells k target) found.lies
       (target_changed is.cells k found.tag old target (ap (λ body. slice_get (cells_of_body body) k) (sym is.body) ∙ found.cell))
       (record {
         holds = reference_is_word w.addresses b.head value found.tag target (target_live w target live)
-            (retargeted_is (layout b.format) lawful cell.value (address_of_target w.addresses old) found.tag found.low
-            (target_address layout past h w parts old) found.value (address_of_target w.addresses target)
+            (retargeted_is (layout b.format) lawful cell.value found.was found.tag found.low
+            found.is_target found.value (address_of_target w.addresses target)
             (target_address layout past h w parts target));
-        not_white = λ t e. refl;
+        not_white = λ t e. kept_target target kept t e;
       })
     where
       lawful : IsLawful (layout b.format)
       lawful = object_lawful layout past h w parts b n is
+
+      not_white : (b : Bool) → not b ≡ true → b ≡ false
+      not_white true e = absurd (false≢true e)
+      not_white false e = refl
+
+      kept_target : (target : Option ℕ) → PassesOrNull (is_kept_at past.time) target → (t : Id) → target ≡ Some t
+          → is_white past.time.condemned past.time.colours t ≡ false
+      kept_target None k t e = absurd (none-some t e)
+      kept_target (Some id) k t e =
+          not_white (is_white past.time.condemned past.time.colours t) (subst (PassesOrNull (is_kept_at past.time)) e k)
 
 -- ---- an object that is looked up again
 
@@ -102,24 +117,56 @@ read_twice w k after target =
     reference_at (cells_of_body object.value.body) k >> (model.object_in w target >>= (λ (now : Numbered Object).
     reference_at (cells_of_body now.value.body) k >>= (λ (target : Option ℕ). model.done (after target)))))
 
+-- the model finds an object in a slot
+pub record IsFoundIn (w : World) (source : Slot) (n : Numbered Object) : Type 0 where
+  pub given : Found (Option ℕ)
+  pub slot : model.slot_in w source ≡ Ok given
+  pub object : model.object_in w given.value ≡ Ok n
+
+-- where both come to something, with what they come to
+pub with_results : {A B : Type 0} {Fits : A → B → Type 0} {x : Checked A} {y : Checked B} → Same Fits x y
+    → Same (λ (a : A) (b : B). (x ≡ Ok a) × (y ≡ Ok b) × Fits a b) x y
+with_results (fits fit) = fits (refl, refl, fit)
+with_results same.refused = same.refused
+
 module _ {F : Type 0} (layout : F → Layout) (past : Past) (h : HeapState F) (w : World) (parts : AreParts layout past h w)
-    (of : IsKnown w) where
+    (of : IsKnown past.time w) where
   -- the heap does so once
   object_again : {C : Type 0} {FitNext : C → Act → Type 0} {f : Block F → Checked C} (source : Slot) (k : ℕ)
       (after : Option ℕ → World)
-      → ((b : Block F) (n : Numbered Object) → IsObject layout h w b n
+      → ((b : Block F) (n : Numbered Object) → IsObject layout past h w b n → IsFoundIn w source n
       → Same FitNext (f b) (reference_at (cells_of_body n.value.body) k >>= (λ (target : Option ℕ). model.done (after target))))
       → Same FitNext (object_in layout h source >>= f)
       (model.slot_in w source >>= (λ (from : Found (Option ℕ)). read_twice w k after from.value))
   object_again {C} {FitNext} {f} source k after next =
       subst (λ x. Same FitNext x (model.slot_in w source >>= (λ (from : Found (Option ℕ)). read_twice w k after from.value)))
       (sym (in_a_row (slot_in h source) (λ (from : Entry Address). object_at layout h from.value) f))
-      (same_then (slot_same layout past h w parts source) (λ from given has.
+      (same_then (with_results (slot_same layout past h w parts source)) (λ from given both.
+      let has = both.2 in
       subst (λ y. Same FitNext (object_at layout h from.value >>= f) y)
       (sym (again (model.object_in w given.value) (λ (object : Numbered Object). reference_at (cells_of_body object.value.body) k)
       (λ (target : Option ℕ). model.done (after target))))
-      (same_then (object_at_same layout past h w parts of from.value given.value has.fit.value
-      (slot_may_read layout past h w parts of source.index from given has.fit)) next)))
+      (same_then (with_results (object_at_same layout past h w parts of from.value given.value has.fit.value
+      (slot_may_read layout past h w parts of source.index from given has.fit))) (λ b n object.
+      next b n object.2 (record { given = given; slot = both.1; object = object.1 })))))
+
+  -- the object that a slot refers to, with what the model finds there
+  pub object_found_in : (source : Slot)
+      → Same (λ (b : Block F) (n : Numbered Object). IsObject layout past h w b n × IsFoundIn w source n) (object_in layout h source)
+      (model.slot_in w source >>= (λ (from : Found (Option ℕ)). model.object_in w from.value))
+  object_found_in source =
+      same_then (with_results (slot_same layout past h w parts source)) (λ from given both.
+      same_weaker (with_results (object_at_same layout past h w parts of from.value given.value both.2.fit.value
+      (slot_may_read layout past h w parts of source.index from given both.2.fit))) (λ b n object.
+      (object.2, record { given = given; slot = both.1; object = object.1 })))
+
+  -- the heap refuses a `get` exactly if the model does, before its barrier as after it
+  pub reference_got_alike : (target source : Slot) (k : ℕ)
+      → Alike (reference_got layout h target source k) (act_get w w target source k)
+  reference_got_alike target source k =
+      same_then (slot_same layout past h w parts target) (λ into found is.
+      object_again source k (λ target. with_graph w (with_slot w.graph found target)) (λ b n object in_slot.
+      same_then (reference_same layout past h w parts b n object k) (λ cell old reference. fits tt)))
 
 -- ---- the calls
 
@@ -129,7 +176,7 @@ module _ {F : Type 0} (layout : F → Layout) (h : HeapState F) where
   head_right slot result =
       reading_is_right layout says_head h (call.Head slot) refl refl (λ a. refl) (head_in layout h slot) result
       (λ w past parts reached.
-      object_then layout past h w parts (known w reached) slot (λ b n is.
+      object_then layout past h w parts reached slot (λ b n is.
       fits (ap (λ body. act_reading w (says_head (model.head_of_body body))) is.body)))
 
   pub address_right : (slot : Slot) (result : Checked Address) → result ≡ address_in layout h slot
@@ -137,7 +184,7 @@ module _ {F : Type 0} (layout : F → Layout) (h : HeapState F) where
   address_right slot result =
       reading_is_right layout says_word h (call.Address slot) refl refl (λ a. refl) (address_in layout h slot) result
       (λ w past parts reached.
-      object_then layout past h w parts (known w reached) slot (λ b n is.
+      object_then layout past h w parts reached slot (λ b n is.
       fits (ap (λ o. act_reading w (says_word (option_map_or (λ at. at) o 0))) is.address)))
 
   pub number_right : (slot : Slot) (k : ℕ) (result : Checked ℕ) → result ≡ number_in layout h slot k
@@ -145,18 +192,20 @@ module _ {F : Type 0} (layout : F → Layout) (h : HeapState F) where
   number_right slot k result =
       reading_is_right layout says_number h (call.Number slot k) refl refl (λ a. refl) (number_in layout h slot k) result
       (λ w past parts reached.
-      object_then layout past h w parts (known w reached) slot (λ b n is.
+      object_then layout past h w parts reached slot (λ b n is.
       same_then (number_same layout past h w parts b n is k) (λ cell number found.
       fits (ap (λ m. act_reading w (says_number m)) (sym found.value)))))
 
   number_set_same : (slot : Slot) (k value : ℕ)
       → ComesToTheSame layout says_ok h (call.SetNumber slot k value) (number_set layout h slot k value)
   number_set_same slot k value w past parts reached =
-      object_then layout past h w parts (known w reached) slot (λ b n is.
+      object_then layout past h w parts reached slot (λ b n is.
       same_drop (number_same layout past h w parts b n is k) (λ cell number found.
       fits (record {
         answer = refl;
-        has = record { past = past; parts = number_written layout past h w parts b n is k value cell number found };
+        marks = (refl, refl);
+        formats = refl;
+        has = record { past = past; timed = refl; parts = number_written layout past h w parts b n is k value cell number found };
       })))
 
   pub number_set_right : (slot : Slot) (k value : ℕ) (result : Checked (Unit {0})) (after : HeapState F)
@@ -169,7 +218,7 @@ module _ {F : Type 0} (layout : F → Layout) (h : HeapState F) where
   reference_put_same : (target : Slot) (k : ℕ) (source : Slot)
       → ComesToTheSame layout says_ok h (call.Put target k source) (reference_put layout h target k source)
   reference_put_same target k source w past parts reached =
-      let of = known w reached in
+      let of = reached in
       same_then (slot_same layout past h w parts target) (λ into found is.
       same_then (slot_same layout past h w parts source) (λ from given has.
       same_then (object_at_same layout past h w parts of into.value found.value is.fit.value
@@ -177,12 +226,16 @@ module _ {F : Type 0} (layout : F → Layout) (h : HeapState F) where
       same_drop (reference_same layout past h w parts b n object k) (λ cell old reference.
       fits (record {
         answer = refl;
+        marks = (refl, refl);
+        formats = refl;
         has = record {
           past = past;
+          timed = refl;
           parts = subst (λ at. AreParts layout past (with_word h cell.word (retargeted (layout b.format) cell.value at))
               (with_graph w (graph_with_cells w.graph n.number (λ cells. with_target_cell cells k given.value)))) (sym has.fit.value)
               (reference_written layout past h w parts b n object k given.value cell old
-              (slot_may_read layout past h w parts of source.index from given has.fit).live reference);
+              (slot_may_read layout past h w parts of source.index from given has.fit).live
+              (slot_may_read layout past h w parts of source.index from given has.fit).kept reference);
         };
       })))))
 
@@ -193,26 +246,24 @@ module _ {F : Type 0} (layout : F → Layout) (h : HeapState F) where
       quiet_is_right layout says_ok h (call.Put target k source) refl refl (λ a. refl) (reference_put layout h target k source) result after
       (reference_put_same target k source)
 
-  reference_got_same : (target source : Slot) (k : ℕ)
-      → ComesToTheSame layout says_ok h (call.Get target source k) (reference_got layout h target source k)
-  reference_got_same target source k w past parts reached =
-      let of = known w reached in
+  -- if the object of the source is black, as after a read barrier in its segment, what is read is the address that its object has now
+  pub reference_got_same : (target source : Slot) (k : ℕ) (w : World) (past : Past) → AreParts layout past h w → IsKnown past.time w
+      → ((n : Numbered Object) → IsFoundIn w source n
+      → is_black past.time.condemned past.time.colours n.number ≡ true)
+      → Same (Leads layout says_ok h past w) (reference_got layout h target source k) (act_get w w target source k)
+  reference_got_same target source k w past parts of black =
       same_then (slot_same layout past h w parts target) (λ into found is.
-      object_again layout past h w parts of source k (λ target. with_graph w (with_slot w.graph found target)) (λ b n object.
-      same_then (reference_same layout past h w parts b n object k) (λ cell old reference.
+      object_again layout past h w parts of source k (λ target. with_graph w (with_slot w.graph found target)) (λ b n object in_slot.
+      same_then (fixed_reference_same layout past h w parts b n object k (black n in_slot)) (λ cell old reference.
       fits (record {
         answer = refl;
+        marks = (refl, refl);
+        formats = refl;
         has = record {
           past = past;
+          timed = refl;
           parts = slot_written layout past h w parts target.index into found ((layout b.format).target cell.value) old is.fit
               (target_is (layout b.format) (object_lawful layout past h w parts b n object) cell.value (address_of_target w.addresses old)
               reference.tag reference.low (target_address layout past h w parts old) reference.value);
         };
       }))))
-
-  pub reference_got_right : (target source : Slot) (k : ℕ) (result : Checked (Unit {0})) (after : HeapState F)
-      → Comes h (reference_got layout h target source k) result after
-      → IsRight layout h (call.Get target source k) [] (answer_to says_ok result) after
-  reference_got_right target source k result after =
-      quiet_is_right layout says_ok h (call.Get target source k) refl refl (λ a. refl) (reference_got layout h target source k) result after
-      (reference_got_same target source k)

@@ -1,7 +1,6 @@
 -- Calls that change nothing: right where what they read and the model's act come to the same answer.
 use Rattle.std.proofs.Common.{◌≡◌, Bool, true, false, refl, sym, ap, subst, [], Ok, Err}
 use Rattle.mps_format.specs.Layout.{Layout}
-use Rattle.mps_changes.specs.Change.{makes_arena}
 use Rattle.mps_laws.proofs.Same as same
 use Rattle.mps_laws.proofs.Same.{Same, fits}
 use Rattle.mps_model.specs.declared.call.Call.{Call}
@@ -13,10 +12,12 @@ use Rattle.mps_model.specs.World.{World}
 use Rattle.mps_heap_spec.specs.Coming.{Outcome, Comes}
 use Rattle.mps_heap_spec.specs.State.{HeapState}
 use Rattle.mps_refinement.specs.RightStep.{IsRight}
-use Rattle.mps_refinement.specs.StandsFor.{AreParts, IsReached, Past}
-use Rattle.mps_refinement.proofs.Worlds.RestingActs.{may_move}
+use Rattle.mps_refinement.specs.StandsFor.{AreParts, Past}
 pub use Rattle.mps_refinement.specs.Answering.{says_bool}
 use Rattle.mps_refinement.proofs.Worlds.Steps.{Leads, answer_to, quiet_is_right}
+use Rattle.mps_refinement.proofs.Worlds.RunningActs.{is_poke}
+use Rattle.mps_refinement.specs.QuietCalls.{never_moves}
+use Rattle.mps_refinement.proofs.Worlds.Known.{IsKnown}
 
 -- ---- answers
 
@@ -55,15 +56,17 @@ module _ {F : Type 0} (layout : F → Layout) {A : Type 0} (says : A → Answer)
   reading_comes (Err why) = record { answer = refl; state = refl }
 
   reading_leads : (w : World) (past : Past) → AreParts layout past h w → (x : Checked A) (y : Checked Act) → Same (IsReading w says) x y
-      → Same (Leads layout says) (reading x) y
+      → Same (Leads layout says h past w) (reading x) y
   reading_leads w past parts x y (fits is) = fits (record {
     answer = ap (λ (a : Act). a.answer) is;
-    has = record { past = past; parts = subst (AreParts layout past h) (sym (ap (λ (a : Act). a.world) is)) parts };
+    marks = (refl, refl);
+    formats = ap (λ (a : Act). a.world.formats) is;
+    has = record { past = past; timed = refl; parts = subst (AreParts layout past h) (sym (ap (λ (a : Act). a.world) is)) parts };
   })
   reading_leads w past parts x y same.refused = same.refused
 
-  pub reading_is_right : may_move c ≡ false → makes_arena c ≡ false → ((a : A) → is_unsupported (says a) ≡ false) → (x result : Checked A)
-      → ((w : World) (past : Past) → AreParts layout past h w → IsReached w → Same (IsReading w says) x (act false w w c))
+  pub reading_is_right : never_moves c ≡ true → is_poke c ≡ false → ((a : A) → is_unsupported (says a) ≡ false) → (x result : Checked A)
+      → ((w : World) (past : Past) → AreParts layout past h w → IsKnown past.time w → Same (IsReading w says) x (act false w w c))
       → result ≡ x → IsRight layout h c [] (answer_to says result) h
   reading_is_right quiet arena each x result reads is =
       subst (λ r. IsRight layout h c [] (answer_to says r) h) (sym is)

@@ -9,7 +9,7 @@ use Rattle.mps_base.specs.declared.names.Slot.{Slot}
 use Rattle.mps_base.specs.declared.refusal.Refusal.TheVariants as refusal
 use Rattle.mps_buffer.specs.declared.point.Held.{Held}
 use Rattle.mps_format.specs.Layout.{Layout}
-use Rattle.mps_trace_laws.specs.Image.Image.{IsFixedWord, no_colours}
+use Rattle.mps_trace_laws.specs.Image.Image.{IsFixedWord}
 use Rattle.mps_laws.proofs.Same.{Same, fits, same_then, same_required}
 use Rattle.mps_laws.proofs.Sound.SoundGraph.{IsSoundGraph, PassesOrNull}
 use Rattle.mps_model.specs.declared.call.Call.TheVariants as call
@@ -35,12 +35,14 @@ use Rattle.mps_refinement.specs.StandsFor.{AreParts, IsHeld, Past, address_of_ta
 use Rattle.mps_refinement.proofs.Lookups.Cells.{IsReference, IsTargetAddress, number_cell_same, reference_cell_same, retargeted_is}
 use Rattle.mps_refinement.proofs.Lookups.Found.{same_drop}
 use Rattle.mps_refinement.proofs.Lookups.HeldCells.{block_of_held, held_cells, held_is_block, held_lawful, held_same, held_words}
-use Rattle.mps_refinement.proofs.Worlds.Known.{known}
+use Rattle.mps_refinement.proofs.Worlds.Known.{is_kept_at}
 use Rattle.mps_refinement.proofs.Lookups.LiveObjects.{reference_word, slot_passes}
 use Rattle.mps_refinement.proofs.Lookups.Lookups.{IsPointFound, point_same, slot_same}
-use Rattle.mps_refinement.proofs.Worlds.ReachedGraph.{reached_graph}
-use Rattle.mps_refinement.proofs.Worlds.Steps.{HasParts, Leads, quiet_is_right}
+use Rattle.mps_refinement.proofs.Worlds.Steps.{HasParts, Leads, quiet_is_right, KeepsMarks}
 use Rattle.mps_refinement.proofs.Parts.WrittenReservation.{cell_is_fixed, number_is_fixed, reference_is_fixed, reservation_parts, target_address, target_lives}
+
+abbrev ok : Answer
+ok = Rattle.mps_model.specs.Answer.Replied Rattle.mps_model.specs.declared.reply.Reply.TheVariants.Ok
 
 -- an `init` says `ok`
 abbrev says : Unit {0} → Answer
@@ -53,33 +55,48 @@ module _ {F : Type 0} (layout : F → Layout) (past : Past) (h : HeapState F) (w
   -- a cell and its word are written, and nothing where a flip ended the reservation
   pub written_or_not : (i : ℕ) (new : Cell) (cells : List Cell) (word value : ℕ) → cells ≡ slice_set r.cells i new → i < length r.cells
       → word ≡ word_of held.at.0 + i
-      → (r.is_doomed ≡ false → IsFixedWord [] w.addresses no_colours r.head new value)
-      → Leads layout says (record { answer = tt; state = with_reserved_word layout h held word value })
-      (record { answer = Rattle.mps_refinement.proofs.Worlds.Reserved.ok; world = model.with_reserved_cells w n r cells })
+      → (r.is_doomed ≡ false → IsFixedWord past.time.condemned w.addresses past.time.colours r.head new value)
+      → Leads layout says h past w (record { answer = tt; state = with_reserved_word layout h held word value })
+      (record { answer = ok; world = model.with_reserved_cells w n r cells })
   written_or_not i new cells word value cells_are within word_is fixed =
       let flips = parts.point_flips in
       let doomed : r.is_doomed ≡ not (held.flips == h.points.flips) = is.doomed ∙ ap (λ f. not (held.flips == f)) (sym flips) in
-      record { answer = refl; has = of_flip (held.flips == h.points.flips) refl doomed }
+      record {
+        answer = refl;
+        marks = marks_if (held.flips == h.points.flips);
+        formats = formats_if r.is_doomed;
+        has = of_flip (held.flips == h.points.flips) refl doomed;
+      }
     where
+      marks_if : (b : Bool) → KeepsMarks h.segs (if b then with_word h word value else h).segs
+      marks_if true = (refl, refl)
+      marks_if false = (refl, refl)
+
+      formats_if : (b : Bool)
+          → (if b then w else with_graph w (model.with_reservation w.graph n (Some (record r { cells = cells })))).formats ≡ w.formats
+      formats_if true = refl
+      formats_if false = refl
+
       of_flip : (b : Bool) → (held.flips == h.points.flips) ≡ b → r.is_doomed ≡ not b
-          → HasParts layout (if held.flips == h.points.flips then with_word h word value else h)
+          → HasParts layout past.time (if held.flips == h.points.flips then with_word h word value else h)
           (if r.is_doomed then w else with_graph w (model.with_reservation w.graph n (Some (record r { cells = cells }))))
       of_flip true e live =
-          subst (λ (b : Bool). HasParts layout (if b then with_word h word value else h)
+          subst (λ (b : Bool). HasParts layout past.time (if b then with_word h word value else h)
           (if r.is_doomed then w else with_graph w (model.with_reservation w.graph n (Some (record r { cells = cells }))))) (sym e)
-          (subst (λ (b : Bool). HasParts layout (with_word h word value)
+          (subst (λ (b : Bool). HasParts layout past.time (with_word h word value)
           (if b then w else with_graph w (model.with_reservation w.graph n (Some (record r { cells = cells }))))) (sym live)
           (record {
             past = past;
+            timed = refl;
             parts = reservation_parts layout past h w parts k.key n found.number k.value found.kept found.has found.fit held r reserved
                 open_there is live i new cells word value cells_are within word_is (fixed live);
           }))
       of_flip false e doomed =
-          subst (λ (b : Bool). HasParts layout (if b then with_word h word value else h)
+          subst (λ (b : Bool). HasParts layout past.time (if b then with_word h word value else h)
           (if r.is_doomed then w else with_graph w (model.with_reservation w.graph n (Some (record r { cells = cells }))))) (sym e)
-          (subst (λ (b : Bool). HasParts layout h
+          (subst (λ (b : Bool). HasParts layout past.time h
           (if b then w else with_graph w (model.with_reservation w.graph n (Some (record r { cells = cells }))))) (sym doomed)
-          (record { past = past; parts = parts }))
+          (record { past = past; timed = refl; parts = parts }))
 
   abbrev block : Block F
   block =
@@ -95,12 +112,12 @@ module _ {F : Type 0} (layout : F → Layout) (past : Past) (h : HeapState F) (w
 
   -- a number
   pub number_leads : (i value : ℕ)
-      → Same (Leads layout says)
+      → Same (Leads layout says h past w)
       (block_held layout h k.value held >>= (λ b. number_cell_at layout h.segs.words b i
       >>= (λ cell. coming.done (with_reserved_word layout h held cell.word value))))
       (number_at r.cells i >> done (model.with_reserved_cells w n r (slice_set r.cells i (NumberCell value))))
   number_leads i value =
-      subst (λ (x : Checked (Block F)). Same (Leads layout says)
+      subst (λ (x : Checked (Block F)). Same (Leads layout says h past w)
       (x >>= (λ b. number_cell_at layout h.segs.words b i >>= (λ cell. coming.done (with_reserved_word layout h held cell.word value))))
       (number_at r.cells i >> done (model.with_reserved_cells w n r (slice_set r.cells i (NumberCell value))))) (sym block_is)
       (same_drop (number_cell_same layout h.segs.words block r.cells
@@ -109,17 +126,17 @@ module _ {F : Type 0} (layout : F → Layout) (past : Past) (h : HeapState F) (w
       (held_words layout past h w parts sound k.key n.number k.value n.value found.kept found.has found.fit.pool held r reserved open_there
       found.fit.memory.reserved_at is) i)
       (λ cell old at. fits (written_or_not i (NumberCell value) (slice_set r.cells i (NumberCell value)) cell.word value refl
-      at.is.within at.is.word (λ live. number_is_fixed w.addresses r.head value))))
+      at.is.within at.is.word (λ live. number_is_fixed past.time.condemned past.time.colours w.addresses r.head value))))
 
   -- a reference
   pub reference_leads : (i : ℕ) (from : Address) (target : Option ℕ) → from ≡ address_of_target w.addresses target
-      → PassesOrNull (is_live w) target
-      → Same (Leads layout says)
+      → PassesOrNull (is_live w) target → PassesOrNull (is_kept_at past.time) target
+      → Same (Leads layout says h past w)
       (block_held layout h k.value held >>= (λ b. reference_cell_at layout h.segs.words b i
       >>= (λ cell. coming.done (with_reserved_word layout h held cell.word (ours.retargeted (layout b.format) cell.value from)))))
       (reference_at r.cells i >> done (model.with_reserved_cells w n r (with_target_cell r.cells i target)))
-  reference_leads i from target from_is live_target =
-      subst (λ (x : Checked (Block F)). Same (Leads layout says)
+  reference_leads i from target from_is live_target kept_target =
+      subst (λ (x : Checked (Block F)). Same (Leads layout says h past w)
       (x >>= (λ b. reference_cell_at layout h.segs.words b i
       >>= (λ cell. coming.done (with_reserved_word layout h held cell.word (ours.retargeted (layout b.format) cell.value from)))))
       (reference_at r.cells i >> done (model.with_reserved_cells w n r (with_target_cell r.cells i target)))) (sym block_is)
@@ -130,11 +147,11 @@ module _ {F : Type 0} (layout : F → Layout) (past : Past) (h : HeapState F) (w
       found.fit.memory.reserved_at is) i) (λ cell old at. fits (retargeted_leads cell old at)))
     where
       retargeted_leads : (cell : CellFound) (old : Option ℕ) → IsReference h.segs.words block.at r.cells i cell old
-          → Leads layout says (record {
+          → Leads layout says h past w (record {
             answer = tt;
             state = with_reserved_word layout h held cell.word (ours.retargeted (layout block.format) cell.value from);
           }) (record {
-            answer = Rattle.mps_refinement.proofs.Worlds.Reserved.ok;
+            answer = ok;
             world = model.with_reserved_cells w n r (with_target_cell r.cells i target);
           })
       retargeted_leads cell old at =
@@ -142,10 +159,11 @@ module _ {F : Type 0} (layout : F → Layout) (past : Past) (h : HeapState F) (w
           (ours.retargeted (layout block.format) cell.value from)
           (ap (λ o. option_map_or (λ c. slice_set r.cells i (retargeted c target)) o r.cells) at.is.cell)
           at.is.within at.is.word
-          (λ live. reference_is_fixed w.addresses r.head at.tag (ours.retargeted (layout block.format) cell.value from) target
-          (new_word live) live_target)
+          (λ live. reference_is_fixed past.time.condemned past.time.colours w.addresses r.head at.tag
+          (ours.retargeted (layout block.format) cell.value from) target
+          (new_word live) live_target kept_target)
         where
-          fixed : r.is_doomed ≡ false → IsFixedWord [] w.addresses no_colours r.head
+          fixed : r.is_doomed ≡ false → IsFixedWord past.time.condemned w.addresses past.time.colours r.head
               (ReferenceCell old at.tag) (slice_index h.segs.words (word_of held.at.0 + i))
           fixed live =
               cell_is_fixed layout past h w parts k.key n found.number k.value found.kept found.has found.fit held r reserved open_there is
@@ -181,7 +199,7 @@ module _ {F : Type 0} (layout : F → Layout) (h : HeapState F) (name : Name) (i
       same_then (point_same layout past h w parts name) (λ k n found.
       same_then (same_required refusal.NotOpen (held_same (length w.flips) found.fit.memory.reserved_at k.value.reservation
       n.value.reservation found.fit.reservation)) (λ held r is.
-      number_leads layout past h w parts (reached_graph w reached) k n found held r is.0 is.1 is.2 i value))) comes
+      number_leads layout past h w parts reached.graph k n found held r is.0 is.1 is.2 i value))) comes
 
   pub reference_init_is_right : (source : Slot) (result : Checked (Unit {0})) (after : HeapState F)
       → Comes h (reference_initialised layout h name i source) result after
@@ -194,7 +212,8 @@ module _ {F : Type 0} (layout : F → Layout) (h : HeapState F) (name : Name) (i
       same_then (slot_same layout past h w parts source) (λ from target slot.
       same_then (same_required refusal.NotOpen (held_same (length w.flips) found.fit.memory.reserved_at k.value.reservation
       n.value.reservation found.fit.reservation)) (λ held r is.
-      reference_leads layout past h w parts (reached_graph w reached) k n found held r is.0 is.1 is.2 i from.value target.value
+      reference_leads layout past h w parts reached.graph k n found held r is.0 is.1 is.2 i from.value target.value
       slot.fit.value
-      (slot_passes layout past h w parts (known w reached) (is_live w) (known w reached).held.slots source.index from target slot.fit)))))
+      (slot_passes layout past h w parts reached (is_live w) reached.held.slots source.index from target slot.fit)
+      (slot_passes layout past h w parts reached (is_kept_at past.time) reached.kept.slots source.index from target slot.fit)))))
       comes

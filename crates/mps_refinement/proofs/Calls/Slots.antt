@@ -18,7 +18,7 @@ use Rattle.mps_heap_spec.specs.State.{HeapState}
 use Rattle.mps_refinement.specs.RightStep.{IsRight}
 use Rattle.mps_refinement.specs.StandsFor.{AreParts, Past, address_of_target}
 use Rattle.mps_refinement.proofs.Lookups.Found.{some_there}
-use Rattle.mps_refinement.proofs.Worlds.Known.{IsKnown, known}
+use Rattle.mps_refinement.proofs.Worlds.Known.{IsKnown}
 use Rattle.mps_refinement.proofs.Lookups.LiveObjects.{MayRead, different, slot_may_read}
 use Rattle.mps_refinement.proofs.Lookups.Lookups.{slot_same}
 use Rattle.mps_refinement.proofs.Parts.PartsWritten.{slot_written}
@@ -28,7 +28,7 @@ use Rattle.mps_refinement.proofs.Worlds.Steps.{ComesToTheSame, answer_to, quiet_
 -- ---- addresses and targets
 
 module _ {F : Type 0} (layout : F → Layout) (past : Past) (h : HeapState F) (w : World) (parts : AreParts layout past h w)
-    (of : IsKnown w) where
+    (of : IsKnown past.time w) where
   address_of_live : (id : ℕ) (at : Address) → entry_at w.addresses id ≡ Some at → address_of_target w.addresses (Some id) ≡ at
   address_of_live id at e = ap (λ o. option_map_or (λ x. x) o 0) e
 
@@ -36,7 +36,7 @@ module _ {F : Type 0} (layout : F → Layout) (past : Past) (h : HeapState F) (w
   not_null id at e = (parts.image.placed.address id at e).not_null
 
   -- two addresses are one where the targets are one
-  pub same_addresses : (x y : Option ℕ) → MayRead w x → MayRead w y
+  pub same_addresses : (x y : Option ℕ) → MayRead past.time w x → MayRead past.time w y
       → (address_of_target w.addresses x == address_of_target w.addresses y) ≡ same_target x y
   same_addresses None None p q = refl
   same_addresses None (Some id) p q =
@@ -63,7 +63,7 @@ module _ {F : Type 0} (layout : F → Layout) (past : Past) (h : HeapState F) (w
             ∙ sym (ne_eqb id other n)
       ]
 
-  pub null_address : (x : Option ℕ) → MayRead w x → (address_of_target w.addresses x == 0) ≡ is_none x
+  pub null_address : (x : Option ℕ) → MayRead past.time w x → (address_of_target w.addresses x == 0) ≡ is_none x
   null_address None p = refl
   null_address (Some id) p =
       let at = some_there (entry_at w.addresses id) p.live in
@@ -79,8 +79,11 @@ module _ {F : Type 0} (layout : F → Layout) (h : HeapState F) where
       same_then (slot_same layout past h w parts source) (λ from given has.
       fits (record {
         answer = refl;
+        marks = (refl, refl);
+        formats = refl;
         has = record {
           past = past;
+          timed = refl;
           parts = slot_written layout past h w parts target.index into found from.value given.value is.fit has.fit.value;
         };
       })))
@@ -97,7 +100,9 @@ module _ {F : Type 0} (layout : F → Layout) (h : HeapState F) where
       same_then (slot_same layout past h w parts slot) (λ into found is.
       fits (record {
         answer = refl;
-        has = record { past = past; parts = slot_written layout past h w parts slot.index into found 0 None is.fit refl };
+        marks = (refl, refl);
+        formats = refl;
+        has = record { past = past; timed = refl; parts = slot_written layout past h w parts slot.index into found 0 None is.fit refl };
       }))
 
   pub cleared_right : (slot : Slot) (result : Checked (Unit {0})) (after : HeapState F) → Comes h (after_clear h slot) result after
@@ -110,7 +115,7 @@ module _ {F : Type 0} (layout : F → Layout) (h : HeapState F) where
   are_same_right slot other result =
       reading_is_right layout says_bool h (call.Same slot other) refl refl yes_or_no_supported (are_same h slot other) result
       (λ w past parts reached.
-      let of = known w reached in
+      let of = reached in
       same_then (slot_same layout past h w parts slot) (λ one found is.
       same_then (slot_same layout past h w parts other) (λ two given has.
       tells_same w (one.value == two.value) (same_target found.value given.value)
@@ -123,7 +128,7 @@ module _ {F : Type 0} (layout : F → Layout) (h : HeapState F) where
   is_null_right slot result =
       reading_is_right layout says_bool h (call.Null slot) refl refl yes_or_no_supported (is_null h slot) result
       (λ w past parts reached.
-      let of = known w reached in
+      let of = reached in
       same_then (slot_same layout past h w parts slot) (λ one found is.
       tells_same w (one.value == 0) (is_none found.value)
       (ap (λ (a : ℕ). a == 0) is.fit.value

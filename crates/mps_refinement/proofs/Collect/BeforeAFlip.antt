@@ -15,7 +15,7 @@ use Rattle.mps_heap_spec.specs.Collecting.{can_collect, is_empty, most_flips}
 use Rattle.mps_trace.specs.PoolsCollecting.{IsTraceOf}
 use Rattle.mps_format.specs.Pools.{is_moved_or_manual}
 use Rattle.mps_heap_spec.specs.State.{HeapState}
-use Rattle.mps_refinement.specs.StandsFor.{AreParts, AreSlots, IsReached, Past}
+use Rattle.mps_refinement.specs.StandsFor.{AreParts, AreSlots, IsReached, Past, Rests}
 use Rattle.mps_refinement.proofs.Collect.CollectRight.{IsBefore}
 use Rattle.mps_refinement.proofs.Collect.KeysInOrder.{keys_in_order}
 use Rattle.mps_refinement.proofs.Collect.LiveIsFew.{moves_are_few}
@@ -26,7 +26,8 @@ use Rattle.mps_refinement.proofs.Collect.RootsHeld.{roots_held, rows, words_show
 use Rattle.mps_refinement.proofs.Collect.SegmentsAtRest.{blocks_in_order, segments_at_rest}
 
 module _ {F : Type 0} (layout : F → Layout) (past : Past) (h : HeapState F) (w : World) (parts : AreParts layout past h w)
-    (reached : IsReached w) (marked : IsMarked h.segs.grains h.segs.marks h.segs.condemned h.segs.summaries)
+    (reached : IsReached w) (rest : Rests past.time h.segs w)
+    (marked : IsMarked h.segs.grains h.segs.marks h.segs.condemned h.segs.summaries)
     (can : can_collect h ≡ true) (m : Moves) (room : most_moves h.segs.grains ≤ m.spare) where
   -- whatever words are at hand for its pools
   pub stands_before : (t : TraceState F) → IsTraceOf h.pools t → StandsBefore layout t h.segs m h.points w
@@ -35,10 +36,10 @@ module _ {F : Type 0} (layout : F → Layout) (past : Past) (h : HeapState F) (w
       let none = is_empty h.finals.registered in
       let first = and_parts (moved && none) (nat_lt h.points.flips most_flips) can in
       let can_move = and_parts moved none first.0 in
-      let few = moves_are_few layout past h w parts reached (blocks_in_order layout past h w parts reached) in
+      let few = moves_are_few layout past h w parts reached (blocks_in_order layout past h w parts reached rest) in
       record {
-        plain = plain_at_rest layout past h w parts reached can_move.0 can_move.1;
-        segments = segments_at_rest layout past h w parts reached marked;
+        plain = plain_at_rest layout past h w parts reached rest.none can_move.0 can_move.1;
+        segments = segments_at_rest layout past h w parts reached rest marked;
         pools = pools_known layout h.pools t w parts.pools parts.chains of can_move.0;
         reservations = reservations_are_open layout past h w parts;
         room = omega (arith, few, room);

@@ -1,4 +1,5 @@
 -- A `collect` of a heap at rest is right: its step is legal, and the heap stands for the world after it.
+use Rattle.mps_refinement.proofs.Parts.Resting.{at_rest}
 use Rattle.std.proofs.Common.{◌≡◌, ◌∙◌, ℕ, zero, suc, ◌<◌, Bool, true, false, refl, sym, ap, subst, List, [], ◌∷◌, ◌++◌, length, Option, Some, None, is_some, inl, inr, arith}
 use Rattle.std.proofs.lemmas.Bool.{false≢true, true≢false}
 use Rattle.std.proofs.lemmas.Option.{same_Some, slice_get_within}
@@ -40,10 +41,10 @@ use Rattle.mps_abstract.proofs.Rows.{last_units_done}
 use Rattle.mps_abstract.proofs.WholeCollections.WholeBegins.{nothing_remembered, begun_running}
 use Rattle.mps_abstract.proofs.WholeCollections.WholeEnds.{a_whole_collection}
 use Rattle.mps_refinement.specs.RightStep.{IsRightIn, step_of}
-use Rattle.mps_refinement.specs.StandsFor.{AreParts, ArePools, IsPool, IsReached, Past, StandsFor}
+use Rattle.mps_refinement.specs.StandsFor.{AreParts, ArePools, IsPool, IsReached, Past, Rests, StandsFor, time_at_rest}
 use Rattle.mps_refinement.proofs.Worlds.Reached.{reached_well_formed, reached_live}
 use Rattle.mps_refinement.proofs.Worlds.RestingActs.{resting_sound}
-use Rattle.mps_refinement.proofs.Worlds.Steps.{HasParts, moving_is_right}
+use Rattle.mps_refinement.proofs.Worlds.Steps.{HasParts, moved_to_rest}
 use Rattle.mps_refinement.specs.Collect.Leaving.{IsPlain, IsCollected, AreInPlace}
 use Rattle.mps_refinement.specs.Collect.Standing.{IsCollectedHeap, world_collected}
 use Rattle.mps_refinement.proofs.Collect.Leavings.{a_collection_moves_objects}
@@ -97,13 +98,13 @@ module _ {F : Type 0} (layout : F → Layout) where
           ap (λ (o : Option ℕ). option_map_or (λ on. on == chain) o false)
           (sym (ap (λ (x : Pool). x.chain) same) ∙ no_chain w.formats p.0 is.0 is.2)
 
-  pub may_begin : (past : Past) (h : HeapState F) (w : World) → AreParts layout past h w → IsReached w → IsAtRest w
-  may_begin past h w parts reached =
+  pub may_begin : (past : Past) (h : HeapState F) (w : World) → AreParts layout past h w → IsReached w → w.collection ≡ None → IsAtRest w
+  may_begin past h w parts reached none =
       let live = reached_live w reached in
       let referred : list_all (is_live w) (flat_map (targets w.graph) (live_ids w)) ≡ true =
-      sym (ap (λ o. is_some o || list_all (is_live w) (flat_map (targets w.graph) (live_ids w))) parts.at_rest) ∙ live.referred in
+      sym (ap (λ o. is_some o || list_all (is_live w) (flat_map (targets w.graph) (live_ids w))) none) ∙ live.referred in
       record {
-        none_runs = parts.at_rest;
+        none_runs = none;
         well_formed = reached_well_formed w reached;
         held_live = λ id held. list_all-contains (is_live w) (ids_of_client w.graph) id live.client held;
         referred_live = λ id target there refers.
@@ -123,10 +124,12 @@ module _ {F : Type 0} (layout : F → Layout) where
         → is_live (world_after_moves w ms) id ≡ true
     pub referred_live : AllReferredLive (world_after_moves w ms).graph (is_live (world_after_moves w ms))
 
-  module _ (past : Past) (h after : HeapState F) (w : World) (parts : AreParts layout past h w) (reached : IsReached w) (plain : IsPlain w)
-      (made : WereMadeBefore (length w.flips) h.points) (acted : Collecting) (ms : List Move) (c : IsCollection w acted ms) where
+  module _ (past : Past) (h after : HeapState F) (w : World) (parts : AreParts layout past h w) (reached : IsReached w)
+      (timed : past.time ≡ time_at_rest) (plain : IsPlain w) (made : WereMadeBefore (length w.flips) h.points) (acted : Collecting)
+      (ms : List Move) (c : IsCollection w acted ms) where
     abbrev v : World
-    v = parts_of.v layout past h after w parts (reached_well_formed w reached) plain.none_registered made acted c.leaves.but_moved.addresses
+    v = parts_of.v layout past h after w parts timed (reached_well_formed w reached) plain.none_registered made acted
+        c.leaves.but_moved.addresses
         c.leaves.but_moved.segments c.leaves.but_moved.tails
 
     none_runs : c.leaves.but_moved.collection ≡ None
@@ -160,7 +163,7 @@ module _ {F : Type 0} (layout : F → Layout) where
       live_then = record {
         client = list_all-members (is_live v) (ids_of_client v.graph) held_then;
         blocks = list_all-members (is_live v) (ids_in_blocks v.graph) (λ id there.
-            ap is_some (places_then.manual id (parts_of.places_same layout past h after w parts (reached_well_formed w reached)
+            ap is_some (places_then.manual id (parts_of.places_same layout past h after w parts timed (reached_well_formed w reached)
             plain.none_registered made acted c.leaves.but_moved.addresses c.leaves.but_moved.segments c.leaves.but_moved.tails heap_then
             places_then id there))
             ∙ list_all-contains (is_live w) (ids_in_blocks w.graph) id (reached_live w reached).blocks there);
@@ -171,22 +174,29 @@ module _ {F : Type 0} (layout : F → Layout) where
 
       pub collection_is_right : (line : ℕ) → IsRightIn layout w (step_of line call.Collect ms (Replied reply.Ok)) after
       collection_is_right line =
-          moving_is_right layout w line call.Collect ms (Replied reply.Ok) after (done (world_collected w ms)) refl reached (record {
-            moving = record {
-              legal = c.moves_done.legal;
-              due = c.moves_done.due;
-              comes = refl;
-              answers = refl;
-              marked = tt;
-              supported = refl;
-              sound = subst IsSound (sym world_is) (resting_sound v refl live_then);
-            };
-            has = subst (λ u. HasParts layout after u) (sym world_is) (record {
-              past = past;
-              parts = parts_of.collected_parts layout past h after w parts (reached_well_formed w reached) plain.none_registered made acted
-                  c.leaves.but_moved.addresses c.leaves.but_moved.segments c.leaves.but_moved.tails heap_then places_then;
-            });
+          moved_to_rest layout past.time w line call.Collect ms (Replied reply.Ok) after (done (world_collected w ms)) refl
+          (ap (λ (u : World). u.formats) world_is) reached
+          (record {
+            legal = c.moves_done.legal;
+            due = c.moves_done.due;
+            comes = refl;
+            answers = refl;
+            marked = tt;
+            supported = refl;
+            sound = subst IsSound (sym world_is) (resting_sound v refl live_then);
           })
+          (subst (λ u. HasParts layout past.time after u) (sym world_is) (record {
+            past = past;
+            timed = refl;
+            parts = parts_of.collected_parts layout past h after w parts timed (reached_well_formed w reached) plain.none_registered made
+                acted c.leaves.but_moved.addresses c.leaves.but_moved.segments c.leaves.but_moved.tails heap_then places_then;
+          }))
+          (subst (λ u. Rests past.time after.segs u) (sym world_is) (record {
+            none = refl;
+            time = timed;
+            not_condemned = heap_then.not_condemned;
+            not_kept = heap_then.not_kept;
+          }))
 
   -- ---- where something is condemned
 
@@ -216,8 +226,9 @@ module _ {F : Type 0} (layout : F → Layout) where
       → IsCollectedHeap st.past w h after y.world.addresses (world_collected w (flip_act w Everything ++ later))
       → IsRightIn layout w (step_of line call.Collect (flip_act w Everything ++ later) (Replied reply.Ok)) after
   collect_is_right h after w line first later y count st plain made some fixed ends heap =
-      let rest = may_begin st.past h w st.parts st.reached in
-      collection_is_right st.past h after w st.parts st.reached plain made y (flip_act w Everything ++ later)
+      let now = at_rest st.time in
+      let rest = may_begin st.past h w st.parts st.reached now.none in
+      collection_is_right st.past h after w st.parts st.reached now.time plain made y (flip_act w Everything ++ later)
       (ends_collection w first later y count rest some fixed ends plain) heap line
 
   -- ---- where nothing is condemned
@@ -246,5 +257,7 @@ module _ {F : Type 0} (layout : F → Layout) where
       → IsCollectedHeap st.past w h after w.addresses (world_collected w (flip_act w Everything))
       → IsRightIn layout w (step_of line call.Collect (flip_act w Everything) (Replied reply.Ok)) after
   collect_of_nothing_is_right h after w line st plain made nothing heap =
-      collection_is_right st.past h after w st.parts st.reached plain made (collecting_after_flip w Everything []) (flip_act w Everything)
-      (nothing_collection w (may_begin st.past h w st.parts st.reached) nothing) heap line
+      let now = at_rest st.time in
+      collection_is_right st.past h after w st.parts st.reached now.time plain made (collecting_after_flip w Everything [])
+      (flip_act w Everything)
+      (nothing_collection w (may_begin st.past h w st.parts st.reached now.none) nothing) heap line

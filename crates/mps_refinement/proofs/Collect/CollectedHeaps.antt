@@ -1,4 +1,5 @@
 -- What a collection of everything leaves of a heap, and that it is right where it does.
+use Rattle.mps_refinement.proofs.Parts.Registered.{none_there}
 use Rattle.std.proofs.Common.{◌≡◌, ◌∙◌, ℕ, false, sym, ap, List, map, Option}
 use Rattle.mps_base.specs.Address.{Address}
 use Rattle.mps_base.specs.Trail.{Moves}
@@ -70,7 +71,8 @@ module _ {F : Type 0} (layout : F → Layout) (past : Past) (h : HeapState F) (w
         order = left.roots.order;
         tables_there = still_there h.roots h'.roots left.roots;
         messages = left.messages;
-        registered = left.registered ∙ (parts.registered ∙ ap (map (address_of_id w.addresses)) plain.none_registered);
+        registered = left.registered
+            ∙ none_there w.addresses past.time.at_flip h.finals.registered w.graph.registered parts.registered plain.none_registered;
         points = ap (λ (x : HeapState F). x.points) collected.state;
         epochs = ap (λ (x : HeapState F). x.epochs) collected.state ∙ ap (ld.epochs_after_flip h.epochs) same_zones;
         parked = ap (λ (x : HeapState F). x.arena) collected.state;

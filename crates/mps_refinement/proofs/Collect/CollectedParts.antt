@@ -1,4 +1,5 @@
 -- The parts of a heap after a collection of everything stand for the world after it.
+use Rattle.mps_refinement.proofs.Parts.Registered.{none_registered_now}
 use Rattle.std.proofs.Common.{◌≡◌, ◌∙◌, ℕ, ◌+◌, ◌≤◌, ◌<◌, true, false, refl, sym, ap, subst, List, [], length, map, Option, Some, None, IsSome, is_some}
 use Rattle.std.proofs.lemmas.Bool.{false≢true}
 use Rattle.std.specs.Prelude.{Bool, option_map, not}
@@ -24,7 +25,7 @@ use Rattle.mps_abstract.specs.Collecting.{Collecting}
 use Rattle.mps_names.specs.State.{thing_named}
 use Rattle.mps_heap_spec.specs.State.{HeapState}
 use Rattle.mps_format.specs.Pools.{size_of_pool}
-use Rattle.mps_refinement.specs.StandsFor.{AreParts, ArePools, IsPoint, Past, address_of_id, state_of}
+use Rattle.mps_refinement.specs.StandsFor.{AreParts, ArePools, IsPoint, Past, StandsAt, state_of, time_at_rest}
 use Rattle.mps_refinement.specs.Numbering.{AreNumbered}
 use Rattle.mps_refinement.proofs.Parts.Named.{ThingsStay, named_alike}
 use Rattle.mps_refinement.proofs.Parts.Numbering.{kept_alike}
@@ -35,6 +36,7 @@ use Rattle.mps_refinement.proofs.Collect.SameAddresses.{same_ids, same_places, t
 use Rattle.mps_refinement.proofs.Collect.FlippedPoints.{points_counted, points_flipped, one_flip_more}
 
 module _ {F : Type 0} (layout : F → Layout) (past : Past) (h after : HeapState F) (w : World) (parts : AreParts layout past h w)
+    (timed : past.time ≡ time_at_rest)
     (formed : IsWellFormed w) (none_registered : w.graph.registered ≡ []) (made : WereMadeBefore (length w.flips) h.points)
     (acted : Collecting) (addresses : List (Option Address)) (segments : List Segment)
     (tails : List world.Tail) where
@@ -96,18 +98,16 @@ module _ {F : Type 0} (layout : F → Layout) (past : Past) (h after : HeapState
       grains = heap.grains ∙ parts.grains;
       limit = heap.limit ∙ parts.limit;
       segments = heap.segments;
-      image = heap.image;
-      resting = record {
-        at_most = subst (λ n. n ≤ max_grains) (sym heap.grains) parts.resting.at_most;
-        not_condemned = heap.not_condemned;
-        not_kept = heap.not_kept;
+      image = subst (λ t. StandsAt t after.segs v) (sym timed) heap.image;
+      arena = record {
+        at_most = subst (λ n. n ≤ max_grains) (sym heap.grains) parts.arena.at_most;
         within = λ key p held is reserved.
             let was = was_point h.points key p (sym (ap (λ s. point_at s key) heap.points) ∙ is) in
             subst (λ n. word_of held.at.0 + held.words ≤ words_of_arena n) (sym heap.grains)
-            (parts.resting.within key was.0 held was.1 (ap (λ (q : Point). q.reservation) was.2 ∙ reserved));
+            (parts.arena.within key was.0 held was.1 (ap (λ (q : Point). q.reservation) was.2 ∙ reserved));
         aligned = λ key p held is reserved.
             let was = was_point h.points key p (sym (ap (λ s. point_at s key) heap.points) ∙ is) in
-            parts.resting.aligned key was.0 held was.1 (ap (λ (q : Point). q.reservation) was.2 ∙ reserved);
+            parts.arena.aligned key was.0 held was.1 (ap (λ (q : Point). q.reservation) was.2 ∙ reserved);
       };
       tables = tables_same acted.world.addresses addresses past.table_number (kept after.roots.tables) w.graph.tables
           (λ id there. places.held id (contains_left (ids_in_slots w.graph) w.graph.messages id there)) heap.tables;
@@ -120,7 +120,8 @@ module _ {F : Type 0} (layout : F → Layout) (past : Past) (h after : HeapState
       slots_counted = heap.live_slots ∙ parts.slots_counted;
       points = points_now;
       points_counted = heap.live_points ∙ (parts.points_counted ∙ sym (points_counted w.graph.points));
-      registered = heap.registered ∙ sym (ap (map (address_of_id addresses)) none_registered);
+      registered = none_registered_now addresses past.time.at_flip after.finals.registered w.graph.registered heap.registered
+          none_registered;
       messages = heap.messages ∙ same_ids acted.world.addresses addresses w.graph.messages
           (λ id there. places.held id (contains_right (ids_in_slots w.graph) w.graph.messages id there));
       flips = subst (λ e. AreFlips e v.flips) (sym heap.epochs) (flips_after h.epochs w.flips (condemned_zones w Everything) parts.flips);
@@ -133,5 +134,4 @@ module _ {F : Type 0} (layout : F → Layout) (past : Past) (h after : HeapState
       chains = parts.chains;
       names = named_alike h after past w.graph.names parts.names (λ name. ap (λ ns. thing_named ns name) heap.names) stay;
       state = ap state_of (sym heap.parked);
-      at_rest = refl;
     }

@@ -1,4 +1,5 @@
 -- The call `collect` of a heap that stands for a world: it can be done, it is right, and its trail keeps its room.
+use Rattle.mps_refinement.proofs.Parts.Resting.{at_rest}
 use Rattle.std.proofs.Common.{◌≤◌}
 use Rattle.mps_base.specs.Trail.{Moves}
 use Rattle.mps_format.specs.Layout.{Layout}
@@ -21,7 +22,7 @@ use Rattle.mps_heap_spec.specs.Collecting.{CanCollectAll}
 module _ {F : Type 0} (layout : F → Layout) (h : HeapState F) (m : Moves) (may : MayCollect layout h m) where
   -- all that has to be known of it before, in each world
   known_before : (w : World) → StandsFor layout h w → (n : Moves) → most_moves h.segs.grains ≤ n.spare → IsBefore layout h n w
-  known_before w st n room = is_before layout st.past h w st.parts st.reached may.marked may.can n room
+  known_before w st n room = is_before layout st.past h w st.parts st.reached (at_rest st.time) may.marked may.can n room
 
 -- then it can, whatever the tails of its pools are
 pub a_heap_can_collect : {F : Type 0}

@@ -1,5 +1,6 @@
 -- How many objects are live at most, and how many segments are held, in an arena of so many grains: each object has a word of its own,
 -- and each segment a grain.
+use Rattle.mps_refinement.proofs.Worlds.Reached.{reached_well_formed}
 use Rattle.std.proofs.Common.{◌≡◌, ℕ, ◌+◌, ◌*◌, ◌≤◌, List, [], ◌∷◌, length, map, arith}
 use Rattle.std.proofs.lemmas.List.{length-map}
 use Rattle.mps_base.specs.Address.{words_of_grain}
@@ -31,7 +32,7 @@ module _ {F : Type 0} (layout : F → Layout) (past : Past) (h : HeapState F) (w
   pub live_is_few : length (live_ids w) ≤ words_of_grain * (w.grains + 1)
   live_is_few =
       let few = runs_are_few 0 (words_of_grain * (h.segs.grains + 1)) h.segs.blocks ascending in
-      let counted = blocks_are_counted layout h w past parts reached in
+      let counted = blocks_are_counted layout h w past parts (reached_well_formed w reached) in
       let grains = parts.grains in
       omega (arith, few, counted, grains)
 

@@ -1,5 +1,5 @@
 -- A heap at rest that can be collected stands for a plain world: nothing is registered, and no object is weak.
-use Rattle.std.proofs.Common.{◌≡◌, true, false, refl, List, [], ◌∷◌}
+use Rattle.std.proofs.Common.{None, ◌≡◌, true, false, refl, List, [], ◌∷◌}
 use Rattle.std.proofs.lemmas.Bool.{false≢true}
 use Rattle.std.specs.List.{list_all}
 use Rattle.mps_base.proofs.PoolKinds.{moving_is_not_weak}
@@ -30,16 +30,17 @@ moved_is_strong (pool.OneSize words) moved = refl
 moved_is_strong pool.AnySize moved = refl
 
 module _ {F : Type 0} (layout : F → Layout) (past : Past) (h : HeapState F) (w : World) (parts : AreParts layout past h w)
-    (reached : IsReached w) (moved : list_all is_moved_or_manual h.pools ≡ true) (none_registered : is_empty h.finals.registered ≡ true)
+    (reached : IsReached w) (none : w.collection ≡ None) (moved : list_all is_moved_or_manual h.pools ≡ true)
+    (none_registered : is_empty h.finals.registered ≡ true)
   where
     pub plain_at_rest : IsPlainAtRest w
     plain_at_rest =
         let plain = plain_heap layout past h w parts reached (empty_is h.finals.registered none_registered)
         (λ number p there. moved_is_strong p (all_at is_moved_or_manual h.pools number p moved there)) in
         record {
-          rest = may_begin layout past h w parts reached;
+          rest = may_begin layout past h w parts reached none;
           none_registered = plain.none_registered;
           none_weak = plain.none_weak;
           shaped = well_formed_is_shaped w parts.lawful (reached_well_formed w reached);
-          targets_live = targets_live w parts.at_rest (reached_sound w reached parts.at_rest);
+          targets_live = targets_live w none (reached_sound w reached none);
         }

@@ -1,4 +1,5 @@
 -- A heap stands for a plain world where nothing is registered in it and none of its pools may hold weak references.
+use Rattle.mps_refinement.proofs.Parts.Registered.{none_kept}
 use Rattle.std.proofs.Common.{◌≡◌, ◌∙◌, ℕ, Bool, true, false, refl, sym, ap, List, [], ◌∷◌, length, map, Option, Some, None, arith}
 use Rattle.std.proofs.lemmas.Bool.{false≢true, true≢false, and_parts}
 use Rattle.std.proofs.lemmas.Option.{same_Some, slice_get_within}
@@ -14,7 +15,7 @@ use Rattle.mps_heap_spec.specs.State.{HeapState}
 use Rattle.mps_format.specs.Pools.{is_weak_pool}
 use Rattle.mps_format.specs.declared.pool.Pool.{Pool}
 use Rattle.mps_format.specs.declared.pool.Pool.TheVariants as pool
-use Rattle.mps_refinement.specs.StandsFor.{AreParts, IsReached, Past, address_of_id}
+use Rattle.mps_refinement.specs.StandsFor.{AreParts, IsReached, Past}
 use Rattle.mps_refinement.proofs.Lookups.PoolKinds.{kind_of, kinds_alike}
 use Rattle.mps_refinement.proofs.Worlds.ReachedGraph.{reached_graph}
 use Rattle.mps_refinement.specs.Collect.Leaving.{IsPlain}
@@ -63,7 +64,7 @@ module _ {F : Type 0} (layout : F → Layout) where
 
     pub plain_heap : IsPlain w
     plain_heap = record {
-      none_registered = none_mapped (address_of_id w.addresses) w.graph.registered (sym none_registered ∙ parts.registered);
+      none_registered = none_kept w.addresses past.time.at_flip h.finals.registered w.graph.registered parts.registered none_registered;
       none_weak = λ id. of_object id (object_at w.graph id) refl;
     }
       where

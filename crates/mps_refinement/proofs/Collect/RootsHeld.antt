@@ -1,5 +1,7 @@
 -- What the roots of a heap at rest hold, as a flip of everything finds it: the tables in their order have the slots of the world's, and
 -- words of areas are those that the world shows.
+use Rattle.mps_laws.proofs.Sound.HeldIds.{AreHeld, of_client}
+use Rattle.mps_refinement.proofs.Worlds.Reached.{reached_live}
 use Rattle.std.proofs.Common.{◌≡◌, ◌∙◌, ℕ, zero, suc, ◌+◌, ◌<◌, Bool, true, false, refl, sym, ap, subst, List, [], ◌∷◌, ◌++◌, length, map, Option, Some, None, IsSome, inl, inr, arith}
 use Rattle.std.proofs.lemmas.List.{length-map, map-append}
 use Rattle.std.proofs.lemmas.List.Folds.{flat_map-map}
@@ -29,7 +31,6 @@ use Rattle.mps_trace_laws.specs.Begin.Begun.{AreRootsHeld}
 use Rattle.mps_refinement.specs.Numbering.{numbers_from}
 use Rattle.mps_refinement.specs.StandsFor.{AreParts, IsReached, Past, address_of_id, address_of_target, stored_word}
 use Rattle.mps_refinement.proofs.Lookups.Found.{some_there}
-use Rattle.mps_refinement.proofs.Worlds.Known.{IsKnown, known}
 use Rattle.mps_refinement.proofs.Lookups.ManualBlocks.{passes_there}
 use Rattle.mps_refinement.proofs.Parts.Ordering.{all_in_order, ordered_apart}
 use Rattle.mps_refinement.proofs.Worlds.ReachedGraph.{reached_graph}
@@ -158,8 +159,8 @@ module _ {F : Type 0} (layout : F → Layout) (past : Past) (h : HeapState F) (w
   sound : IsSoundGraph w
   sound = reached_graph w reached
 
-  knows : IsKnown w
-  knows = known w reached
+  live_held : AreHeld (is_live w) w.graph
+  live_held = of_client (is_live w) w.graph (reached_live w reached).client
 
   abbrev pub rows : List Slots
   rows = rows_in_order past.table_number h.roots.order w.graph.tables
@@ -203,7 +204,7 @@ module _ {F : Type 0} (layout : F → Layout) (past : Past) (h : HeapState F) (w
       (subst (λ (ids : Slots). AreHeldAtFlip w.addresses y items.0 ids)
       (sym (ap (λ (o : Option Slots). option_map_or (λ ids. ids) o []) found.1))
       (held_slots items.0 found.0 found.2
-      (all-at (is_live w) slots_of w.graph.tables (past.table_number key) (Some found.0) knows.held.slots there)
+      (all-at (is_live w) slots_of w.graph.tables (past.table_number key) (Some found.0) live_held.slots there)
       (all-at (auto w) slots_of w.graph.tables (past.table_number key) (Some found.0) sound.slots there)))
 
   tables_held : AreTablesHeld w.addresses y h.roots rows
@@ -230,7 +231,7 @@ module _ {F : Type 0} (layout : F → Layout) (past : Past) (h : HeapState F) (w
   messages_held : AreHeldAtFlip w.addresses y h.finals.messages (map Some w.graph.messages)
   messages_held =
       held_slots h.finals.messages (map Some w.graph.messages) (parts.messages ∙ targets_some w.graph.messages)
-      (subst (λ (ids : List Id). All (is_live w) ids) (sym (all_some w.graph.messages)) knows.held.messages)
+      (subst (λ (ids : List Id). All (is_live w) ids) (sym (all_some w.graph.messages)) live_held.messages)
       (subst (λ (ids : List Id). All (auto w) ids) (sym (all_some w.graph.messages)) sound.messages)
 
   -- the tables in order, and messages, hold what those of the world do

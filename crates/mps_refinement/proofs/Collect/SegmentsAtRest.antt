@@ -1,5 +1,7 @@
 -- The segments of a heap at rest, as a collection finds them: each block and each live reservation lies in one, and none is condemned or
 -- marked.
+use Rattle.mps_refinement.proofs.Parts.Resting.{image_at_rest}
+use Rattle.mps_trace_laws.specs.Image.AtRest.{StandsAtRest}
 use Rattle.std.proofs.Common.{◌≡◌, ◌∙◌, ℕ, ◌+◌, ◌<◌, ◌≤◌, false, refl, sym, ap, subst, List, map, Some, inl, inr, arith}
 use Rattle.std.proofs.lemmas.Bool.{cases_Bool, or_right}
 use Rattle.std.proofs.lemmas.Option.{slice_get-map}
@@ -22,7 +24,7 @@ use Rattle.mps_trace_laws.specs.Fix.Housed.{AreHoused, HasNoWeakMark}
 use Rattle.mps_trace_laws.proofs.Image.BlockRuns.{extents_ascend}
 use Rattle.mps_trace_laws.specs.Begin.Before.{AreSegmentsAtRest}
 use Rattle.mps_heap_spec.specs.State.{HeapState}
-use Rattle.mps_refinement.specs.StandsFor.{AreParts, IsReached, Past}
+use Rattle.mps_refinement.specs.StandsFor.{AreParts, IsReached, Past, Rests}
 use Rattle.mps_refinement.proofs.Parts.CommittedParts.{segment_there}
 use Rattle.mps_refinement.proofs.Worlds.Ready.{laid_out}
 use Rattle.mps_refinement.proofs.Parts.ReservedImage.{reservation_covers}
@@ -36,7 +38,10 @@ block_run w id at o there object =
     ∙ ap (run_of_block (Some (shape_of o))) there
 
 module _ {F : Type 0} (layout : F → Layout) (past : Past) (h : HeapState F) (w : World) (parts : AreParts layout past h w)
-    (reached : IsReached w) where
+    (reached : IsReached w) (rest : Rests past.time h.segs w) where
+  image : StandsAtRest h.segs w
+  image = image_at_rest layout past h w parts rest.time
+
   laid : HasLayout (w.grains + 1) w
   laid = laid_out w reached
 
@@ -45,7 +50,7 @@ module _ {F : Type 0} (layout : F → Layout) (past : Past) (h : HeapState F) (w
 
   are_held : AreHeld h.segs
   are_held = record {
-    small = parts.resting.at_most;
+    small = parts.arena.at_most;
     aligned = subst AreAligned (sym parts.segments) laid.aligned;
     ascending =
         subst (λ (n : ℕ). IsAscending 1 (n + 1) (map grains_of_segment h.segs.segments)) (sym parts.grains)
@@ -63,16 +68,16 @@ module _ {F : Type 0} (layout : F → Layout) (past : Past) (h : HeapState F) (w
   blocks_in_order =
       subst (λ (rs : List Run). IsAscending 0 (words_of_arena h.segs.grains) rs) (sym parts.image.runs.blocks)
       (extents_ascend (setting_at_rest h.segs w.graph.objects w.graph.points w.point_memories (pool_layout w)) w.addresses
-      parts.image.placed)
+      image.placed)
 
   -- no block is grey, as no object is
   none_grey : (n : Word) → (bit h.segs.marks.exact n || bit h.segs.marks.weak n) ≡ false
   none_grey n = elim (cases_Bool (bit h.segs.marks.exact n || bit h.segs.marks.weak n)) [
     | inl grey ↦
-        let block = parts.image.marks.marked n
+        let block = image.marks.marked n
         (or_right (bit h.segs.marks.kept n) (bit h.segs.marks.exact n || bit h.segs.marks.weak n) grey) in
         ap (λ (k : Word). bit h.segs.marks.exact k || bit h.segs.marks.weak k) block.is
-        ∙ sym (parts.image.marks.grey_there block.id block.at block.address)
+        ∙ sym (image.marks.grey_there block.id block.at block.address)
     | inr none ↦ none
   ]
 
@@ -124,9 +129,9 @@ module _ {F : Type 0} (layout : F → Layout) (past : Past) (h : HeapState F) (w
     };
     whole = record { sizes = marked; order = blocks_in_order };
     covered = covered_in_order;
-    image = parts.image;
-    not_condemned = parts.resting.not_condemned;
-    unmarked = record { kept = parts.resting.not_kept; grey = none_grey };
+    image = image;
+    not_condemned = rest.not_condemned;
+    unmarked = record { kept = rest.not_kept; grey = none_grey };
     strong = none_weak;
     housed = are_housed;
     reserved = are_reserved;

@@ -8,9 +8,8 @@ use Rattle.mps_base.specs.Address.{Address, word_of}
 use Rattle.mps_base.specs.declared.names.Slot.{Slot}
 use Rattle.mps_base.specs.declared.refusal.Refusal.TheVariants as refusal
 use Rattle.mps_format.specs.Layout.{Layout}
-use Rattle.mps_trace_laws.specs.Image.AtRest.{StandsAtRest}
 use Rattle.mps_trace_laws.specs.Image.Changes.{IsCellChanged, setting_with_objects, memory_with_word}
-use Rattle.mps_trace_laws.specs.Image.Image.{black_cells, with_cell, no_colours}
+use Rattle.mps_trace_laws.specs.Image.Image.{black_cells, with_cell}
 use Rattle.mps_trace_laws.specs.Image.Memory.{memory_in}
 use Rattle.mps_trace_laws.proofs.Image.CellChanged.{IsBodyChanged, cell_changed, fewer_fixed, manual_changed}
 use Rattle.mps_trace_laws.proofs.Image.Written.{cell_written}
@@ -26,9 +25,9 @@ use Rattle.mps_heap_spec.specs.Objects.{with_word}
 use Rattle.mps_heap_spec.specs.State.{HeapState}
 use Rattle.mps_refinement.specs.Answering.{answer_to, says_number, says_ok}
 use Rattle.mps_refinement.specs.RightStep.{IsRight}
-use Rattle.mps_refinement.specs.StandsFor.{AreParts, IsReached, Past}
+use Rattle.mps_refinement.specs.StandsFor.{AreParts, Past, StandsAt}
 use Rattle.mps_refinement.proofs.Parts.BlockParts.{blocks_changed}
-use Rattle.mps_refinement.proofs.Worlds.Known.{IsKnown, known}
+use Rattle.mps_refinement.proofs.Worlds.Known.{IsKnown}
 use Rattle.mps_refinement.proofs.Lookups.Lookups.{place_same}
 use Rattle.mps_refinement.proofs.Lookups.ManualBlocks.{IsBlock, IsWordOf, block_same, same_then_next, word_same, setting, lies}
 use Rattle.mps_refinement.proofs.Calls.Readings.{IsReading, act_reading, reading_is_right}
@@ -37,10 +36,10 @@ use Rattle.mps_refinement.proofs.Worlds.Steps.{Leads, quiet_is_right}
 module _ {F : Type 0} (layout : F → Layout) (h : HeapState F) where
   -- ---- load
 
-  load_reads : (place : Slot) (k : ℕ) (w : World) (past : Past) → AreParts layout past h w → IsReached w
+  load_reads : (place : Slot) (k : ℕ) (w : World) (past : Past) → AreParts layout past h w → IsKnown past.time w
       → Same (IsReading w says_number) (word_loaded h place k) (act_load w place k)
   load_reads place k w past parts reached =
-      let at_hand = known w reached in
+      let at_hand = reached in
       same_then (place_same layout past h w parts place) (λ entry found is.
       same_then (block_same layout past h w parts at_hand place.index entry found is.fit) (λ at id b.
       same_then (word_same layout past h w parts at_hand at id b k) (λ n value word.
@@ -55,9 +54,9 @@ module _ {F : Type 0} (layout : F → Layout) (h : HeapState F) where
 
   -- ---- store
 
-  module _ (w : World) (past : Past) (parts : AreParts layout past h w) (reached : IsReached w) where
-    own : IsKnown w
-    own = known w reached
+  module _ (w : World) (past : Past) (parts : AreParts layout past h w) (reached : IsKnown past.time w) where
+    own : IsKnown past.time w
+    own = reached
 
     -- the graph with a word of a block written
     graph_written : (at : Address) (id k value : ℕ) (b : IsBlock w at id)
@@ -69,7 +68,7 @@ module _ {F : Type 0} (layout : F → Layout) (h : HeapState F) where
         ∙ ap (λ body. slice_set w.graph.objects id (record b.object { body = body_with_word body k value })) b.right.body
 
     image_stored : (at : Address) (id k value : ℕ) (b : IsBlock w at id) → k < length b.right.words
-        → StandsAtRest (record h.segs { words = slice_set h.segs.words (word_of at + k) value })
+        → StandsAt past.time (record h.segs { words = slice_set h.segs.words (word_of at + k) value })
         (with_graph w (graph_with_word w.graph id k value))
     image_stored at id k value b low =
         let s = setting layout past h w parts own in
@@ -81,10 +80,11 @@ module _ {F : Type 0} (layout : F → Layout) (h : HeapState F) where
         (subst (λ body. IsBodyChanged body (Manual (slice_set b.right.words k value)) k (NumberCell value)) (sym b.right.body)
         (manual_changed b.right.words k value)))
         in
-        fewer_fixed (setting_with_objects s objects) (memory_with_word (memory_in h.segs) n value) w.addresses no_colours
-        (with_cell (black_cells [] no_colours) id k) (black_cells [] no_colours)
-        (λ j l d. or_right (j == id && l == k) (black_cells [] no_colours j l) d)
-        (cell_written s objects (memory_in h.segs) w.addresses no_colours (black_cells [] no_colours) id k b.object n
+        fewer_fixed (setting_with_objects s objects) (memory_with_word (memory_in h.segs) n value) w.addresses past.time.colours
+        (with_cell (black_cells past.time.condemned past.time.colours) id k) (black_cells past.time.condemned past.time.colours)
+        (λ j l d. or_right (j == id && l == k) (black_cells past.time.condemned past.time.colours j l) d)
+        (cell_written s objects (memory_in h.segs) w.addresses past.time.colours
+        (black_cells past.time.condemned past.time.colours) id k b.object n
         (NumberCell value) value
         changed parts.image (lies layout past h w parts own at id b k low)
         (record { holds = refl; not_white = λ t e. absurd (none-some t e) }))
@@ -99,9 +99,9 @@ module _ {F : Type 0} (layout : F → Layout) (h : HeapState F) where
           limit = refl;
           segments_are = parts.segments;
           image =
-              subst (λ m. StandsAtRest (record h.segs { words = slice_set h.segs.words m value })
+              subst (λ m. StandsAt past.time (record h.segs { words = slice_set h.segs.words m value })
               (with_graph w (graph_with_word w.graph id k value))) (sym word.is) (image_stored at id k value b word.low);
-          resting = parts.resting;
+          arena = parts.arena;
           tables = parts.tables;
           areas = parts.areas;
           blocks_are = parts.blocks;
@@ -112,12 +112,19 @@ module _ {F : Type 0} (layout : F → Layout) (h : HeapState F) where
           there = refl;
         })
 
-    store_leads : (place : Slot) (k value : ℕ) → Same (Leads layout says_ok) (word_stored h place k value) (act_store w place k value)
+    store_leads : (place : Slot) (k value : ℕ) → Same (Leads layout says_ok h past w) (word_stored h place k value)
+        (act_store w place k value)
     store_leads place k value =
         same_then (place_same layout past h w parts place) (λ entry found is.
         same_then (block_same layout past h w parts own place.index entry found is.fit) (λ at id b.
         same_then_next (word_same layout past h w parts own at id b k) (λ n old word.
-        fits (record { answer = refl; has = record { past = past; parts = word_written at id k value n old b word } }))))
+        fits (record {
+          answer = refl;
+          marks = (refl, refl);
+          formats = refl;
+          has = record
+              { past = past; timed = refl; parts = word_written at id k value n old b word };
+        }))))
 
   -- a word of a block is written
   pub store_is_right : (place : Slot) (k value : ℕ) (result : Checked (Unit {0})) (after : HeapState F)

@@ -93,7 +93,7 @@ module _ {F : Type 0} (layout : F → Layout) (past : Past) (h : HeapState F) (w
     -- its words are words of the arena
     pub held_words : (k : ℕ) → k < length r.cells → (value : ℕ) × (slice_get h.segs.words (word_of held.at.0 + k) ≡ Some value)
     held_words k lt =
-        let within = parts.resting.within key p held at_key reserved in
+        let within = parts.arena.within key p held at_key reserved in
         let words = is.words in
         let long = parts.image.words.long in
         there_is h.segs.words (word_of held.at.0 + k) (omega (arith, within, words, long, lt))

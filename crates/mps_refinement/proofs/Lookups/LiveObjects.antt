@@ -15,7 +15,7 @@ use Rattle.mps_base.specs.Address.{Address, Id, word_of}
 use Rattle.mps_base.specs.Segment.{Segment, segment_over}
 use Rattle.mps_base.specs.declared.names.Slot.{Slot}
 use Rattle.mps_base.specs.declared.refusal.Refusal.TheVariants as refusal
-use Rattle.mps_abstract.specs.Colours.{AreDifferent}
+use Rattle.mps_abstract.specs.Colours.{AreDifferent, is_black, is_white}
 use Rattle.mps_format.specs.Layout.{Layout, IsLawful}
 use Rattle.mps_trace_laws.proofs.Image.Shaped.{all_at}
 use Rattle.mps_trace_laws.specs.Image.Image.{IsCellWord, IsAddress}
@@ -37,9 +37,9 @@ use Rattle.mps_heap_spec.specs.State.{HeapState, format_over, pool_over}
 use Rattle.mps_format.specs.Pools.{format_of_pool}
 use Rattle.mps_format.specs.declared.pool.Pool.{Pool}
 use Rattle.mps_format.specs.declared.pool.Pool.TheVariants as pool
-use Rattle.mps_refinement.specs.StandsFor.{Past, AreParts, IsPool, address_of_target}
+use Rattle.mps_refinement.specs.StandsFor.{Past, AreParts, IsPool, address_of_target, Time}
 use Rattle.mps_refinement.proofs.Lookups.Found.{same_of, in_a_row, mapped_some, some_there}
-use Rattle.mps_refinement.proofs.Worlds.Known.{IsKnown}
+use Rattle.mps_refinement.proofs.Worlds.Known.{IsKnown, is_kept_at}
 use Rattle.mps_refinement.proofs.Lookups.Cells.{IsTargetAddress, AreCells, are_cells, first_cell, IsCell, IsNumber, IsReference, number_cell_same, reference_cell_same}
 use Rattle.mps_refinement.proofs.Lookups.Lookups.{IsSlotEntry, slot_same}
 
@@ -92,9 +92,11 @@ right_automatic w q o (Automatic head cells is_weak) e automatic right =
     }
 
 -- null, or a live automatic object
-pub record MayRead (w : World) (target : Option ℕ) : Type 0 where
+pub record MayRead (t : Time) (w : World) (target : Option ℕ) : Type 0 where
   pub live : PassesOrNull (is_live w) target
   pub automatic : PassesOrNull (object_is is_automatic w) target
+  pub read : PassesOrNull t.is_read target
+  pub kept : PassesOrNull (is_kept_at t) target
 
 module _ {F : Type 0} (layout : F → Layout) (h : HeapState F) (w : World) where
   -- a live object: its address, and the pool of the heap that is over it
@@ -112,12 +114,15 @@ module _ {F : Type 0} (layout : F → Layout) (h : HeapState F) (w : World) wher
     pub fit : IsPool layout w.formats pool models
     pub right : is_right_body w models o.body ≡ true
 
+module _ {F : Type 0} (layout : F → Layout) (past : Past) (h : HeapState F) (w : World) where
   -- ---- an object, found in both
 
   pub record IsObject (b : Block F) (n : Numbered Object) : Type 0 where
     pub address : entry_at w.addresses n.number ≡ Some b.at
     pub object : slice_get w.graph.objects n.number ≡ Some n.value
-    pub block : IsLiveBlock n.number b.at n.value
+    pub block : IsLiveBlock layout h w n.number b.at n.value
+    pub read : past.time.is_read n.number ≡ true
+    pub kept : is_white past.time.condemned past.time.colours n.number ≡ false
     pub cells : List Cell
     pub is_weak : Bool
     pub body : n.value.body ≡ Automatic b.head cells is_weak
@@ -137,14 +142,23 @@ pub record IsNumberOf (w : World) (n : Numbered Object) (k : ℕ) (found : CellF
   pub cell : slice_get (cells_of_body n.value.body) k ≡ Some (NumberCell number)
   pub value : found.value ≡ number
 
-pub record IsReferenceOf (w : World) (n : Numbered Object) (k : ℕ) (found : CellFound) (target : Option ℕ) : Type 0 where
+pub record IsReferenceOf (t : Time) (w : World) (n : Numbered Object) (k : ℕ) (found : CellFound) (target : Option ℕ) : Type 0 where
   pub lies : Lies w.graph.objects w.addresses n.number k n.value found.word
   pub tag : ℕ
   pub low : tag < 8
   pub cell : slice_get (cells_of_body n.value.body) k ≡ Some (ReferenceCell target tag)
+  -- the address that its word has, of now or of the flip
+  pub was : Address
+  pub is_target : IsTargetAddress was
+  pub value : found.value ≡ was + tag
+
+-- the same of a cell that is fixed: its word has the address that its object has now
+pub record IsFixedReferenceOf (w : World) (found : CellFound) (target : Option ℕ) : Type 0 where
+  pub tag : ℕ
+  pub low : tag < 8
   pub value : found.value ≡ address_of_target w.addresses target + tag
 
--- the word of a reference, where no collection runs
+-- the word of a reference whose cell is fixed
 pub reference_word : (addresses : List (Option Address)) (head word tag : ℕ) (target : Option Id)
     → IsCellWord addresses [] head (ReferenceCell target tag) word → word ≡ address_of_target addresses target + tag
 reference_word addresses head word tag None e = omega (arith, e)
@@ -209,13 +223,28 @@ module _ {F : Type 0} (layout : F → Layout) (past : Past) (h : HeapState F) (w
       (let low = parts.image.placed.within id k o (word_of at + k) (lies id k at o there object within) in
       let long = parts.image.words.long in omega (arith, low, long))
 
-  pub object_lawful : (b : Block F) (n : Numbered Object) → IsObject layout h w b n → IsLawful (layout b.format)
+  pub object_lawful : (b : Block F) (n : Numbered Object) → IsObject layout past h w b n → IsLawful (layout b.format)
   object_lawful b n is =
       subst IsLawful is.layout_is (parts.lawful (option_map_or (λ (p : world.Pool). p.format) (pool_at w n.value.pool) 0))
 
+  -- the address that the word of a reference has, of now or of the flip
+  word_address : (head : ℕ) (target : Option Id) (tag word : ℕ)
+      → IsCellWord w.addresses past.time.at_flip head (ReferenceCell target tag) word
+      → (was : Address) × IsTargetAddress was × (word ≡ was + tag)
+  word_address head None tag word e = (0, record { aligned = refl; small = lit≤ tt }, omega (arith, e))
+  word_address head (Some id) tag word r =
+      elim r.means [
+        | inl e ↦ (r.address, (let a = parts.image.placed.address id r.address e in record { aligned = a.aligned; small = a.small }), r.is)
+        | inr e ↦ (
+          r.address,
+          (let a = parts.image.placed.address_at_flip id r.address e in record { aligned = a.aligned; small = a.small }),
+          r.is,
+        )
+      ]
+
   -- ---- the cells of an object
 
-  module _ (b : Block F) (n : Numbered Object) (is : IsObject layout h w b n) where
+  module _ (b : Block F) (n : Numbered Object) (is : IsObject layout past h w b n) where
     words_there : (k : ℕ) → k < length is.cells → (value : ℕ) × (slice_get h.segs.words (word_of b.at + k) ≡ Some value)
     words_there k low = (
       slice_index h.segs.words (word_of b.at + k),
@@ -252,12 +281,12 @@ module _ {F : Type 0} (layout : F → Layout) (past : Past) (h : HeapState F) (w
     cell_in_body k c found cell = ap (λ body. slice_get (cells_of_body body) k) is.body ∙ cell.cell
 
     cell_word : (k : ℕ) (c : Cell) (found : CellFound) → IsCell h.segs.words b.at is.cells k c found
-        → IsCellWord w.addresses [] b.head c found.value
+        → IsCellWord w.addresses past.time.at_flip b.head c found.value
     cell_word k c found cell =
-        subst (λ head. IsCellWord w.addresses [] head c found.value) (ap model.head_of_body is.body)
-        (subst (IsCellWord w.addresses [] (model.head_of_body n.value.body) c)
+        subst (λ head. IsCellWord w.addresses past.time.at_flip head c found.value) (ap model.head_of_body is.body)
+        (subst (IsCellWord w.addresses past.time.at_flip (model.head_of_body n.value.body) c)
         (get_or_from_slice_get h.segs.words found.word found.value 0 cell.value)
-        (parts.image.words.cells n.number k n.value found.word c refl (cell_lies k c found cell)
+        (parts.image.words.cells n.number k n.value found.word c is.read (cell_lies k c found cell)
         (ap (λ body. slice_get (all_cells body) k) is.body ∙ cell.cell)))
 
     pub number_same : (k : ℕ) → Same (IsNumberOf w n k) (number_cell_at layout h.segs.words b k) (number_at (cells_of_body n.value.body) k)
@@ -268,17 +297,38 @@ module _ {F : Type 0} (layout : F → Layout) (past : Past) (h : HeapState F) (w
     })
 
     pub reference_same : (k : ℕ)
-        → Same (IsReferenceOf w n k) (reference_cell_at layout h.segs.words b k) (reference_at (cells_of_body n.value.body) k)
+        → Same (IsReferenceOf past.time w n k) (reference_cell_at layout h.segs.words b k) (reference_at (cells_of_body n.value.body) k)
     reference_same k = same_weaker (reference_in_cells k) (λ found target cell. record {
       lies = cell_lies k (ReferenceCell target cell.tag) found cell.is;
       tag = cell.tag;
       low = cell.low;
       cell = cell_in_body k (ReferenceCell target cell.tag) found cell.is;
-      value = reference_word w.addresses b.head found.value cell.tag target (cell_word k (ReferenceCell target cell.tag) found cell.is);
+      was = (word_address b.head target cell.tag found.value (cell_word k (ReferenceCell target cell.tag) found cell.is)).0;
+      is_target = (word_address b.head target cell.tag found.value (cell_word k (ReferenceCell target cell.tag) found cell.is)).1;
+      value = (word_address b.head target cell.tag found.value (cell_word k (ReferenceCell target cell.tag) found cell.is)).2;
+    })
+
+    -- if the object is black its cells are fixed
+    fixed_word : (k : ℕ) (c : Cell) (found : CellFound) → IsCell h.segs.words b.at is.cells k c found
+        → is_black past.time.condemned past.time.colours n.number ≡ true → IsCellWord w.addresses [] b.head c found.value
+    fixed_word k c found cell black =
+        subst (λ head. IsCellWord w.addresses [] head c found.value) (ap model.head_of_body is.body)
+        (subst (IsCellWord w.addresses [] (model.head_of_body n.value.body) c)
+        (get_or_from_slice_get h.segs.words found.word found.value 0 cell.value)
+        (parts.image.fixed.cells n.number k n.value found.word c black (cell_lies k c found cell)
+        (ap (λ body. slice_get (all_cells body) k) is.body ∙ cell.cell)).holds)
+
+    pub fixed_reference_same : (k : ℕ) → is_black past.time.condemned past.time.colours n.number ≡ true
+        → Same (IsFixedReferenceOf w) (reference_cell_at layout h.segs.words b k) (reference_at (cells_of_body n.value.body) k)
+    fixed_reference_same k black = same_weaker (reference_in_cells k) (λ found target cell. record {
+      tag = cell.tag;
+      low = cell.low;
+      value = reference_word w.addresses b.head found.value cell.tag target
+          (fixed_word k (ReferenceCell target cell.tag) found cell.is black);
     })
 
 module _ {F : Type 0} (layout : F → Layout) (past : Past) (h : HeapState F) (w : World) (parts : AreParts layout past h w)
-    (known : IsKnown w) where
+    (known : IsKnown past.time w) where
   -- ---- what is held in slots and in words of areas
 
   -- what stands in a slot passes each test that all that stands in slots passes
@@ -290,10 +340,12 @@ module _ {F : Type 0} (layout : F → Layout) (past : Past) (h : HeapState F) (w
       (entry_is_there w.graph.tables found.number found.list is.has)) is.there
 
   pub slot_may_read : (index : ℕ) (entry : Entry Address) (found : Found (Option ℕ))
-      → IsSlotEntry past h w index entry found → MayRead w found.value
+      → IsSlotEntry past h w index entry found → MayRead past.time w found.value
   slot_may_read index entry found is = record {
     live = slot_passes (is_live w) known.held.slots index entry found is;
     automatic = slot_passes (object_is is_automatic w) known.formed.slots index entry found is;
+    read = slot_passes past.time.is_read known.read.slots index entry found is;
+    kept = slot_passes (is_kept_at past.time) known.kept.slots index entry found is;
   }
 
   -- ---- a live object
@@ -340,12 +392,13 @@ module _ {F : Type 0} (layout : F → Layout) (past : Past) (h : HeapState F) (w
   object_is_read at head format not_null over word valid = rw (not_null, over, word, valid) refl
 
   -- the word at the address of an automatic object is its head
-  head_read : (id : Id) (at : Address) (o : Object) → entry_at w.addresses id ≡ Some at → slice_get w.graph.objects id ≡ Some o
+  head_read : (id : Id) (at : Address) (o : Object) → past.time.is_read id ≡ true → entry_at w.addresses id ≡ Some at
+      → slice_get w.graph.objects id ≡ Some o
       → 0 < size_of o → (head : ℕ) → slice_get (all_cells o.body) 0 ≡ Some HeadCell → model.head_of_body o.body ≡ head
       → slice_get h.segs.words (word_of at) ≡ Some head
-  head_read id at o there object positive head first is =
+  head_read id at o read there object positive head first is =
       let zero : word_of at + 0 ≡ word_of at = omega arith in
-      let word = parts.image.words.cells id 0 o (word_of at + 0) HeadCell refl
+      let word = parts.image.words.cells id 0 o (word_of at + 0) HeadCell read
       (lies layout past h w parts id 0 at o there object positive) first in
       ap (slice_get h.segs.words) (sym zero) ∙ word_there layout past h w parts id 0 at o there object positive ∙ ap Some (word ∙ is)
 
@@ -355,9 +408,10 @@ module _ {F : Type 0} (layout : F → Layout) (past : Past) (h : HeapState F) (w
       subst (λ x. option_map_or is_automatic x false ≡ true) object automatic
 
   -- an automatic object's head, format and cells, as the heap reads them
-  object_read : (id : Id) (at : Address) (o : Object) → entry_at w.addresses id ≡ Some at → IsLiveBlock layout h w id at o
-      → is_automatic o ≡ true → (x : Block F) × (object_at layout h at ≡ Ok x) × IsObject layout h w x (numbered_object id o)
-  object_read id at o there b automatic =
+  object_read : (id : Id) (at : Address) (o : Object) → past.time.is_read id ≡ true
+      → is_white past.time.condemned past.time.colours id ≡ false → entry_at w.addresses id ≡ Some at → IsLiveBlock layout h w id at o
+      → is_automatic o ≡ true → (x : Block F) × (object_at layout h at ≡ Ok x) × IsObject layout past h w x (numbered_object id o)
+  object_read id at o read kept there b automatic =
       let right = right_automatic w b.models o o.body refl automatic b.right in
       let format = format_there layout w.formats b.pool b.models b.fit right.kind in
       let positive = parts.image.placed.positive id at o there b.object in
@@ -367,13 +421,15 @@ module _ {F : Type 0} (layout : F → Layout) (past : Past) (h : HeapState F) (w
         record { at = at; format = format.0; head = right.head },
         object_is_read at right.head format.0 (ne_eqb at 0 (λ e. let p = b.address.not_null in omega (arith, e, p)))
             (ap (option_and_then format_of_pool) b.pool_is ∙ format.1)
-            (head_read id at o there b.object positive right.head
+            (head_read id at o read there b.object positive right.head
             (ap (λ body. slice_get (all_cells body) 0) right.body ∙ first) (ap model.head_of_body right.body))
             (subst (λ (f : Layout). f.is_valid right.head ≡ true) format.2 right.valid),
         record {
           address = there;
           object = b.object;
           block = b;
+          read = read;
+          kept = kept;
           cells = right.cells;
           is_weak = right.is_weak;
           body = right.body;
@@ -382,25 +438,31 @@ module _ {F : Type 0} (layout : F → Layout) (past : Past) (h : HeapState F) (w
         },
       )
 
-  live_object_same : (id : Id) (at : Address) → entry_at w.addresses id ≡ Some at → object_is is_automatic w id ≡ true
-      → Same (IsObject layout h w) (object_at layout h at) (model.object_in w (Some id))
-  live_object_same id at there automatic =
+  live_object_same : (id : Id) (at : Address) → past.time.is_read id ≡ true
+      → is_white past.time.condemned past.time.colours id ≡ false → entry_at w.addresses id ≡ Some at → object_is is_automatic w id ≡ true
+      → Same (IsObject layout past h w) (object_at layout h at) (model.object_in w (Some id))
+  live_object_same id at read kept there automatic =
       let b = live_block id at there in
-      let x = object_read id at b.0 there b.1 (automatic_there id b.0 b.1.object automatic) in
-      same_of (IsObject layout h w) x.1 (model_reads w id b.0 b.1.object) x.2
+      let x = object_read id at b.0 read kept there b.1 (automatic_there id b.0 b.1.object automatic) in
+      same_of (IsObject layout past h w) x.1 (model_reads w id b.0 b.1.object) x.2
 
-  pub object_at_same : (address : Address) (target : Option ℕ) → address ≡ address_of_target w.addresses target → MayRead w target
-      → Same (IsObject layout h w) (object_at layout h address) (model.object_in w target)
+  not_white : (b : Bool) → not b ≡ true → b ≡ false
+  not_white true e = absurd (false≢true e)
+  not_white false e = refl
+
+  pub object_at_same : (address : Address) (target : Option ℕ) → address ≡ address_of_target w.addresses target → MayRead past.time w target
+      → Same (IsObject layout past h w) (object_at layout h address) (model.object_in w target)
   object_at_same address None is may =
-      subst (λ at. Same (IsObject layout h w) (object_at layout h at) (model.object_in w None)) (sym is) refused
+      subst (λ at. Same (IsObject layout past h w) (object_at layout h at) (model.object_in w None)) (sym is) refused
   object_at_same address (Some id) is may =
       let at = some_there (entry_at w.addresses id) may.live in
-      subst (λ x. Same (IsObject layout h w) (object_at layout h x) (model.object_in w (Some id)))
-      (sym (is ∙ ap (λ o. option_map_or (λ x. x) o 0) at.1)) (live_object_same id at.0 at.1 may.automatic)
+      subst (λ x. Same (IsObject layout past h w) (object_at layout h x) (model.object_in w (Some id)))
+      (sym (is ∙ ap (λ o. option_map_or (λ x. x) o 0) at.1))
+      (live_object_same id at.0 may.read (not_white (is_white past.time.condemned past.time.colours id) may.kept) at.1 may.automatic)
 
   -- the object that a slot refers to
   pub object_same : (slot : Slot)
-      → Same (IsObject layout h w) (object_in layout h slot)
+      → Same (IsObject layout past h w) (object_in layout h slot)
       (model.slot_in w slot >>= (λ (from : Found (Option ℕ)). model.object_in w from.value))
   object_same slot =
       same_then (slot_same layout past h w parts slot) (λ entry found is.
@@ -408,7 +470,7 @@ module _ {F : Type 0} (layout : F → Layout) (past : Past) (h : HeapState F) (w
 
   -- and what comes next with it
   pub object_then : {C D : Type 0} {FitNext : C → D → Type 0} {f : Block F → Checked C} {g : Numbered Object → Checked D} (slot : Slot)
-      → ((b : Block F) (n : Numbered Object) → IsObject layout h w b n → Same FitNext (f b) (g n))
+      → ((b : Block F) (n : Numbered Object) → IsObject layout past h w b n → Same FitNext (f b) (g n))
       → Same FitNext (object_in layout h slot >>= f)
       (model.slot_in w slot >>= (λ (from : Found (Option ℕ)). model.object_in w from.value >>= g))
   object_then {FitNext} {f} {g} slot next =

@@ -1,5 +1,8 @@
 -- Words that are borrowed: those of the manual block in a place, and the cells of an object in a slot. The run of blocks that begins at its
 -- address has the words of the model's block, and they are the arena's words there.
+use Rattle.mps_refinement.proofs.Worlds.Known.{IsKnown}
+use Rattle.mps_refinement.proofs.Worlds.RestingActs.{resting_sound}
+use Rattle.mps_refinement.proofs.Parts.Resting.{at_rest, image_at_rest}
 use Rattle.std.proofs.Common.{◌≡◌, ◌∙◌, ℕ, ◌+◌, ◌-◌, ◌<◌, ◌≤◌, refl, ap, subst, length, map, Option, Some, Ok, Contains, inl, inr, arith}
 use Rattle.std.proofs.lemmas.Bool.{and_parts, cases_lt, leb-true}
 use Rattle.std.specs.Prelude.{nat_le, slice_get, slice_range}
@@ -23,13 +26,11 @@ use Rattle.mps_heap_spec.specs.declared.found.Block.{Block}
 use Rattle.mps_heap_spec.specs.declared.found.Entry.{Entry}
 use Rattle.mps_heap_spec.specs.Manual.{block_in, word_in_block}
 use Rattle.mps_heap_spec.specs.State.{HeapState}
-use Rattle.mps_refinement.specs.StandsFor.{AreParts, IsReached, Past}
+use Rattle.mps_refinement.specs.StandsFor.{AreParts, Past}
 use Rattle.mps_refinement.proofs.Lookups.BlockRuns.{manual_words, run_is, run_there}
-use Rattle.mps_refinement.proofs.Worlds.Known.{known}
 use Rattle.mps_refinement.proofs.Lookups.LiveObjects.{IsObject}
 use Rattle.mps_refinement.proofs.Lookups.Lookups.{IsPlaceFound, place_same}
 use Rattle.mps_refinement.proofs.Lookups.ManualBlocks.{IsBlock, IsWordOf, block_same, block_words, lies, setting, word_same}
-use Rattle.mps_refinement.proofs.Worlds.Reached.{reached_sound}
 
 -- where our row comes to something, so does the model's, and they fit
 pub record FitsOurs {A B : Type 0} (Fits : A → B → Type 0) (y : Checked B) (a : A) : Type 0 where
@@ -44,7 +45,7 @@ fits_ours Fits x y a (fits {a = own} {b = value} fit) e =
 fits_ours Fits x y a same.refused e = absurd cc
 
 module _ {F : Type 0} (layout : F → Layout) (h : HeapState F) (w : World) (past : Past) (parts : AreParts layout past h w)
-    (reached : IsReached w) where
+    (own : IsKnown past.time w) where
   -- ---- the words of a manual block
 
   pub record IsBlockBorrowed (place : Slot) (at : Address) : Type 0 where
@@ -64,7 +65,6 @@ module _ {F : Type 0} (layout : F → Layout) (h : HeapState F) (w : World) (pas
   pub block_borrowed : (place : Slot) (entry : Entry Address) (at : Address) → block_place_in h place ≡ Ok entry → block_in h entry ≡ Ok at
       → IsBlockBorrowed place at
   block_borrowed place entry at place_is block_is =
-      let own = known w reached in
       let s = setting layout past h w parts own in
       let p = fits_ours (IsPlaceFound past h w place) (block_place_in h place) (model.block_place_in w place) entry
       (place_same layout past h w parts place) place_is in
@@ -82,8 +82,8 @@ module _ {F : Type 0} (layout : F → Layout) (h : HeapState F) (w : World) (pas
         one = λ n there.
             run_is s w.addresses parts.image.placed h.segs parts.image.runs.blocks b.value at b.fit.object b.fit.address b.fit.there n there
             ∙ size;
-        words = manual_words h.segs w parts.image parts.at_rest
-            (reached_sound w reached parts.at_rest) b.value at b.fit.object b.fit.address
+        words = manual_words h.segs w (image_at_rest layout past h w parts (at_rest own.now).time) (at_rest own.now).none
+            (resting_sound w (at_rest own.now).none own.live) b.value at b.fit.object b.fit.address
             b.fit.there b.fit.right.words b.fit.right.body;
         each = λ k low. word_there at b.value b.fit k low;
         within = all_within at b.value b.fit;
@@ -92,7 +92,6 @@ module _ {F : Type 0} (layout : F → Layout) (h : HeapState F) (w : World) (pas
       word_there : (a : Address) (id : Id) (x : IsBlock w a id) (k : ℕ) → k < length x.right.words
           → word_in_block h a k ≡ Ok (word_of a + k)
       word_there a id x k low =
-          let own = known w reached in
           let value = there_is x.right.words k low in
           let model_is : model.required (slice_get (words_at w.graph id) k) refusal.BadIndex ≡ Ok value.0 =
           ap (λ ws. model.required (slice_get ws k) refusal.BadIndex) (block_words layout past h w parts own a id x)
@@ -106,7 +105,6 @@ module _ {F : Type 0} (layout : F → Layout) (h : HeapState F) (w : World) (pas
       all_within a id x =
           elim (cases_lt 0 (length x.right.words)) [
             | inl some ↦
-                let own = known w reached in
                 let last = length x.right.words - 1 in
                 let l = lies layout past h w parts own a id x last (omega (arith, some)) in
                 let low = parts.image.placed.within id last x.object (word_of a + last) l in
@@ -122,7 +120,7 @@ module _ {F : Type 0} (layout : F → Layout) (h : HeapState F) (w : World) (pas
 
   pub record IsObjectBorrowed (slot : Slot) (b : Block F) : Type 0 where
     pub object : Numbered Object
-    pub is : IsObject layout h w b object
+    pub is : IsObject layout past h w b object
     pub run : Contains h.segs.blocks (record { from = word_of b.at; count = length is.cells })
     pub one : (n : ℕ) → Contains h.segs.blocks (record { from = word_of b.at; count = n }) → n ≡ length is.cells
     -- the arena's words are those of its cells

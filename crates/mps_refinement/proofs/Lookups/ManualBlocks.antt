@@ -12,7 +12,7 @@ use Rattle.mps_base.specs.Address.{Address, Id, Word, word_of, bytes_of_word, ma
 use Rattle.mps_base.specs.declared.refusal.Refusal.TheVariants as refusal
 use Rattle.mps_format.specs.Layout.{Layout}
 use Rattle.mps_trace_laws.specs.Image.Image.{LieApart}
-use Rattle.mps_trace_laws.specs.Image.Memory.{Setting, Lies, setting_at_rest, pool_layout, all_cells}
+use Rattle.mps_trace_laws.specs.Image.Memory.{Setting, Lies, all_cells}
 use Rattle.mps_trace_laws.proofs.Image.Shaped.{all_at}
 use Rattle.mps_laws.proofs.Lookups.{there_is}
 use Rattle.mps_laws.proofs.Same.{Same, fits, refused}
@@ -28,7 +28,7 @@ use Rattle.mps_model.specs.WellFormed.{is_right_body, is_right_object}
 use Rattle.mps_heap_spec.specs.declared.found.Entry.{Entry}
 use Rattle.mps_heap_spec.specs.Manual.{block_in, is_block_over, word_in_block}
 use Rattle.mps_heap_spec.specs.State.{HeapState}
-use Rattle.mps_refinement.specs.StandsFor.{Past, AreParts, address_of_target}
+use Rattle.mps_refinement.specs.StandsFor.{Past, AreParts, address_of_target, setting_at}
 use Rattle.mps_refinement.proofs.Lookups.Blocks.{begins_at_object, within_block, past_block}
 use Rattle.mps_refinement.proofs.Lookups.Found.{some_there}
 use Rattle.mps_refinement.proofs.Worlds.Known.{IsKnown}
@@ -89,10 +89,10 @@ pub record IsWordOf (words block : List ℕ) (at : Address) (k : ℕ) (n : Word)
   pub stored : slice_get words n ≡ Some value
 
 module _ {F : Type 0} (layout : F → Layout) (past : Past) (h : HeapState F) (w : World) (parts : AreParts layout past h w)
-    (known : IsKnown w) where
+    (known : IsKnown past.time w) where
   -- the setting for which the segments' words stand
   abbrev pub setting : Setting
-  setting = setting_at_rest h.segs w.graph.objects w.graph.points w.point_memories (pool_layout w)
+  setting = setting_at past.time h.segs w
 
   abbrev pub placed : LieApart setting w.addresses
   placed = parts.image.placed
@@ -168,6 +168,11 @@ module _ {F : Type 0} (layout : F → Layout) (past : Past) (h : HeapState F) (w
       is = refl;
     }
 
+    block_read : past.time.is_read id ≡ true
+    block_read =
+        known.manual id (ap (λ o. option_map_or (λ (x : Object). not (is_automatic x)) o false) b.there
+        ∙ ap (λ body. not (is_automatic_body body)) b.right.body)
+
     -- the arena has the block's words
     pub word_stored_there : (k value : ℕ) → slice_get b.right.words k ≡ Some value → slice_get h.segs.words (word_of at + k) ≡ Some value
     word_stored_there k value e =
@@ -175,7 +180,7 @@ module _ {F : Type 0} (layout : F → Layout) (past : Past) (h : HeapState F) (w
         let within = placed.within id k b.object (word_of at + k) (lies k low) in
         let long = parts.image.words.long in
         let word : slice_index h.segs.words (word_of at + k) ≡ value =
-        parts.image.words.cells id k b.object (word_of at + k) (NumberCell value) refl (lies k low)
+        parts.image.words.cells id k b.object (word_of at + k) (NumberCell value) block_read (lies k low)
         (ap (λ body. slice_get (all_cells body) k) b.right.body ∙ slice_get-map NumberCell b.right.words k ∙ ap
         (option_map NumberCell) e) in
         slice_get-get_or h.segs.words (word_of at + k) 0 (omega (arith, within, long)) ∙ ap Some word

@@ -24,6 +24,7 @@ use Rattle.mps_refinement.specs.StandsFor.{AreParts, IsPool, Past}
 use Rattle.mps_refinement.proofs.Lookups.BlocksOver.{IsByteOf, block_over_found, block_over_live, byte_of_one}
 use Rattle.mps_refinement.proofs.Worlds.Known.{IsKnown}
 use Rattle.mps_refinement.proofs.Lookups.LiveObjects.{IsLiveBlock, live_block}
+use Rattle.mps_abstract.specs.Colours.{is_white}
 
 -- ---- pools
 
@@ -96,7 +97,7 @@ is_in_block true at words word aligned above below =
 is_in_block false at words word aligned above below = refl
 
 module _ {F : Type 0} (layout : F → Layout) (past : Past) (h : HeapState F) (w : World) (parts : AreParts layout past h w)
-    (known : IsKnown w) where
+    (known : IsKnown past.time w) where
   -- what is known of a live object
   module _ (id : Id) (at : Address) (o : Object) (there : entry_at w.addresses id ≡ Some at) (b : IsLiveBlock layout h w id at o) where
     automatic_is : object_is is_automatic w id ≡ is_automatic_pool b.pool
@@ -138,10 +139,10 @@ module _ {F : Type 0} (layout : F → Layout) (past : Past) (h : HeapState F) (w
         lies_is word ∙ ap (λ x. is_automatic_pool b.pool && x)
         (is_in_block (is_copying_pool b.pool) at (size_of o) word aligned byte.above byte.below)
 
-    -- nothing is white where no collection runs
-    pub not_white : is_white_at h.segs at ≡ false
-    not_white =
-        subst (λ x. is_condemned_at h.segs x && not (is_kept_at h.segs at) ≡ false)
+    -- the marks say whether it is white
+    white_is : is_white_at h.segs at ≡ is_white past.time.condemned past.time.colours id
+    white_is =
+        subst (λ x. is_condemned_at h.segs x && not (is_kept_at h.segs at) ≡ is_white past.time.condemned past.time.colours id)
         (sym aligned) (sym (parts.image.marks.white_there id at there))
 
   -- an object in which a word lies is live
@@ -164,9 +165,10 @@ module _ {F : Type 0} (layout : F → Layout) (past : Past) (h : HeapState F) (w
       let byte = byte_of_lying id at.0 b.0 at.1 b.1 word lies in
       (at.0, b.0, byte.0, byte.1)
 
-  -- the heap and the model find one object, in which the word lies, or neither does
+  -- the heap and the model find one object, in which the word lies, and which is held if it isn't white, or neither does
   pub data FindsObject (word : ℕ) : Bool → Option Id → Type 0 where
-    FindsOne : {id : Id} (at : Address) → entry_at w.addresses id ≡ Some at → at ≤ word → FindsObject word true (Some id)
+    FindsOne : {id : Id} {white : Bool} (at : Address) → entry_at w.addresses id ≡ Some at → at ≤ word
+        → is_white past.time.condemned past.time.colours id ≡ white → FindsObject word (not white) (Some id)
     FindsNone : FindsObject word false None
 
   none_found : (word : ℕ) → block_over h.segs word ≡ None → block_of_word w word ≡ None
@@ -192,15 +194,13 @@ module _ {F : Type 0} (layout : F → Layout) (past : Past) (h : HeapState F) (w
             found_none (λ x. lies_in w word x) (live_ids w) (λ x lies.
             true≢false (sym lies ∙ ap (lies_in w word) (one x lies) ∙ doesnt))
 
-    hold_is : (b : IsLiveBlock layout h w id at o) → is_hold h word (Some at) ≡ lies_in w word id
+    abbrev white : Bool
+    white = is_white past.time.condemned past.time.colours id
+
+    hold_is : (b : IsLiveBlock layout h w id at o) → is_hold h word (Some at) ≡ (lies_in w word id && not white)
     hold_is b =
         ap₂ (λ (x y : Bool). x && not y) (ap (is_of_pool word at) b.pool_is ∙ sym (lying_is id at o byte.address b word byte))
-        (not_white id at o byte.address b)
-        ∙ and_true (lies_in w word id)
-      where
-        and_true : (x : Bool) → (x && true) ≡ x
-        and_true true = refl
-        and_true false = refl
+        (white_is id at o byte.address b)
 
     finds : FindsObject word (is_hold h word (Some at)) (block_of_word w word)
     finds =
@@ -208,11 +208,12 @@ module _ {F : Type 0} (layout : F → Layout) (past : Past) (h : HeapState F) (w
         let same : b.0 ≡ o = same_Some b.0 o (sym b.1.object ∙ byte.object) in
         let block : IsLiveBlock layout h w id at o = subst (IsLiveBlock layout h w id at) same b.1 in
         subst (λ t. FindsObject word t (block_of_word w word)) (sym (hold_is block))
-        (subst (FindsObject word (lies_in w word id)) (sym found_is)
+        (subst (FindsObject word (lies_in w word id && not white)) (sym found_is)
         (of_test block (lies_in w word id) refl))
       where
-        of_test : IsLiveBlock layout h w id at o → (t : Bool) → lies_in w word id ≡ t → FindsObject word t (if t then Some id else None)
-        of_test b true lies = FindsOne at byte.address (byte_of_lying id at o byte.address b word lies).0
+        of_test : IsLiveBlock layout h w id at o → (t : Bool) → lies_in w word id ≡ t → FindsObject word (t && not white)
+            (if t then Some id else None)
+        of_test b true lies = FindsOne at byte.address (byte_of_lying id at o byte.address b word lies).0 refl
         of_test b false doesnt = FindsNone
 
   pub word_in_object : (word : ℕ) → FindsObject word (is_hold h word (block_over h.segs word)) (block_of_word w word)

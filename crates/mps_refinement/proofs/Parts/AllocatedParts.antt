@@ -1,23 +1,22 @@
 -- After an `alloc` the parts of a heap stand for those of the world after it.
-use Rattle.std.proofs.Common.{◌≡◌, ◌∙◌, ℕ, zero, suc, ◌+◌, ◌-◌, ◌*◌, ◌%◌, ◌<◌, ◌≤◌, Bool, true, false, refl, sym, ap, subst, List, [], length, map, replicate, Option, Some, Contains, arith, slice_index}
-use Rattle.std.proofs.lemmas.Bool.{false≢true}
+use Rattle.std.proofs.Common.{◌≡◌, ◌∙◌, ℕ, zero, suc, ◌+◌, ◌-◌, ◌*◌, ◌%◌, ◌<◌, ◌≤◌, Bool, true, false, refl, sym, ap, subst, List, length, map, replicate, Option, Some, Contains, arith, slice_index}
+use Rattle.std.proofs.lemmas.Bool.{false≢true, and_parts}
 use Rattle.std.proofs.lemmas.List.{length-replicate}
 use Rattle.std.proofs.lemmas.Option.{none-some, same_Some, slice_get_within, slice_get-map}
 use Rattle.std.specs.Prelude.{◌&&◌, not, slice_get, slice_set, option_map}
 use Rattle.std.specs.Option.{option_map_or}
 use Rattle.mps_seg.specs.Arena.{cleared_words}
-use Rattle.mps_base.specs.Address.{Address, Id, Word, word_of, address_of_word, max_grains}
+use Rattle.mps_base.specs.Address.{Address, Id, Word, word_of, address_of_word, max_grains, grain_of}
 use Rattle.mps_base.specs.Placement.{Placement, Place, NewSegment, OverLimit, NoFreeRun}
 use Rattle.mps_base.specs.Run.{Run, Covers, with_run}
-use Rattle.mps_base.specs.Segment.{Segment, grains_of_segment, segment_over, words_of_segment}
+use Rattle.mps_base.specs.Segment.{Segment, grains_of_segment, segment_over}
 use Rattle.mps_base.specs.declared.names.Rank.TheVariants as rank
 use Rattle.mps_extents.specs.Table.{bit}
 use Rattle.mps_format.specs.Layout.{Layout}
 use Rattle.mps_trace_laws.specs.Image.ArenaLaws.{AreSegmentsKept, setting_with_segments}
-use Rattle.mps_trace_laws.specs.Image.AtRest.{StandsAtRest}
 use Rattle.mps_trace_laws.specs.Image.Changes.{AreFree, AreHome, IsAllocated}
-use Rattle.mps_trace_laws.specs.Image.Image.{IsFixedWord, Stands, black_cells, no_colours}
-use Rattle.mps_trace_laws.specs.Image.Memory.{Lies, Memory, Setting, is_condemned_word, memory_in, pool_layout, pool_over_word, setting_at_rest, words_of_arena}
+use Rattle.mps_trace_laws.specs.Image.Image.{IsFixedWord, Stands, black_cells}
+use Rattle.mps_trace_laws.specs.Image.Memory.{Lies, Memory, Setting, is_condemned_word, memory_in, pool_layout, pool_over_word, words_of_arena}
 use Rattle.mps_trace_laws.specs.Image.SegmentWords.{AreSegmentsInOrder}
 use Rattle.mps_trace_laws.proofs.Image.ArenaLaws.{segments_change}
 use Rattle.mps_trace_laws.proofs.Image.ClientLaws.{block_is_allocated}
@@ -30,12 +29,12 @@ use Rattle.mps_laws.proofs.Sound.SoundGraph.{IsSoundGraph, auto}
 use Rattle.mps_model.specs.Allocating.{address_of_placement}
 use Rattle.mps_model.specs.Checked.{Found}
 use Rattle.mps_model.specs.Graph.{Cell, NumberCell, Manual, Object, entry_at, is_automatic, size_of, with_last}
-use Rattle.mps_model.specs.World.{World, extent}
+use Rattle.mps_model.specs.World.{World, extent, is_automatic_kind, is_copying_pool, is_live, object_is, pool_is}
 use Rattle.mps_heap_spec.specs.declared.found.Entry.{Entry}
 use Rattle.mps_heap_spec.specs.State.{HeapState}
 use Rattle.mps_root.specs.State.{with_place}
 use Rattle.mps_seg.specs.Segs.{SegsState, noted_for, segments_after}
-use Rattle.mps_refinement.specs.StandsFor.{AreParts, Past, address_of_target}
+use Rattle.mps_refinement.specs.StandsFor.{AreParts, Past, address_of_target, StandsAt, setting_at, IsInTime, rests, runs}
 use Rattle.mps_refinement.proofs.Parts.BlockParts.{blocks_changed, with_blocks, world_with_blocks}
 use Rattle.mps_refinement.proofs.Parts.BlockPlaces.{place_length, place_written, places_count, places_counted}
 use Rattle.mps_refinement.proofs.Parts.ClearedWords.{cleared_long, cleared_word, other_word}
@@ -47,8 +46,13 @@ use Rattle.mps_refinement.proofs.Lookups.ManualBlocks.{passes_there}
 use Rattle.mps_refinement.proofs.Worlds.PlacedOnce.{ArePlacedOnce}
 use Rattle.mps_refinement.proofs.Worlds.PlacesByMoves.{places_of}
 use Rattle.mps_refinement.proofs.Parts.PointWritten.{none_set}
-use Rattle.mps_refinement.proofs.Parts.ReservedImage.{block_covers, none_condemned, reservation_covers}
-use Rattle.mps_refinement.proofs.Parts.StillHeld.{messages_still, registered_still, slots_still, words_still}
+use Rattle.mps_refinement.proofs.Parts.ReservedImage.{block_covers, reservation_covers}
+use Rattle.mps_refinement.proofs.Parts.StillHeld.{messages_still, slots_still, words_still}
+use Rattle.mps_seg.specs.Collecting.{bit_of}
+use Rattle.mps_refinement.proofs.Parts.SegmentsTaken.{condemned_held, condemned_same, condemned_stay, pool_same, stays, uncondemned}
+use Rattle.mps_refinement.proofs.Parts.Unforwarded.{flip_known, still_in, unmoved}
+use Rattle.mps_refinement.proofs.Parts.Registered.{as_before}
+use Rattle.mps_model.specs.WellFormed.{is_live_automatic}
 
 -- ---- placements
 
@@ -68,7 +72,7 @@ among_after (OverLimit committed need limit) pool ss t there = there
 among_after (NoFreeRun need longest) pool ss t there = there
 
 -- a new segment is not condemned
-noted_clear : (q : Placement) (bits : List Bool) (grain : ℕ) → bit bits grain ≡ false → bit (noted_for q false bits) grain ≡ false
+pub noted_clear : (q : Placement) (bits : List Bool) (grain : ℕ) → bit bits grain ≡ false → bit (noted_for q false bits) grain ≡ false
 noted_clear (Place word) bits grain clear = clear
 noted_clear (NewSegment first grains) bits grain clear = none_set bits first grain clear
 noted_clear (OverLimit committed need limit) bits grain clear = clear
@@ -101,7 +105,9 @@ segments_made s q pool words at = record s {
 }
 
 module _ {F : Type 0} (layout : F → Layout) (past : Past) (h : HeapState F) (w : World) (parts : AreParts layout past h w)
-    (known : IsKnown w) (graph : IsSoundGraph w) (once : ArePlacedOnce (places_of w)) (pool words : ℕ) (some : 0 < words) (q : Placement)
+    (known : IsKnown past.time w) (graph : IsSoundGraph w) (once : ArePlacedOnce (places_of w)) (pool words : ℕ) (some : 0 < words)
+    (q : Placement)
+    (time : IsInTime past.time h.segs w) (manual : pool_is is_automatic_kind w pool ≡ false) (not_copying : is_copying_pool w pool ≡ false)
   where
     abbrev at : Address
     at = address_of_placement q
@@ -205,41 +211,46 @@ module _ {F : Type 0} (layout : F → Layout) (past : Past) (h : HeapState F) (w
       -- ---- the segments, and then the block
 
       abbrev setting_before : Setting
-      setting_before = setting_at_rest h.segs w.graph.objects w.graph.points w.point_memories (pool_layout w)
+      setting_before = setting_at past.time h.segs w
 
       abbrev setting_between : Setting
       setting_between = setting_with_segments setting_before (pool_over_word segs) (is_condemned_word segs)
 
-      clear_after : (grain : ℕ) → bit segs.condemned grain ≡ false
-      clear_after grain = noted_clear q h.segs.condemned grain (parts.resting.not_condemned grain)
-
       segments_are : segs.segments ≡ segments_now
       segments_are = ap (λ ss. segments_after q pool 0 rank.Exact ss) parts.segments
 
-      still_over : (j k : ℕ) (o : Object) (n : Word) → Lies w.graph.objects w.addresses j k o n
-          → segment_over segs.segments (address_of_word n) ≡ segment_over h.segs.segments (address_of_word n)
-      still_over j k o n l =
-          let c = block_covers (occupancy_of w) w.graph.objects w.addresses j k o n refl refl l in
-          let x = laid.placed.homes (OfBlock j) (omega (arith, c.0, c.1)) in
-          let inside : Covers (words_of_segment x.segment) n = (omega (arith, x.above, c.0), omega (arith, x.below, c.1)) in
-          ap (λ ss. segment_over ss (address_of_word n)) segments_are
-          ∙ found_segment 1 (w.grains + 1) segments_now x.segment after.ascending after.aligned
-          (among_after q pool w.segments x.segment x.held) n
-          inside
-          ∙ sym (found_segment 1 (w.grains + 1) w.segments x.segment laid.ascending laid.aligned x.held n inside)
-          ∙ ap (λ ss. segment_over ss (address_of_word n)) (sym parts.segments)
+      pool_kept : (n : Word) (p : ℕ) → pool_over_word h.segs n ≡ Some p → pool_over_word segs n ≡ pool_over_word h.segs n
+      pool_kept n p has =
+          ap (λ ss. option_map (λ (x : Segment). x.pool) (segment_over ss (address_of_word n))) segments_are
+          ∙ pool_same q pool 0 rank.Exact (w.grains + 1) w.segments h.segs.condemned laid.aligned laid.ascending after.aligned
+          after.ascending
+          n p (ap (λ ss. option_map (λ (x : Segment). x.pool) (segment_over ss (address_of_word n))) (sym parts.segments) ∙ has)
+          ∙ ap (λ ss. option_map (λ (x : Segment). x.pool) (segment_over ss (address_of_word n))) (sym parts.segments)
+
+      condemned_kept : (n : Word) (p : ℕ) → pool_over_word h.segs n ≡ Some p → is_condemned_word segs n ≡ is_condemned_word h.segs n
+      condemned_kept n p has =
+          ap (λ ss. bit_of segs.condemned (option_map (λ (x : Segment). grain_of x.base) (segment_over ss (address_of_word n))))
+          segments_are
+          ∙ condemned_same q pool 0 rank.Exact (w.grains + 1) w.segments h.segs.condemned laid.aligned laid.ascending after.aligned
+          after.ascending n p (ap (λ ss. option_map (λ (x : Segment). x.pool) (segment_over ss (address_of_word n))) (sym parts.segments)
+          ∙ has)
+          ∙ ap (λ ss. bit_of h.segs.condemned (option_map (λ (x : Segment). grain_of x.base) (segment_over ss (address_of_word n))))
+          (sym parts.segments)
 
       kept : AreSegmentsKept setting_before w.addresses (pool_over_word segs) (is_condemned_word segs)
       kept = record {
-        pool = λ j k o n l. ap (option_map (λ (x : Segment). x.pool)) (still_over j k o n l);
-        is_condemned = λ j k o n l. none_condemned segs clear_after n ∙ sym (none_condemned h.segs parts.resting.not_condemned n);
-        old_pool = λ j from to o k e. absurd (none-some from e);
-        was_condemned = λ j from to o k e. absurd (none-some from e);
+        pool = λ j k o n l. pool_kept n o.pool (parts.image.placed.home j k o n l);
+        is_condemned = λ j k o n l. condemned_kept n o.pool (parts.image.placed.home j k o n l);
+        old_pool = λ j from to o k e f apart there low.
+            pool_kept (word_of from + k) o.pool ((parts.image.words.forwarded j from to o e f apart there).home k low);
+        was_condemned = λ j from to o k e f apart there low.
+            condemned_kept (word_of from + k) o.pool ((parts.image.words.forwarded j from to o e f apart there).home k low);
       }
 
-      between : Stands setting_between (memory_in h.segs) w.addresses no_colours
+      between : Stands setting_between (memory_in h.segs) w.addresses past.time.colours
       between =
-          segments_change setting_before (memory_in h.segs) w.addresses no_colours (black_cells [] no_colours) (pool_over_word segs)
+          segments_change setting_before (memory_in h.segs) w.addresses past.time.colours
+          (black_cells past.time.condemned past.time.colours) (pool_over_word segs)
           (is_condemned_word segs) parts.image kept
 
       old_still : (j k : ℕ) (o : Object) (n : Word) → Lies w.graph.objects w.addresses j k o n → Lies objects_after addresses_after j k o n
@@ -250,6 +261,26 @@ module _ {F : Type 0} (layout : F → Layout) (past : Past) (h : HeapState F) (w
         within = l.within;
         is = l.is;
       }
+
+      in_order : AreSegmentsInOrder segs.segments
+      in_order =
+          subst AreSegmentsInOrder (sym segments_are) (record {
+            aligned = aligned_otherwise segments_now after.aligned;
+            ascending = in_order_still 1 (w.grains + 1) (max_grains + 1) (map grains_of_segment segments_now)
+                (let most = parts.arena.at_most in let grains = parts.grains in omega (arith, most, grains)) after.ascending;
+          })
+
+      at_home : AreHome setting_between at (size_of object) pool
+      at_home =
+          let x = home in
+          let a = among_aligned x.segment segments_now after.aligned x.held in
+          let below = x.below in
+          subst (AreHome setting_between at (size_of object)) x.of_pool
+          (segments_are_home segs w.graph.objects w.graph.points w.point_memories
+          (pool_layout w) past.time.at_flip past.time.condemned past.time.is_read x.segment at
+          (size_of object) in_order
+          (subst (λ ss. Contains ss x.segment) (sym segments_are) (segment_there x.segment segments_now x.held)) (placed_at_word q)
+          (let e = size_is in omega (arith, some, e)) x.above (let e = size_is in omega (arith, below, e, a)))
 
       -- its words are free before
       free : AreFree setting_between w.addresses at (size_of object)
@@ -267,37 +298,48 @@ module _ {F : Type 0} (layout : F → Layout) (past : Past) (h : HeapState F) (w
             let low : k < words = (let e = size_is in omega (arith, lt, e)) in
             let c = reservation_covers (occupancy_of v) w.graph.points w.point_memories point i r (word_of at + k) refl refl l in
             false≢true (ap is_block (after.placed.apart (OfReservation point) (OfBlock new) (word_of at + k) c (own_covers k low)));
-        unforwarded = λ k lt. record { clear = λ j from to o i e f apart x kt same. none-some from e };
+        unforwarded = unmoved setting_between (memory_in h.segs) w.addresses past.time.colours
+            (black_cells past.time.condemned past.time.colours) (is_copying_pool w) at (size_of object) pool between
+            (still_in past.time.at_flip w (flip_known past.time h.segs w time)) at_home not_copying;
       }
 
-      in_order : AreSegmentsInOrder segs.segments
-      in_order =
-          subst AreSegmentsInOrder (sym segments_are) (record {
-            aligned = aligned_otherwise segments_now after.aligned;
-            ascending = in_order_still 1 (w.grains + 1) (max_grains + 1) (map grains_of_segment segments_now)
-                (let most = parts.resting.at_most in let grains = parts.grains in omega (arith, most, grains)) after.ascending;
-          })
-
-      at_home : AreHome setting_between at (size_of object) pool
-      at_home =
+      -- and its segment isn't condemned
+      over_own : segment_over segs.segments (address_of_word (word_of at)) ≡ Some home.segment
+      over_own =
           let x = home in
           let a = among_aligned x.segment segments_now after.aligned x.held in
           let below = x.below in
-          subst (AreHome setting_between at (size_of object)) x.of_pool
-          (segments_are_home segs w.graph.objects w.graph.points w.point_memories (pool_layout w) [] [] (λ id. true) x.segment at
-          (size_of object) in_order
-          (subst (λ ss. Contains ss x.segment) (sym segments_are) (segment_there x.segment segments_now x.held)) (placed_at_word q)
-          (let e = size_is in omega (arith, some, e)) x.above (let e = size_is in omega (arith, below, e, a)))
+          ap (λ ss. segment_over ss (address_of_word (word_of at))) segments_are
+          ∙ found_segment 1 (w.grains + 1) segments_now x.segment after.ascending after.aligned x.held (word_of at)
+          (omega (arith, x.above), omega (arith, below, some, a))
 
-      allocated : IsAllocated setting_between (memory_in h.segs) w.addresses no_colours object at
+      not_condemned : is_condemned_word segs (word_of at) ≡ false
+      not_condemned =
+          ap (λ o. bit_of segs.condemned (option_map (λ (x : Segment). grain_of x.base) o)) over_own ∙ of_time time
+        where
+          of_time : IsInTime past.time h.segs w → bit segs.condemned (grain_of home.segment.base) ≡ false
+          of_time (rests rest) =
+              noted_clear q h.segs.condemned (grain_of home.segment.base) (rest.not_condemned (grain_of home.segment.base))
+          of_time (runs y r may) =
+              uncondemned y r.invariant segments_now segs.condemned (w.grains + 1) after.ascending
+              (λ u there. stays q pool 0 rank.Exact (w.grains + 1) w.segments h.segs.condemned laid.aligned laid.ascending after.aligned
+              after.ascending u (subst (λ (v : World). IsAmong u v.segments) r.world there))
+              (condemned_stay q pool 0 rank.Exact (w.grains + 1) w.segments h.segs.condemned laid.aligned laid.ascending after.aligned
+              after.ascending y.running.condemned_segments r.condemned
+              (λ base is. let u = condemned_held y r.invariant base is in
+              (u.0, subst (λ (v : World). IsAmong u.0 v.segments) r.world u.1, u.2)))
+              home.segment home.held
+              (ap (pool_is is_automatic_kind y.world) home.of_pool ∙ ap (λ (v : World). pool_is is_automatic_kind v pool) r.world ∙ manual)
+
+      allocated : IsAllocated setting_between (memory_in h.segs) w.addresses past.time.colours object at
           (cleared_words h.segs.words (word_of at) words) (memory_in h.segs).kept
       allocated = record {
         numbered = known.formed.addresses;
         positive = let e = size_is in omega (arith, some, e);
-        not_white = refl;
-        not_grey = refl;
-        fresh = refl;
-        mark = ap (λ b. b && not ((memory_in h.segs).kept (word_of at))) (none_condemned segs clear_after (word_of at));
+        not_white = known.unused.not_white;
+        not_grey = known.unused.not_grey;
+        fresh = known.unused.fresh;
+        mark = ap (λ b. b && not ((memory_in h.segs).kept (word_of at))) not_condemned;
         kept_others = λ n other. refl;
         long = cleared_long h.segs.words (word_of at) words fits;
         cells = λ i c e.
@@ -306,7 +348,7 @@ module _ {F : Type 0} (layout : F → Layout) (past : Past) (h : HeapState F) (w
             let low : i < words = (let x = slice_get_within
             (replicate words 0) i number.0 number.1 in let l = length-replicate {A = ℕ} words 0 in
             omega (arith, x, l)) in
-            subst (λ (x : Cell). IsFixedWord [] addresses_after no_colours 0 x
+            subst (λ (x : Cell). IsFixedWord past.time.condemned addresses_after past.time.colours 0 x
             (slice_index (cleared_words h.segs.words (word_of at) words) (word_of at + i))) number.2 (record {
               holds = cleared_word h.segs.words (word_of at) words fits i low ∙ sym (all_zero words i number.0 number.1);
               not_white = λ t x. absurd (none-some t x);
@@ -323,12 +365,12 @@ module _ {F : Type 0} (layout : F → Layout) (past : Past) (h : HeapState F) (w
       }
 
       -- the words with the block
-      image_made : StandsAtRest segs v
+      image_made : StandsAt past.time segs v
       image_made =
-          subst (λ n. Stands (setting_at_rest segs objects_after w.graph.points w.point_memories (pool_layout v))
+          subst (λ n. Stands (setting_at past.time segs v)
           (memory_of n) addresses_after
-          no_colours) size_is
-          (block_is_allocated setting_between (memory_in h.segs) w.addresses no_colours object at
+          past.time.colours) size_is
+          (block_is_allocated setting_between (memory_in h.segs) w.addresses past.time.colours object at
           (cleared_words h.segs.words (word_of at) words) (memory_in h.segs).kept between allocated free at_home)
 
     -- ---- the parts
@@ -361,12 +403,10 @@ module _ {F : Type 0} (layout : F → Layout) (past : Past) (h : HeapState F) (w
           limit = refl;
           segments_are = ap (λ ss. segments_after q pool 0 rank.Exact ss) parts.segments;
           image = image_made places laid after;
-          resting = record {
-            at_most = parts.resting.at_most;
-            not_condemned = λ grain. noted_clear q h.segs.condemned grain (parts.resting.not_condemned grain);
-            not_kept = parts.resting.not_kept;
-            within = parts.resting.within;
-            aligned = parts.resting.aligned;
+          arena = record {
+            at_most = parts.arena.at_most;
+            within = parts.arena.within;
+            aligned = parts.arena.aligned;
           };
           tables = slots_still w graph addresses_after still parts.tables;
           areas = words_still w graph addresses_after still parts.areas;
@@ -381,7 +421,10 @@ module _ {F : Type 0} (layout : F → Layout) (past : Past) (h : HeapState F) (w
               ap (λ o. option_map_or (λ x. x) o 0) (sym (entry_at-last w.addresses (Some at) j (omega (arith, low, lengths)))));
           count = places_count w.graph.blocks found.number found.index found.list (Some new) has;
           counted = places_counted w.graph.blocks found.number found.index found.list (Some new) has;
-          registered = parts.registered ∙ registered_still w graph addresses_after still;
+          registered =
+              as_before w.addresses past.time.at_flip addresses_after (is_live_automatic w)
+              (λ j passes. still j (and_parts (is_live w j) (object_is is_automatic w j) passes).1) h.finals.registered w.graph.registered
+              known.formed.registered parts.registered;
           messages = parts.messages ∙ messages_still w graph addresses_after still;
           there =
               ap (λ n. length (with_place h.roots.blocks n entry.index at)) same_key

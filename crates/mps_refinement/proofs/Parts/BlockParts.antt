@@ -5,7 +5,6 @@ use Rattle.std.specs.Prelude.{sum_by, count_by, is_some}
 use Rattle.mps_base.specs.Address.{Address}
 use Rattle.mps_base.specs.Segment.{Segment}
 use Rattle.mps_format.specs.Layout.{Layout}
-use Rattle.mps_trace_laws.specs.Image.AtRest.{StandsAtRest}
 use Rattle.mps_model.specs.Graph.{Object, Slots}
 use Rattle.mps_model.specs.Making.{length_of}
 use Rattle.mps_model.specs.World.{World}
@@ -13,7 +12,7 @@ use Rattle.mps_root.specs.State.{kept}
 use Rattle.mps_seg.specs.Segs.{SegsState}
 use Rattle.mps_heap_spec.specs.State.{HeapState}
 use Rattle.mps_refinement.specs.Numbering.{AreNumbered}
-use Rattle.mps_refinement.specs.StandsFor.{Past, AreParts, AreSlots, AreWords, IsArenaAtRest, address_of_id, address_of_target}
+use Rattle.mps_refinement.specs.StandsFor.{Past, AreParts, AreSlots, AreWords, IsArena, address_of_id, address_of_target, StandsAt, AreRegistered}
 use Rattle.mps_refinement.proofs.Parts.Named.{named_alike}
 use Rattle.mps_refinement.proofs.Parts.PartsByKind.{parts_of_kinds, points_of, pools_of, states_of}
 
@@ -33,14 +32,14 @@ pub record AreBlocks {F : Type 0} (past : Past) (h : HeapState F) (w : World) (s
   pub grains : segs.grains ≡ h.segs.grains
   pub limit : segs.limit ≡ h.segs.limit
   pub segments_are : segs.segments ≡ segments
-  pub image : StandsAtRest segs (world_with_blocks w objects addresses places segments)
-  pub resting : IsArenaAtRest segs.grains segs.condemned segs.marks.kept h.points
+  pub image : StandsAt past.time segs (world_with_blocks w objects addresses places segments)
+  pub arena : IsArena segs.grains h.points
   pub tables : AreNumbered (AreSlots addresses) past.table_number (kept h.roots.tables) w.graph.tables
   pub areas : AreNumbered (AreWords addresses) past.area_number (kept h.roots.areas) w.graph.areas
   pub blocks_are : blocks ≡ map (map (address_of_target addresses)) places
   pub count : length places ≡ length w.graph.blocks
   pub counted : sum_by length places ≡ sum_by length w.graph.blocks
-  pub registered : h.finals.registered ≡ map (address_of_id addresses) w.graph.registered
+  pub registered : AreRegistered addresses past.time.at_flip h.finals.registered w.graph.registered
   pub messages : h.finals.messages ≡ map (address_of_id addresses) w.graph.messages
   pub there : length blocks ≡ length h.roots.blocks
 
@@ -49,7 +48,7 @@ pub blocks_changed : {F : Type 0} (layout : F → Layout) (past : Past) (h : Hea
     → AreParts layout past h w → AreBlocks past h w segs blocks objects addresses places segments
     → AreParts layout past (with_blocks h segs blocks) (world_with_blocks w objects addresses places segments)
 blocks_changed layout past h w segs blocks objects addresses places segments parts are =
-    parts_of_kinds (are.grains ∙ parts.grains, are.limit ∙ parts.limit, are.segments_are) (are.image, are.resting) (
+    parts_of_kinds (are.grains ∙ parts.grains, are.limit ∙ parts.limit, are.segments_are) (are.image, are.arena) (
       are.tables,
       parts.ordered,
       are.areas,

@@ -1,18 +1,17 @@
 -- After a `free` the parts of a heap stand for those of the world after it.
-use Rattle.std.proofs.Common.{◌≡◌, ◌∙◌, ℕ, ◌+◌, ◌*◌, Bool, true, false, refl, sym, ap, subst, List, [], ◌∷◌, map, Option, Some, None, inl, inr, arith, length}
-use Rattle.std.proofs.lemmas.Bool.{cases_lt, false≢true, le-leb, lt-leb, lt-ltb, le-ltb, ltb-true, ne_eqb}
-use Rattle.std.proofs.lemmas.Option.{none-some}
-use Rattle.std.specs.Prelude.{◌==◌, ◌&&◌, ◌||◌, not, nat_le, nat_lt, slice_get, slice_set, option_map, if◌then◌else◌}
+use Rattle.std.proofs.Common.{◌≡◌, ◌∙◌, ℕ, ◌+◌, ◌*◌, Bool, true, false, refl, sym, ap, subst, List, [], ◌∷◌, map, Option, Some, None, inl, inr, arith, length, ◌⊎◌, ◌<◌}
+use Rattle.std.proofs.lemmas.Bool.{cases_lt, false≢true, le-leb, lt-leb, lt-ltb, le-ltb, ltb-true, ne_eqb, and_parts, cases_Bool, cases_eq, leb-true}
+use Rattle.std.proofs.lemmas.Option.{none-some, same_Some}
+use Rattle.std.specs.Prelude.{◌==◌, ◌&&◌, ◌||◌, not, nat_le, nat_lt, slice_get, slice_set, option_map, if◌then◌else◌, ◌≢◌}
 use Rattle.std.specs.List.{list_any}
 use Rattle.std.specs.Option.{option_map_or}
 use Rattle.mps_base.specs.Address.{Address, Id, Word, word_of, address_of_word, grain_of}
 use Rattle.mps_base.specs.Run.{Run, Covers, runs_within}
-use Rattle.mps_base.specs.Segment.{Segment, end_of_segment, segment_over, without_segment, words_of_segment}
+use Rattle.mps_base.specs.Segment.{Segment, end_of_segment, segment_over, without_segment, words_of_segment, is_in_segment}
 use Rattle.mps_format.specs.Layout.{Layout}
 use Rattle.mps_trace_laws.specs.Image.ArenaLaws.{AreSegmentsKept}
-use Rattle.mps_trace_laws.specs.Image.AtRest.{StandsAtRest}
-use Rattle.mps_trace_laws.specs.Image.Image.{black_cells, no_colours}
-use Rattle.mps_trace_laws.specs.Image.Memory.{Lies, Setting, is_condemned_word, memory_in, pool_layout, pool_over_word, setting_at_rest}
+use Rattle.mps_trace_laws.specs.Image.Image.{black_cells}
+use Rattle.mps_trace_laws.specs.Image.Memory.{Lies, Setting, is_condemned_word, memory_in, pool_over_word}
 use Rattle.mps_trace_laws.proofs.Image.ArenaLaws.{segments_change}
 use Rattle.mps_trace_laws.proofs.Image.ClientLaws.{manual_block_is_freed}
 use Rattle.mps_trace_laws.proofs.Image.SegmentMarks.{removing_clears}
@@ -20,12 +19,12 @@ use Rattle.mps_trace_laws.proofs.Image.Shaped.{are_shaped_objects}
 use Rattle.mps_laws.proofs.Positions.LegalMoves.{HasLayout}
 use Rattle.mps_laws.proofs.Lookups.{entry_at-set_other}
 use Rattle.mps_laws.proofs.Positions.Occupancy.{OfBlock, occupancy_of, shape_of}
-use Rattle.mps_laws.proofs.Positions.Segments.{IsAligned, IsAmong, among_without, found_segment}
+use Rattle.mps_laws.proofs.Positions.Segments.{IsAligned, IsAmong, among_without, found_segment, all_without, among_aligned, among_kept, ascending_without, found_among, same_by_base}
 use Rattle.mps_laws.proofs.Sound.SoundGraph.{IsSoundGraph, auto}
 use Rattle.mps_trace.specs.Manual.{any_size, block_removed, segs_after_free, given_back, is_none, is_unused}
-use Rattle.mps_model.specs.Graph.{Object, entry_at, is_automatic, is_automatic_body}
+use Rattle.mps_model.specs.Graph.{Object, entry_at, is_automatic, is_automatic_body, size_of}
 use Rattle.mps_model.specs.World as world
-use Rattle.mps_model.specs.World.{World, Collected, OneSize, AnySize, begins_in, is_any_size_kind, is_automatic_kind, object_is}
+use Rattle.mps_model.specs.World.{World, Collected, OneSize, AnySize, begins_in, is_any_size_kind, is_automatic_kind, object_is, is_copying_object, is_copying_pool, is_live}
 use Rattle.mps_model.specs.Effect.{with_address}
 use Rattle.mps_seg.specs.Segs.{SegsState}
 use Rattle.mps_heap_spec.specs.declared.found.Entry.{Entry}
@@ -35,7 +34,7 @@ use Rattle.mps_format.specs.declared.pool.Pool.{Pool}
 use Rattle.mps_format.specs.declared.pool.Pool.TheVariants as pool
 use Rattle.mps_model.specs.Checked.{Found}
 use Rattle.mps_root.specs.State.{with_place}
-use Rattle.mps_refinement.specs.StandsFor.{AreParts, IsPool, Past, address_of_target}
+use Rattle.mps_refinement.specs.StandsFor.{AreParts, IsPool, Past, address_of_target, StandsAt, setting_at, AreOfFlip, IsInTime}
 use Rattle.mps_refinement.proofs.Parts.BlockParts.{blocks_changed, with_blocks, world_with_blocks}
 use Rattle.mps_refinement.proofs.Parts.BlockPlaces.{place_length, place_written, places_count, places_counted}
 use Rattle.mps_refinement.proofs.Worlds.Known.{IsKnown}
@@ -43,11 +42,13 @@ use Rattle.mps_refinement.proofs.Lookups.Lookups.{IsPlaceEntry}
 use Rattle.mps_refinement.proofs.Lookups.ManualBlocks.{IsBlock, setting}
 use Rattle.mps_refinement.proofs.Worlds.PlacedOnce.{ArePlacedOnce, is_sized}
 use Rattle.mps_refinement.proofs.Worlds.PlacesByMoves.{places_of}
-use Rattle.mps_refinement.proofs.Parts.PointWritten.{none_set}
 use Rattle.mps_refinement.proofs.Parts.ReservedImage.{block_covers}
-use Rattle.mps_refinement.proofs.Parts.StillHeld.{messages_still, registered_still, reservation_targets, slots_still, words_still}
+use Rattle.mps_refinement.proofs.Parts.StillHeld.{messages_still, reservation_targets, slots_still, words_still}
 use Rattle.mps_seg.specs.Collecting.{bit_of}
-use Rattle.mps_extents.specs.Table.{bit}
+use Rattle.mps_laws.proofs.Entries.{entry_at-written}
+use Rattle.mps_refinement.proofs.Parts.Unforwarded.{flip_known}
+use Rattle.mps_refinement.proofs.Parts.Registered.{as_before}
+use Rattle.mps_model.specs.WellFormed.{is_live_automatic}
 
 -- ---- whether a segment is given back
 
@@ -113,7 +114,8 @@ freed_is size s at t over =
     ]
 
 module _ {F : Type 0} (layout : F → Layout) (past : Past) (h : HeapState F) (w : World) (parts : AreParts layout past h w)
-    (known : IsKnown w) (graph : IsSoundGraph w) (at : Address) (id : Id) (b : IsBlock w at id) where
+    (known : IsKnown past.time w) (graph : IsSoundGraph w) (at : Address) (id : Id) (b : IsBlock w at id)
+    (time : IsInTime past.time h.segs w) where
   manual : is_automatic b.object ≡ false
   manual = ap is_automatic_body b.right.body
 
@@ -124,10 +126,10 @@ module _ {F : Type 0} (layout : F → Layout) (past : Past) (h : HeapState F) (w
   addresses_after = slice_set w.addresses id None
 
   -- the words without the block
-  pub image_removed : StandsAtRest (block_removed h.segs at) (with_address w id None)
+  pub image_removed : StandsAt past.time (block_removed h.segs at) (with_address w id None)
   image_removed =
       let clears = removing_clears h.segs at in
-      manual_block_is_freed (setting layout past h w parts known) (memory_in h.segs) w.addresses no_colours id at b.object
+      manual_block_is_freed (setting layout past h w parts known) (memory_in h.segs) w.addresses past.time.colours id at b.object
       (memory_in (block_removed h.segs at)).kept (memory_in (block_removed h.segs at)).grey parts.image
       (are_shaped_objects w parts.lawful known.formed.objects)
       (λ point i r u tag live cell. reservation_targets w graph point i r u tag live cell) b.address b.there manual clears.0 clears.1
@@ -142,6 +144,24 @@ module _ {F : Type 0} (layout : F → Layout) (past : Past) (h : HeapState F) (w
   still : (j : Id) → auto w j ≡ true → entry_at addresses_after j ≡ entry_at w.addresses j
   still j is =
       entry_at-set_other w.addresses id j None (λ same. false≢true (sym not_automatic ∙ ap (auto w) same ∙ is))
+
+  -- what has an address after it had it before
+  still_there : (j : Id) (to : Address) → entry_at addresses_after j ≡ Some to → entry_at w.addresses j ≡ Some to
+  still_there j to f =
+      elim (cases_eq j id) [
+        | inl same ↦
+            absurd (none-some to (sym (entry_at-written w.addresses id at None b.address)
+            ∙ ap (entry_at addresses_after) (sym same) ∙ f))
+        | inr apart ↦ sym (entry_at-set_other w.addresses id j None (λ same. apart (sym same))) ∙ f
+      ]
+
+  -- so what is known of the addresses at the flip stays true
+  pub flip_after : (places : List (List (Option ℕ))) (segments : List Segment) → AreOfFlip past.time.at_flip w
+      → AreOfFlip past.time.at_flip (world_with_blocks w w.graph.objects addresses_after places segments)
+  flip_after places segments of = record {
+    made = of.made;
+    still = λ j from to moves was now. of.still j from to moves was (still_there j to now);
+  }
 
   -- the segment over a word of a block stays, where it isn't given back
   over_still : (base : Address) (v : World) → v.segments ≡ without_segment w.segments base → v.graph.objects ≡ w.graph.objects
@@ -162,32 +182,81 @@ module _ {F : Type 0} (layout : F → Layout) (past : Past) (h : HeapState F) (w
       ∙ ap (λ ss. segment_over ss (address_of_word n)) (sym segments) ∙ here ∙ sym before
       ∙ ap (λ ss. segment_over ss (address_of_word n)) (sym parts.segments)
 
+  -- the segment over an old word of a block that has moved stays too: it isn't of this pool
+  old_over : (t : Segment) → IsAmong t w.segments → is_copying_pool w t.pool ≡ false → HasLayout (w.grains + 1) w
+      → (j : Id) (from to : Address) (o : Object) (k : ℕ) → entry_at past.time.at_flip j ≡ Some from → entry_at w.addresses j ≡ Some to
+      → from ≢ to → slice_get w.graph.objects j ≡ Some o → k < size_of o
+      → segment_over (without_segment h.segs.segments t.base) (address_of_word (word_of from + k))
+      ≡ segment_over h.segs.segments (address_of_word (word_of from + k))
+  old_over t held not_copying laid j from to o k was now apart there low =
+      let n = word_of from + k in
+      let home = (parts.image.words.forwarded j from to o was now apart there).home k low in
+      of_one n (segment_over h.segs.segments (address_of_word n)) refl home
+    where
+      copying : is_copying_pool w o.pool ≡ true
+      copying = of_bool (cases_Bool (is_copying_object w j))
+        where
+          of_bool : (is_copying_object w j ≡ true) ⊎ (is_copying_object w j ≡ false) → is_copying_pool w o.pool ≡ true
+          of_bool (inl is) = sym (ap (λ x. option_map_or (λ (y : Object). is_copying_pool w y.pool) x false) there) ∙ is
+          of_bool (inr isnt) = absurd (apart ((flip_known past.time h.segs w time).still j from to isnt was now))
+
+      of_one : (n : Word) (x : Option Segment) → segment_over h.segs.segments (address_of_word n) ≡ x
+          → option_map (λ (u : Segment). u.pool) x ≡ Some o.pool
+          → segment_over (without_segment h.segs.segments t.base) (address_of_word n)
+          ≡ segment_over h.segs.segments (address_of_word n)
+      of_one n None e pool = absurd (none-some o.pool pool)
+      of_one n (Some u) e pool =
+          let over : segment_over w.segments (address_of_word n) ≡ Some u =
+          ap (λ ss. segment_over ss (address_of_word n)) (sym parts.segments) ∙ e in
+          let found = found_among (λ v. is_in_segment v (address_of_word n)) w.segments u over in
+          let other : not (u.base == t.base) ≡ true =
+          ap not (ne_eqb u.base t.base (λ same.
+          let one : u ≡ t = same_by_base 1 (w.grains + 1) w.segments u t laid.ascending found.0 held same in
+          false≢true (sym not_copying ∙ ap (λ (v : Segment). is_copying_pool w v.pool) (sym one)
+          ∙ ap (is_copying_pool w) (same_Some u.pool o.pool pool) ∙ copying))) in
+          let inside = and_parts (nat_le u.base (address_of_word n)) (nat_lt (address_of_word n) (end_of_segment u)) found.1 in
+          let low = leb-true u.base (address_of_word n) inside.0 in
+          let high = ltb-true (address_of_word n) (end_of_segment u) inside.1 in
+          let a = among_aligned u w.segments laid.aligned found.0 in
+          ap (λ ss. segment_over (without_segment ss t.base) (address_of_word n)) parts.segments
+          ∙ found_segment 1 (w.grains + 1) (without_segment w.segments t.base) u
+          (ascending_without 1 (w.grains + 1) t.base w.segments laid.ascending) (all_without IsAligned t.base w.segments laid.aligned)
+          (among_kept t.base u w.segments other found.0) n (omega (arith, low, a), omega (arith, high, a)) ∙ sym e
+
   -- the words with the segment given back
-  image_given : (t : Segment) (v : World) → v.segments ≡ without_segment w.segments t.base → v.graph.objects ≡ w.graph.objects
+  image_given : (t : Segment) (v : World) → IsAmong t w.segments → is_copying_pool w t.pool ≡ false
+      → v.segments ≡ without_segment w.segments t.base → v.graph.objects ≡ w.graph.objects
       → v.addresses ≡ addresses_after → HasLayout (w.grains + 1) w → HasLayout (v.grains + 1) v
-      → StandsAtRest (segments_freed h.segs at t true) (with_address w id None)
-  image_given t v segments objects addresses laid after =
+      → StandsAt past.time (segments_freed h.segs at t true) (with_address w id None)
+  image_given t v held not_copying segments objects addresses laid after =
       let segs = segments_freed h.segs at t true in
-      let s : Setting = setting_at_rest (block_removed h.segs at) w.graph.objects w.graph.points w.point_memories (pool_layout w) in
+      let s : Setting = setting_at past.time (block_removed h.segs at) (with_address w id None) in
       let kept : AreSegmentsKept s addresses_after (pool_over_word segs) (is_condemned_word segs) = record {
         pool = λ j k o n l. ap (option_map (λ (x : Segment). x.pool)) (over_still t.base v segments objects addresses laid after j k o n l);
         is_condemned = λ j k o n l.
             ap (λ (x : Option Segment). bit_of h.segs.condemned
             (option_map (λ (y : Segment). grain_of y.base) x))
             (over_still t.base v segments objects addresses laid after j k o n l);
-        old_pool = λ j from to o k e. absurd (none-some from e);
-        was_condemned = λ j from to o k e. absurd (none-some from e);
+        old_pool = λ j from to o k e f apart there low.
+            ap (option_map (λ (x : Segment). x.pool))
+            (old_over t held not_copying laid j from to o k e (still_there j to f) apart there low);
+        was_condemned = λ j from to o k e f apart there low.
+            ap (λ (x : Option Segment). bit_of h.segs.condemned
+            (option_map (λ (y : Segment). grain_of y.base) x))
+            (old_over t held not_copying laid j from to o k e (still_there j to f) apart there low);
       } in
-      segments_change s (memory_in (block_removed h.segs at)) addresses_after no_colours (black_cells [] no_colours) (pool_over_word segs)
+      segments_change s (memory_in (block_removed h.segs at)) addresses_after past.time.colours
+      (black_cells past.time.condemned past.time.colours) (pool_over_word segs)
       (is_condemned_word segs) image_removed kept
 
   -- the words after the free
-  pub image_after : (t : Segment) (given : Bool) (v : World)
+  pub image_after : (t : Segment) (given : Bool) (v : World) → IsAmong t w.segments → is_copying_pool w t.pool ≡ false
       → v.segments ≡ (if given then without_segment w.segments t.base else w.segments) → v.graph.objects ≡ w.graph.objects
       → v.addresses ≡ addresses_after → HasLayout (w.grains + 1) w → HasLayout (v.grains + 1) v
-      → StandsAtRest (segments_freed h.segs at t given) (with_address w id None)
-  image_after t true v segments objects addresses laid after = image_given t v segments objects addresses laid after
-  image_after t false v segments objects addresses laid after = image_removed
+      → StandsAt past.time (segments_freed h.segs at t given) (with_address w id None)
+  image_after t true v held not_copying segments objects addresses laid after =
+      image_given t v held not_copying segments objects addresses laid after
+  image_after t false v held not_copying segments objects addresses laid after = image_removed
 
   -- ---- the parts
 
@@ -199,11 +268,11 @@ module _ {F : Type 0} (layout : F → Layout) (past : Past) (h : HeapState F) (w
   segs_limit t true = refl
   segs_limit t false = refl
 
-  segs_condemned : (t : Segment) (given : Bool) → (segments_freed h.segs at t given).condemned ≡ h.segs.condemned
+  pub segs_condemned : (t : Segment) (given : Bool) → (segments_freed h.segs at t given).condemned ≡ h.segs.condemned
   segs_condemned t true = refl
   segs_condemned t false = refl
 
-  segs_kept : (t : Segment) (given : Bool)
+  pub segs_kept : (t : Segment) (given : Bool)
       → (segments_freed h.segs at t given).marks.kept ≡ slice_set h.segs.marks.kept (word_of at) false
   segs_kept t true = refl
   segs_kept t false = refl
@@ -214,7 +283,8 @@ module _ {F : Type 0} (layout : F → Layout) (past : Past) (h : HeapState F) (w
   segs_segments t false = parts.segments
 
   pub parts_freed : (index : ℕ) (entry : Entry Address) (found : Found (Option ℕ)) → IsPlaceEntry past h w index entry found
-      → found.value ≡ Some id → ArePlacedOnce (places_of w) → (t : Segment) (given : Bool)
+      → found.value ≡ Some id → ArePlacedOnce (places_of w) → (t : Segment) (given : Bool) → IsAmong t w.segments
+      → is_copying_pool w t.pool ≡ false
       → HasLayout (w.grains + 1) w
       → HasLayout (w.grains + 1) (world_with_blocks w w.graph.objects addresses_after
       (slice_set w.graph.blocks found.number (slice_set found.list found.index None))
@@ -224,7 +294,7 @@ module _ {F : Type 0} (layout : F → Layout) (past : Past) (h : HeapState F) (w
       (world_with_blocks w w.graph.objects addresses_after
       (slice_set w.graph.blocks found.number (slice_set found.list found.index None))
       (if given then without_segment w.segments t.base else w.segments))
-  parts_freed index entry found is value once t given laid after =
+  parts_freed index entry found is value once t given held not_copying laid after =
       let places = slice_set w.graph.blocks found.number (slice_set found.list found.index None) in
       let segments = if given then without_segment w.segments t.base else w.segments in
       let v = world_with_blocks w w.graph.objects addresses_after places segments in
@@ -236,16 +306,12 @@ module _ {F : Type 0} (layout : F → Layout) (past : Past) (h : HeapState F) (w
         grains = segs_grains t given;
         limit = segs_limit t given;
         segments_are = segs_segments t given;
-        image = image_after t given v refl refl refl laid after;
-        resting = record {
-          at_most = let most = parts.resting.at_most in let e = segs_grains t given in omega (arith, most, e);
-          not_condemned = λ grain.
-              ap (λ bits. bit bits grain) (segs_condemned t given) ∙ parts.resting.not_condemned grain;
-          not_kept = λ n.
-              ap (λ bits. bit bits n) (segs_kept t given) ∙ none_set h.segs.marks.kept (word_of at) n (parts.resting.not_kept n);
+        image = image_after t given v held not_copying refl refl refl laid after;
+        arena = record {
+          at_most = let most = parts.arena.at_most in let e = segs_grains t given in omega (arith, most, e);
           within = λ key p held e f.
-              let low = parts.resting.within key p held e f in let g = segs_grains t given in omega (arith, low, g);
-          aligned = parts.resting.aligned;
+              let low = parts.arena.within key p held e f in let g = segs_grains t given in omega (arith, low, g);
+          aligned = parts.arena.aligned;
         };
         tables = slots_still w graph addresses_after still parts.tables;
         areas = words_still w graph addresses_after still parts.areas;
@@ -263,7 +329,10 @@ module _ {F : Type 0} (layout : F → Layout) (past : Past) (h : HeapState F) (w
             }))))));
         count = places_count w.graph.blocks found.number found.index found.list None has;
         counted = places_counted w.graph.blocks found.number found.index found.list None has;
-        registered = parts.registered ∙ registered_still w graph addresses_after still;
+        registered =
+            as_before w.addresses past.time.at_flip addresses_after (is_live_automatic w)
+            (λ j passes. still j (and_parts (is_live w j) (object_is is_automatic w j) passes).1) h.finals.registered w.graph.registered
+            known.formed.registered parts.registered;
         messages = parts.messages ∙ messages_still w graph addresses_after still;
         there =
             ap (λ n. length (with_place h.roots.blocks n entry.index 0)) same_key

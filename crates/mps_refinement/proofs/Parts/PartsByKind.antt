@@ -1,8 +1,7 @@
 -- The parts of a heap and of a world by what they speak of. A lemma of a change names the kinds that it changes; the others are those
 -- that stood before.
-use Rattle.std.proofs.Common.{◌≡◌, ℕ, [], length, map, None}
+use Rattle.std.proofs.Common.{◌≡◌, ℕ, [], length, map}
 use Rattle.mps_format.specs.Layout.{Layout, IsLawful}
-use Rattle.mps_trace_laws.specs.Image.AtRest.{StandsAtRest}
 use Rattle.mps_buffer.specs.Points.{point_at}
 use Rattle.mps_ld.specs.Flips.{AreFlips}
 use Rattle.mps_model.specs.Making.{live_roots, live_slots, live_points}
@@ -12,7 +11,7 @@ use Rattle.mps_root.specs.State.{kept}
 use Rattle.mps_heap_spec.specs.State.{HeapState}
 use Rattle.mps_format.specs.Pools.{size_of_pool}
 use Rattle.mps_refinement.specs.Numbering.{AreNumbered, AreOrdered}
-use Rattle.mps_refinement.specs.StandsFor.{AreNamed, AreParts, ArePools, AreSlots, AreWords, IsArenaAtRest, IsPoint, Past, address_of_id, address_of_target, kept_of, state_of}
+use Rattle.mps_refinement.specs.StandsFor.{AreNamed, AreParts, ArePools, AreSlots, AreWords, IsArena, IsPoint, Past, address_of_id, address_of_target, kept_of, state_of, AreRegistered, StandsAt}
 
 module _ {F : Type 0} (layout : F → Layout) (past : Past) (h : HeapState F) (w : World) where
   -- the arena's size, its limit and its segments
@@ -21,7 +20,7 @@ module _ {F : Type 0} (layout : F → Layout) (past : Past) (h : HeapState F) (w
 
   -- words, marks and runs, and that no collection left its mark
   abbrev pub ImageParts : Type 0
-  ImageParts = StandsAtRest h.segs w × IsArenaAtRest h.segs.grains h.segs.condemned h.segs.marks.kept h.points
+  ImageParts = StandsAt past.time h.segs w × IsArena h.segs.grains h.points
 
   abbrev pub RootParts : Type 0
   RootParts = AreNumbered (AreSlots w.addresses) past.table_number (kept h.roots.tables) w.graph.tables
@@ -38,7 +37,7 @@ module _ {F : Type 0} (layout : F → Layout) (past : Past) (h : HeapState F) (w
   -- registrations and messages
   abbrev pub FinalParts : Type 0
   FinalParts =
-      (h.finals.registered ≡ map (address_of_id w.addresses) w.graph.registered)
+      AreRegistered w.addresses past.time.at_flip h.finals.registered w.graph.registered
       × (h.finals.messages ≡ map (address_of_id w.addresses) w.graph.messages)
 
   abbrev pub DependencyParts : Type 0
@@ -53,7 +52,7 @@ module _ {F : Type 0} (layout : F → Layout) (past : Past) (h : HeapState F) (w
   -- flips, the arena's state, and that no collection runs
   abbrev pub StateParts : Type 0
   StateParts =
-      AreFlips h.epochs w.flips × (h.points.flips ≡ length w.flips) × (w.state ≡ state_of h.arena) × (w.collection ≡ None)
+      AreFlips h.epochs w.flips × (h.points.flips ≡ length w.flips) × (w.state ≡ state_of h.arena)
 
 module _ {F : Type 0} {layout : F → Layout} {past : Past} {h : HeapState F} {w : World} where
   pub parts_of_kinds : ArenaParts layout past h w → ImageParts layout past h w → RootParts layout past h w → PointParts layout past h w
@@ -64,7 +63,7 @@ module _ {F : Type 0} {layout : F → Layout} {past : Past} {h : HeapState F} {w
     limit = arena.1;
     segments = arena.2;
     image = image.0;
-    resting = image.1;
+    arena = image.1;
     tables = roots.0;
     ordered = roots.1;
     areas = roots.2;
@@ -84,7 +83,6 @@ module _ {F : Type 0} {layout : F → Layout} {past : Past} {h : HeapState F} {w
     chains = pools.3;
     names = names;
     state = state.2;
-    at_rest = state.3;
   }
 
 module _ {F : Type 0} {layout : F → Layout} {past : Past} {h : HeapState F} {w : World} (parts : AreParts layout past h w) where
@@ -92,7 +90,7 @@ module _ {F : Type 0} {layout : F → Layout} {past : Past} {h : HeapState F} {w
   arena_of = (parts.grains, parts.limit, parts.segments)
 
   pub image_of : ImageParts layout past h w
-  image_of = (parts.image, parts.resting)
+  image_of = (parts.image, parts.arena)
 
   pub roots_of : RootParts layout past h w
   roots_of = (parts.tables, parts.ordered, parts.areas, parts.blocks, parts.roots_counted, parts.slots_counted)
@@ -107,4 +105,4 @@ module _ {F : Type 0} {layout : F → Layout} {past : Past} {h : HeapState F} {w
   pools_of = (parts.lawful, parts.pools, parts.sizes, parts.chains)
 
   pub states_of : StateParts layout past h w
-  states_of = (parts.flips, parts.point_flips, parts.state, parts.at_rest)
+  states_of = (parts.flips, parts.point_flips, parts.state)

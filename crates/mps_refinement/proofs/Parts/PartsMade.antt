@@ -3,7 +3,6 @@
 use Rattle.std.proofs.Common.{◌≡◌, ℕ, ◌<◌, refl, sym, ap, subst, List, length, map, Option, IsSome}
 use Rattle.mps_buffer.specs.declared.point.Point.{Point}
 use Rattle.mps_format.specs.Layout.{Layout}
-use Rattle.mps_trace_laws.specs.Image.AtRest.{StandsAtRest}
 use Rattle.mps_ld.specs.State.{LdState}
 use Rattle.mps_model.specs.Graph as graph
 use Rattle.mps_model.specs.Graph.{AreaWord, NamedThing, Slots}
@@ -19,7 +18,7 @@ use Rattle.mps_format.specs.Pools.{size_of_pool}
 use Rattle.mps_heap_spec.specs.declared.arena.ArenaState.{ArenaState}
 use Rattle.mps_format.specs.declared.pool.Pool.{Pool}
 use Rattle.mps_refinement.specs.Numbering.{AreNumbered, AreOrdered}
-use Rattle.mps_refinement.specs.StandsFor.{AreNamed, AreParts, ArePools, AreSlots, AreWords, IsPoint, Past, StandsFor, address_of_target, kept_of, state_of, IsArenaAtRest}
+use Rattle.mps_refinement.specs.StandsFor.{AreNamed, AreParts, ArePools, AreSlots, AreWords, IsPoint, Past, StandsFor, address_of_target, kept_of, state_of, IsArena, IsInTime, StandsAt}
 use Rattle.mps_refinement.proofs.Parts.Named.{ThingsStay, named_alike}
 use Rattle.mps_refinement.proofs.Parts.PartsByKind.{parts_of_kinds, arena_of, finals_of, image_of, points_of, pools_of, roots_of, states_of}
 
@@ -85,8 +84,8 @@ module _ {F : Type 0} (layout : F → Layout) (past : Past) (h : HeapState F) (w
       (numbered : List (Option graph.Point)) (memories : List PointMemory) (named : List NamedThing) : Type 0 where
     pub points_are : AreNumbered (IsPoint (length w.flips) (world.is_copying_pool w) memories) point_number (kept points) numbered
     pub points_counted : points_live ≡ live_points (record w.graph { points = numbered })
-    pub image_stands : StandsAtRest h.segs (world_of_points numbered memories w.graph.names)
-    pub resting_still : IsArenaAtRest h.segs.grains h.segs.condemned h.segs.marks.kept (record h.points { points = points })
+    pub image_stands : StandsAt past.time h.segs (world_of_points numbered memories w.graph.names)
+    pub open_still : IsArena h.segs.grains (record h.points { points = points })
     pub names_are : AreNamed (record past { point_number = point_number }) (state_of_points points points_live names) named
 
   pub points_changed : (point_number : ℕ → ℕ) (points : List (Option Point)) (points_live : ℕ) (names : NamesState)
@@ -95,7 +94,7 @@ module _ {F : Type 0} (layout : F → Layout) (past : Past) (h : HeapState F) (w
       → AreParts layout (record past { point_number = point_number }) (state_of_points points points_live names)
       (world_of_points numbered memories named)
   points_changed point_number points points_live names numbered memories named are =
-      parts_of_kinds (arena_of parts) (are.image_stands, are.resting_still) (roots_of parts) (are.points_are, are.points_counted)
+      parts_of_kinds (arena_of parts) (are.image_stands, are.open_still) (roots_of parts) (are.points_are, are.points_counted)
       (finals_of parts) parts.dependencies (pools_of parts) are.names_are (states_of parts)
 
   -- ---- pools
@@ -112,14 +111,14 @@ module _ {F : Type 0} (layout : F → Layout) (past : Past) (h : HeapState F) (w
     pub sizes_are : sizes ≡ map size_of_pool pools
     pub points_are : AreNumbered (IsPoint (length w.flips) (world.is_copying_pool (world_of_pools numbered w.graph.names)) w.point_memories)
         past.point_number (kept h.points.points) w.graph.points
-    pub image_stands : StandsAtRest h.segs (world_of_pools numbered w.graph.names)
+    pub image_stands : StandsAt past.time h.segs (world_of_pools numbered w.graph.names)
     pub names_are : AreNamed past (state_of_pools pools sizes names) named
 
   pub pools_changed : (pools : List (Pool F)) (sizes : List ℕ) (names : NamesState) (numbered : List world.Pool)
       (named : List NamedThing) → AreOtherPools pools sizes names numbered named
       → AreParts layout past (state_of_pools pools sizes names) (world_of_pools numbered named)
   pools_changed pools sizes names numbered named are =
-      parts_of_kinds (arena_of parts) (are.image_stands, parts.resting) (roots_of parts) (are.points_are, parts.points_counted)
+      parts_of_kinds (arena_of parts) (are.image_stands, parts.arena) (roots_of parts) (are.points_are, parts.points_counted)
       (finals_of parts) parts.dependencies (parts.lawful, are.pools_are, are.sizes_are, parts.chains) are.names_are (states_of parts)
 
   -- ---- dependencies
@@ -148,7 +147,7 @@ module _ {F : Type 0} (layout : F → Layout) (past : Past) (h : HeapState F) (w
       parts_of_kinds (parts.grains, refl, parts.segments) (image_of parts) (roots_of parts) (points_of parts) (finals_of parts)
       parts.dependencies (pools_of parts)
       (named_alike h after past w.graph.names parts.names same (all_stay h after refl refl refl refl))
-      (parts.flips, parts.point_flips, is, parts.at_rest)
+      (parts.flips, parts.point_flips, is)
 
   -- what stands for the world stands for it with other names of the same meaning
   pub untouched_parts : (names : NamesState) → IsSameMap h.names names → AreParts layout past (record h { names = names }) w
@@ -159,9 +158,10 @@ module _ {F : Type 0} (layout : F → Layout) (past : Past) (h : HeapState F) (w
 -- a call that changed nothing that can be seen
 pub untouched_stands : {F : Type 0} (layout : F → Layout) (h after : HeapState F) (w : World) → IsUntouched h after → StandsFor layout h w
     → StandsFor layout after w
-untouched_stands layout h after w untouched st = record {
+untouched_stands {F} layout h after w untouched st = record {
   past = st.past;
   parts = subst (λ s. AreParts layout st.past s w) (sym untouched.state)
       (untouched_parts layout st.past h w st.parts after.names untouched.names);
+  time = subst (λ (s : HeapState F). IsInTime st.past.time s.segs w) (sym untouched.state) st.time;
   reached = st.reached;
 }

@@ -10,7 +10,6 @@ use Rattle.mps_model.specs.Accessing.{with_word}
 use Rattle.mps_model.specs.Graph.{AreaWord, Object, Slots}
 use Rattle.mps_model.specs.Making.{live_roots, live_slots}
 use Rattle.mps_model.specs.World.{World, Dependency}
-use Rattle.mps_trace_laws.specs.Image.AtRest.{StandsAtRest}
 use Rattle.mps_ld.specs.State.{LdState}
 use Rattle.mps_root.specs.State.{RootsState, kept, with_item}
 use Rattle.mps_root.specs.declared.roots.Stored.{Stored}
@@ -20,7 +19,7 @@ use Rattle.mps_heap_spec.specs.Finding.{with_words}
 use Rattle.mps_heap_spec.specs.declared.found.Entry.{Entry}
 use Rattle.mps_heap_spec.specs.Objects as ours
 use Rattle.mps_heap_spec.specs.State.{HeapState}
-use Rattle.mps_refinement.specs.StandsFor.{Past, AreParts, AreSlots, AreWords, address_of_id, address_of_target, kept_of, stored_word}
+use Rattle.mps_refinement.specs.StandsFor.{Past, AreParts, AreSlots, AreWords, address_of_id, address_of_target, kept_of, stored_word, AreRegistered, StandsAt}
 use Rattle.mps_refinement.specs.Numbering.{AreNumbered, AreOrdered}
 use Rattle.mps_refinement.proofs.Parts.Counts.{slot_written_roots, slot_written_slots, word_written_roots, word_written_slots}
 use Rattle.mps_refinement.proofs.Parts.EntryWritten.{entry_written, kept_still}
@@ -62,10 +61,10 @@ module _ {F : Type 0} (layout : F → Layout) (past : Past) (h : HeapState F) (w
 
   -- other words, and other objects where they lie
   pub words_written : (words : List ℕ) (objects : List Object)
-      → StandsAtRest (record h.segs { words = words }) (with_graph w (record w.graph { objects = objects }))
+      → StandsAt past.time (record h.segs { words = words }) (with_graph w (record w.graph { objects = objects }))
       → AreParts layout past (with_words h words) (with_graph w (record w.graph { objects = objects }))
   words_written words objects image =
-      parts_of_kinds (arena_of parts) (image, parts.resting) (roots_of parts) (points_of parts) (finals_of parts) parts.dependencies
+      parts_of_kinds (arena_of parts) (image, parts.arena) (roots_of parts) (points_of parts) (finals_of parts) parts.dependencies
       (pools_of parts)
       (named_alike h (with_words h words) past w.graph.names parts.names (λ name. refl)
       (all_stay h (with_words h words) refl refl refl refl))
@@ -73,7 +72,7 @@ module _ {F : Type 0} (layout : F → Layout) (past : Past) (h : HeapState F) (w
 
   -- other registrations and messages
   pub finals_written : (finals : FinalsState) (registered messages : List Id)
-      → finals.registered ≡ map (address_of_id w.addresses) registered
+      → AreRegistered w.addresses past.time.at_flip finals.registered registered
       → finals.messages ≡ map (address_of_id w.addresses) messages
       → AreParts layout past (with_finals h finals) (with_graph w (record w.graph { registered = registered; messages = messages }))
   finals_written finals registered messages are waiting =

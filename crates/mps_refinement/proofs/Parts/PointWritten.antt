@@ -9,7 +9,6 @@ use Rattle.mps_buffer.specs.declared.point.Held.{Held}
 use Rattle.mps_buffer.specs.declared.point.Point.{Point}
 use Rattle.mps_buffer.specs.Points.{PointsState, point_at, with_point}
 use Rattle.mps_format.specs.Layout.{Layout}
-use Rattle.mps_trace_laws.specs.Image.AtRest.{StandsAtRest}
 use Rattle.mps_model.specs.Graph as graph
 use Rattle.mps_model.specs.Graph.{entry_at}
 use Rattle.mps_model.specs.Making.{live_points}
@@ -20,7 +19,7 @@ use Rattle.mps_laws.proofs.Entries.{entry_at-written}
 use Rattle.mps_laws.proofs.Lookups.{entry_at-set_other}
 use Rattle.mps_heap_spec.specs.State.{HeapState}
 use Rattle.mps_refinement.specs.Numbering.{AreNumbered, IsKept}
-use Rattle.mps_refinement.specs.StandsFor.{AreHeldAlike, AreParts, IsArenaAtRest, IsPoint, Past}
+use Rattle.mps_refinement.specs.StandsFor.{AreHeldAlike, AreParts, IsArena, IsPoint, Past, StandsAt}
 use Rattle.mps_refinement.proofs.Parts.Named.{ThingsStay, named_alike}
 use Rattle.mps_refinement.proofs.Parts.Numbering.{kept_other, kept_within, kept_written}
 use Rattle.mps_refinement.proofs.Parts.PartsByKind.{parts_of_kinds, finals_of, pools_of, roots_of}
@@ -150,13 +149,11 @@ unfolding bit
 none_set bits i j clear = clear_still bits i j clear
 
 -- the arena is at rest still where each point with a reservation was there
-pub resting_points : (grains : ℕ) (condemned kept_marks : List Bool) (s after : PointsState) → IsArenaAtRest grains condemned kept_marks s
+pub resting_points : (grains : ℕ) (s after : PointsState) → IsArena grains s
     → ((key : ℕ) (p : Point) (held : Held) → point_at after key ≡ Some p → p.reservation ≡ Some held → point_at s key ≡ Some p)
-    → IsArenaAtRest grains condemned kept_marks after
-resting_points grains condemned kept_marks s after rest was = record {
+    → IsArena grains after
+resting_points grains s after rest was = record {
   at_most = rest.at_most;
-  not_condemned = rest.not_condemned;
-  not_kept = rest.not_kept;
   within = λ key p held there reserved. rest.within key p held (was key p held there reserved) reserved;
   aligned = λ key p held there reserved. rest.aligned key p held (was key p held there reserved) reserved;
 }
@@ -188,8 +185,8 @@ module _ {F : Type 0} (layout : F → Layout) (past : Past) (h : HeapState F) (w
     pub grains : segs.grains ≡ h.segs.grains
     pub limit : segs.limit ≡ h.segs.limit
     pub segments_are : segs.segments ≡ segments
-    pub image : StandsAtRest segs (points_world entries segments memories)
-    pub resting : IsArenaAtRest segs.grains segs.condemned segs.marks.kept points
+    pub image : StandsAt past.time segs (points_world entries segments memories)
+    pub arena : IsArena segs.grains points
     pub are : AreNumbered (IsPoint (length w.flips) (world.is_copying_pool w) memories) past.point_number (point_at points) entries
     pub counted : live_points (record w.graph { points = entries }) ≡ live_points w.graph
     pub flips : points.flips ≡ h.points.flips
@@ -199,7 +196,7 @@ module _ {F : Type 0} (layout : F → Layout) (past : Past) (h : HeapState F) (w
       (memories : List PointMemory) → ArePointsAnew segs points entries segments memories
       → AreParts layout past (points_heap segs points) (points_world entries segments memories)
   points_anew segs points entries segments memories anew =
-      parts_of_kinds (anew.grains ∙ parts.grains, anew.limit ∙ parts.limit, anew.segments_are) (anew.image, anew.resting)
+      parts_of_kinds (anew.grains ∙ parts.grains, anew.limit ∙ parts.limit, anew.segments_are) (anew.image, anew.arena)
       (roots_of parts) (anew.are, parts.points_counted ∙ sym anew.counted) (finals_of parts) parts.dependencies (pools_of parts)
       (named_alike h (points_heap segs points) past w.graph.names parts.names (λ name. refl) (points_stay segs points anew.there))
-      (parts.flips, anew.flips ∙ parts.point_flips, parts.state, parts.at_rest)
+      (parts.flips, anew.flips ∙ parts.point_flips, parts.state)

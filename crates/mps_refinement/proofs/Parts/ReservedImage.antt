@@ -1,6 +1,6 @@
 -- A reservation is made where nothing lies: by how the world after it is laid out, its words are free, and all blocks lie in the
 -- segments in which they lay.
-use Rattle.std.proofs.Common.{◌≡◌, ◌∙◌, ℕ, zero, suc, ◌+◌, ◌-◌, ◌<◌, Bool, true, false, refl, sym, ap, subst, List, [], length, map, Option, Some, None, arith}
+use Rattle.std.proofs.Common.{◌≡◌, ◌∙◌, ℕ, zero, suc, ◌+◌, ◌-◌, ◌<◌, Bool, true, false, refl, sym, ap, subst, List, length, map, Option, Some, None, arith}
 use Rattle.std.proofs.lemmas.Bool.{false≢true}
 use Rattle.std.proofs.lemmas.Option.{none-some, same_Some, slice_get-map}
 use Rattle.std.specs.Prelude.{◌≢◌, slice_get, slice_set, option_map, option_and_then, if◌then◌else◌}
@@ -9,8 +9,8 @@ use Rattle.mps_base.specs.Run.{Run, Covers}
 use Rattle.mps_base.specs.Segment.{Segment, segment_over, words_of_segment}
 use Rattle.mps_extents.specs.Table.{bit}
 use Rattle.mps_format.specs.Layout.{Layout}
-use Rattle.mps_trace_laws.specs.Image.Changes.{AreFree}
-use Rattle.mps_trace_laws.specs.Image.Image.{IsFixedWord, no_colours}
+use Rattle.mps_trace_laws.specs.Image.Changes.{AreFree, IsOfNoMovedBlock}
+use Rattle.mps_trace_laws.specs.Image.Image.{IsFixedWord}
 use Rattle.mps_trace_laws.specs.Image.Memory.{Lies, LiesReserved, Setting, is_condemned_word, live_reservation, words_of_arena}
 use Rattle.mps_model.specs.Graph.{Cell, HeadCell, NumberCell, ReferenceCell, Object, Point, Reservation, entry_at, is_live_reservation, new_cells, new_cells_from, size_of}
 use Rattle.mps_model.specs.World.{World, PointMemory, extent}
@@ -20,6 +20,7 @@ use Rattle.mps_laws.proofs.Positions.LegalMoves.{HasLayout}
 use Rattle.mps_laws.proofs.Lookups.{entry_at-set_other, entry_at-set_same, entry_is_there, entry_within, slice_get-set_other, slice_get-set_same}
 use Rattle.mps_laws.proofs.Positions.Occupancy.{Occupancy, Occupant, OfBlock, OfReservation, occupancy_of, run_of, run_of_block, run_of_reservation, run_of_reserved, shape_of, shape_of_point, reserved_words}
 use Rattle.mps_laws.proofs.Positions.Segments.{IsAmong, among_aligned, found_segment, segment_bounds}
+use Rattle.mps_refinement.specs.StandsFor.{Time}
 
 abbrev is_block : Occupant → Bool
 is_block (OfBlock id) = true
@@ -107,12 +108,12 @@ module _ (w : World) (n : ℕ) (q : Point) (there : entry_at w.graph.points n �
   world_reserved =
       record w { graph = record w.graph { points = points_after }; segments = segments; point_memories = memories_after }
 
-  live : live_reservation (entry_at points_after n) ≡ Some r
+  pub live : live_reservation (entry_at points_after n) ≡ Some r
   live =
       ap live_reservation (entry_at-set_same w.graph.points n (Some entry_after) (entry_within w.graph.points n q there))
       ∙ ap (λ (b : Bool). if (if b then false else true) then Some r else None) undoomed
 
-  memory_now : slice_get memories_after n ≡ Some m
+  pub memory_now : slice_get memories_after n ≡ Some m
   memory_now =
       slice_get-set_same w.point_memories n m (Rattle.std.proofs.lemmas.Option.slice_get_within w.point_memories n old has)
 
@@ -121,10 +122,21 @@ module _ (w : World) (n : ℕ) (q : Point) (there : entry_at w.graph.points n �
     own_word : (l : ℕ) → l < length r.cells → LiesReserved points_after memories_after n l r (word_of m.reserved_at + l)
     own_word l lt = record { memory = m; reserved = live; has = memory_now; within = lt; is = refl }
 
-    own_covers : (l : ℕ) → l < length r.cells → Covers (run_of (occupancy_of world_reserved) (OfReservation n)) (word_of m.reserved_at + l)
+    pub own_covers : (l : ℕ) → l < length r.cells → Covers (run_of (occupancy_of world_reserved) (OfReservation n))
+        (word_of m.reserved_at + l)
     own_covers l lt =
         reservation_covers (occupancy_of world_reserved) points_after memories_after n l r (word_of m.reserved_at + l) refl refl
         (own_word l lt)
+
+    -- its run begins at its first word
+    pub own_begins : (run_of (occupancy_of world_reserved) (OfReservation n)).from ≡ word_of m.reserved_at
+    own_begins =
+        ap (λ (x : Run). x.from)
+        (ap (λ o. run_of_reservation o (slice_get memories_after n))
+        (shape_there points_after n entry_after (entry_at-set_same w.graph.points n (Some entry_after)
+        (entry_within w.graph.points n q there)))
+        ∙ ap (λ (b : Bool). run_of_reserved (if b then None else Some (length r.cells)) (slice_get memories_after n)) undoomed
+        ∙ ap (run_of_reserved (Some (length r.cells))) memory_now)
 
     -- a word of it lies in the arena
     pub own_within : (l : ℕ) → l < length r.cells → word_of m.reserved_at + l < words_of_arena w.grains
@@ -153,8 +165,10 @@ module _ (w : World) (n : ℕ) (q : Point) (there : entry_at w.graph.points n �
 
     -- so its words are free before
     pub own_free : (s : Setting) → s.objects ≡ w.graph.objects → s.points ≡ w.graph.points → s.point_memories ≡ w.point_memories
-        → s.size ≡ words_of_arena w.grains → s.at_flip ≡ [] → AreFree s w.addresses m.reserved_at (length r.cells)
-    own_free s objects points memories arena flip = record {
+        → s.size ≡ words_of_arena w.grains
+        → ((l : ℕ) → l < length r.cells → IsOfNoMovedBlock s w.addresses (word_of m.reserved_at + l))
+        → AreFree s w.addresses m.reserved_at (length r.cells)
+    own_free s objects points memories arena unforwarded = record {
       within = λ l lt. subst (λ k. word_of m.reserved_at + l < k) (sym arena) (own_within l lt);
       unoccupied = λ l id i o lt x.
           let y : Lies w.graph.objects w.addresses id i o (word_of m.reserved_at + l) =
@@ -170,9 +184,7 @@ module _ (w : World) (n : ℕ) (q : Point) (there : entry_at w.graph.points n �
           let c = reservation_covers (occupancy_of world_reserved) points_after memories_after i j x (word_of m.reserved_at + l) refl refl
           (other_still i j x (word_of m.reserved_at + l) z apart) in
           apart (ap point_in (after.placed.apart (OfReservation i) (OfReservation n) (word_of m.reserved_at + l) c (own_covers l lt)));
-      unforwarded = λ l lt. record {
-        clear = λ id from to o k e f apart x kt same. none-some from (sym (ap (λ xs. entry_at xs id) flip) ∙ e);
-      };
+      unforwarded = unforwarded;
     }
 
     -- the segment over a word of a block is the one that was over it
@@ -197,23 +209,25 @@ none_condemned s clear n = of_grain (Rattle.mps_seg.specs.Collecting.first_grain
     of_grain (Some grain) = clear grain
 
 -- a word of a new block is its head, or 0
-pub new_cell_is_fixed : (addresses : List (Option Address)) (f : Layout) (head l : ℕ) (c : Cell) (word : ℕ)
-    → slice_get (new_cells f head) l ≡ Some c → (l ≡ 0 → word ≡ head) → (0 < l → word ≡ 0) → IsFixedWord [] addresses no_colours head c word
-new_cell_is_fixed addresses f head zero c word e first later =
+pub new_cell_is_fixed : (t : Time) (addresses : List (Option Address)) (f : Layout) (head l : ℕ) (c : Cell) (word : ℕ)
+    → slice_get (new_cells f head) l ≡ Some c → (l ≡ 0 → word ≡ head) → (0 < l → word ≡ 0)
+    → IsFixedWord t.condemned addresses t.colours head c word
+new_cell_is_fixed t addresses f head zero c word e first later =
     let same : HeadCell ≡ c = same_Some HeadCell c e in
-    subst (λ (x : Cell). IsFixedWord [] addresses no_colours head x word) same
-    (record { holds = first refl; not_white = λ t h. absurd (none-some t h) })
-new_cell_is_fixed addresses f head (suc l) c word e first later = later_cell 1 (f.size head - 1) l e (later (omega arith))
+    subst (λ (x : Cell). IsFixedWord t.condemned addresses t.colours head x word) same
+    (record { holds = first refl; not_white = λ u h. absurd (none-some u h) })
+new_cell_is_fixed t addresses f head (suc l) c word e first later = later_cell 1 (f.size head - 1) l e (later (omega arith))
   where
-    of_kind : (b : Bool) → word ≡ 0 → IsFixedWord [] addresses no_colours head (if b then ReferenceCell None 0 else NumberCell 0) word
-    of_kind true zero_word = record { holds = zero_word; not_white = λ t h. absurd (none-some t h) }
-    of_kind false zero_word = record { holds = zero_word; not_white = λ t h. absurd (none-some t h) }
+    of_kind : (b : Bool) → word ≡ 0 → IsFixedWord t.condemned addresses t.colours head
+        (if b then ReferenceCell None 0 else NumberCell 0) word
+    of_kind true zero_word = record { holds = zero_word; not_white = λ u h. absurd (none-some u h) }
+    of_kind false zero_word = record { holds = zero_word; not_white = λ u h. absurd (none-some u h) }
 
     later_cell : (k count j : ℕ) → slice_get (new_cells_from f head k count) j ≡ Some c → word ≡ 0
-        → IsFixedWord [] addresses no_colours head c word
+        → IsFixedWord t.condemned addresses t.colours head c word
     later_cell k zero j is zero_word = absurd (none-some c is)
     later_cell k (suc count) zero is zero_word =
         let same : (if f.is_reference head k then ReferenceCell None 0 else NumberCell 0) ≡ c =
         same_Some (if f.is_reference head k then ReferenceCell None 0 else NumberCell 0) c is in
-        subst (λ (x : Cell). IsFixedWord [] addresses no_colours head x word) same (of_kind (f.is_reference head k) zero_word)
+        subst (λ (x : Cell). IsFixedWord t.condemned addresses t.colours head x word) same (of_kind (f.is_reference head k) zero_word)
     later_cell k (suc count) (suc j) is zero_word = later_cell (k + 1) count j is zero_word

@@ -1,12 +1,11 @@
 -- After a `reserve` the parts of a heap stand for those of the world after it.
-use Rattle.std.proofs.Common.{◌≡◌, ◌∙◌, ◌⊎◌, ℕ, ◌+◌, ◌-◌, ◌%◌, ◌<◌, ◌≤◌, Bool, false, refl, sym, ap, subst, List, [], length, Some, None, inl, inr, arith, slice_index}
+use Rattle.std.proofs.Common.{◌≡◌, ◌∙◌, ◌⊎◌, ℕ, ◌+◌, ◌-◌, ◌%◌, ◌<◌, ◌≤◌, false, refl, sym, ap, subst, List, length, Some, None, inl, inr, arith, slice_index, map, Option, Contains}
 use Rattle.std.proofs.lemmas.Bool.{cases_eq}
-use Rattle.std.proofs.lemmas.Option.{none-some, same_Some, slice_get_within}
+use Rattle.std.proofs.lemmas.Option.{same_Some, slice_get_within}
 use Rattle.std.specs.Prelude.{◌≢◌, not, ◌==◌, slice_get, slice_set, option_map, if◌then◌else◌}
-use Rattle.mps_base.specs.Address.{Address, word_of}
-use Rattle.mps_base.specs.Placement.{Placement, Place, NewSegment, OverLimit, NoFreeRun}
-use Rattle.mps_base.specs.Segment.{Segment}
-use Rattle.mps_extents.specs.Table.{bit}
+use Rattle.mps_base.specs.Address.{word_of, Word, address_of_word, grain_of, max_grains}
+use Rattle.mps_base.specs.Placement.{Placement}
+use Rattle.mps_base.specs.Segment.{Segment, grains_of_segment, segment_over}
 use Rattle.mps_seg.specs.declared.buffer.Buffer.{Buffer}
 use Rattle.mps_buffer.specs.declared.point.Held.{Held}
 use Rattle.mps_buffer.specs.declared.point.Point.{Point}
@@ -14,38 +13,46 @@ use Rattle.mps_buffer.specs.Points.{point_at, with_point, with_place, with_reser
 use Rattle.mps_seg.specs.Buffer.{run_of}
 use Rattle.mps_format.specs.Layout.{Layout}
 use Rattle.mps_trace_laws.specs.Image.ArenaLaws.{setting_with_segments}
-use Rattle.mps_trace_laws.specs.Image.AtRest.{StandsAtRest}
-use Rattle.mps_trace_laws.specs.Image.Image.{Stands, black_cells, no_colours}
-use Rattle.mps_trace_laws.specs.Image.Memory.{Setting, is_condemned_word, memory_in, pool_layout, pool_over_word, setting_at_rest, words_of_arena}
+use Rattle.mps_trace_laws.specs.Image.Image.{Stands, black_cells}
+use Rattle.mps_trace_laws.specs.Image.Memory.{Setting, is_condemned_word, memory_in, pool_layout, pool_over_word, words_of_arena, LiesReserved, live_reservation}
 use Rattle.mps_trace_laws.proofs.Image.ArenaLaws.{segments_change}
 use Rattle.mps_trace_laws.proofs.Image.ClientLaws.{reservation_is_made}
 use Rattle.mps_model.specs.Graph as graph
 use Rattle.mps_model.specs.Graph.{Cell, Reservation, entry_at, new_cells}
 use Rattle.mps_model.specs.World.{World, PointMemory, is_copying_pool}
-use Rattle.mps_seg.specs.Segs.{SegsState, noted_for, segments_after}
+use Rattle.mps_seg.specs.Segs.{SegsState, segments_after}
 use Rattle.mps_laws.proofs.Positions.LegalMoves.{HasLayout}
-use Rattle.mps_laws.proofs.Lookups.{entry_is_there, slice_get-set_other, slice_get-set_same}
-use Rattle.mps_laws.proofs.Positions.Segments.{IsAmong}
+use Rattle.mps_laws.proofs.Lookups.{entry_is_there, slice_get-set_other, entry_at-set_other, entry_at-set_same, entry_within}
+use Rattle.mps_laws.proofs.Positions.Segments.{AreAligned, among_aligned, found_segment}
 use Rattle.mps_heap_spec.specs.State.{HeapState}
-use Rattle.mps_refinement.specs.StandsFor.{AreParts, BothHeld, IsArenaAtRest, IsPoint, Past}
+use Rattle.mps_refinement.specs.StandsFor.{AreParts, BothHeld, IsArena, IsPoint, Past, IsInTime, StandsAt, setting_at}
 use Rattle.mps_refinement.proofs.Parts.ClearedWords.{reserved_head, reserved_long, reserved_others, reserved_words, reserved_zero}
 use Rattle.mps_refinement.proofs.Parts.Counts.{reservation_written_points}
-use Rattle.mps_refinement.proofs.Parts.PointWritten.{none_set, points_anew, points_there, points_written, written_point, other_point}
-use Rattle.mps_refinement.proofs.Parts.ReservedImage.{new_cell_is_fixed, none_condemned, own_free, own_within, still_over}
+use Rattle.mps_refinement.proofs.Parts.PointWritten.{points_anew, points_there, points_written, written_point, other_point}
+use Rattle.mps_refinement.proofs.Parts.ReservedImage.{new_cell_is_fixed, own_free, own_within, live, memory_now, own_begins, own_covers, reservation_covers, shape_there}
+use Rattle.mps_base.specs.Run.{Covers, IsAscending}
+use Rattle.mps_seg.specs.Collecting.{bit_of}
+use Rattle.std.specs.Option.{option_map_or}
+use Rattle.mps_refinement.proofs.Parts.CommittedParts.{aligned_otherwise, in_order_still, segment_there}
+use Rattle.mps_refinement.proofs.Parts.SegmentsTaken.{condemned_same, pool_same}
+use Rattle.mps_refinement.proofs.Parts.Unforwarded.{flip_known, still_in, uncondemned_place, unmoved}
+use Rattle.mps_trace_laws.specs.Image.Changes.{AreHome, IsOfNoMovedBlock}
+use Rattle.mps_trace_laws.specs.Image.SegmentWords.{AreSegmentsInOrder}
+use Rattle.mps_trace_laws.proofs.Image.SegmentWords.{segments_are_home}
+use Rattle.mps_laws.proofs.Positions.Occupancy.{OfReservation, PointShape, occupancy_of, run_of as run_of_occupant}
 
--- a new segment is not condemned
-noted_clear : (q : Placement) (bits : List Bool) (grain : ℕ) → bit bits grain ≡ false → bit (noted_for q false bits) grain ≡ false
-noted_clear (Place word) bits grain clear = clear
-noted_clear (NewSegment first grains) bits grain clear = none_set bits first grain clear
-noted_clear (OverLimit committed need limit) bits grain clear = clear
-noted_clear (NoFreeRun need longest) bits grain clear = clear
+-- no word of a live reservation lies in a condemned segment, by words
+abbrev pub AreReservedSpared : SegsState → List (Option graph.Point) → List PointMemory → Type 0
+AreReservedSpared s points memories =
+    (point l : ℕ) (r : Reservation) (n : Word) → LiesReserved points memories point l r n → is_condemned_word s n ≡ false
 
 module _ {F : Type 0} (layout : F → Layout) (past : Past) (h : HeapState F) (w : World) (parts : AreParts layout past h w)
     (key n : ℕ) (number : n ≡ past.point_number key) (p : Point) (q : graph.Point) (at_key : point_at h.points key ≡ Some p)
     (there : entry_at w.graph.points n ≡ Some q) (fit : IsPoint (length w.flips) (is_copying_pool w) w.point_memories n p q)
     (closed : q.reservation ≡ None) (f : Layout) (head : ℕ) (place : Placement) (segments : List Segment)
     (segments_are : segments_after place p.pool 0 p.rank h.segs.segments ≡ segments) (hand : Buffer) (m : PointMemory)
-    (hand_is : run_of hand ≡ m.buffer) (aligned : m.reserved_at % 8 ≡ 0) where
+    (hand_is : run_of hand ≡ m.buffer) (aligned : m.reserved_at % 8 ≡ 0)
+    (time : IsInTime past.time h.segs w) where
   abbrev pub cells : List Cell
   cells = new_cells f head
 
@@ -75,7 +82,7 @@ module _ {F : Type 0} (layout : F → Layout) (past : Past) (h : HeapState F) (w
   }
 
   module _ (laid : HasLayout (w.grains + 1) w) (after : HasLayout (w.grains + 1) world_after)
-      (more : (t : Segment) → IsAmong t w.segments → IsAmong t segments) where
+      (clear : (is_copying_pool w q.pool ≡ false) ⊎ (is_condemned_word segs_after (word_of m.reserved_at) ≡ false)) where
     abbrev from : ℕ
     from = word_of m.reserved_at
 
@@ -96,47 +103,154 @@ module _ {F : Type 0} (layout : F → Layout) (past : Past) (h : HeapState F) (w
 
     -- the segments, and then the reservation
     abbrev setting_before : Setting
-    setting_before = setting_at_rest h.segs w.graph.objects w.graph.points w.point_memories (pool_layout w)
+    setting_before = setting_at past.time h.segs w
 
     abbrev setting_between : Setting
     setting_between = setting_with_segments setting_before (pool_over_word segs_after) (is_condemned_word segs_after)
 
-    clear_after : (grain : ℕ) → bit segs_after.condemned grain ≡ false
-    clear_after grain = noted_clear place h.segs.condemned grain (parts.resting.not_condemned grain)
+    now_is : segments_after place p.pool 0 p.rank w.segments ≡ segments
+    now_is = ap (λ ss. segments_after place p.pool 0 p.rank ss) (sym parts.segments) ∙ segments_are
 
-    between : Stands setting_between (memory_in h.segs) w.addresses no_colours
+    aligned_now : AreAligned (segments_after place p.pool 0 p.rank w.segments)
+    aligned_now = subst AreAligned (sym now_is) after.aligned
+
+    ascending_now : IsAscending 1 (w.grains + 1) (map grains_of_segment (segments_after place p.pool 0 p.rank w.segments))
+    ascending_now = subst (λ ss. IsAscending 1 (w.grains + 1) (map grains_of_segment ss)) (sym now_is) after.ascending
+
+    segs_are : segs_after.segments ≡ segments_after place p.pool 0 p.rank w.segments
+    segs_are = ap (λ ss. segments_after place p.pool 0 p.rank ss) parts.segments
+
+    -- old words stay in their segments
+    pool_kept : (x : Word) (number : ℕ) → pool_over_word h.segs x ≡ Some number → pool_over_word segs_after x ≡ pool_over_word h.segs x
+    pool_kept x number has =
+        ap (λ ss. option_map (λ (t : Segment). t.pool) (segment_over ss (address_of_word x))) segs_are
+        ∙ pool_same place p.pool 0 p.rank (w.grains + 1) w.segments h.segs.condemned laid.aligned laid.ascending aligned_now ascending_now
+        x number (ap (λ ss. option_map (λ (t : Segment). t.pool) (segment_over ss (address_of_word x))) (sym parts.segments) ∙ has)
+        ∙ ap (λ ss. option_map (λ (t : Segment). t.pool) (segment_over ss (address_of_word x))) (sym parts.segments)
+
+    condemned_kept : (x : Word) (number : ℕ) → pool_over_word h.segs x ≡ Some number
+        → is_condemned_word segs_after x ≡ is_condemned_word h.segs x
+    condemned_kept x number has =
+        ap (λ ss. bit_of segs_after.condemned (option_map (λ (t : Segment). grain_of t.base) (segment_over ss (address_of_word x))))
+        segs_are
+        ∙ condemned_same place p.pool 0 p.rank (w.grains + 1) w.segments h.segs.condemned laid.aligned laid.ascending aligned_now
+        ascending_now x number (ap (λ ss. option_map (λ (t : Segment). t.pool) (segment_over ss (address_of_word x))) (sym parts.segments)
+        ∙ has)
+        ∙ ap (λ ss. bit_of h.segs.condemned (option_map (λ (t : Segment). grain_of t.base) (segment_over ss (address_of_word x))))
+        (sym parts.segments)
+
+    between : Stands setting_between (memory_in h.segs) w.addresses past.time.colours
     between =
-        segments_change setting_before (memory_in h.segs) w.addresses no_colours (black_cells [] no_colours) (pool_over_word segs_after)
-        (is_condemned_word segs_after) parts.image (record {
-          pool = λ id k o x l.
-              ap (λ ss. option_map (λ (t : Segment). t.pool)
-              (Rattle.mps_base.specs.Segment.segment_over ss (Rattle.mps_base.specs.Address.address_of_word x))) segments_are
-              ∙ ap (option_map (λ (t : Segment). t.pool))
-              (still_over w n q there closed reservation_made refl m segments fit.memory fit.has laid after more id k o x l)
-              ∙ sym (ap (λ ss. option_map (λ (t : Segment). t.pool)
-              (Rattle.mps_base.specs.Segment.segment_over ss (Rattle.mps_base.specs.Address.address_of_word x))) parts.segments);
-          is_condemned = λ id k o x l.
-              none_condemned segs_after clear_after x ∙ sym (none_condemned h.segs parts.resting.not_condemned x);
-          old_pool = λ id was now o k e. absurd (none-some was e);
-          was_condemned = λ id was now o k e. absurd (none-some was e);
+        segments_change setting_before (memory_in h.segs) w.addresses past.time.colours
+        (black_cells past.time.condemned past.time.colours) (pool_over_word segs_after) (is_condemned_word segs_after) parts.image (record {
+          pool = λ j k o x l. pool_kept x o.pool (parts.image.placed.home j k o x l);
+          is_condemned = λ j k o x l. condemned_kept x o.pool (parts.image.placed.home j k o x l);
+          old_pool = λ j was to o k e f apart there low.
+              pool_kept (word_of was + k) o.pool ((parts.image.words.forwarded j was to o e f apart there).home k low);
+          was_condemned = λ j was to o k e f apart there low.
+              condemned_kept (word_of was + k) o.pool ((parts.image.words.forwarded j was to o e f apart there).home k low);
         })
 
-    image_after : StandsAtRest segs_after world_after
+    -- all its words lie in one segment of its pool
+    own : (l : ℕ) → l < length cells → Covers (run_of_occupant (occupancy_of world_after) (OfReservation n)) (from + l)
+    own l lt = own_covers w n q there closed reservation_made refl m segments fit.memory fit.has laid after l lt
+
+    at_home : AreHome setting_between m.reserved_at (length cells) q.pool
+    at_home =
+        let first = own 0 some in
+        let last = own (length cells - 1) (omega (arith, some)) in
+        let x = after.placed.homes (OfReservation n) (omega (arith, first.0, first.1)) in
+        let a = among_aligned x.segment segments after.aligned x.held in
+        let above = x.above in
+        let below = x.below in
+        let pool_is : x.segment.pool ≡ q.pool =
+        x.of_pool ∙ ap (λ o. option_map_or (λ (y : PointShape). y.pool) o 0)
+        (shape_there (slice_set w.graph.points n (Some entry_after)) n entry_after
+        (entry_at-set_same w.graph.points n (Some entry_after) (entry_within w.graph.points n q there))) in
+        subst (AreHome setting_between m.reserved_at (length cells)) pool_is
+        (segments_are_home segs_after w.graph.objects w.graph.points w.point_memories (pool_layout w) past.time.at_flip past.time.condemned
+        past.time.is_read x.segment m.reserved_at (length cells)
+        (subst AreSegmentsInOrder (sym segments_are) (record {
+          aligned = aligned_otherwise segments after.aligned;
+          ascending = in_order_still 1 (w.grains + 1) (max_grains + 1) (map grains_of_segment segments)
+              (let most = parts.arena.at_most in let grains = parts.grains in omega (arith, most, grains)) after.ascending;
+        }))
+        (subst (λ ss. Contains ss x.segment) (sym segments_are) (segment_there x.segment segments x.held)) aligned some
+        (omega (arith, above, first.0, run_is))
+        (omega (arith, below, last.1, run_is, a, some)))
+      where
+        run_is : (run_of_occupant (occupancy_of world_after) (OfReservation n)).from ≡ from
+        run_is = own_begins w n q there closed reservation_made refl m segments fit.memory fit.has laid after
+
+    unforwarded : (l : ℕ) → l < length cells → IsOfNoMovedBlock setting_between w.addresses (word_of m.reserved_at + l)
+    unforwarded = of_clear clear
+      where
+        of_clear : (is_copying_pool w q.pool ≡ false) ⊎ (is_condemned_word segs_after (word_of m.reserved_at) ≡ false)
+            → (l : ℕ) → l < length cells → IsOfNoMovedBlock setting_between w.addresses (word_of m.reserved_at + l)
+        of_clear (inl still) =
+            unmoved setting_between (memory_in h.segs) w.addresses past.time.colours (black_cells past.time.condemned past.time.colours)
+            (is_copying_pool w) m.reserved_at (length cells) q.pool between
+            (still_in past.time.at_flip w (flip_known past.time h.segs w time)) at_home still
+        of_clear (inr here) =
+            uncondemned_place setting_between (memory_in h.segs) w.addresses past.time.colours
+            (black_cells past.time.condemned past.time.colours) (is_copying_pool w) m.reserved_at (length cells) q.pool between
+            (still_in past.time.at_flip w (flip_known past.time h.segs w time)) at_home here
+
+    image_after : StandsAt past.time segs_after world_after
     image_after =
-        reservation_is_made setting_between (memory_in h.segs) w.addresses no_colours n (Some q) entry_after fit.memory m reservation_made
+        reservation_is_made setting_between (memory_in h.segs) w.addresses past.time.colours n
+        (Some q) entry_after fit.memory m reservation_made
         (reserved_words h.segs.words from (length cells) head) between (entry_is_there w.graph.points n q there) fit.has
         (ap (λ o. Rattle.std.specs.Prelude.option_and_then
         (λ (r : Reservation). if Rattle.mps_model.specs.Graph.is_live_reservation r then Some r else None) o) closed)
         refl some
         (own_free w n q there closed reservation_made refl m segments fit.memory fit.has laid after setting_between refl refl refl
-        (ap words_of_arena parts.grains) refl)
+        (ap words_of_arena parts.grains) unforwarded)
         (reserved_long h.segs.words from (length cells) head some fits_words)
-        (λ l c e. new_cell_is_fixed w.addresses f head l c
+        (λ l c e. new_cell_is_fixed past.time w.addresses f head l c
         (slice_index (reserved_words h.segs.words from (length cells) head) (from + l)) e
         (λ first. ap (slice_index (reserved_words h.segs.words from (length cells) head))
         (let z : from + l ≡ from = omega (arith, first) in z) ∙ reserved_head h.segs.words from (length cells) head some fits_words)
         (λ later. reserved_zero h.segs.words from (length cells) head some fits_words l later (slice_get_within cells l c e)))
         (λ x apart. reserved_others h.segs.words from (length cells) head some fits_words x apart)
+
+    -- no word of a live reservation lies in a condemned segment, if none did before and the new one's first word doesn't
+    pub spared_after : is_condemned_word segs_after (word_of m.reserved_at) ≡ false
+        → AreReservedSpared h.segs w.graph.points w.point_memories
+        → AreReservedSpared segs_after world_after.graph.points world_after.point_memories
+    spared_after here before i l r k y =
+        elim (cases_eq i n) [
+          | inl same ↦
+              let mine : y.memory ≡ m =
+              same_Some y.memory m (sym y.has ∙ ap (slice_get (slice_set w.point_memories n m)) same
+              ∙ memory_now w n q there closed reservation_made refl m segments fit.memory fit.has) in
+              let made : r ≡ reservation_made =
+              same_Some r reservation_made
+              (sym y.reserved ∙ ap (λ j. live_reservation (entry_at (slice_set w.graph.points n (Some entry_after)) j)) same
+              ∙ live w n q there closed reservation_made refl m segments fit.memory fit.has) in
+              ap (is_condemned_word segs_after) (y.is ∙ ap (λ (x : PointMemory). word_of x.reserved_at + l) mine)
+              ∙ at_home.whole l (subst (λ (x : Reservation). l < length x.cells) made y.within) ∙ here
+          | inr apart ↦
+              let z : LiesReserved w.graph.points w.point_memories i l r k = record {
+                memory = y.memory;
+                reserved = sym (ap live_reservation (entry_at-set_other w.graph.points n i (Some entry_after) (λ e. apart (sym e))))
+                    ∙ y.reserved;
+                has = sym (slice_get-set_other w.point_memories n i m (λ e. apart (sym e))) ∙ y.has;
+                within = y.within;
+                is = y.is;
+              } in
+              let c = reservation_covers (occupancy_of w) w.graph.points w.point_memories i l r k refl refl z in
+              let home = laid.placed.homes (OfReservation i) (omega (arith, c.0, c.1)) in
+              let above = home.above in
+              let below = home.below in
+              let over : segment_over w.segments (address_of_word k) ≡ Some home.segment =
+              found_segment 1 (w.grains + 1) w.segments home.segment laid.ascending laid.aligned home.held k
+              (omega (arith, above, c.0), omega (arith, below, c.1)) in
+              condemned_kept k home.segment.pool
+              (ap (λ ss. option_map (λ (t : Segment). t.pool) (segment_over ss (address_of_word k))) parts.segments
+              ∙ ap (option_map (λ (t : Segment). t.pool)) over)
+              ∙ before i l r k z
+        ]
 
     -- a reservation is the new one, or it was there
     own_or_there : (k : ℕ) (x : Point) (held : Held) → point_at (with_point h.points key (Some point_after)) k ≡ Some x
@@ -151,25 +265,20 @@ module _ {F : Type 0} (layout : F → Layout) (past : Past) (h : HeapState F) (w
           | inr other ↦ inr (sym (other_point h.points key k (Some point_after) other) ∙ e)
         ]
 
-    resting_after : IsArenaAtRest segs_after.grains segs_after.condemned segs_after.marks.kept (with_point h.points key (Some point_after))
+    resting_after : IsArena segs_after.grains (with_point h.points key (Some point_after))
     resting_after = record {
-      at_most = parts.resting.at_most;
-      not_condemned = clear_after;
-      not_kept = parts.resting.not_kept;
+      at_most = parts.arena.at_most;
       within = λ k x held e reserved.
           elim (own_or_there k x held e reserved) [
             | inl mine ↦ subst (λ (y : Held). word_of y.at.0 + y.words ≤ words_of_arena h.segs.grains) mine fits
-            | inr was ↦ parts.resting.within k x held was reserved
+            | inr was ↦ parts.arena.within k x held was reserved
           ];
       aligned = λ k x held e reserved.
           elim (own_or_there k x held e reserved) [
             | inl mine ↦ subst (λ (y : Held). y.at.0 % 8 ≡ 0) mine aligned
-            | inr was ↦ parts.resting.aligned k x held was reserved
+            | inr was ↦ parts.arena.aligned k x held was reserved
           ];
     }
-
-    memory_now : slice_get (slice_set w.point_memories n m) n ≡ Some m
-    memory_now = slice_get-set_same w.point_memories n m (slice_get_within w.point_memories n fit.memory fit.has)
 
     fit_after : IsPoint (length w.flips) (is_copying_pool w) (slice_set w.point_memories n m) n point_after entry_after
     fit_after = record {
@@ -177,7 +286,7 @@ module _ {F : Type 0} (layout : F → Layout) (past : Past) (h : HeapState F) (w
       rank = fit.rank;
       copying = fit.copying;
       memory = m;
-      has = memory_now;
+      has = memory_now w n q there closed reservation_made refl m segments fit.memory fit.has;
       buffer = hand_is;
       reservation = BothHeld (record {
         at = refl;
@@ -196,7 +305,7 @@ module _ {F : Type 0} (layout : F → Layout) (past : Past) (h : HeapState F) (w
           limit = refl;
           segments_are = segments_are;
           image = image_after;
-          resting = resting_after;
+          arena = resting_after;
           are = subst (λ j. Rattle.mps_refinement.specs.Numbering.AreNumbered
               (IsPoint (length w.flips) (is_copying_pool w) (slice_set w.point_memories n m)) past.point_number
               (point_at (with_point h.points key (Some point_after))) (slice_set w.graph.points j (Some entry_after))) (sym number)

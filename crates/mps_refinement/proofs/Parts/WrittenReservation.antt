@@ -1,16 +1,15 @@
 -- After a cell of a live reservation was written, and its word, the parts of a heap stand for those of the world after it.
-use Rattle.std.proofs.Common.{◌≡◌, ◌∙◌, ℕ, ◌+◌, ◌<◌, false, refl, sym, ap, subst, List, [], length, Option, Some, None, is_some, inl, inr, arith}
-use Rattle.std.proofs.lemmas.Option.{none-some}
-use Rattle.std.specs.Prelude.{slice_get, slice_set, slice_index}
+use Rattle.std.proofs.Common.{◌≡◌, ◌∙◌, ℕ, ◌+◌, ◌<◌, false, refl, sym, ap, subst, List, [], length, Option, Some, None, is_some, inl, inr, arith, Bool, true}
+use Rattle.std.proofs.lemmas.Option.{none-some, same_Some}
+use Rattle.std.specs.Prelude.{slice_get, slice_set, slice_index, not}
 use Rattle.std.specs.Option.{option_map_or}
 use Rattle.mps_base.specs.Address.{Address, Id, word_of}
 use Rattle.mps_buffer.specs.declared.point.Held.{Held}
 use Rattle.mps_buffer.specs.declared.point.Point.{Point}
 use Rattle.mps_buffer.specs.Points.{point_at}
 use Rattle.mps_format.specs.Layout.{Layout}
-use Rattle.mps_trace_laws.specs.Image.AtRest.{StandsAtRest}
-use Rattle.mps_trace_laws.specs.Image.Image.{IsCellWord, IsFixedWord, no_colours}
-use Rattle.mps_trace_laws.specs.Image.Memory.{live_reservation, memory_in, pool_layout, setting_at_rest}
+use Rattle.mps_trace_laws.specs.Image.Image.{IsCellWord, IsFixedWord}
+use Rattle.mps_trace_laws.specs.Image.Memory.{live_reservation, memory_in}
 use Rattle.mps_trace_laws.proofs.Image.ClientLaws.{reservation_is_written}
 use Rattle.mps_laws.proofs.Lookups.{entry_is_there, length-slice_set}
 use Rattle.mps_laws.proofs.Sound.SoundGraph.{PassesOrNull}
@@ -21,27 +20,37 @@ use Rattle.mps_model.specs.Graph.{Cell, NumberCell, ReferenceCell, Reservation, 
 use Rattle.mps_model.specs.World.{World, is_copying_pool, is_live}
 use Rattle.mps_heap_spec.specs.Objects.{with_word}
 use Rattle.mps_heap_spec.specs.State.{HeapState}
-use Rattle.mps_refinement.specs.StandsFor.{AreHeldAlike, AreParts, BothHeld, IsHeld, IsPoint, Past, address_of_target}
+use Rattle.mps_refinement.specs.StandsFor.{AreHeldAlike, AreParts, BothHeld, IsHeld, IsPoint, Past, address_of_target, StandsAt, setting_at}
 use Rattle.mps_refinement.proofs.Lookups.Cells.{IsTargetAddress}
 use Rattle.mps_refinement.proofs.Parts.Counts.{reservation_written_points}
 use Rattle.mps_refinement.proofs.Lookups.Found.{some_there}
 use Rattle.mps_refinement.proofs.Parts.Numbering.{numbered_written}
 use Rattle.mps_refinement.proofs.Parts.PointWritten.{points_anew, reservation_fits}
 use Rattle.mps_refinement.proofs.Worlds.Ready.{live_is}
+use Rattle.std.proofs.lemmas.Bool.{false≢true}
+use Rattle.mps_abstract.specs.Colours.{Colours, is_white}
 
 -- ---- what is written
 
 -- a number is fixed
-pub number_is_fixed : (addresses : List (Option Address)) (head value : ℕ) → IsFixedWord [] addresses no_colours head
-    (NumberCell value) value
-number_is_fixed addresses head value = record { holds = refl; not_white = λ t e. absurd (none-some t e) }
+pub number_is_fixed : (condemned : List Id) (k : Colours) (addresses : List (Option Address)) (head value : ℕ)
+    → IsFixedWord condemned addresses k head (NumberCell value) value
+number_is_fixed condemned k addresses head value = record { holds = refl; not_white = λ t e. absurd (none-some t e) }
 
 -- and so is a reference to null or to what is live
-pub reference_is_fixed : (addresses : List (Option Address)) (head tag word : ℕ) (target : Option Id)
+not_white : (b : Bool) → not b ≡ true → b ≡ false
+not_white true e = absurd (false≢true e)
+not_white false e = refl
+
+pub reference_is_fixed : (condemned : List Id) (k : Colours) (addresses : List (Option Address)) (head tag word : ℕ) (target : Option Id)
     → word ≡ address_of_target addresses target + tag
-    → PassesOrNull (λ id. is_some (entry_at addresses id)) target → IsFixedWord [] addresses no_colours head (ReferenceCell target tag) word
-reference_is_fixed addresses head tag word None is live = record { holds = omega (arith, is); not_white = λ t e. absurd (none-some t e) }
-reference_is_fixed addresses head tag word (Some id) is live =
+    → PassesOrNull (λ id. is_some (entry_at addresses id)) target → PassesOrNull (λ id. not (is_white condemned k id)) target
+    → IsFixedWord condemned addresses k head (ReferenceCell target tag) word
+reference_is_fixed condemned k addresses head tag word None is live kept = record {
+  holds = omega (arith, is);
+  not_white = λ t e. absurd (none-some t e);
+}
+reference_is_fixed condemned k addresses head tag word (Some id) is live kept =
     let at = some_there (entry_at addresses id) live in
     record {
       holds = record {
@@ -49,7 +58,7 @@ reference_is_fixed addresses head tag word (Some id) is live =
         is = is ∙ ap (λ o. option_map_or (λ a. a) o 0 + tag) at.1;
         means = inl at.1;
       };
-      not_white = λ t e. refl;
+      not_white = λ t e. subst (λ n. is_white condemned k n ≡ false) (same_Some id t e) (not_white (is_white condemned k id) kept);
     }
 
 -- what a reference refers to is null, or live
@@ -83,7 +92,7 @@ module _ {F : Type 0} (layout : F → Layout) (past : Past) (h : HeapState F) (w
 
     -- a cell of it holds the address that its target has now
     pub cell_is_fixed : (k : ℕ) (c : Cell) → k < length r.cells → slice_get r.cells k ≡ Some c
-        → IsFixedWord [] w.addresses no_colours r.head c (slice_index h.segs.words (word_of held.at.0 + k))
+        → IsFixedWord past.time.condemned w.addresses past.time.colours r.head c (slice_index h.segs.words (word_of held.at.0 + k))
     cell_is_fixed k c lt e =
         let at = is.at in
         parts.image.fixed.reserved n.number k r (word_of held.at.0 + k) c
@@ -97,55 +106,56 @@ module _ {F : Type 0} (layout : F → Layout) (past : Past) (h : HeapState F) (w
 
     module _ (k : ℕ) (new : Cell) (cells : List Cell) (word value : ℕ) (cells_are : cells ≡ slice_set r.cells k new)
         (within : k < length r.cells)
-        (word_is : word ≡ word_of held.at.0 + k) (fixed : IsFixedWord [] w.addresses no_colours r.head new value) where
-      abbrev written : Reservation
-      written = record r { cells = cells }
+        (word_is : word ≡ word_of held.at.0 + k) (fixed : IsFixedWord past.time.condemned w.addresses past.time.colours r.head new value)
+      where
+        abbrev written : Reservation
+        written = record r { cells = cells }
 
-      abbrev entry_written : graph.Point
-      entry_written = record n.value { reservation = Some written }
+        abbrev entry_written : graph.Point
+        entry_written = record n.value { reservation = Some written }
 
-      image_written : StandsAtRest (record h.segs { words = slice_set h.segs.words word value })
-          (with_graph w (model.with_reservation w.graph n (Some written)))
-      image_written =
-          let at : word_of fit.memory.reserved_at + k ≡ word = ap (λ a. word_of a + k) (sym is.at) ∙ sym word_is in
-          subst (λ (x : ℕ). StandsAtRest (record h.segs { words = slice_set h.segs.words x value })
-          (with_graph w (model.with_reservation w.graph n (Some written)))) at
-          (reservation_is_written (setting_at_rest h.segs w.graph.objects w.graph.points w.point_memories (pool_layout w))
-          (memory_in h.segs) w.addresses no_colours n.number (Some n.value) entry_written fit.memory r k new value parts.image
-          (entry_is_there w.graph.points n.number n.value there) fit.has now_live within
-          (live_is (Some entry_written) entry_written written refl refl live
-          ∙ ap (λ (cs : List Cell). Some (record r { cells = cs })) cells_are) fixed)
+        image_written : StandsAt past.time (record h.segs { words = slice_set h.segs.words word value })
+            (with_graph w (model.with_reservation w.graph n (Some written)))
+        image_written =
+            let at : word_of fit.memory.reserved_at + k ≡ word = ap (λ a. word_of a + k) (sym is.at) ∙ sym word_is in
+            subst (λ (x : ℕ). StandsAt past.time (record h.segs { words = slice_set h.segs.words x value })
+            (with_graph w (model.with_reservation w.graph n (Some written)))) at
+            (reservation_is_written (setting_at past.time h.segs w)
+            (memory_in h.segs) w.addresses past.time.colours n.number (Some n.value) entry_written fit.memory r k new value parts.image
+            (entry_is_there w.graph.points n.number n.value there) fit.has now_live within
+            (live_is (Some entry_written) entry_written written refl refl live
+            ∙ ap (λ (cs : List Cell). Some (record r { cells = cs })) cells_are) fixed)
 
-      same_length : length cells ≡ length r.cells
-      same_length = ap length cells_are ∙ length-slice_set r.cells k new
+        same_length : length cells ≡ length r.cells
+        same_length = ap length cells_are ∙ length-slice_set r.cells k new
 
-      fit_written : IsPoint (length w.flips) (is_copying_pool w) w.point_memories (past.point_number key) p entry_written
-      fit_written =
-          reservation_fits (length w.flips) (is_copying_pool w) w.point_memories n.number (past.point_number key) p n.value p.reservation
-          (Some written) fit number
-          (subst (λ o. AreHeldAlike (length w.flips) fit.memory.reserved_at o (Some written)) (sym reserved) (BothHeld (record {
-            at = is.at;
-            head = is.head;
-            words = is.words ∙ sym same_length;
-            doomed = is.doomed;
-          })))
+        fit_written : IsPoint (length w.flips) (is_copying_pool w) w.point_memories (past.point_number key) p entry_written
+        fit_written =
+            reservation_fits (length w.flips) (is_copying_pool w) w.point_memories n.number (past.point_number key) p n.value p.reservation
+            (Some written) fit number
+            (subst (λ o. AreHeldAlike (length w.flips) fit.memory.reserved_at o (Some written)) (sym reserved) (BothHeld (record {
+              at = is.at;
+              head = is.head;
+              words = is.words ∙ sym same_length;
+              doomed = is.doomed;
+            })))
 
-      pub reservation_parts : AreParts layout past (with_word h word value) (with_graph w (model.with_reservation w.graph n (Some written)))
-      reservation_parts =
-          points_anew layout past h w parts (record h.segs { words = slice_set h.segs.words word value }) h.points
-          (slice_set w.graph.points n.number (Some entry_written)) w.segments w.point_memories
-          (record {
-            grains = refl;
-            limit = refl;
-            segments_are = parts.segments;
-            image = image_written;
-            resting = parts.resting;
-            are = subst (λ j. Rattle.mps_refinement.specs.Numbering.AreNumbered
-                (IsPoint (length w.flips) (is_copying_pool w) w.point_memories) past.point_number (point_at h.points)
-                (slice_set w.graph.points j (Some entry_written))) (sym number)
-                (numbered_written (IsPoint (length w.flips) (is_copying_pool w) w.point_memories) past.point_number (point_at h.points)
-                (point_at h.points) w.graph.points parts.points key (λ other apart. refl) p p entry_written at_key at_key fit_written);
-            counted = reservation_written_points w.graph n (Some written) there;
-            flips = refl;
-            there = λ other some. some;
-          })
+        pub reservation_parts : AreParts layout past (with_word h word value) (with_graph w (model.with_reservation w.graph n (Some written)))
+        reservation_parts =
+            points_anew layout past h w parts (record h.segs { words = slice_set h.segs.words word value }) h.points
+            (slice_set w.graph.points n.number (Some entry_written)) w.segments w.point_memories
+            (record {
+              grains = refl;
+              limit = refl;
+              segments_are = parts.segments;
+              image = image_written;
+              arena = parts.arena;
+              are = subst (λ j. Rattle.mps_refinement.specs.Numbering.AreNumbered
+                  (IsPoint (length w.flips) (is_copying_pool w) w.point_memories) past.point_number (point_at h.points)
+                  (slice_set w.graph.points j (Some entry_written))) (sym number)
+                  (numbered_written (IsPoint (length w.flips) (is_copying_pool w) w.point_memories) past.point_number (point_at h.points)
+                  (point_at h.points) w.graph.points parts.points key (λ other apart. refl) p p entry_written at_key at_key fit_written);
+              counted = reservation_written_points w.graph n (Some written) there;
+              flips = refl;
+              there = λ other some. some;
+            })

@@ -38,7 +38,7 @@ use Rattle.mps_refinement.specs.RightStep.{IsRight}
 use Rattle.mps_refinement.proofs.Calls.Allocs.{alloc_is_right}
 use Rattle.mps_refinement.proofs.Calls.Frees.{free_is_right}
 use Rattle.mps_refinement.proofs.Calls.RightCommit.{commit_is_right}
-use Rattle.mps_refinement.proofs.Calls.RightReserve.{reserve_is_right}
+use Rattle.mps_refinement.proofs.Calls.Reserves.{reserve_is_right}
 
 -- ---- trails
 

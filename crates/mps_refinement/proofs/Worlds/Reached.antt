@@ -11,11 +11,13 @@ use Rattle.mps_model.proofs.Appending.{IsLegalFrom-append, world_after_steps-app
 use Rattle.mps_laws.specs.Replay.{reached}
 use Rattle.mps_laws.specs.WellFormed.{is_arena_made_once}
 use Rattle.mps_changes.specs.Change.{makes_arena}
-use Rattle.mps_laws.proofs.Held.{held_after}
+use Rattle.mps_laws.proofs.Held.{held_after, any_kind}
 use Rattle.mps_laws.proofs.QuietSteps.{IsSound}
 use Rattle.mps_laws.proofs.WellFormedHistories.{reached_are_well_formed}
 use Rattle.mps_refinement.specs.StandsFor.{IsReached}
 use Rattle.mps_refinement.proofs.Worlds.RestingActs.{resting_sound}
+use Rattle.mps_laws.proofs.LegalHistories.{kept_by_steps}
+use Rattle.mps_laws.proofs.Sound.PoolsThere.{HasPools, step_has_pools}
 
 -- ---- what holds there
 
@@ -27,6 +29,13 @@ reached_live w r = subst HeldAreLive (sym r.is) (held_after w.formats r.history 
 
 pub reached_sound : (w : World) → IsReached w → w.collection ≡ None → IsSound w
 reached_sound w r rest = resting_sound w rest (reached_live w r)
+
+-- in a world that is reached each point is of a pool that exists
+pub reached_has_pools : (w : World) → IsReached w → HasPools w
+reached_has_pools w r =
+    subst HasPools (sym r.is)
+    (kept_by_steps HasPools (λ s. Unit {0}) (λ v s has any answered. step_has_pools v s has answered) (empty_world_of w.formats) r.history
+    (record { of_objects = tt; of_points = tt }) (any_kind r.history) r.legal)
 
 -- ---- one more step
 

@@ -15,15 +15,15 @@ use Rattle.mps_trace_laws.specs.Image.Fixing.{IsMarkSet, IsMarkCleared, AreMarks
 
 -- ---- one bit
 
-set_bit : (bits : List Bool) (n : Word) → n < length bits → bit (slice_set bits n true) n ≡ true
+pub set_bit : (bits : List Bool) (n : Word) → n < length bits → bit (slice_set bits n true) n ≡ true
 unfolding bit
 set_bit bits n lt = get_or-set_same bits n true false lt
 
-other_bit : (bits : List Bool) (n m : Word) (b : Bool) → m ≢ n → bit (slice_set bits n b) m ≡ bit bits m
+pub other_bit : (bits : List Bool) (n m : Word) (b : Bool) → m ≢ n → bit (slice_set bits n b) m ≡ bit bits m
 unfolding bit
 other_bit bits n m b other = get_or-set_other bits n m b false other
 
-clear_bit : (bits : List Bool) (n : Word) → bit (slice_set bits n false) n ≡ false
+pub clear_bit : (bits : List Bool) (n : Word) → bit (slice_set bits n false) n ≡ false
 unfolding bit
 clear_bit bits n =
     elim (cases_lt n (length bits)) [

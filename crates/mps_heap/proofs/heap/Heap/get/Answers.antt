@@ -2,7 +2,7 @@ use Rattle.std.proofs.Common.{subst, []}
 use Rattle.mps_model.specs.declared.call.Call.TheVariants as call
 use Rattle.mps_refinement.specs.Answering.{answer_to, says_ok}
 use Rattle.mps_refinement.specs.RightStep.{IsRight}
-use Rattle.mps_refinement.proofs.Calls.Objects.{reference_got_right}
+use Rattle.mps_refinement.proofs.Calls.Gets.{reference_got_right}
 use Rattle.mps_refinement.proofs.Worlds.Staying.{stays}
 use Rattle.mps_heap.proofs.heap.Heap.get.Goals as goal
 

@@ -1,0 +1,187 @@
+-- When a `reserve` polls. One whose poll makes no moves is right: at rest, if it has a place in what is held, and in a clamped arena.
+use Rattle.mps_refinement.proofs.Parts.Resting.{at_rest}
+use Rattle.mps_refinement.proofs.Worlds.Known.{known_now}
+use Rattle.mps_refinement.specs.RightStep.{IsRight}
+use Rattle.std.proofs.Common.{◌≡◌, ◌∙◌, ◌⊎◌, ℕ, ◌+◌, ◌-◌, ◌*◌, ◌<◌, ◌≤◌, Bool, true, false, refl, sym, ap, subst, List, [], ◌∷◌, ◌++◌, length, Some, None, Ok, Err, inl, inr, arith}
+use Rattle.std.specs.Prelude.{MatchBool, ◌&&◌, not, if◌then◌else◌, option_map, slice_set}
+use Rattle.std.specs.Option.{option_map_or}
+use Rattle.mps_seg.specs.Arena.{answer_of_placement}
+use Rattle.mps_base.specs.Address.{word_of, address_of_word, address_of_grain, grain_of}
+use Rattle.mps_base.specs.Placement.{Placement, Place, NewSegment, OverLimit, NoFreeRun}
+use Rattle.mps_base.specs.Run.{Run}
+use Rattle.mps_base.specs.Segment.{Segment, segment_over, with_segment, words_of_segment}
+use Rattle.mps_base.specs.Trail.{Moves}
+use Rattle.mps_base.specs.declared.moves.Move.{Move}
+use Rattle.mps_base.specs.declared.moves.Move.TheVariants as moves
+use Rattle.mps_base.specs.declared.names.Name.{Name}
+use Rattle.mps_base.specs.declared.names.Rank.{Rank}
+use Rattle.mps_base.specs.declared.refusal.Refusal.{Refusal}
+use Rattle.mps_base.specs.declared.refusal.Refusal.TheVariants as refusal
+use Rattle.mps_extents.specs.Table.{bit}
+use Rattle.mps_buffer.specs.declared.point.Point.{Point}
+use Rattle.mps_buffer.specs.Points.{buffer_after, after_open, placement_at, with_place, with_point, with_reservation}
+use Rattle.mps_seg.specs.Buffer.{rest_at_hand, run_of}
+use Rattle.mps_format.specs.Layout.{Layout}
+use Rattle.mps_trace_laws.specs.Image.Memory.{is_condemned_word}
+use Rattle.mps_trace_laws.proofs.Image.SegmentMarks.{clear_bit}
+use Rattle.mps_laws.proofs.Positions.LegalMoves.{HasLayout, at_front}
+use Rattle.mps_laws.proofs.Positions.Occupancy.{OfBuffer, occupancy_of}
+use Rattle.mps_laws.proofs.Same.{Same, fits}
+use Rattle.mps_laws.proofs.Same as same
+use Rattle.mps_laws.proofs.Positions.Segments.{IsAmong, among_new, found_segment}
+use Rattle.mps_seg.specs.Segs.{moves_after, segments_after}
+use Rattle.mps_seg.specs.Collecting.{bit_of}
+use Rattle.mps_model.specs.declared.call.Call.{Call}
+use Rattle.mps_model.specs.declared.call.Call.TheVariants as call
+use Rattle.mps_model.specs.declared.reply.Reply.TheVariants as reply
+use Rattle.mps_model.specs.Allocating as model
+use Rattle.mps_model.specs.Allocating.{act_reserve, without_front}
+use Rattle.mps_model.specs.Answer.{Answer, Replied, refused}
+use Rattle.mps_model.specs.Checked.{Act, Checked, Numbered, ◌>>=◌, done, point_named}
+use Rattle.mps_model.specs.Graph as graph
+use Rattle.mps_model.specs.Graph.{contains, entry_at, ids_in_blocks, new_cells}
+use Rattle.mps_model.specs.History.{IsPoll, segment_taken, segment_of_reserve, segment_where_judged}
+use Rattle.mps_model.specs.LegalMove.{IsPlaceAt}
+use Rattle.mps_model.specs.Placement.{ForReserve, placement_of, placement_at_front, placement_at_point, new_segment_for, buffer_of}
+use Rattle.mps_model.specs.World.{World, PointMemory, is_copying_pool, is_live, is_running}
+use Rattle.mps_heap_spec.specs.Allocating.{check_reserve, held_at, after_reserve}
+use Rattle.mps_heap_spec.specs.declared.arena.ArenaState.{ArenaState}
+use Rattle.mps_heap_spec.specs.declared.arena.ArenaState.TheVariants as arena
+use Rattle.mps_model.specs.Policy.{is_place, polls, units_of_poll}
+use Rattle.mps_model.specs.World as world
+use Rattle.mps_heap_spec.specs.Coming.{ComesMoving, Moved, answer_moved, state_moved, trail_moved}
+use Rattle.mps_heap_spec.specs.declared.found.Kept.{Kept}
+use Rattle.mps_heap_spec.specs.declared.found.Reserving.{Reserving}
+use Rattle.mps_heap_spec.specs.State.{HeapState}
+use Rattle.mps_refinement.specs.Answering.{answer_to, says_ok}
+use Rattle.mps_refinement.specs.RightStep.{IsRightIn, step_of}
+use Rattle.mps_refinement.specs.StandsFor.{AreParts, IsInTime, IsReached, Past, rests, runs, state_of}
+use Rattle.mps_refinement.proofs.Parts.CommittedParts.{segment_there}
+use Rattle.mps_refinement.proofs.Worlds.Known.{IsKnown}
+use Rattle.mps_refinement.proofs.Lookups.Lookups.{IsPointFound}
+use Rattle.mps_refinement.proofs.Worlds.Placing.{reserve_agrees}
+use Rattle.mps_refinement.proofs.Calls.ReserveChecks.{is_unclamped, polls_for, IsReserving, checked_point, reserve_checked}
+use Rattle.mps_refinement.proofs.Calls.ReserveStep.{Polls, cut_segment, cut_without, layout_after, reserved_rightly}
+use Rattle.mps_refinement.proofs.Parts.ReservedParts.{parts_after}
+use Rattle.mps_refinement.proofs.Worlds.Reserved.{IsReservedBy, memory_in_own, own, own_rank, refused_there, reserved_at_place, reserved_in_new, reserved_world}
+use Rattle.mps_refinement.proofs.Calls.Reserving as resting
+use Rattle.mps_refinement.proofs.Calls.Reserving.{reserve_from}
+use Rattle.mps_refinement.proofs.Worlds.RestingActs.{resting_sound}
+use Rattle.mps_refinement.proofs.Parts.AllocatedParts.{noted_clear}
+use Rattle.mps_laws.proofs.Sound.HeldIds.{new_cells_written}
+use Rattle.mps_laws.proofs.QuietSteps.{IsSound}
+use Rattle.mps_laws.proofs.Sound.SoundChanges.{sound_again}
+use Rattle.mps_laws.proofs.Sound.SoundEffects.{reservation_sound}
+use Rattle.std.proofs.lemmas.Option.{none-some}
+use Rattle.mps_refinement.proofs.Parts.SegmentsTaken.{condemned_held, condemned_stay}
+use Rattle.mps_refinement.proofs.Calls.RightReserve.{reserve_runs_on}
+
+abbrev no_moves : List Move
+no_moves = []
+
+-- what came of the outcome is right if the outcome is
+pub came_so : {F : Type 0} (layout : F → Layout) (h : HeapState F) (trail : Moves) (w : World) (line : ℕ) (name : Name) (head : ℕ)
+    (result : Checked (Unit {0})) (after : HeapState F) (trail_after : Moves)
+    → ComesMoving h trail (after_reserve layout h trail name head) result after trail_after
+    → IsRightIn layout w (step_of line (call.Reserve name head) (trail_moved trail (after_reserve layout h trail name head)).moves
+    (answer_to says_ok (answer_moved (after_reserve layout h trail name head)))) (state_moved h (after_reserve layout h trail name head))
+    → IsRightIn layout w (step_of line (call.Reserve name head) trail_after.moves (answer_to says_ok result)) after
+came_so layout h trail w line name head result after trail_after comes right =
+    subst (λ s. IsRightIn layout w (step_of line (call.Reserve name head) trail_after.moves (answer_to says_ok result)) s) (sym comes.state)
+    (subst (λ r. IsRightIn layout w (step_of line (call.Reserve name head) trail_after.moves (answer_to says_ok r))
+    (state_moved h (after_reserve layout h trail name head))) (sym comes.answer)
+    (subst (λ (t : Moves). IsRightIn layout w (step_of line (call.Reserve name head) t.moves
+    (answer_to says_ok (answer_moved (after_reserve layout h trail name head))))
+    (state_moved h (after_reserve layout h trail name head))) (sym comes.moves) right))
+
+-- ---- when it polls
+
+module _ {F : Type 0} (layout : F → Layout) (past : Past) (h : HeapState F) (w : World) (parts : AreParts layout past h w)
+    (knows : IsKnown past.time w) (name : Name) (head : ℕ) where
+  same_state : (a : ArenaState) → state_of a ≡ w.state → is_unclamped a ≡ world.is_unclamped w
+  same_state arena.Unclamped e = ap world.is_unclamped_state e
+  same_state arena.Clamped e = ap world.is_unclamped_state e
+  same_state arena.Parked e = ap world.is_unclamped_state e
+
+  placed_so : (a : Reserving) (b : model.Reserving) → IsReserving layout past h w parts knows.graph name head a b
+      → placement_at a.point.value h.segs a.words ≡ placement_of w (ForReserve b.point.number (length b.cells))
+  placed_so a b is =
+      ap (placement_at a.point.value h.segs) is.words
+      ∙ reserve_agrees h.segs w
+      (record { grains = parts.grains; limit = parts.limit; segments = parts.segments; covered = parts.image.runs.covered })
+      is.point.number a.point.value is.point.value (length (new_cells is.format head)) is.found.has is.found.fit.pool is.found.fit.rank
+      is.found.fit.copying (is.found.fit.buffer ∙ sym (ap (λ o. option_map_or (λ (m : PointMemory). m.buffer) o
+      (record { from = 0; count = 0 })) is.found.fit.has))
+      ∙ ap (λ (r : model.Reserving). placement_of w (ForReserve r.point.number (length r.cells))) (sym is.is)
+
+  polls_so : (y : Checked Reserving) (z : Checked model.Reserving) → Same (IsReserving layout past h w parts knows.graph name head) y z
+      → polls_for layout h y ≡ Rattle.mps_model.specs.Policy.polls_for w z
+  polls_so y z (fits {a} {b} is) =
+      ap (λ u. u && not (is_place (placement_at a.point.value h.segs a.words))) (same_state h.arena (sym parts.state))
+      ∙ ap (λ q. world.is_unclamped w && not (is_place q)) (placed_so a b is)
+  polls_so y z same.refused = refl
+
+  -- a heap polls exactly if the model does
+  pub polls_alike : polls_for layout h (check_reserve layout h name head) ≡ polls w (call.Reserve name head)
+  polls_alike =
+      polls_so (check_reserve layout h name head) (model.check_reserve w name head)
+      (reserve_checked layout past h w parts knows.graph name head)
+
+-- if it doesn't poll, no moves come first
+pub no_poll : (v : World) (name : Name) (head : ℕ) → polls v (call.Reserve name head) ≡ false → Polls v name head [] v
+no_poll v name head none = record {
+  legal = tt;
+  due = subst (λ b. MatchBool b (IsPoll v no_moves) (no_moves ≡ [])) (sym none) refl;
+  never_own = refl;
+  units = None;
+  asks = ap (λ b. if b then Some units_of_poll else None) (ap (λ b. is_running v && b) none ∙ with_false (is_running v));
+  leads = refl;
+  judged = v.collection;
+  judged_is = refl;
+  grains = refl;
+  formats = refl;
+}
+  where
+    with_false : (b : Bool) → (b && false) ≡ false
+    with_false true = refl
+    with_false false = refl
+
+-- nor if no collection runs and no pool is on a chain
+pub no_poll_at_rest : (v : World) (name : Name) (head : ℕ) → v.collection ≡ None → v.chains ≡ [] → Polls v name head [] v
+no_poll_at_rest v name head rest unchained = record {
+  legal = tt;
+  due = resting.no_poll v rest unchained 0 name head;
+  never_own = refl;
+  units = None;
+  asks = resting.no_units v rest unchained 0 name head;
+  leads = refl;
+  judged = v.collection;
+  judged_is = refl;
+  grains = refl;
+  formats = refl;
+}
+
+-- so a `reserve` whose poll makes no moves is right at any time
+pub unpolled_is_right : {F : Type 0} (layout : F → Layout) (past : Past) (h : HeapState F) (w : World) → IsReached w
+    → AreParts layout past h w → IsKnown past.time w → IsInTime past.time h.segs w → (trail : Moves) → trail.moves ≡ []
+    → (line : ℕ) (name : Name) (head : ℕ)
+    → (w.collection ≡ None) ⊎ (polls_for layout h (check_reserve layout h name head) ≡ false)
+    → (result : Checked (Unit {0})) (after : HeapState F) (trail_after : Moves)
+    → ComesMoving h trail (after_reserve layout h trail name head) result after trail_after
+    → IsRightIn layout w (step_of line (call.Reserve name head) trail_after.moves (answer_to says_ok result)) after
+unpolled_is_right layout past h w reach parts knows time trail none line name head unpolled result after trail_after comes =
+    came_so layout h trail w line name head result after trail_after comes
+    (reserve_runs_on layout past h w knows.laid reach name head [] w (polled unpolled) parts knows time trail none line)
+  where
+    polled : (w.collection ≡ None) ⊎ (polls_for layout h (check_reserve layout h name head) ≡ false) → Polls w name head [] w
+    polled (inl rest) = no_poll_at_rest w name head rest parts.chains
+    polled (inr clamped) = no_poll w name head (sym (polls_alike layout past h w parts knows name head) ∙ clamped)
+
+-- `reserve` is right, if the trail has no moves before it
+pub reserve_is_right : {F : Type 0} (layout : F → Layout) (h : HeapState F) (trail : Moves) (name : Name) (head : ℕ)
+    (result : Checked (Unit {0})) (after : HeapState F) (trail_after : Moves) → trail.moves ≡ []
+    → ComesMoving h trail (after_reserve layout h trail name head) result after trail_after
+    → IsRight layout h (call.Reserve name head) trail_after.moves (answer_to says_ok result) after
+reserve_is_right layout h trail name head result after trail_after none comes w line st =
+    unpolled_is_right layout st.past h w st.reached st.parts (known_now st) st.time trail none line name head
+    (inl (at_rest st.time).none) result after trail_after comes

@@ -1,0 +1,193 @@
+-- A call that makes no moves is a legal step while a collection runs, and the collector's invariant is true after it.
+use Rattle.std.proofs.Common.{◌≡◌, ◌∙◌, ℕ, Bool, true, false, true≢false, refl, sym, ap, subst, [], None}
+use Rattle.std.proofs.lemmas.Bool.{false≢true}
+use Rattle.std.specs.Prelude.{MatchBool, ◌||◌, IsTrue, is_some, if◌then◌else◌, not}
+use Rattle.std.specs.List.{list_all, flat_map}
+use Rattle.mps_model.specs.declared.call.Call.{Call}
+use Rattle.mps_model.specs.declared.call.Call.TheVariants as call
+use Rattle.mps_model.specs.Answer.{Answer, is_block, is_unsupported}
+use Rattle.mps_model.specs.Step.{Step}
+use Rattle.mps_model.specs.Graph.{ids_in_blocks, targets}
+use Rattle.mps_model.specs.World.{World, is_live, live_ids}
+use Rattle.mps_model.specs.WellFormed.{IsWellFormed}
+use Rattle.mps_model.specs.Checked.{Act, Checked}
+use Rattle.mps_model.specs.LegalMove.{AreLegalMoves}
+use Rattle.mps_model.specs.Reply.{act, answer_from, world_from}
+use Rattle.mps_model.specs.History.{IsLegalStep, IsAnsweredStep, HeldAreLive, judged_world, moved_world, moves_of_collector, world_after, world_after_call, with_client_remembered}
+use Rattle.mps_changes.specs.Change.{makes_arena, Change, Unchanged, Allocated, Committed, PlaceEmptied, BlocksMade}
+use Rattle.mps_changes.proofs.ActChanges.{but, of_changes}
+use Rattle.mps_changes.proofs.Checks.{for_world}
+use Rattle.mps_laws.proofs.Sound.HeldIds.{blocks_made}
+use Rattle.mps_laws.proofs.QuietSteps.{IsQuiet, quiet}
+use Rattle.mps_abstract.specs.Colours.{AreDifferent}
+use Rattle.mps_abstract.specs.Collecting.{Collecting, Running}
+use Rattle.mps_abstract.specs.ClientLaws.{AreApartFrom, IsMarkedKept, IsReadKept, IsWellPlaced, after_client, collected_world}
+use Rattle.mps_abstract.proofs.HeldSegments.{segments_ordered}
+use Rattle.mps_abstract.proofs.OwnAddresses.{well_formed_different}
+use Rattle.mps_abstract.proofs.Calls.ClientCalls.{clients_keep}
+use Rattle.mps_abstract.proofs.LeftRightly.{left_rightly}
+use Rattle.mps_refinement.proofs.Worlds.RestingActs.{may_move}
+use Rattle.mps_refinement.proofs.Worlds.RunningSteps.{IsOwnStep, own_step_runs_on}
+use Rattle.mps_refinement.specs.QuietCalls.{IsQuietCall, QuietCallsRunOn, RunsOn, never_moves}
+use Rattle.mps_refinement.specs.RightStep.{step_of}
+
+-- `poke` alone may be answered in two ways
+abbrev pub is_poke : Call → Bool
+is_poke (call.Poke word value) = true
+is_poke _ = false
+
+-- ---- what a change leaves of addresses, segments and places of blocks
+
+abbrev HasLiveBlocks : World → Type 0
+HasLiveBlocks u = list_all (is_live u) (ids_in_blocks u.graph) ≡ true
+
+module _ (w : World) (c : Call) (never : never_moves c ≡ true) where
+  -- the call that makes a change isn't of a kind that makes moves
+  moves : {A : Type 0} {d : Call} → c ≡ d → not (never_moves d) ≡ true → A
+  moves is h = but (λ d. not (never_moves d)) is h (ap not never)
+
+  change_addresses : {marked : Bool} {u : World} → Change marked c w w u → u.addresses ≡ w.addresses
+  change_addresses (Allocated pool p words into place at e of kind size found) = moves e refl
+  change_addresses (Committed name target p r slot e there found has lives) = moves e refl
+  change_addresses _ = refl
+
+  change_segments : {marked : Bool} {u : World} → Change marked c w w u → u.segments ≡ w.segments
+  change_segments Unchanged = refl
+  change_segments _ = refl
+
+  change_blocks : {marked : Bool} {u : World} → HasLiveBlocks w → Change marked c w w u → HasLiveBlocks u
+  change_blocks live (Allocated pool p words into place at e of kind size found) = moves e refl
+  change_blocks live (Committed name target p r slot e there found has lives) = moves e refl
+  change_blocks live (PlaceEmptied from place e found) = moves e refl
+  change_blocks live (BlocksMade name places e) = blocks_made (is_live w) w.graph live places
+  change_blocks live _ = live
+
+  -- an act leaves the world or a changed one
+  by_change : {P : World → Type 0} (marked : Bool) → P w → ((u : World) → Change marked c w w u → P u)
+      → P (world_from w (act marked w w c))
+  by_change {P} marked before each = for_world P w (act marked w w c) (of_changes marked w w c each) before
+
+  pub act_addresses : (marked : Bool) → (world_from w (act marked w w c)).addresses ≡ w.addresses
+  act_addresses marked = by_change marked refl (λ u change. change_addresses change)
+
+  pub act_segments : (marked : Bool) → (world_from w (act marked w w c)).segments ≡ w.segments
+  act_segments marked = by_change marked refl (λ u change. change_segments change)
+
+  -- the places of tables of blocks hold live blocks after it
+  pub blocks_after : HasLiveBlocks w → (marked : Bool) → HasLiveBlocks (world_from w (act marked w w c))
+  blocks_after live marked = by_change {P = HasLiveBlocks} marked live (λ u change. change_blocks live change)
+
+-- ---- the step
+
+same_act : (w : World) (c : Call) (answer : Answer) → IsQuiet w c answer
+    → act (is_block answer) (judged_world w c []) (moved_world w c []) c ≡ act (is_block answer) w w c
+same_act w c answer q =
+    ap (λ v. act (is_block answer) v (moved_world w c []) c) q.judged ∙ ap (λ v. act (is_block answer) w v c) q.moved
+
+module _ (x : Collecting) (run : Running x) where
+  abbrev w : World
+  w = x.world
+
+  quiet_running : (c : Call) (answer : Answer) → never_moves c ≡ true → is_unsupported answer ≡ false → IsMarkedKept x c answer
+      → IsQuiet w c answer
+  quiet_running (call.Arena grains limit) answer h s kept = absurd (false≢true h)
+  quiet_running (call.Reserve point head) answer h s kept = absurd (false≢true h)
+  quiet_running (call.Commit point target) answer h s kept = absurd (false≢true h)
+  quiet_running (call.Alloc pool words place) answer h s kept = absurd (false≢true h)
+  quiet_running (call.Free place) answer h s kept = absurd (false≢true h)
+  quiet_running (call.Get target source cell) answer h s kept = absurd (false≢true h)
+  quiet_running call.Start answer h s kept = absurd (false≢true h)
+  quiet_running (call.StartChain chain generation) answer h s kept = absurd (false≢true h)
+  quiet_running (call.Step units) answer h s kept = absurd (false≢true h)
+  quiet_running call.Collect answer h s kept = absurd (false≢true h)
+  quiet_running call.Park answer h s kept = absurd (false≢true h)
+  quiet_running (call.Poke word value) answer h s kept = record {
+    judged = refl;
+    moved = refl;
+    due = refl;
+    marked = (left_rightly x run).marked word value answer kept;
+    supported = s;
+  }
+  quiet_running c answer h s kept = record { judged = refl; moved = refl; due = refl; marked = tt; supported = s }
+
+  nothing_read : (c : Call) → never_moves c ≡ true → IsReadKept x c
+  nothing_read (call.Get target source cell) h = absurd (false≢true h)
+  nothing_read _ h = tt
+
+  nothing_collected : (line : ℕ) (c : Call) (answer : Answer) → never_moves c ≡ true
+      → collected_world w (step_of line c [] answer) ≡ w
+  nothing_collected line (call.Reserve point head) answer h = absurd (false≢true h)
+  nothing_collected line (call.Step units) answer h = absurd (false≢true h)
+  nothing_collected line (call.Commit point target) answer h = absurd (false≢true h)
+  nothing_collected line (call.Alloc pool words place) answer h = absurd (false≢true h)
+  nothing_collected line (call.Free place) answer h = absurd (false≢true h)
+  nothing_collected line _ answer h = refl
+
+  none_is_legal : (c : Call) → AreLegalMoves w None (moves_of_collector c [])
+  none_is_legal (call.Reserve point head) = tt
+  none_is_legal (call.Commit point target) = tt
+  none_is_legal (call.Alloc pool words place) = tt
+  none_is_legal (call.Free place) = tt
+  none_is_legal _ = tt
+
+  module _ (line : ℕ) (c : Call) (answer : Answer) (is : IsQuietCall x c answer) where
+    abbrev r : Checked Act
+    r = act (is_block answer) w w c
+
+    q : IsQuiet w c answer
+    q = quiet_running c answer is.never is.supported is.marked_kept
+
+    placed : IsWellPlaced (world_from w r)
+    placed = record {
+      different = subst AreDifferent (sym (act_addresses w c is.never (is_block answer))) (well_formed_different w is.well_formed);
+      apart = subst (AreApartFrom 1) (sym (act_segments w c is.never (is_block answer))) (segments_ordered w is.well_formed);
+    }
+
+    own : IsOwnStep w x c [] answer r
+    own = record {
+      supported = is.supported;
+      collected = nothing_collected 0 c answer is.never;
+      legal = none_is_legal c;
+      due = q.due;
+      marked = is.marked_kept;
+      read = nothing_read c is.never;
+      possible = q.marked;
+      comes = same_act w c answer q;
+      answers = is.answers;
+      formed = is.well_formed;
+      blocks = is.blocks_live;
+      placed = subst (λ v. IsWellPlaced (world_from v r)) (sym q.moved) placed;
+      blocks_after = subst (λ v. HasLiveBlocks (world_from v r)) (sym q.moved)
+          (blocks_after w c is.never is.blocks_live (is_block answer));
+    }
+
+    pub runs_on : RunsOn w x (step_of line c [] answer) (world_from w r)
+    runs_on = subst (λ v. RunsOn w x (step_of line c [] answer) (world_from v r)) q.moved (own_step_runs_on w x run line c [] answer r own)
+
+pub quiet_calls_run_on : QuietCallsRunOn
+quiet_calls_run_on x line c answer run is = runs_on x run line c answer is
+
+-- ---- what is known of a call that never moves
+
+pub marks_do_not_matter : (w : World) (marked : Bool) (c : Call) → is_poke c ≡ false → never_moves c ≡ true
+    → act marked w w c ≡ act false w w c
+marks_do_not_matter w marked (call.Poke word value) h s = absurd (true≢false h)
+marks_do_not_matter w marked _ h s = refl
+
+pub moves_not_at_rest : (c : Call) → never_moves c ≡ true → may_move c ≡ false
+moves_not_at_rest (call.Reserve point head) h = absurd (false≢true h)
+moves_not_at_rest (call.Commit point target) h = absurd (false≢true h)
+moves_not_at_rest (call.Alloc pool words place) h = absurd (false≢true h)
+moves_not_at_rest (call.Free place) h = absurd (false≢true h)
+moves_not_at_rest call.Start h = absurd (false≢true h)
+moves_not_at_rest (call.StartChain chain generation) h = absurd (false≢true h)
+moves_not_at_rest call.Collect h = absurd (false≢true h)
+moves_not_at_rest _ h = refl
+
+pub makes_no_arena : (c : Call) → never_moves c ≡ true → makes_arena c ≡ false
+makes_no_arena (call.Arena grains limit) h = absurd (false≢true h)
+makes_no_arena _ h = refl
+
+pub none_kept : (x : Collecting) (c : Call) (answer : Answer) → is_poke c ≡ false → IsMarkedKept x c answer
+none_kept x (call.Poke word value) answer h = absurd (true≢false h)
+none_kept x _ answer h = tt
