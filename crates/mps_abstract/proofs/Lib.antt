@@ -32,5 +32,6 @@ pub mod Barrier
 pub mod Due
 pub mod LeftRightly
 pub mod WholeCollections
+pub mod KeptPlaces
 pub mod Calls
 pub mod FlipActs

@@ -7,4 +7,5 @@ pub mod Fixing
 pub mod Units
 pub mod Laws
 pub mod DueLaws
+pub mod Staying
 pub mod Examples

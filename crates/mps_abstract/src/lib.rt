@@ -7,6 +7,7 @@ mod flips;
 mod whole;
 
 ghost use Rattle.mps_abstract.specs.DueLaws.{RunningIsLegal, WorkIsDue};
+ghost use Rattle.mps_abstract.specs.Staying.{AKeptObjectStays};
 ghost use Rattle.mps_abstract.specs.Laws.{ReachableIsKept, AUnitKeepsRunning, UnitsRunOut, ABarrierKeepsRunning};
 
 pub use clients::clients_keep_running;
@@ -45,4 +46,9 @@ pub fn work_is_due()
 /// `block` rightly.
 pub fn running_is_legal()
     ensures { RunningIsLegal }
+{}
+
+/// Over units, and to the end of a collection, an object that isn't white stays so, and where it lies.
+pub fn a_kept_object_stays()
+    ensures { AKeptObjectStays }
 {}

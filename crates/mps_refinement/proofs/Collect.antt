@@ -1,5 +1,4 @@
 -- A full collection of a heap: a legal step of its world.
-pub mod KeptPlaces
 pub mod Leavings
 pub mod SameAddresses
 pub mod FlippedPoints

@@ -1,5 +1,4 @@
 -- A full collection of a heap: a legal step of its world.
-pub mod Staying
 pub mod Leaving
 pub mod Standing
 pub mod Collecting

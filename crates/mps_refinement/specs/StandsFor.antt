@@ -42,6 +42,7 @@ use Rattle.mps_abstract.specs.Colours.{AreAllScanned, Colours, is_white}
 use Rattle.mps_abstract.specs.Collecting.{AreAllExamined, Collecting, Running}
 use Rattle.mps_trace_laws.specs.Image.Image.{MeansAt, Stands, no_colours}
 use Rattle.mps_seg.specs.Segs.{SegsState}
+pub use Rattle.mps_trace_laws.specs.Units.Finals.{address_of_id}
 
 -- ---- whether a collection runs
 
@@ -79,9 +80,6 @@ pub record Past : Type 0 where
 abbrev pub address_of_target : (addresses : List (Option Address)) → Option Id → Address
 address_of_target addresses None = 0
 address_of_target addresses (Some id) = option_map_or (λ at. at) (entry_at addresses id) 0
-
-abbrev pub address_of_id : (addresses : List (Option Address)) → Id → Address
-address_of_id addresses id = address_of_target addresses (Some id)
 
 -- slots, or places of a table of blocks, hold the addresses of what they refer to
 abbrev pub AreSlots : (addresses : List (Option Address)) → (number : ℕ) → List Address → Slots → Type 0

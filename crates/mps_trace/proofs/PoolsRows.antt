@@ -15,6 +15,7 @@ use Rattle.mps_root.specs.State.{RootsState}
 use Rattle.mps_amc.specs.Amc.{AmcState, row_after_flip, tails_of, with_tail}
 use Rattle.mps_trace.specs.Trace.{Traced, KeepsTo, FixesTo, moves, marks, finds, keeps, target_of}
 use Rattle.mps_trace.specs.Scan as scan
+use Rattle.mps_trace.specs.Splat as splat
 use Rattle.mps_trace.specs.Roots as roots
 use Rattle.mps_trace.specs.Unit as units
 use Rattle.mps_trace.specs.Collect.{Collects, at_once, in_units}
@@ -59,6 +60,21 @@ module _ {F : Type 0} (layout : F → Layout) (formats : List (Option (Policy F)
   scanned : {x z : Traced} {at : Addr} → scan.Scanned layout formats chains x at z → rows_of z.amc ≡ rows_of x.amc
   scanned s = ap (λ (w : Traced). rows_of w.amc) s.black ∙ in_cells s.all.run
 
+  -- ---- references of weak blocks
+
+  in_splat : {f : Layout} {at : Addr} {cell : ℕ} {x z : Traced} → splat.SplatsCell layout f formats at cell x z → z.amc ≡ x.amc
+  in_splat (splat.is_null null) = refl
+  in_splat (splat.updates to some found is) = ap (λ (w : Traced). w.amc) is
+  in_splat (splat.splats some white is) = ap (λ (w : Traced). w.amc) is
+
+  in_splats : {f : Layout} {head : ℕ} {at : Addr} {x : Traced} {from : ℕ} {y : Traced} → splat.SplatsTo layout f formats head at x from y
+      → y.amc ≡ x.amc
+  in_splats splat.begins = refl
+  in_splats (splat.goes_on from cell before first one) = in_splat one ∙ in_splats before
+
+  splatted : {x : Traced} {at : Addr} {z : Traced} → splat.Splatted layout formats x at z → rows_of z.amc ≡ rows_of x.amc
+  splatted s = ap (λ (w : Traced). rows_of w.amc) s.black ∙ ap rows_of (in_splats s.all.run)
+
   -- ---- slots and messages
 
   in_root : {x y : Traced} {at answer : Address} → roots.FixesRoot layout formats chains x at y answer → rows_of y.amc ≡ rows_of x.amc
@@ -85,15 +101,19 @@ module _ {F : Type 0} (layout : F → Layout) (formats : List (Option (Policy F)
 
   -- ---- units
 
-  in_unit : {x y : Traced} {run run' : Running} → units.UnitTo layout formats chains x run y run' → rows_of y.amc ≡ rows_of x.amc
+  in_unit : {x y : Traced} {f f' : FinalsState} {run run' : Running} → units.UnitTo layout formats chains x f run y f' run'
+      → rows_of y.amc ≡ rows_of x.amc
   in_unit (units.scans one) = scanned one.scanned
+  in_unit (units.examines to drained due found is now) = refl
+  in_unit (units.posts to drained due white keep is posted now) = ap (λ (w : Traced). rows_of w.amc) is ∙ kept keep
+  in_unit (units.splats drained none one now) = splatted one.splatted
   in_unit (units.reclaims base left next others is) = ap rows_of next.at_hand
 
   in_last : {x z : Traced} {run : Running} → units.LastUnitTo layout formats x run z → rows_of z.amc ≡ rows_of x.amc
   in_last last = ap (λ (w : Traced). rows_of w.amc) last.over ∙ ap rows_of last.reclaimed.at_hand
 
-  in_units_to : {x : Traced} {run : Running} {count : ℕ} {y : Traced} {run' : Running}
-      → units.UnitsTo layout formats chains x run count y run'
+  in_units_to : {x : Traced} {f : FinalsState} {run : Running} {count : ℕ} {y : Traced} {f' : FinalsState} {run' : Running}
+      → units.UnitsTo layout formats chains x f run count y f' run'
       → rows_of y.amc ≡ rows_of x.amc
   in_units_to units.begins = refl
   in_units_to (units.goes_on count before one) = in_unit one ∙ in_units_to before

@@ -2,11 +2,13 @@
 use Rattle.std.proofs.Common.{◌<◌, ◌≡◌, ap, subst, arith}
 use Rattle.mps_base.specs.Trail.{Moves}
 use Rattle.mps_base.specs.declared.address.Addr.{Addr}
+use Rattle.mps_final.specs.State.{FinalsState}
 use Rattle.mps_format.specs.Layout.{Layout}
 use Rattle.mps_seg.specs.Segs.{SegsState}
 use Rattle.mps_amc.proofs.Lost.{spare_after}
 use Rattle.mps_amc.specs.Reclaiming.{IsReclaimed, is_given, is_padded, lost_of}
-use Rattle.mps_trace.specs.Trace.{TraceState, Traced}
+use Rattle.mps_trace.specs.Splat.{SplatsOne}
+use Rattle.mps_trace.specs.Trace.{TraceState, Traced, traced}
 use Rattle.mps_trace.specs.Unit.{HasRoomToEnd, UnitTo}
 use Rattle.mps_trace.specs.declared.running.Running.{Running}
 
@@ -20,7 +22,16 @@ room_left f s s' m m' base room (is_padded t over used state padded moves) =
 
 -- units go on at a state of which only what is at hand has changed
 module _ {F : Type 0} (layout : F → Layout) (t t' : TraceState F) (same : t' ≡ record t { amc = t'.amc }) where
-  pub goes_still : (x y : Traced) (run run' : Running) → UnitTo layout t'.formats t'.chains x run y run'
-      → UnitTo layout t.formats t.chains x run y run'
-  goes_still x y run run' unit =
-      let P : TraceState F → Type 0 = λ u. UnitTo layout u.formats u.chains x run y run' in subst P same unit
+  pub goes_still : (x y : Traced) (f f' : FinalsState) (run run' : Running) → UnitTo layout t'.formats t'.chains x f run y f' run'
+      → UnitTo layout t.formats t.chains x f run y f' run'
+  goes_still x y f f' run run' unit =
+      let P : TraceState F → Type 0 = λ u. UnitTo layout u.formats u.chains x f run y f' run' in subst P same unit
+
+-- a weak block is scanned at a state that is the same
+pub splats_still : {F : Type 0} (layout : F → Layout) (t t' : TraceState F) (s s' : SegsState) (m m' : Moves) (z : Traced)
+    → (s' ≡ s) × (m' ≡ m) × (t' ≡ t) → SplatsOne layout t'.formats (traced t' s' m') z → SplatsOne layout t.formats (traced t s m) z
+splats_still {F} layout t t' s s' m m' z same one =
+    let P : TraceState F → Type 0 = λ u. SplatsOne layout u.formats (traced u s m) z in
+    let Q : Moves → Type 0 = λ n. SplatsOne layout t'.formats (traced t' s n) z in
+    let R : SegsState → Type 0 = λ g. SplatsOne layout t'.formats (traced t' g m') z in
+    subst P same.2 (subst Q same.1 (subst R same.0 one))

@@ -39,7 +39,7 @@ pub record Begins {F : Type 0} (layout : F → Layout) (formats : List (Option (
   pub before : Traced
   pub slots : FixesTables layout formats chains roots (nailed_at_flip formats points roots x) (length roots.order) roots' before
   pub messages : FixesMessages layout formats chains finals before (length finals.messages) finals' z
-  pub run_is : run ≡ record { band = Exact; cursor = record { 0 = 0 } }
+  pub run_is : run ≡ record { band = Exact; cursor = record { 0 = 0 }; next = 0; registered_before = length finals.registered }
 
 -- nothing is condemned: a collection is over at once
 pub record EndsAtOnce {F : Type 0} (formats : List (Option (Policy F))) (points : PointsState) (roots : RootsState) (finals : FinalsState)

@@ -22,17 +22,17 @@ pub data Collects {F : Type 0} (layout : F → Layout) (formats : List (Option (
   where
     at_once : EndsAtOnce formats points roots finals x roots' finals' z
         → Collects layout formats chains points roots finals x most roots' finals' z
-    in_units : {between : Traced} (run : Running)
-        → Begins layout formats chains points roots finals x roots' finals' between run
-        → EndsWithin layout formats chains between run most z
+    in_units : {between : Traced} {finals_between : FinalsState} (run : Running)
+        → Begins layout formats chains points roots finals x roots' finals_between between run
+        → EndsWithin layout formats chains between finals_between run most z finals'
         → Collects layout formats chains points roots finals x most roots' finals' z
 
 -- once it has begun, each of at most n units can be done when its turn comes, and it doesn't go on after all of them
-pub record CanEnd {F : Type 0} (layout : F
-    → Layout) (formats : List (Option (Policy F))) (chains : ChainsState) (z : Traced) (run : Running)
-    (most : ℕ) : Type 0 where
-  pub ready : AreUnitsReady layout (record { formats = formats; amc = z.amc; chains = chains }) z.segs z.moves run most
-  pub ends : (last : Traced) (run' : Running) → UnitsTo layout formats chains z run most last run' → ⊥
+pub record CanEnd {F : Type 0} (layout : F → Layout) (formats : List (Option (Policy F))) (chains : ChainsState) (z : Traced)
+    (finals : FinalsState) (run : Running) (most : ℕ) : Type 0 where
+  pub ready : AreUnitsReady layout (record { formats = formats; amc = z.amc; chains = chains }) z.segs z.moves finals run most
+  pub ends : (last : Traced) (finals' : FinalsState) (run' : Running)
+      → UnitsTo layout formats chains z finals run most last finals' run' → ⊥
 
 -- a full collection can be done, in at most n units
 pub record CanCollect {F : Type 0} (layout : F → Layout) (t : TraceState F) (points : PointsState) (roots : RootsState)
@@ -44,7 +44,7 @@ pub record CanCollect {F : Type 0} (layout : F → Layout) (t : TraceState F) (p
   pub roots_ready : CanFixRoots layout t roots finals (nailed_at_flip t.formats points roots (traced t s m))
   pub units_ready : (roots' : RootsState) (finals' : FinalsState) (z : Traced) (run : Running)
       → Begins layout t.formats t.chains points roots finals (traced t s m) roots' finals' z run
-      → CanEnd layout t.formats t.chains z run most
+      → CanEnd layout t.formats t.chains z finals' run most
 
 -- how many moves a full collection in an arena of these grains makes at most, and how many units it has at most: two for each
 -- block, of which there is at most one a word, one for each segment, of which there is at most one a grain, and its begin and end

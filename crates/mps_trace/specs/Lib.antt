@@ -1,5 +1,6 @@
 pub mod Begin
 pub mod Condemned
+pub mod Examine
 pub mod Finding
 pub mod Flip
 pub mod Pools
@@ -8,6 +9,7 @@ pub mod PoolsInside
 pub mod Reclaim
 pub mod Roots
 pub mod Scan
+pub mod Splat
 pub mod Trace
 pub mod Unit
 pub mod Collect

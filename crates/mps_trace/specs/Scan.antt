@@ -113,11 +113,11 @@ IsDrained s = (word : Word) → bit s.marks.exact word ≡ false
 
 -- ---- vectors: two words, the second of which leads to 0x2000 and has the tag 5
 
-abbrev two_words : Traced
+abbrev pub two_words : Traced
 two_words = record {
   amc = amc.no_pools;
   segs = record (new_segments 1 1) { words = 0x201 ∷ 0x2005 ∷ [] };
-  moves = record { moves = []; spare = 0 };
+  moves = record { moves = []; spare = 1 };
 }
 
 pub a_tag_is_no_part_of_a_target : target_at front_layout two_words (record { 0 = 0 }) 1 ≡ 0x2000

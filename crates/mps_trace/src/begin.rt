@@ -58,12 +58,15 @@ impl<F: Format> Trace<F> {
             end(segs, trail);
             return None;
         }
+        let registered_before = finals.registered();
         self.nail_areas(segs, roots);
         self.fix_slots(segs, trail, roots);
         self.fix_messages(segs, trail, finals);
         Some(Running {
             band: Band::Exact,
             cursor: Addr(0),
+            next: 0,
+            registered_before,
         })
     }
 

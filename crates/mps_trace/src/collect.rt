@@ -41,7 +41,7 @@ impl<F: Format> Trace<F> {
         let Some(running) = self.begin(segs, trail, roots, points, finals, epochs) else {
             return;
         };
-        let None = self.finish(segs, trail, running, most) else {
+        let None = self.finish(segs, trail, finals, running, most) else {
             unreachable!()
         };
     }

@@ -4,7 +4,9 @@
 ghost use Rattle.std.specs.Prelude.{◌≡◌, ℕ, IfSome, IfNone};
 ghost use Rattle.mps_base.specs.declared.address.Addr.{Addr};
 ghost use Rattle.mps_trace.specs.Trace.{traced};
-ghost use Rattle.mps_trace.specs.Scan.{IsDrained};
+ghost use Rattle.mps_final.specs.State.{FinalsState};
+ghost use Rattle.mps_trace.specs.Examine.{IsNoneDue};
+ghost use Rattle.mps_trace.specs.Splat.{HasNoMark};
 ghost use Rattle.mps_trace.specs.Unit.{CanReclaimNext, CanUnit, AreUnitsReady, UnitTo, LastUnitTo, UnitsTo, EndsWithin};
 
 use crate::Trace;
@@ -12,34 +14,51 @@ use crate::begin::end;
 use crate::finding::next_condemned;
 use crate::running::{Band, Running};
 use mps_base::{Addr, Trail};
+use mps_final::Finals;
 use mps_format::Format;
 use mps_seg::Segs;
 
 impl<F: Format> Trace<F> {
-    /// One unit of a running collection, in constant time but for what it scans or reclaims. A grey block that isn't weak is scanned; once
-    /// there is none, the lowest condemned segment from the cursor on is reclaimed. None if that was the last one: the collection has
-    /// ended.
-    pub fn unit(&mut self, segs: &mut Segs, trail: &mut Trail, running: Running) -> Option<Running>
-        requires { CanUnit F.layout self.old segs.old trail.old running }
+    /// One unit of a running collection, in constant time but for what it scans or reclaims. A grey block that isn't weak is scanned. Once
+    /// there is none the next registration is examined, then weak grey blocks are scanned, and then the lowest condemned segment from the
+    /// cursor on is reclaimed. None if that was the last one: the collection has ended.
+    pub fn unit(
+        &mut self,
+        segs: &mut Segs,
+        trail: &mut Trail,
+        finals: &mut Finals,
+        running: Running,
+    ) -> Option<Running>
+        requires { CanUnit F.layout self.old segs.old trail.old finals.old running }
         ensures goes_on { IfSome result (λ next. UnitTo F.layout self.old.formats self.old.chains (traced self.old segs.old trail.old)
-            running (traced self.new segs.new trail.new) next) }
+            finals.old running (traced self.new segs.new trail.new) finals.new next) }
         ensures ended { IfNone result (LastUnitTo F.layout self.old.formats (traced self.old segs.old trail.old) running
-            (traced self.new segs.new trail.new)) }
+            (traced self.new segs.new trail.new) × (finals.new ≡ finals.old)) }
         ensures unchanged { self.new ≡ record self.old { amc = self.new.amc } }
     {
         if self.scan_next(segs, trail) {
             return Some(running);
         }
+        if running.next < running.registered_before {
+            return Some(self.examine_next(segs, trail, finals, running));
+        }
+        if self.splat_next(segs, trail) {
+            return Some(Running {
+                band: Band::Weak,
+                ..running
+            });
+        }
         self.reclaim_next(segs, trail, running)
     }
 
-    /// Reclaims the lowest condemned segment from the cursor on, once nothing but weak blocks is grey. None if that was the last one:
-    /// the collection has ended.
+    /// Reclaims the lowest condemned segment from the cursor on, once nothing is grey and no registration is due. None if that was the
+    /// last one: the collection has ended.
     fn reclaim_next(&self, segs: &mut Segs, trail: &mut Trail, running: Running) -> Option<Running>
-        requires drained { IsDrained segs.old }
+        requires scanned { HasNoMark segs.old }
+        requires examined { IsNoneDue running }
         requires can { CanReclaimNext F.layout self.now segs.old trail.old running }
-        ensures goes_on { IfSome result (λ next. UnitTo F.layout self.now.formats self.now.chains (traced self.now segs.old trail.old)
-            running (traced self.now segs.new trail.new) next) }
+        ensures goes_on { IfSome result (λ next. (finals : FinalsState) → UnitTo F.layout self.now.formats self.now.chains
+            (traced self.now segs.old trail.old) finals running (traced self.now segs.new trail.new) finals next) }
         ensures ended { IfNone result (LastUnitTo F.layout self.now.formats (traced self.now segs.old trail.old) running
             (traced self.now segs.new trail.new)) }
     {
@@ -53,6 +72,7 @@ impl<F: Format> Trace<F> {
             return Some(Running {
                 band: Band::Reclaim,
                 cursor,
+                ..running
             });
         }
         end(segs, trail);
@@ -64,19 +84,20 @@ impl<F: Format> Trace<F> {
         &mut self,
         segs: &mut Segs,
         trail: &mut Trail,
+        finals: &mut Finals,
         running: Running,
         most: u64,
     ) -> Option<Running>
-        requires { AreUnitsReady F.layout self.old segs.old trail.old running most }
+        requires { AreUnitsReady F.layout self.old segs.old trail.old finals.old running most }
         ensures goes_on { IfSome result (λ next. UnitsTo F.layout self.old.formats self.old.chains (traced self.old segs.old trail.old)
-            running most (traced self.new segs.new trail.new) next) }
-        ensures ended { IfNone result (EndsWithin F.layout self.old.formats self.old.chains (traced self.old segs.old trail.old) running
-            most (traced self.new segs.new trail.new)) }
+            finals.old running most (traced self.new segs.new trail.new) finals.new next) }
+        ensures ended { IfNone result (EndsWithin F.layout self.old.formats self.old.chains (traced self.old segs.old trail.old)
+            finals.old running most (traced self.new segs.new trail.new) finals.new) }
         ensures unchanged { self.new ≡ record self.old { amc = self.new.amc } }
     {
         let mut running = running;
         for _ in 0..most {
-            match self.unit(segs, trail, running) {
+            match self.unit(segs, trail, finals, running) {
                 Some(next) => running = next,
                 None => return None,
             }

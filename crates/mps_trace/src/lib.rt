@@ -5,11 +5,13 @@
 mod begin;
 mod collect;
 mod collection;
+mod examining;
 mod finding;
 mod flip;
 mod pools;
 mod roots;
 mod running;
+mod splatting;
 mod trace;
 
 pub use pools::{Pools, most_moves};

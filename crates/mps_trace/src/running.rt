@@ -14,9 +14,12 @@ pub enum Band {
     Reclaim,
 }
 
-/// A collection that runs: its band, and the address below which its condemned segments were reclaimed.
+/// A collection that runs: its band, the address below which its condemned segments were reclaimed, the position of the registration
+/// that is examined next, and how many registrations are left of those that were made before the flip. These come first.
 #[derive(Clone, Copy, Debug, PartialEq, Eq)]
 pub struct Running {
     pub band: Band,
     pub cursor: Addr,
+    pub next: usize,
+    pub registered_before: usize,
 }

@@ -5,6 +5,7 @@ ghost use Rattle.std.specs.Prelude.{◌≡◌, ℕ, ◌+◌, ◌*◌, ◌%◌, �
 ghost use Rattle.mps_base.specs.Address.{word_of, bytes_of_word, words_of_grain};
 ghost use Rattle.mps_base.specs.Segment.{Segment, segment_over};
 ghost use Rattle.mps_seg.specs.Collecting.{is_condemned_at};
+ghost use Rattle.mps_format.specs.declared.pool.Policy.{Policy};
 ghost use Rattle.mps_gen.specs.State.{max_pools};
 ghost use Rattle.mps_amc.specs.Amc.{tails_after_flip};
 ghost use Rattle.mps_amc.specs.Moving.{nailed};
@@ -113,7 +114,7 @@ impl<F: Format> Trace<F> {
     }
 
     /// Keeps the white block at `at` as its pool does: it moves, or it stays where it lies. Returns where it then lies. It is grey.
-    fn keep(&mut self, segs: &mut Segs, trail: &mut Trail, at: Addr) -> Addr
+    pub(crate) fn keep(&mut self, segs: &mut Segs, trail: &mut Trail, at: Addr) -> Addr
         requires { CanKeep F.layout self.old.formats self.old.chains (traced self.old segs.old trail.old) at }
         ensures kept { KeepsTo F.layout self.old.formats self.old.chains (traced self.old segs.old trail.old) at
             (traced self.new segs.new trail.new) result }
@@ -194,6 +195,22 @@ impl<F: Format> Trace<F> {
         }
     }
 
+    /// The format of the objects in the segment over `at`, whose pool is automatic.
+    pub(crate) fn format_over(&self, segs: &Segs, at: Addr) -> F
+        requires { (t : Segment) × (format : Policy F) × (segment_over segs.now.segments at.0 ≡ Some t)
+            × (slice_get self.now.formats t.pool ≡ Some (Some format)) }
+        ensures { (t : Segment) (format : Policy F) → segment_over segs.now.segments at.0 ≡ Some t
+            → slice_get self.now.formats t.pool ≡ Some (Some format) → result ≡ format.format }
+    {
+        let Some(segment) = segment_at(segs, at) else {
+            unreachable!()
+        };
+        let Some(format) = self.formats[segment.pool as usize] else {
+            unreachable!()
+        };
+        format.format
+    }
+
     /// Scans the block at `at`: each block to which it refers is fixed, its references lead to where these then lie, and it is grey no
     /// longer.
     pub fn scan(&mut self, segs: &mut Segs, trail: &mut Trail, at: Addr)
@@ -202,14 +219,9 @@ impl<F: Format> Trace<F> {
             (traced self.new segs.new trail.new) }
         ensures unchanged { self.new ≡ record self.old { amc = self.new.amc } }
     {
-        let Some(segment) = segment_at(segs, at) else {
-            unreachable!()
-        };
-        let Some(format) = self.formats[segment.pool as usize] else {
-            unreachable!()
-        };
+        let format = self.format_over(segs, at);
         let head = segs.word(at);
-        self.fix_cells(segs, trail, &format.format, head, at);
+        self.fix_cells(segs, trail, &format, head, at);
         let _ = segs.grains(); // its words are those of the marks
         segs.blacken(at);
     }

@@ -8,5 +8,6 @@ pub mod FlippedSegments
 pub mod FlippedImage
 pub mod FlipStands
 pub mod RootsReady
+pub mod FinalsThen
 pub mod Acted
 pub mod OverAtOnce

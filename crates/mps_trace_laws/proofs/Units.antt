@@ -1,5 +1,7 @@
 -- The units of a collection: those of the abstract collector.
 pub mod Counting
+pub mod TwoLists
+pub mod Finals
 pub mod Entering
 pub mod RoomLeft
 pub mod Reclaiming

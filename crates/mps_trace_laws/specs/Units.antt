@@ -1,3 +1,4 @@
 -- The units of a collection: those of the abstract collector.
+pub mod Finals
 pub mod Standing
 pub mod Laws

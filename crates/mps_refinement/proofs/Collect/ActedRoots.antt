@@ -22,7 +22,7 @@ use Rattle.mps_trace_laws.specs.Roots.Rows.{HoldsAtFlip, AreHeldAtFlip}
 use Rattle.mps_trace_laws.specs.Roots.Tables.{AreTablesHeld}
 use Rattle.mps_refinement.specs.Numbering.{AreNumbered}
 use Rattle.mps_refinement.proofs.Lookups.Found.{some_there}
-use Rattle.mps_refinement.specs.StandsFor.{AreSlots, address_of_id, address_of_target}
+use Rattle.mps_refinement.specs.StandsFor.{AreSlots, address_of_target}
 use Rattle.mps_refinement.proofs.Collect.CollectIsRight.{something}
 use Rattle.mps_refinement.proofs.Collect.RootsAfter.{AreRootsAfter, still_there, was_there}
 use Rattle.mps_refinement.proofs.Collect.SameAddresses.{has_entry}
@@ -61,10 +61,6 @@ among_entries (None ∷ ids) (suc i) id e = among_entries ids i id e
 among_entries (Some n ∷ ids) zero id e =
     subst (λ m. contains (n ∷ entries ids) m ≡ true) (same_Some n id (same_Some (Some n) (Some id) e)) (contains_here n (entries ids))
 among_entries (Some n ∷ ids) (suc i) id e = contains_later n (entries ids) id (among_entries ids i id e)
-
-all_some : (f : Option Id → Address) (ids : List Id) → map f (map Some ids) ≡ map (λ id. f (Some id)) ids
-all_some f [] = refl
-all_some f (id ∷ ids) = ap (λ xs. f (Some id) ∷ xs) (all_some f ids)
 
 -- ---- one slot
 
@@ -168,14 +164,3 @@ module _ (w : World) (rest : IsAtRest w) (positive : (id : Id) (at : Address) �
         let two = was_there before after same other b f in
         are.apart key other one.0 two.0 one.1 two.1 alike;
   }
-
--- ---- messages
-
-pub messages_acted : (acted : Collecting) (messages : List Address) (ids : List Id) → length messages ≡ length ids
-    → ((i : ℕ) (t : Option Id) → slice_get (map Some ids) i ≡ Some t → IsWhere acted (slice_index_or messages i 0) t)
-    → messages ≡ map (address_of_id acted.world.addresses) ids
-messages_acted acted messages ids long each =
-    let f = address_of_target acted.world.addresses in
-    alike f messages (map Some ids) (long ∙ sym (length-map ids Some))
-    (λ i t e. where_is acted (slice_index_or messages i 0) t (each i t e))
-    ∙ all_some f ids

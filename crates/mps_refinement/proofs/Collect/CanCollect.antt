@@ -61,7 +61,7 @@ module _ {F : Type 0} (layout : F → Layout) (begins : ACollectionBegins F) (ca
 
     can_end : (roots' : RootsState) (finals' : FinalsState) (z : Traced) (run : Running)
         → Begins layout t.formats t.chains h.points h.roots h.finals (traced t h.segs m) roots' finals' z run
-        → CanEnd layout t.formats t.chains z run (most_moves h.segs.grains)
+        → CanEnd layout t.formats t.chains z finals' run (most_moves h.segs.grains)
     can_end roots' finals' z run begun =
         let act : IsActDone layout t m w k.rows h.roots roots' finals' z run =
         begins layout t h.segs m h.points h.roots roots' h.finals finals' w k.rows z run before k.areas k.roots begun
@@ -69,12 +69,12 @@ module _ {F : Type 0} (layout : F → Layout) (begins : ACollectionBegins F) (ca
         let those = scans t.formats t.chains w.addresses in
         record {
           ready =
-              units_are_ready layout (record { formats = t.formats; amc = z.amc; chains = t.chains }) z.segs z.moves w.addresses run
-              act.after (most_moves h.segs.grains) those act.stands;
-          ends = λ last run' units.
+              units_are_ready layout (record { formats = t.formats; amc = z.amc; chains = t.chains }) z.segs z.moves w.addresses finals'
+              run act.after (most_moves h.segs.grains) those act.stands;
+          ends = λ last finals'' run' units.
               let less =
-              units_run_out layout t.formats t.chains w.addresses z last run run' act.after (most_moves h.segs.grains) those act.stands
-              units
+              units_run_out layout t.formats t.chains w.addresses z last finals' finals'' run run' act.after (most_moves h.segs.grains) those
+              act.stands units
               in
               let most = few w act.first act.after act.fixes before.plain.none_registered in
               let enough_for = (bounded t of).room in

@@ -1,6 +1,6 @@
 -- A call `collect` of a heap that stands for a world is right, and keeps the room of its trail.
 use Rattle.std.proofs.Common.{◌≡◌, ◌∙◌, ℕ, suc, ◌<◌, false, refl, sym, ap, subst, List, [], ◌∷◌, ◌++◌, length, Option, IsSome, arith}
-use Rattle.std.proofs.lemmas.List.{append_assoc, append_cancel_left, length-map}
+use Rattle.std.proofs.lemmas.List.{append_assoc, append_cancel_left}
 use Rattle.mps_base.specs.Address.{Address, Id}
 use Rattle.mps_base.specs.Segment.{Segment}
 use Rattle.mps_base.specs.Trail.{Moves}
@@ -20,7 +20,7 @@ use Rattle.mps_trace.specs.PoolsCollecting.{IsTraceOf}
 use Rattle.mps_heap_spec.specs.State.{HeapState}
 use Rattle.mps_abstract.specs.Collecting.{Collecting}
 use Rattle.mps_abstract.specs.FlipLaws.{IsAtRest, IsFlipDone}
-use Rattle.mps_abstract.proofs.FlipActs.FlipBegins.{flip_done}
+use Rattle.mps_abstract.proofs.FlipActs.FlipBegins.{flip_done, flip_ended}
 use Rattle.mps_abstract.proofs.WholeCollections.WholeBegins.{nothing_remembered}
 use Rattle.mps_trace_laws.specs.Image.AtRest.{StandsAtRest}
 use Rattle.mps_trace.specs.Begin.{Begins, EndsAtOnce, nailed_at_flip}
@@ -30,22 +30,22 @@ use Rattle.mps_trace.specs.Trace.{TraceState, Traced, traced}
 use Rattle.mps_trace.specs.Unit.{EndsWithin}
 use Rattle.mps_trace.specs.declared.running.Running.{Running}
 use Rattle.mps_trace_laws.specs.Nails.Nailed.{AreWordsShown, words_of_areas}
-use Rattle.mps_trace_laws.specs.Units.Laws.{HasSegmentsOf, AreScansDone, AreLastTracedUnitsDone}
+use Rattle.mps_trace_laws.specs.Units.Laws.{HasSegmentsOf, HasFinalsOf, AreScansDone, AreLastTracedUnitsDone}
 use Rattle.mps_trace_laws.proofs.Units.Rows.{the_end_is_done}
 use Rattle.mps_trace_laws.specs.Begin.Before.{StandsBefore}
 use Rattle.mps_trace_laws.specs.Begin.Begun.{AreRootsHeld, IsActDone, ACollectionBegins, ACollectionOfNothingEnds, IsOverAtOnce}
 use Rattle.mps_refinement.specs.RightMoving.{IsRightMoving, KeepsRoom}
 use Rattle.mps_refinement.specs.RightStep.{IsRightIn, step_of}
-use Rattle.mps_refinement.specs.StandsFor.{StandsFor, AreSlots, address_of_id}
+use Rattle.mps_refinement.specs.StandsFor.{StandsFor, AreSlots}
 use Rattle.mps_refinement.specs.Numbering.{AreNumbered}
 use Rattle.mps_refinement.specs.Collect.Leaving.{IsButMoved}
-use Rattle.mps_refinement.proofs.Collect.ActedRoots.{IsInOrder, messages_acted, tables_acted}
+use Rattle.mps_refinement.proofs.Collect.ActedRoots.{IsInOrder, tables_acted}
 use Rattle.mps_refinement.proofs.Collect.CollectIsRight.{collect_is_right, collect_of_nothing_is_right}
 use Rattle.mps_refinement.proofs.Collect.CollectedHeaps.{IsLeft, collected_heap, plain, same_condemned}
 use Rattle.mps_refinement.proofs.Collect.CollectedSegments.{none_condemned, none_kept, segments_at_once}
 use Rattle.mps_refinement.proofs.Collect.Leavings.{a_collection_moves_objects}
 use Rattle.mps_refinement.proofs.Collect.RoomKept.{begin_pushes, units_keep_room, at_once_keeps_room}
-use Rattle.mps_refinement.proofs.Collect.RootsAfter.{roots_stay, messages_after, tables_after, AreRootsAfter}
+use Rattle.mps_refinement.proofs.Collect.RootsAfter.{roots_stay, tables_after, AreRootsAfter}
 use Rattle.mps_trace.specs.GenState.{ChainsState}
 use Rattle.mps_trace.specs.State.{FinalsState}
 use Rattle.mps_format.specs.declared.pool.Policy.{Policy}
@@ -89,19 +89,19 @@ module _ {F : Type 0} (layout : F → Layout) (begins : ACollectionBegins F) (no
 
     -- ---- where something is condemned
 
-    module _ (b : Traced) (run : Running)
-        (begun : Begins layout t.formats t.chains h.points h.roots h.finals x h'.roots h'.finals b run)
-        (ends : EndsWithin layout t.formats t.chains b run (most_moves h.segs.grains) z) where
-      act : IsActDone layout t m w known.rows h.roots h'.roots h'.finals b run
-      act = begins layout t h.segs m h.points h.roots h'.roots h.finals h'.finals w known.rows b run before known.areas known.roots begun
+    module _ (b : Traced) (f : FinalsState) (run : Running)
+        (begun : Begins layout t.formats t.chains h.points h.roots h.finals x h'.roots f b run)
+        (ends : EndsWithin layout t.formats t.chains b f run (most_moves h.segs.grains) z h'.finals) where
+      act : IsActDone layout t m w known.rows h.roots h'.roots f b run
+      act = begins layout t h.segs m h.points h.roots h'.roots h.finals f w known.rows b run before known.areas known.roots begun
 
       abbrev y : Collecting
       y = act.after
 
-      last : AreLastTracedUnitsDone b y (suc ends.count) z
+      last : AreLastTracedUnitsDone b y (suc ends.count) z h'.finals
       last =
-          the_end_is_done layout t.formats t.chains w.addresses b z run y (most_moves h.segs.grains) (scans t.formats t.chains w.addresses)
-          act.stands ends
+          the_end_is_done layout t.formats t.chains w.addresses b z f h'.finals run y (most_moves h.segs.grains)
+          (scans t.formats t.chains w.addresses) act.stands ends
 
       some_of : (ts : List Segment) → 0 < length ts → is_nothing ts ≡ false
       some_of [] none = absurd (omega (arith, none))
@@ -135,9 +135,6 @@ module _ {F : Type 0} (layout : F → Layout) (begins : ACollectionBegins F) (no
           tables_after layout t.formats t.chains h.roots (nailed_at_flip t.formats h.points h.roots x)
           (length h.roots.order) h'.roots begun.before begun.slots
           in
-          let messages =
-          messages_after layout t.formats t.chains h.finals begun.before (length h.finals.messages) h'.finals b begun.messages
-          in
           record {
             segments = subst (HasSegmentsOf h'.segs) (sym leads) last.segments;
             image = subst (StandsAtRest h'.segs) (sym leads) last.stands;
@@ -147,11 +144,7 @@ module _ {F : Type 0} (layout : F → Layout) (begins : ACollectionBegins F) (no
                 tables_acted w rest (λ id at there. (before.segments.image.placed.address id at there).not_null) st.past.table_number
                 h.roots h'.roots st.parts.tables known.rows known.roots.tables known.ordered tables y act.slots;
             roots = tables;
-            messages =
-                messages_acted y h'.finals.messages w.graph.messages
-                (messages.as_many ∙ (ap (λ (xs : List Address). length xs) st.parts.messages
-                ∙ length-map w.graph.messages (address_of_id w.addresses))) act.messages;
-            registered = messages.registered;
+            finals = subst (HasFinalsOf h'.finals) (sym leads) last.finals;
           }
 
       pub right_in_units : IsRightThere layout w m m' h'
@@ -165,8 +158,8 @@ module _ {F : Type 0} (layout : F → Layout) (begins : ACollectionBegins F) (no
             (plain layout st.past h w st.parts m h' m' collected before) made_then some act.fixes last.units
             (collected_heap layout st.past h w st.parts m h' m' collected before y.world.addresses u moved left);
         room =
-            units_keep_room layout t w.addresses m b z run y (most_moves h.segs.grains) (scans t.formats t.chains w.addresses) act.stands
-            (begin_pushes layout t h.points h.roots h'.roots h.finals h'.finals x b run begun) ends;
+            units_keep_room layout t w.addresses m b z f h'.finals run y (most_moves h.segs.grains) (scans t.formats t.chains w.addresses)
+            act.stands (begin_pushes layout t h.points h.roots h'.roots h.finals f x b run begun) ends;
       }
 
     -- ---- where nothing is condemned
@@ -191,8 +184,11 @@ module _ {F : Type 0} (layout : F → Layout) (begins : ACollectionBegins F) (no
             subst (λ (roots : RootsState). AreNumbered (AreSlots w.addresses) st.past.table_number (kept roots.tables) w.graph.tables)
             (sym ends.roots_are) st.parts.tables;
         roots = subst (AreRootsAfter h.roots) (sym ends.roots_are) (roots_stay h.roots);
-        messages = ap (λ (f : FinalsState). f.messages) ends.finals_are ∙ st.parts.messages;
-        registered = ap (λ (f : FinalsState). f.registered) ends.finals_are;
+        finals =
+            subst (λ (f : FinalsState). HasFinalsOf f v) (sym ends.finals_are)
+            (subst (λ ms. HasFinalsOf h.finals (world_after_moves w ms))
+            (sym (flip_ended w Everything before.plain.rest refl over.nothing).act)
+            (record { registrations = st.parts.registered; waiting = st.parts.messages }));
       }
 
       pub right_at_once : IsRightThere layout w m m' h'
@@ -211,7 +207,7 @@ module _ {F : Type 0} (layout : F → Layout) (begins : ACollectionBegins F) (no
     pub right_there : IsRightThere layout w m m' h'
     right_there = elim collected.collects [
       | at_once ends ↦ right_at_once ends
-      | in_units {between = b} run begun ends ↦ right_in_units b run begun ends
+      | in_units {between = b} {finals_between = f} run begun ends ↦ right_in_units b f run begun ends
     ]
 
   -- ---- in each world

@@ -1,6 +1,5 @@
 -- What a collection of everything leaves of a heap, and that it is right where it does.
-use Rattle.mps_refinement.proofs.Parts.Registered.{none_there}
-use Rattle.std.proofs.Common.{◌≡◌, ◌∙◌, ℕ, false, sym, ap, List, map, Option}
+use Rattle.std.proofs.Common.{◌≡◌, ◌∙◌, ℕ, false, sym, ap, List, Option}
 use Rattle.mps_base.specs.Address.{Address}
 use Rattle.mps_base.specs.Trail.{Moves}
 use Rattle.mps_extents.specs.Table.{bit}
@@ -15,10 +14,10 @@ use Rattle.mps_trace_laws.specs.Image.AtRest.{StandsAtRest}
 use Rattle.mps_trace.specs.Flip.{automatic_of, zones_of}
 use Rattle.mps_trace.specs.Trace.{TraceState}
 use Rattle.mps_trace_laws.proofs.Flip.Condemned.{flip_is_the_models}
-use Rattle.mps_trace_laws.specs.Units.Laws.{HasSegmentsOf}
+use Rattle.mps_trace_laws.specs.Units.Laws.{HasSegmentsOf, HasFinalsOf}
 use Rattle.mps_trace_laws.specs.Begin.Before.{StandsBefore}
 use Rattle.mps_refinement.specs.Numbering.{AreNumbered}
-use Rattle.mps_refinement.specs.StandsFor.{AreSlots, AreParts, Past, address_of_id}
+use Rattle.mps_refinement.specs.StandsFor.{AreSlots, AreParts, Past}
 use Rattle.mps_refinement.specs.Collect.Leaving.{IsButMoved, IsPlain}
 use Rattle.mps_refinement.specs.Collect.Standing.{IsCollectedHeap}
 use Rattle.mps_refinement.proofs.Collect.CollectedSegments.{same_size}
@@ -36,8 +35,7 @@ pub record IsLeft {F : Type 0} (past : Past) (w : World) (h after : HeapState F)
     pub not_kept : (n : ℕ) → bit after.segs.marks.kept n ≡ false
     pub tables : AreNumbered (AreSlots acted) past.table_number (kept after.roots.tables) w.graph.tables
     pub roots : AreRootsAfter h.roots after.roots
-    pub messages : after.finals.messages ≡ map (address_of_id acted) w.graph.messages
-    pub registered : after.finals.registered ≡ h.finals.registered
+    pub finals : HasFinalsOf after.finals u
 
 module _ {F : Type 0} (layout : F → Layout) (past : Past) (h : HeapState F) (w : World) (parts : AreParts layout past h w)
     (m : Moves) (h' : HeapState F) (m' : Moves) (collected : IsCollected layout h m h' m')
@@ -70,9 +68,7 @@ module _ {F : Type 0} (layout : F → Layout) (past : Past) (h : HeapState F) (w
         tables = left.tables;
         order = left.roots.order;
         tables_there = still_there h.roots h'.roots left.roots;
-        messages = left.messages;
-        registered = left.registered
-            ∙ none_there w.addresses past.time.at_flip h.finals.registered w.graph.registered parts.registered plain.none_registered;
+        finals = record { registrations = left.finals.registrations; waiting = left.finals.waiting };
         points = ap (λ (x : HeapState F). x.points) collected.state;
         epochs = ap (λ (x : HeapState F). x.epochs) collected.state ∙ ap (ld.epochs_after_flip h.epochs) same_zones;
         parked = ap (λ (x : HeapState F). x.arena) collected.state;

@@ -20,19 +20,19 @@ use Rattle.mps_model.specs.WellFormed.{IsWellFormed}
 use Rattle.mps_model.specs.Effect.{Everything, condemned_zones, world_flipped}
 use Rattle.mps_model.proofs.Reaching.{list_all-contains}
 use Rattle.mps_root.specs.State.{kept}
-use Rattle.mps_abstract.proofs.Lists.{contains_left, contains_right}
+use Rattle.mps_abstract.proofs.Lists.{contains_left}
 use Rattle.mps_abstract.specs.Collecting.{Collecting}
 use Rattle.mps_names.specs.State.{thing_named}
 use Rattle.mps_heap_spec.specs.State.{HeapState}
 use Rattle.mps_format.specs.Pools.{size_of_pool}
-use Rattle.mps_refinement.specs.StandsFor.{AreParts, ArePools, IsPoint, Past, StandsAt, state_of, time_at_rest}
+use Rattle.mps_refinement.specs.StandsFor.{AreParts, ArePools, IsPoint, Past, address_of_id, StandsAt, state_of, time_at_rest}
 use Rattle.mps_refinement.specs.Numbering.{AreNumbered}
 use Rattle.mps_refinement.proofs.Parts.Named.{ThingsStay, named_alike}
 use Rattle.mps_refinement.proofs.Parts.Numbering.{kept_alike}
 use Rattle.mps_refinement.proofs.Parts.Ordering.{ordered_alike}
 use Rattle.mps_refinement.specs.Collect.Leaving.{AreInPlace}
 use Rattle.mps_refinement.specs.Collect.Standing.{IsCollectedHeap}
-use Rattle.mps_refinement.proofs.Collect.SameAddresses.{same_ids, same_places, tables_same, areas_same}
+use Rattle.mps_refinement.proofs.Collect.SameAddresses.{same_places, tables_same, areas_same}
 use Rattle.mps_refinement.proofs.Collect.FlippedPoints.{points_counted, points_flipped, one_flip_more}
 
 module _ {F : Type 0} (layout : F → Layout) (past : Past) (h after : HeapState F) (w : World) (parts : AreParts layout past h w)
@@ -120,10 +120,9 @@ module _ {F : Type 0} (layout : F → Layout) (past : Past) (h after : HeapState
       slots_counted = heap.live_slots ∙ parts.slots_counted;
       points = points_now;
       points_counted = heap.live_points ∙ (parts.points_counted ∙ sym (points_counted w.graph.points));
-      registered = none_registered_now addresses past.time.at_flip after.finals.registered w.graph.registered heap.registered
-          none_registered;
-      messages = heap.messages ∙ same_ids acted.world.addresses addresses w.graph.messages
-          (λ id there. places.held id (contains_right (ids_in_slots w.graph) w.graph.messages id there));
+      registered = none_registered_now addresses past.time.at_flip after.finals.registered w.graph.registered
+          (heap.finals.registrations ∙ ap (map (address_of_id addresses)) none_registered) none_registered;
+      messages = heap.finals.waiting;
       flips = subst (λ e. AreFlips e v.flips) (sym heap.epochs) (flips_after h.epochs w.flips (condemned_zones w Everything) parts.flips);
       point_flips = ap (λ (s : PointsState). s.flips) heap.points
           ∙ (ap (λ n. n + 1) parts.point_flips ∙ sym (one_flip_more w.flips (condemned_zones w Everything)));

@@ -24,9 +24,9 @@ use Rattle.mps_abstract.proofs.FlipActs.FlipLists.{holds_show}
 use Rattle.mps_abstract.proofs.FlipActs.Flipped.{flipped_running}
 use Rattle.mps_abstract.proofs.FlipActs.FlipBegins.{client_of_fixed, flip_done, flip_ended}
 use Rattle.mps_abstract.proofs.WholeCollections.WholeBegins.{everything, nothing_remembered, begun_running, whole_begun}
-use Rattle.mps_refinement.specs.Collect.Staying.{StaysInPlace}
+use Rattle.mps_abstract.specs.Staying.{StaysInPlace}
 use Rattle.mps_refinement.specs.Collect.Leaving.{IsButMoved, IsPlain, IsCollected, AreInPlace}
-use Rattle.mps_refinement.proofs.Collect.KeptPlaces.{MayKeep, running_may_keep, kept, keep_may, keep_live, fixes_stay, ends_stay}
+use Rattle.mps_abstract.proofs.KeptPlaces.{MayKeep, running_may_keep, kept, keep_may, keep_live, fixes_stay, ends_stay}
 
 -- ---- worlds that differ by where objects lie
 

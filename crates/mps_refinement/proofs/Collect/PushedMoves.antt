@@ -9,7 +9,7 @@ use Rattle.mps_base.specs.Segment.{Segment, segment_over}
 use Rattle.mps_base.specs.Trail.{Moves, with_move}
 use Rattle.mps_base.specs.declared.address.Addr.{Addr}
 use Rattle.mps_base.specs.declared.moves.Move.{Move}
-use Rattle.mps_base.specs.declared.moves.Move.TheVariants.{Free, Seg, Moved, Stay, Unseg}
+use Rattle.mps_base.specs.declared.moves.Move.TheVariants.{Free, Seg, Moved, Stay, Unseg, Splat, Post}
 use Rattle.mps_base.specs.declared.refusal.Refusal.{Refusal}
 use Rattle.mps_format.specs.Layout.{Layout}
 use Rattle.mps_seg.specs.Arena.{answer_of_placement}
@@ -27,6 +27,9 @@ use Rattle.mps_trace.specs.Roots.{FixesRoot, FixesSlots, FixesTables, FixesMessa
 use Rattle.mps_trace.specs.Scan as scan
 use Rattle.mps_trace.specs.Scan.{FixesCell, ScansTo, ScansOne}
 use Rattle.mps_trace.specs.Trace.{Traced, KeepsTo, FixesTo, moves, marks, finds, keeps, target_of}
+use Rattle.mps_trace.specs.Examine.{registration_of}
+use Rattle.mps_trace.specs.Splat as splat
+use Rattle.mps_trace.specs.Splat.{SplatsCell, SplatsTo, SplatsOne}
 use Rattle.mps_trace.specs.Unit as units
 use Rattle.mps_trace.specs.Unit.{UnitTo, UnitsTo}
 use Rattle.mps_trace.specs.declared.running.Running.{Running}
@@ -136,6 +139,29 @@ module _ {F : Type 0} (layout : F → Layout) (formats : List (Option (Policy F)
       (at_word one.word) x s.all.from s.before
       s.all.run)
 
+-- ---- weak blocks
+
+module _ {F : Type 0} (layout : F → Layout) (formats : List (Option (Policy F))) where
+  splatted_pushes : (f : Layout) (at : Addr) (cell : ℕ) (x z : Traced) → SplatsCell layout f formats at cell x z → IsPushed x.moves z.moves
+  splatted_pushes f at cell x _ (splat.is_null null) = none_pushed x.moves
+  splatted_pushes f at cell x z (splat.updates to some found is) =
+      subst (λ (v : Traced). IsPushed x.moves v.moves) (sym is) (none_pushed x.moves)
+  splatted_pushes f at cell x z (splat.splats some white is) =
+      subst (λ (v : Traced). IsPushed x.moves v.moves) (sym is) (one_pushed x.moves (Splat at cell))
+
+  splats_push : (f : Layout) (head : ℕ) (at : Addr) (x : Traced) (from : ℕ) (z : Traced) → SplatsTo layout f formats head at x from z
+      → IsPushed x.moves z.moves
+  splats_push f head at x _ _ splat.begins = none_pushed x.moves
+  splats_push f head at x _ z (splat.goes_on {y = y} from cell before first one) =
+      pushed_on (splats_push f head at x from y before) (splatted_pushes f at cell y z one)
+
+  splat_pushes : (x z : Traced) → SplatsOne layout formats x z → IsPushed x.moves z.moves
+  splat_pushes x z one =
+      let s = one.splatted in
+      subst (λ (v : Traced). IsPushed x.moves v.moves) (sym s.black)
+      (splats_push (layout s.format.format) (slice_index x.segs.words (word_of (at_word one.word).0)) (at_word one.word) x s.all.from
+      s.before s.all.run)
+
 -- ---- a reclaim
 
 pub freed_long : (rs : List Run) (m : Moves) → length (moves_freed rs m).moves ≡ length m.moves + length rs
@@ -175,15 +201,20 @@ reclaim_pushes f s m base s' m' (is_padded t found used state padded trail) =
 -- ---- units
 
 module _ {F : Type 0} (layout : F → Layout) (formats : List (Option (Policy F))) (chains : ChainsState) where
-  unit_pushes : (x : Traced) (run : Running) (z : Traced) (run' : Running) → UnitTo layout formats chains x run z run'
-      → IsPushed x.moves z.moves
-  unit_pushes x run z _ (units.scans one) = scan_pushes layout formats chains x z one
-  unit_pushes x run z run' (units.reclaims base left next other is) =
+  unit_pushes : (x : Traced) (f : FinalsState) (run : Running) (z : Traced) (f' : FinalsState) (run' : Running)
+      → UnitTo layout formats chains x f run z f' run' → IsPushed x.moves z.moves
+  unit_pushes x f run z f' _ (units.scans one) = scan_pushes layout formats chains x z one
+  unit_pushes x f run z f' run' (units.examines to drained due found is now) = none_pushed x.moves
+  unit_pushes x f run z f' run' (units.posts {y = y} to drained due white kept is posted now) =
+      subst (λ (v : Traced). IsPushed x.moves v.moves) (sym is)
+      (pushed_on (keep_pushes layout formats chains x (registration_of f run.next) y to kept) (one_pushed y.moves (Post to)))
+  unit_pushes x f run z f' run' (units.splats drained none one now) = splat_pushes layout formats x z one
+  unit_pushes x f run z f' run' (units.reclaims base left next other is) =
       let r = next.reclaimed in
       (reclaim_pushes (layout r.format.format) x.segs x.moves base z.segs z.moves r.reclaimed).pushed
 
-  pub units_push : (x : Traced) (run : Running) (count : ℕ) (z : Traced) (run' : Running)
-      → UnitsTo layout formats chains x run count z run' → IsPushed x.moves z.moves
-  units_push x run _ _ _ units.begins = none_pushed x.moves
-  units_push x run _ z run'' (units.goes_on {y = y} {run' = run'} count row unit) =
-      pushed_on (units_push x run count y run' row) (unit_pushes y run' z run'' unit)
+  pub units_push : (x : Traced) (f : FinalsState) (run : Running) (count : ℕ) (z : Traced) (f' : FinalsState) (run' : Running)
+      → UnitsTo layout formats chains x f run count z f' run' → IsPushed x.moves z.moves
+  units_push x f run _ _ _ _ units.begins = none_pushed x.moves
+  units_push x f run _ z f'' run'' (units.goes_on {y = y} {f' = f'} {run' = run'} count row unit) =
+      pushed_on (units_push x f run count y f' run' row) (unit_pushes y f' run' z f'' run'' unit)

@@ -23,9 +23,9 @@ use Rattle.mps_refinement.proofs.Collect.PushedMoves.{IsPushed, one_pushed, push
 
 module _ {F : Type 0} (layout : F → Layout) (t : TraceState F) where
   -- before each unit there is room for a move
-  has_room : (at_flip : List (Option Address)) (x : Traced) (run : Running) (y : Collecting)
-      → UnitStands layout t.formats t.chains at_flip x run y → 0 < x.moves.spare
-  has_room at_flip x run y stands = elim stands.band [
+  has_room : (at_flip : List (Option Address)) (x : Traced) (f : FinalsState) (run : Running) (y : Collecting)
+      → UnitStands layout t.formats t.chains at_flip x f run y → 0 < x.moves.spare
+  has_room at_flip x f run y stands = elim stands.band [
     | tracing st ↦ let room = st.traces.room in omega (arith, room)
     | reclaiming st ↦ let room = st.room in omega (arith, room)
   ]
@@ -40,20 +40,20 @@ module _ {F : Type 0} (layout : F → Layout) (t : TraceState F) where
       (messages_push layout t.formats t.chains finals b.before (length finals.messages) finals' z b.messages))
 
   -- from the begin to the end
-  pub units_keep_room : (at_flip : List (Option Address)) (m : Moves) (x z : Traced) (run : Running) (y : Collecting) (most : ℕ)
-      → AreScansDone layout t.formats t.chains at_flip → UnitStands layout t.formats t.chains at_flip x run y → IsPushed m x.moves
-      → EndsWithin layout t.formats t.chains x run most z → KeepsRoom m z.moves
-  units_keep_room at_flip m x z run y most scanning stands begun ends =
+  pub units_keep_room : (at_flip : List (Option Address)) (m : Moves) (x z : Traced) (f f' : FinalsState) (run : Running) (y : Collecting)
+      (most : ℕ) → AreScansDone layout t.formats t.chains at_flip → UnitStands layout t.formats t.chains at_flip x f run y
+      → IsPushed m x.moves → EndsWithin layout t.formats t.chains x f run most z f' → KeepsRoom m z.moves
+  units_keep_room at_flip m x z f f' run y most scanning stands begun ends =
       let u = ends.before in
-      let done = units_are_done layout t.formats t.chains at_flip x u run ends.run_before y ends.count scanning stands ends.units in
-      let some = has_room at_flip u ends.run_before done.after done.stands in
-      let row = pushed_on begun (units_push layout t.formats t.chains x run ends.count u ends.run_before ends.units) in
+      let done = units_are_done layout t.formats t.chains at_flip x u f f' run ends.run_before y ends.count scanning stands ends.units in
+      let some = has_room at_flip u f' ends.run_before done.after done.stands in
+      let row = pushed_on begun (units_push layout t.formats t.chains x f run ends.count u f' ends.run_before ends.units) in
       let next = ends.last.reclaimed in
       let r = next.reclaimed in
       let base = ends.last.base in
       let v = ends.last.before in
-      let can = a_unit_is_ready layout (record t { amc = u.amc }) u.segs u.moves at_flip ends.run_before done.after done.stands in
-      let room : HasRoomToEnd u.segs u.moves base = (can.reclaim next.drained).room base next.lowest in
+      let can = a_unit_is_ready layout (record t { amc = u.amc }) u.segs u.moves at_flip f' ends.run_before done.after done.stands in
+      let room : HasRoomToEnd u.segs u.moves base = (can.reclaim next.scanned next.examined).room base next.lowest in
       let told = reclaim_pushes (layout r.format.format) u.segs u.moves base v.segs v.moves r.reclaimed in
       let enough = room told.segment told.over in
       let few = told.most in

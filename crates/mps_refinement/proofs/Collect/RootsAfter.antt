@@ -4,13 +4,12 @@ use Rattle.std.proofs.lemmas.Option.{none-some, same_Some}
 use Rattle.std.specs.Prelude.{option_map}
 use Rattle.std.specs.Option.{option_map_or}
 use Rattle.mps_base.specs.Address.{Address}
-use Rattle.mps_trace.specs.State.{FinalsState}
 use Rattle.mps_format.specs.Layout.{Layout}
 use Rattle.mps_trace.specs.GenState.{ChainsState}
 use Rattle.mps_root.specs.State.{RootsState, kept, items_of, with_item}
 use Rattle.mps_abstract.proofs.Calls.ClientCells.{length_set}
 use Rattle.mps_trace.specs.Trace.{Traced}
-use Rattle.mps_trace.specs.Roots.{FixesSlots, FixesTables, FixesMessages, begins, goes_on, key_at, with_slot}
+use Rattle.mps_trace.specs.Roots.{FixesSlots, FixesTables, begins, goes_on, key_at, with_slot}
 use Rattle.mps_format.specs.declared.pool.Policy.{Policy}
 
 -- ---- rows
@@ -86,13 +85,6 @@ pub still_there : (before after : RootsState) → AreRootsAfter before after →
 still_there before after a key there =
     sym (is_row (kept after.tables key)) ∙ ap is_some (a.rows key) ∙ (is_row (kept before.tables key) ∙ there)
 
--- ---- messages
-
--- as many messages, and the same registrations
-pub record AreFinalsAfter (before after : FinalsState) : Type 0 where
-  pub registered : after.registered ≡ before.registered
-  pub as_many : length after.messages ≡ length before.messages
-
 -- ---- the fixes
 
 module _ {F : Type 0} (layout : F → Layout) (formats : List (Option (Policy F))) (chains : ChainsState) where
@@ -112,13 +104,3 @@ module _ {F : Type 0} (layout : F → Layout) (formats : List (Option (Policy F)
       let key = key_at roots count in
       roots_on (tables_after roots x count roots' y rows)
       (slots_after key roots' y (length (items_of roots'.tables key)) roots'' z table (omega arith))
-
-  pub messages_after : (finals : FinalsState) (x : Traced) (count : ℕ) (finals' : FinalsState) (z : Traced)
-      → FixesMessages layout formats chains finals x count finals' z → AreFinalsAfter finals finals'
-  messages_after finals x _ _ _ begins = record { registered = refl; as_many = refl }
-  messages_after finals x _ finals'' z (goes_on {finals' = finals'} {y = y} count at row one is) =
-      let before = messages_after finals x count finals' y row in
-      subst (AreFinalsAfter finals) (sym is) (record {
-        registered = before.registered;
-        as_many = length_set finals'.messages count at ∙ before.as_many;
-      })

@@ -240,6 +240,8 @@ module _ {F : Type 0} (layout : F → Layout) (past : Past) (h : HeapState F) (w
     tables = tables_held;
     messages = messages_held;
     all = rows_are_all past.table_number h.roots.order w.graph.tables parts.ordered.numbers;
+    waiting = ap (λ (xs : List Address). length xs) parts.messages ∙ length-map w.graph.messages (address_of_id w.addresses);
+    registered = parts.registered;
   }
 
   -- ---- words of areas

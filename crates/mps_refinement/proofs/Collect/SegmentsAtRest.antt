@@ -20,7 +20,8 @@ use Rattle.mps_laws.proofs.Positions.LegalMoves.{HasLayout}
 use Rattle.mps_laws.proofs.Positions.Occupancy.{OfBlock, OfReservation, occupancy_of, run_of, run_of_block, shape_of}
 use Rattle.mps_laws.proofs.Positions.Segments.{AreAligned, IsAmong, found_segment}
 use Rattle.mps_trace_laws.specs.Fix.Tracing.{AreSegmentsOf, AreHeld, AreCoveredInOrder, AreReservationsHeld}
-use Rattle.mps_trace_laws.specs.Fix.Housed.{AreHoused, HasNoWeakMark}
+use Rattle.mps_trace_laws.specs.Fix.Housed.{AreHoused}
+use Rattle.mps_trace.specs.Splat.{HasNoWeakMark}
 use Rattle.mps_trace_laws.proofs.Image.BlockRuns.{extents_ascend}
 use Rattle.mps_trace_laws.specs.Begin.Before.{AreSegmentsAtRest}
 use Rattle.mps_heap_spec.specs.State.{HeapState}

@@ -1,5 +1,5 @@
 -- What is left of a heap by a full collection, in which no call comes between the flip and the end.
-use Rattle.std.specs.Prelude.{◌≡◌, ℕ, false, IsSome, List, [], map, Option}
+use Rattle.std.specs.Prelude.{◌≡◌, ℕ, false, IsSome, List, Option}
 use Rattle.mps_base.specs.Address.{Address}
 use Rattle.mps_base.specs.declared.moves.Move.{Move}
 use Rattle.mps_extents.specs.Table.{bit}
@@ -12,7 +12,8 @@ use Rattle.mps_root.specs.State.{kept}
 use Rattle.mps_heap_spec.specs.State.{HeapState}
 use Rattle.mps_heap_spec.specs.declared.arena.ArenaState.TheVariants as arena
 use Rattle.mps_refinement.specs.Numbering.{AreNumbered}
-use Rattle.mps_refinement.specs.StandsFor.{AreSlots, Past, address_of_id}
+use Rattle.mps_trace_laws.specs.Units.Laws.{HasFinalsOf}
+use Rattle.mps_refinement.specs.StandsFor.{AreSlots, Past}
 
 -- the world after a `collect` that made these moves
 abbrev pub world_collected : World → List Move → World
@@ -29,12 +30,12 @@ pub record IsCollectedHeap {F : Type 0} (past : Past) (w : World) (h after : Hea
   pub image : StandsAtRest after.segs v
   pub not_condemned : (grain : ℕ) → bit after.segs.condemned grain ≡ false
   pub not_kept : (n : ℕ) → bit after.segs.marks.kept n ≡ false
-  -- slots and messages hold the addresses that the act of the flip left
+  -- slots hold the addresses that the act of the flip left
   pub tables : AreNumbered (AreSlots acted) past.table_number (kept after.roots.tables) w.graph.tables
   pub order : after.roots.order ≡ h.roots.order
   pub tables_there : (key : ℕ) → IsSome (kept h.roots.tables key) → IsSome (kept after.roots.tables key)
-  pub messages : after.finals.messages ≡ map (address_of_id acted) w.graph.messages
-  pub registered : after.finals.registered ≡ []
+  -- registrations and messages those of their objects after the call
+  pub finals : HasFinalsOf after.finals v
   -- a flip came for points and dependencies
   pub points : after.points ≡ points_after_flip h.points
   pub epochs : after.epochs ≡ ld.epochs_after_flip h.epochs (condemned_zones w Everything)

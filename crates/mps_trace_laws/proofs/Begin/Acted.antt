@@ -1,9 +1,9 @@
 -- The act of a flip, in words, is the abstract collector's: slots and messages are fixed, and the state stands before the first unit.
-use Rattle.std.proofs.Common.{◌≡◌, ◌∙◌, ◌<◌, false, refl, sym, ap, subst, List, [], ◌∷◌, ◌++◌, length, Option, Some, arith}
-use Rattle.std.proofs.lemmas.List.{append_assoc}
-use Rattle.std.specs.Prelude.{IsTrue, map}
+use Rattle.std.proofs.Common.{◌≡◌, ◌∙◌, ◌<◌, false, refl, sym, ap, ap₂, subst, List, [], ◌∷◌, ◌++◌, length, Option, Some, arith}
+use Rattle.std.proofs.lemmas.List.{append_assoc, length-map}
+use Rattle.std.specs.Prelude.{ℕ, IsTrue, map, take, drop}
 use Rattle.std.specs.List.{flat_map}
-use Rattle.mps_base.specs.Address.{Id}
+use Rattle.mps_base.specs.Address.{Address, Id}
 use Rattle.mps_base.specs.Segment.{Segment}
 use Rattle.mps_base.specs.Trail.{Moves}
 use Rattle.mps_base.specs.declared.moves.Move.{Move}
@@ -44,7 +44,9 @@ use Rattle.mps_trace_laws.proofs.Roots.Housed.{roots_keep_housed}
 use Rattle.mps_trace_laws.specs.Flip.Condemned.{AreFormatsOf, AllCopying}
 use Rattle.mps_trace_laws.proofs.Flip.Condemned.{flip_is_the_models}
 use Rattle.mps_trace_laws.proofs.Flip.Reservations.{no_reservation_is_live}
-use Rattle.mps_trace_laws.specs.Units.Standing.{AreCondemnedUnreserved, IsMoving, UnitStands, tracing}
+use Rattle.mps_trace_laws.specs.Units.Finals.{address_of_id}
+use Rattle.mps_trace_laws.proofs.Begin.FinalsThen.{AreFinalsAfter, messages_after, messages_are}
+use Rattle.mps_trace_laws.specs.Units.Standing.{AreFinalsOf, AreCondemnedUnreserved, IsMoving, UnitStands, tracing}
 use Rattle.mps_trace_laws.specs.Begin.Before.{StandsBefore}
 use Rattle.mps_trace_laws.specs.Begin.Begun.{AFlipStands, AreRootsHeld, IsFlipStanding, IsActDone, ACollectionBegins}
 use Rattle.mps_format.specs.declared.pool.Policy.{Policy}
@@ -155,9 +157,37 @@ module _ {F : Type 0} (flip_stands : AFlipStands F) (layout : F → Layout) (t :
       absurd ((no_reservation_is_live w.graph.points w.point_memories).not_live point r
       (ap (λ (g : Graph). live_reservation (entry_at g.points point)) (sym fixed.same.graph) ∙ lies.reserved))
 
-  stands : UnitStands layout t.formats t.chains w.addresses z run after
+  finals_after : AreFinalsAfter finals finals'
+  finals_after =
+      messages_after layout t.formats t.chains finals begins.before (length finals.messages) finals' z begins.messages
+
+  nothing_examined : after.next ≡ 0
+  nothing_examined = far.next
+
+  registered_same : after.world.graph.registered ≡ w.graph.registered
+  registered_same = ap (λ (g : Graph). g.registered) fixed.same.graph
+
+  finals_then : AreFinalsOf w.addresses after finals'
+  finals_then = record {
+    registrations =
+        finals_after.registered ∙ held.registered
+        ∙ ap₂ (λ (n : ℕ) (ids : List Id). map (address_of_id after.world.addresses) (take n ids) ++ map (address_of_id w.addresses) (drop n ids))
+        (sym nothing_examined) (sym registered_same);
+    waiting =
+        messages_are after finals'.messages w.graph.messages (finals_after.as_many ∙ held.waiting) all.messages
+        ∙ ap (λ (g : Graph). map (address_of_id after.world.addresses) g.messages) (sym fixed.same.graph);
+  }
+
+  stands : UnitStands layout t.formats t.chains w.addresses z finals' run after
   stands = record {
     running = begun_running w fixed.moves after before.plain.rest some fixes;
+    next = ap (λ (r : RunningState). r.next) begins.run_is ∙ sym nothing_examined;
+    before =
+        ap (λ (r : RunningState). r.registered_before) begins.run_is
+        ∙ (ap (λ (xs : List Address). length xs) held.registered ∙ length-map w.graph.registered (address_of_id w.addresses))
+        ∙ sym (fixed_same fixes).registered_before;
+    finals = finals_then;
+    all = (fixed_same fixes).registered_before ∙ ap (λ (ids : List Id). length ids) (sym registered_same);
     examined = far.next ∙ sym ((fixed_same fixes).registered_before ∙ ap (λ (ids : List Id). length ids) before.plain.none_registered);
     cursor = ap (λ (r : RunningState). r.cursor.0) begins.run_is ∙ sym far.cursor;
     moving = moving_still layout t.formats t.chains y.world after.world fixed.same fixed.stands.state.pools flip.moving;

@@ -14,7 +14,7 @@ use Rattle.mps_seg.specs.Collecting.{is_condemned_at, is_kept_at, keeping, rank_
 use Rattle.mps_trace_laws.specs.Image.Memory.{is_condemned_word}
 use Rattle.mps_trace.specs.Begin.{nailed_by_areas}
 use Rattle.mps_trace.specs.Flip.{nailed_in, nailed_by, nailed_by_all}
-use Rattle.mps_trace_laws.specs.Fix.Housed.{HasNoWeakMark}
+use Rattle.mps_trace.specs.Splat.{HasNoWeakMark}
 use Rattle.mps_trace_laws.specs.Nails.Nailed.{words_of_areas}
 use Rattle.mps_trace_laws.proofs.Nails.Marks.{areas_are_words}
 

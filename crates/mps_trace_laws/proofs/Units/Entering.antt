@@ -1,6 +1,6 @@
 -- The last band begins where nothing is grey in words.
-use Rattle.std.proofs.Common.{◌≡◌, ◌∙◌, ℕ, ◌≤◌, Bool, true, false, refl, sym, subst, List, [], ◌∷◌, Contains, inl, inr, arith}
-use Rattle.std.proofs.lemmas.Bool.{cases_Bool, true≢false}
+use Rattle.std.proofs.Common.{◌≡◌, ◌∙◌, ℕ, ◌≤◌, Bool, true, false, refl, sym, ap, subst, List, [], ◌∷◌, Contains, inl, inr, arith}
+use Rattle.std.proofs.lemmas.Bool.{cases_Bool, true≢false, or_right}
 use Rattle.std.specs.Prelude.{◌||◌, ◌+◌, ◌*◌, map, Option}
 use Rattle.std.specs.List.{AllByRecursion}
 use Rattle.mps_base.specs.Address.{Address, word_of, max_grains, grain_of, address_of_grain, words_of_grain}
@@ -15,7 +15,9 @@ use Rattle.mps_abstract.proofs.Addresses.{address_of-live}
 use Rattle.mps_trace_laws.specs.Image.Memory.{pool_layout}
 use Rattle.mps_trace_laws.specs.Image.SegmentWords.{AreSegmentsInOrder}
 use Rattle.mps_seg.specs.Segs.{SegsState}
-use Rattle.mps_trace.specs.Scan.{IsDrained}
+use Rattle.mps_trace.specs.Examine.{IsOneDue}
+use Rattle.mps_trace.specs.Splat.{HasNoMark, HasNoWeakMark}
+use Rattle.mps_trace.specs.State.{FinalsState}
 use Rattle.mps_trace.specs.Trace.{Traced}
 use Rattle.mps_trace_laws.specs.Fix.Tracing.{AreHeld}
 use Rattle.mps_trace_laws.proofs.Reclaim.SegmentBounds.{segment_cases, contains_no_segment}
@@ -69,7 +71,7 @@ either_is false true first second = absurd (true≢false second)
 
 module _ {F : Type 0} (layout : F → Rattle.mps_format.specs.Layout.Layout) (formats : List (Rattle.std.specs.Prelude.Option (Policy F)))
     (of : Rattle.mps_trace.specs.GenState.ChainsState) (at_flip : List (Rattle.std.specs.Prelude.Option Address)) (x : Traced)
-    (y : Collecting) (run : Running y) (st : StandsTracing layout formats of at_flip x y) (drained : IsDrained x.segs) where
+    (y : Collecting) (run : Running y) (st : StandsTracing layout formats of at_flip x y) (scanned : HasNoMark x.segs) where
   none_grey : AreAllScanned y.colours
   none_grey id =
       elim (cases_Bool (is_grey y.colours id)) [
@@ -77,8 +79,8 @@ module _ {F : Type 0} (layout : F → Rattle.mps_format.specs.Layout.Layout) (fo
         | inl grey ↦
             let at = address_or_null y.world id in
             st.traces.state.image.marks.grey_there id at (address_of-live y.world id (run.grey.grey_live id grey))
-            ∙ either_is (bit x.segs.marks.exact (word_of at)) (bit x.segs.marks.weak (word_of at)) (drained (word_of at))
-            (st.strong (word_of at))
+            ∙ either_is (bit x.segs.marks.exact (word_of at)) (bit x.segs.marks.weak (word_of at)) (scanned.exact (word_of at))
+            (scanned.weak (word_of at))
       ]
 
   pub entered : StandsReclaiming x y
@@ -93,12 +95,33 @@ module _ {F : Type 0} (layout : F → Rattle.mps_format.specs.Layout.Layout) (fo
     room = st.traces.room;
   }
 
--- where nothing but weak blocks is grey the state stands in the last band
-pub the_last_band_is_entered : {F : Type 0}
-    → (layout : F → Layout) (formats : List (Option (Policy F))) (of : ChainsState) (at_flip : List (Option Address)) (x : Traced)
-    (run : RunningState) (y : Collecting) → UnitStands layout formats of at_flip x run y → IsDrained x.segs → StandsReclaiming x y
-the_last_band_is_entered layout formats of at_flip x run y stands drained =
-    elim stands.band [
-      | tracing st ↦ entered layout formats of at_flip x y stands.running st drained
-      | reclaiming st ↦ st
-    ]
+module _ {F : Type 0} (layout : F → Layout) (formats : List (Option (Policy F))) (of : ChainsState) (at_flip : List (Option Address))
+    (x : Traced) (f : FinalsState) (run : RunningState) (y : Collecting) (stands : UnitStands layout formats of at_flip x f run y) where
+  -- where nothing is grey the state stands in the last band
+  pub the_last_band_is_entered : HasNoMark x.segs → StandsReclaiming x y
+  the_last_band_is_entered scanned =
+      elim stands.band [
+        | tracing st ↦ entered layout formats of at_flip x y stands.running st scanned
+        | reclaiming st ↦ st
+      ]
+
+  -- no registration is left to examine
+  pub none_due : IsOneDue run → ⊥
+  none_due due = omega (arith, due, stands.next, stands.before, stands.examined)
+
+  -- and no weak block is grey
+  pub no_weak_mark : HasNoWeakMark x.segs
+  no_weak_mark n =
+      elim stands.band [
+        | tracing st ↦ st.strong n
+        | reclaiming st ↦
+            elim (cases_Bool (bit x.segs.marks.weak n)) [
+              | inr isnt ↦ isnt
+              | inl is ↦
+                  let marks = st.frees.stands.image.marks in
+                  let set : (bit x.segs.marks.exact n || bit x.segs.marks.weak n) ≡ true = or_right (bit x.segs.marks.exact n) (bit x.segs.marks.weak n) is in
+                  let b = marks.marked n (or_right (bit x.segs.marks.kept n) (bit x.segs.marks.exact n || bit x.segs.marks.weak n) set) in
+                  absurd (true≢false (sym set ∙ ap (λ w. bit x.segs.marks.exact w || bit x.segs.marks.weak w) b.is
+                  ∙ sym (marks.grey_there b.id b.at b.address) ∙ st.scanned b.id))
+            ]
+      ]

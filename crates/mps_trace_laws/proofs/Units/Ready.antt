@@ -1,7 +1,7 @@
 -- While the state stands a unit can be done: each grey block can be scanned, and once nothing is grey a segment is left that can be
 -- reclaimed, with room for its moves.
 use Rattle.std.proofs.Common.{◌≡◌, ◌∙◌, ◌⊎◌, suc, ◌+◌, ◌*◌, ◌<◌, ◌≤◌, true, false, refl, sym, ap, subst, List, [], ◌∷◌, Option, Some, length, Contains, inl, inr, arith}
-use Rattle.std.proofs.lemmas.Bool.{cases_Bool, cases_lt}
+use Rattle.std.proofs.lemmas.Bool.{cases_Bool, cases_lt, true≢false}
 use Rattle.std.proofs.lemmas.Option.{same_Some}
 use Rattle.std.specs.Prelude.{IsTrue, ℕ}
 use Rattle.mps_base.specs.Address.{Address, grain_of, word_of, words_of_grain}
@@ -31,7 +31,8 @@ use Rattle.mps_trace_laws.proofs.Reclaim.Room.{segments_are_in_order}
 use Rattle.mps_trace_laws.specs.Reclaim.Left.{setting_freeing_in}
 use Rattle.mps_trace_laws.specs.Units.Standing.{StandsReclaiming, UnitStands}
 use Rattle.mps_trace_laws.specs.Units.Laws.{AreScansDone}
-use Rattle.mps_trace_laws.proofs.Units.Entering.{the_last_band_is_entered}
+use Rattle.mps_trace_laws.proofs.Units.Entering.{the_last_band_is_entered, none_due, no_weak_mark}
+use Rattle.mps_trace.specs.State.{FinalsState}
 use Rattle.mps_trace_laws.proofs.Units.RoomLeft.{lost_within}
 use Rattle.mps_trace_laws.proofs.Units.Rows.{row_done}
 use Rattle.mps_trace_laws.proofs.Units.Scanning.{scans_are_ready}
@@ -142,7 +143,7 @@ module _ (g : SegsState) (from : Address) where
 -- ---- it can be reclaimed
 
 module _ {F : Type 0} (layout : F → Layout) (t : TraceState F) (s : SegsState) (m : Moves) (at_flip : List (Option Address))
-    (run : RunningState) (y : Collecting) (stands : UnitStands layout t.formats t.chains at_flip (traced t s m) run y)
+    (f : FinalsState) (run : RunningState) (y : Collecting) (stands : UnitStands layout t.formats t.chains at_flip (traced t s m) f run y)
     (band : StandsReclaiming (traced t s m) y) where
   at_cursor : (base : Address) → IsNextCondemned s run.cursor.0 base → IsNextCondemned s y.cursor base
   at_cursor base low = subst (λ from. IsNextCondemned s from base) stands.cursor low
@@ -218,22 +219,26 @@ module _ {F : Type 0} (layout : F → Layout) (t : TraceState F) (s : SegsState)
         room = λ base low. to_end base (at_cursor base.0 low);
       }
 
--- while the state stands a unit can be done
+-- while the state stands a unit can be done. No registration is left to examine, and no weak block is grey
 pub a_unit_is_ready : {F : Type 0}
-    → (layout : F → Layout) (t : TraceState F) (s : SegsState) (m : Moves) (at_flip : List (Option Address)) (run : RunningState)
-    (y : Collecting) → UnitStands layout t.formats t.chains at_flip (traced t s m) run y → CanUnit layout t s m run
-a_unit_is_ready layout t s m at_flip run y stands = record {
-  scan = scans_are_ready layout t s m at_flip run y stands;
-  reclaim = λ drained.
-      can_reclaim layout t s m at_flip run y stands
-      (the_last_band_is_entered layout t.formats t.chains at_flip (traced t s m) run y stands drained);
+    → (layout : F → Layout) (t : TraceState F) (s : SegsState) (m : Moves) (at_flip : List (Option Address)) (f : FinalsState)
+    (run : RunningState) (y : Collecting) → UnitStands layout t.formats t.chains at_flip (traced t s m) f run y
+    → CanUnit layout t s m f run
+a_unit_is_ready layout t s m at_flip f run y stands = record {
+  scan = scans_are_ready layout t s m at_flip f run y stands;
+  examine = λ drained due. absurd (none_due layout t.formats t.chains at_flip (traced t s m) f run y stands due);
+  splat = λ drained none n grey.
+      absurd (true≢false (sym grey ∙ no_weak_mark layout t.formats t.chains at_flip (traced t s m) f run y stands n));
+  reclaim = λ scanned none.
+      can_reclaim layout t s m at_flip f run y stands
+      (the_last_band_is_entered layout t.formats t.chains at_flip (traced t s m) f run y stands scanned);
 }
 
 -- and where scans are units each of n units can be done when its turn comes
 pub units_are_ready : {F : Type 0}
-    → (layout : F → Layout) (t : TraceState F) (s : SegsState) (m : Moves) (at_flip : List (Option Address)) (run : RunningState)
-    (y : Collecting) (most : ℕ) → AreScansDone layout t.formats t.chains at_flip
-    → UnitStands layout t.formats t.chains at_flip (traced t s m) run y → AreUnitsReady layout t s m run most
-units_are_ready layout t s m at_flip run y most scanning stands count v run' less units =
-    let row = row_done layout t.formats t.chains at_flip scanning (traced t s m) run y stands v run' count units in
-    a_unit_is_ready layout (record t { amc = v.amc }) v.segs v.moves at_flip run' row.after row.stands
+    → (layout : F → Layout) (t : TraceState F) (s : SegsState) (m : Moves) (at_flip : List (Option Address)) (f : FinalsState)
+    (run : RunningState) (y : Collecting) (most : ℕ) → AreScansDone layout t.formats t.chains at_flip
+    → UnitStands layout t.formats t.chains at_flip (traced t s m) f run y → AreUnitsReady layout t s m f run most
+units_are_ready layout t s m at_flip f run y most scanning stands count v f' run' less units =
+    let row = row_done layout t.formats t.chains at_flip scanning (traced t s m) f run y stands v f' run' count units in
+    a_unit_is_ready layout (record t { amc = v.amc }) v.segs v.moves at_flip f' run' row.after row.stands

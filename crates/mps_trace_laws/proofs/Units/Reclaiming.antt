@@ -1,5 +1,5 @@
 -- A reclaim is a unit of the abstract collector, and the state stands for it then.
-use Rattle.std.proofs.Common.{◌≡◌, ◌∙◌, suc, ◌+◌, ◌*◌, ◌≤◌, true, false, not, refl, sym, ap, subst, List, [], ◌∷◌, ◌++◌, Option, Contains, inl, inr, arith}
+use Rattle.std.proofs.Common.{◌≡◌, ◌∙◌, suc, ◌+◌, ◌*◌, ◌≤◌, true, false, not, refl, sym, ap, subst, List, [], ◌∷◌, ◌++◌, length, Option, Contains, inl, inr, arith}
 use Rattle.std.proofs.lemmas.Bool.{cases_Bool, true≢false}
 use Rattle.std.proofs.lemmas.Option.{same_Some}
 use Rattle.std.specs.Prelude.{◌==◌}
@@ -35,8 +35,11 @@ use Rattle.mps_trace_laws.proofs.Reclaim.Unit.{a_reclaim_is_a_unit, the_moves_ar
 use Rattle.mps_trace_laws.specs.Reclaim.Freed.{addresses_of}
 use Rattle.mps_trace_laws.specs.Reclaim.Left.{IsUnreserved}
 use Rattle.mps_trace_laws.specs.Reclaim.Units.{FreesFor, GoesOnSo}
-use Rattle.mps_trace_laws.specs.Units.Standing.{StandsReclaiming, UnitStands, IsMoving, reclaiming}
-use Rattle.mps_trace_laws.specs.Units.Laws.{HasSegmentsOf, IsTracedUnitDone, IsLastTracedUnitDone}
+use Rattle.mps_abstract.proofs.KeptPlaces.{reclaim_stays, last_stays}
+use Rattle.mps_trace.specs.State.{FinalsState}
+use Rattle.mps_trace_laws.proofs.Units.Finals.{finals_stay, finals_in_place, finals_at_end}
+use Rattle.mps_trace_laws.specs.Units.Standing.{StandsReclaiming, AreFinalsOf, UnitStands, IsMoving, reclaiming}
+use Rattle.mps_trace_laws.specs.Units.Laws.{HasSegmentsOf, HasFinalsOf, IsTracedUnitDone, IsLastTracedUnitDone}
 use Rattle.mps_trace_laws.specs.Fix.Tracing.{moves_left}
 use Rattle.mps_trace_laws.proofs.Units.Entering.{the_last_band_is_entered}
 use Rattle.mps_trace_laws.proofs.Units.RoomLeft.{moves_left_after, spare_after}
@@ -82,10 +85,11 @@ are_among g moves base g' moves' (is_used t found used state unwritten trail) = 
 -- ---- a reclaim
 
 module _ {F : Type 0} (layout : F → Layout) (formats : List (Option (Policy F))) (of : ChainsState) (at_flip : List (Option Address))
-    (x z : Traced) (run : RunningState) (y : Collecting) (base : Addr) (stands : UnitStands layout formats of at_flip x run y)
+    (x z : Traced) (f : FinalsState) (run : RunningState) (y : Collecting) (base : Addr)
+    (stands : UnitStands layout formats of at_flip x f run y)
     (next : ReclaimsNext layout formats x run base z) where
   pub last_band : StandsReclaiming x y
-  last_band = the_last_band_is_entered layout formats of at_flip x run y stands next.drained
+  last_band = the_last_band_is_entered layout formats of at_flip x f run y stands next.scanned
 
   pub lowest : IsNextCondemned x.segs y.cursor base.0
   lowest = subst (λ from. IsNextCondemned x.segs from base.0) stands.cursor next.lowest
@@ -199,9 +203,21 @@ module _ {F : Type 0} (layout : F → Layout) (formats : List (Option (Policy F)
       room = room_on;
     }
 
-    stands_on : UnitStands layout formats of at_flip z (reclaimed_at base run) (collecting_after_reclaim y t.base freed on.collection)
+    finals_on : AreFinalsOf at_flip (collecting_after_reclaim y t.base freed on.collection) f
+    finals_on =
+        finals_stay at_flip y (collecting_after_reclaim y t.base freed on.collection) f stands.running
+        (reclaim_stays y stands.running t freed is_next on.collection more on.runs).in_place refl
+        (ap (λ (w : World). w.graph.registered) leads) (ap (λ (w : World). w.graph.messages) leads) stands.finals
+
+    stands_on : UnitStands layout formats of at_flip z f (reclaimed_at base run) (collecting_after_reclaim y t.base freed on.collection)
     stands_on = record {
       running = (reclaims_shown y stands.running t freed is_next on.collection more on.runs).running;
+      next = stands.next;
+      before = stands.before ∙ sym (ap (λ (c : Collection). c.registered_before) collection_is);
+      finals = finals_on;
+      all =
+          ap (λ (c : Collection). c.registered_before) collection_is ∙ stands.all
+          ∙ ap (λ (w : World). length w.graph.registered) (sym leads);
       examined = stands.examined ∙ sym (ap (λ (c : Collection). c.registered_before) collection_is);
       cursor = let begins = lowest.begins in omega (arith, begins);
       moving = subst (IsMoving layout formats of) (sym leads) moving_on;
@@ -211,7 +227,7 @@ module _ {F : Type 0} (layout : F → Layout) (formats : List (Option (Policy F)
       band = reclaiming reclaiming_on;
     }
 
-    pub done : IsTracedUnitDone layout formats of at_flip x y z (reclaimed_at base run)
+    pub done : IsTracedUnitDone layout formats of at_flip x y z f (reclaimed_at base run)
     done = record {
       moves = reclaim_by y t.base freed;
       after = collecting_after_reclaim y t.base freed on.collection;
@@ -225,24 +241,26 @@ module _ {F : Type 0} (layout : F → Layout) (formats : List (Option (Policy F)
 -- a reclaim after which others are left is a unit of the abstract collector
 pub a_reclaim_is_done : {F : Type 0}
     → (layout : F → Layout) (formats : List (Option (Policy F))) (of : ChainsState) (at_flip : List (Option Address)) (x z : Traced)
-    (run : RunningState) (y : Collecting) (base left : Addr) → UnitStands layout formats of at_flip x run y
+    (f : FinalsState) (run : RunningState) (y : Collecting) (base left : Addr) → UnitStands layout formats of at_flip x f run y
     → ReclaimsNext layout formats x run base z → IsNextCondemned x.segs (base.0 + 1) left.0
-    → IsTracedUnitDone layout formats of at_flip x y z (reclaimed_at base run)
-a_reclaim_is_done layout formats of at_flip x z run y base left stands next other =
-    done layout formats of at_flip x z run y base stands next (not_last layout formats of at_flip x z run y base stands next left other)
+    → IsTracedUnitDone layout formats of at_flip x y z f (reclaimed_at base run)
+a_reclaim_is_done layout formats of at_flip x z f run y base left stands next other =
+    done layout formats of at_flip x z f run y base stands next
+    (not_last layout formats of at_flip x z f run y base stands next left other)
 
 -- ---- the last one
 
 -- the last unit is the abstract collector's
 pub the_last_unit_is_done : {F : Type 0}
     → (layout : F → Layout) (formats : List (Option (Policy F))) (of : ChainsState) (at_flip : List (Option Address)) (x z : Traced)
-    (run : RunningState) (y : Collecting) → UnitStands layout formats of at_flip x run y → LastUnitTo layout formats x run z
-    → IsLastTracedUnitDone x y z
-the_last_unit_is_done layout formats of at_flip x z run y stands unit =
+    (f : FinalsState) (run : RunningState) (y : Collecting) → UnitStands layout formats of at_flip x f run y
+    → LastUnitTo layout formats x run z → IsLastTracedUnitDone x y z f
+the_last_unit_is_done layout formats of at_flip x z f run y stands unit =
     let next = unit.reclaimed in
-    let band = last_band layout formats of at_flip x unit.before run y unit.base stands next in
-    let low = lowest layout formats of at_flip x unit.before run y unit.base stands next in
-    let last = is_last layout formats of at_flip x unit.before run y unit.base stands next unit.last in
+    let band = last_band layout formats of at_flip x unit.before f run y unit.base stands next in
+    let low = lowest layout formats of at_flip x unit.before f run y unit.base stands next in
+    let last = is_last layout formats of at_flip x unit.before f run y unit.base stands next unit.last in
+    let next_is = is_next layout formats of at_flip x unit.before f run y unit.base stands next in
     let there = stands.unreserved low.segment low.listed low.condemned in
     let swept =
     reclaimed_is_swept (layout next.reclaimed.format.format) x.segs x.moves unit.base unit.before.segs unit.before.moves
@@ -254,7 +272,7 @@ the_last_unit_is_done layout formats of at_flip x z run y stands unit =
     stands.examined band.frees low there swept
     in
     let among = are_among x.segs x.moves unit.base unit.before.segs unit.before.moves swept in
-    let sizes = last_size layout formats of at_flip x unit.before run y unit.base stands next last in
+    let sizes = last_size layout formats of at_flip x unit.before f run y unit.base stands next last in
     let end =
     the_last_reclaim_ends y x.segs unit.base x.moves unit.before.segs unit.before.moves stands.running band.scanned stands.examined
     band.frees low there swept last
@@ -273,8 +291,15 @@ the_last_unit_is_done layout formats of at_flip x z run y stands unit =
             same_limit = among.limit ∙ (band.segments.same_limit ∙ sym sizes.1);
             same_segments = sym end.segments;
           });
+      finals =
+          subst (λ (w : World). HasFinalsOf f (record w { addresses = (world_after_moves y.world (reclaim_by y low.segment.base freed)).addresses }))
+          (sym (last_leads y stands.running low.segment freed next_is last))
+          (finals_at_end at_flip (world_after_moves y.world (reclaim_by y low.segment.base freed)).addresses y.world.graph.registered
+          y.world.graph.messages y.next f (stands.examined ∙ stands.all)
+          (finals_in_place at_flip (world_after_moves y.world (reclaim_by y low.segment.base freed)).addresses y f stands.running
+          (last_stays y stands.running low.segment freed next_is last) stands.finals));
       trail =
           ap (λ (v : Traced). v.moves.moves) unit.over
           ∙ ap (λ b. unit.before.moves.moves ++ end_where b) (sym last)
-          ∙ trail_is layout formats of at_flip x unit.before run y unit.base stands next;
+          ∙ trail_is layout formats of at_flip x unit.before f run y unit.base stands next;
     }

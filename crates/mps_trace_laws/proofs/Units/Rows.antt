@@ -12,29 +12,39 @@ use Rattle.mps_abstract.specs.Collecting.{Collecting, units_left}
 use Rattle.mps_abstract.specs.Units.{GoesOn, begun, by_one_more, by_last}
 use Rattle.mps_abstract.proofs.Rows.{units_done}
 use Rattle.mps_trace.specs.Trace.{Traced}
-use Rattle.mps_trace.specs.Unit.{UnitTo, scans, reclaims, UnitsTo, begins, goes_on, EndsWithin}
+use Rattle.mps_trace.specs.State.{FinalsState}
+use Rattle.mps_trace.specs.Unit.{UnitTo, scans, examines, posts, splats, reclaims, UnitsTo, begins, goes_on, EndsWithin}
 use Rattle.mps_trace.specs.declared.running.Running.{Running as RunningState}
 use Rattle.mps_trace_laws.specs.Units.Standing.{UnitStands}
-use Rattle.mps_trace_laws.specs.Units.Laws.{HasSegmentsOf, AreScansDone, IsTracedUnitDone, AreTracedUnitsDone, AreLastTracedUnitsDone}
+use Rattle.mps_trace_laws.specs.Units.Laws.{HasSegmentsOf, HasFinalsOf, AreScansDone, IsTracedUnitDone, AreTracedUnitsDone, AreLastTracedUnitsDone}
+use Rattle.std.proofs.lemmas.Bool.{true≢false}
+use Rattle.mps_trace_laws.proofs.Units.Entering.{none_due, no_weak_mark}
 use Rattle.mps_trace_laws.proofs.Units.Reclaiming.{a_reclaim_is_done, the_last_unit_is_done}
 use Rattle.mps_format.specs.declared.pool.Policy.{Policy}
 use Rattle.std.specs.Prelude.{◌<◌, suc}
 
 module _ {F : Type 0} (layout : F → Layout) (formats : List (Option (Policy F))) (of : ChainsState) (at_flip : List (Option Address))
     (scanning : AreScansDone layout formats of at_flip) where
-  -- one unit
-  pub unit_done : (x z : Traced) (run run' : RunningState) (y : Collecting) → UnitStands layout formats of at_flip x run y
-      → UnitTo layout formats of x run z run' → IsTracedUnitDone layout formats of at_flip x y z run'
-  unit_done x z run _ y stands (scans one) = scanning x z run y stands one
-  unit_done x z run run' y stands (reclaims base left next other is) =
-      subst (λ r. IsTracedUnitDone layout formats of at_flip x y z r) (sym is)
-      (a_reclaim_is_done layout formats of at_flip x z run y base left stands next other)
+  -- one unit. No registration is left to examine, and no weak block is grey
+  pub unit_done : (x z : Traced) (f f' : FinalsState) (run run' : RunningState) (y : Collecting)
+      → UnitStands layout formats of at_flip x f run y
+      → UnitTo layout formats of x f run z f' run' → IsTracedUnitDone layout formats of at_flip x y z f' run'
+  unit_done x z f _ run _ y stands (scans one) = scanning x z f run y stands one
+  unit_done x z f f' run run' y stands (examines to drained due found is now) =
+      absurd (none_due layout formats of at_flip x f run y stands due)
+  unit_done x z f f' run run' y stands (posts to drained due white kept trail is now) =
+      absurd (none_due layout formats of at_flip x f run y stands due)
+  unit_done x z f _ run run' y stands (splats drained none one now) =
+      absurd (true≢false (sym one.grey ∙ no_weak_mark layout formats of at_flip x f run y stands one.word))
+  unit_done x z f _ run run' y stands (reclaims base left next other is) =
+      subst (λ r. IsTracedUnitDone layout formats of at_flip x y z f r) (sym is)
+      (a_reclaim_is_done layout formats of at_flip x z f run y base left stands next other)
 
-  one_more : (x v z : Traced) (run' run'' : RunningState) (y : Collecting) (count : ℕ)
-      → (before : AreTracedUnitsDone layout formats of at_flip x y count v run')
-      → IsTracedUnitDone layout formats of at_flip v before.after z run''
-      → AreTracedUnitsDone layout formats of at_flip x y (count + 1) z run''
-  one_more x v z run' run'' y count before unit = record {
+  one_more : (x v z : Traced) (f' f'' : FinalsState) (run' run'' : RunningState) (y : Collecting) (count : ℕ)
+      → (before : AreTracedUnitsDone layout formats of at_flip x y count v f' run')
+      → IsTracedUnitDone layout formats of at_flip v before.after z f'' run''
+      → AreTracedUnitsDone layout formats of at_flip x y (count + 1) z f'' run''
+  one_more x v z f' f'' run' run'' y count before unit = record {
     moves = before.moves ++ unit.moves;
     after = unit.after;
     units =
@@ -43,38 +53,38 @@ module _ {F : Type 0} (layout : F → Layout) (formats : List (Option (Policy F)
     trail = unit.trail ∙ ap (λ ms. ms ++ unit.moves) before.trail ∙ append_assoc x.moves.moves before.moves unit.moves;
   }
 
-  pub row_done : (x : Traced) (run : RunningState) (y : Collecting) → UnitStands layout formats of at_flip x run y
-      → (z : Traced) (run' : RunningState) (count : ℕ) → UnitsTo layout formats of x run count z run'
-      → AreTracedUnitsDone layout formats of at_flip x y count z run'
-  row_done x run y stands _ _ _ begins = record {
+  pub row_done : (x : Traced) (f : FinalsState) (run : RunningState) (y : Collecting) → UnitStands layout formats of at_flip x f run y
+      → (z : Traced) (f' : FinalsState) (run' : RunningState) (count : ℕ) → UnitsTo layout formats of x f run count z f' run'
+      → AreTracedUnitsDone layout formats of at_flip x y count z f' run'
+  row_done x f run y stands _ _ _ _ begins = record {
     moves = [];
     after = y;
     units = begun;
     stands = stands;
     trail = sym (append-nil x.moves.moves);
   }
-  row_done x run y stands z run'' _ (goes_on {y = v} {run' = run'} count units unit) =
-      let before = row_done x run y stands v run' count units in
-      one_more x v z run' run'' y count before (unit_done v z run' run'' before.after before.stands unit)
+  row_done x f run y stands z f'' run'' _ (goes_on {y = v} {f' = f'} {run' = run'} count units unit) =
+      let before = row_done x f run y stands v f' run' count units in
+      one_more x v z f' f'' run' run'' y count before (unit_done v z f' f'' run' run'' before.after before.stands unit)
 
 -- where scans are units of the abstract collector, rows of units are
 pub units_are_done : {F : Type 0}
     → (layout : F → Layout) (formats : List (Option (Policy F))) (of : ChainsState) (at_flip : List (Option Address)) (x z : Traced)
-    (run run' : RunningState) (y : Collecting) (count : ℕ) → AreScansDone layout formats of at_flip
-    → UnitStands layout formats of at_flip x run y → UnitsTo layout formats of x run count z run'
-    → AreTracedUnitsDone layout formats of at_flip x y count z run'
-units_are_done layout formats of at_flip x z run run' y count scanning stands units =
-    row_done layout formats of at_flip scanning x run y stands z run' count units
+    (f f' : FinalsState) (run run' : RunningState) (y : Collecting) (count : ℕ) → AreScansDone layout formats of at_flip
+    → UnitStands layout formats of at_flip x f run y → UnitsTo layout formats of x f run count z f' run'
+    → AreTracedUnitsDone layout formats of at_flip x y count z f' run'
+units_are_done layout formats of at_flip x z f f' run run' y count scanning stands units =
+    row_done layout formats of at_flip scanning x f run y stands z f' run' count units
 
 -- and where the collection ends the abstract one does
 pub the_end_is_done : {F : Type 0}
     → (layout : F → Layout) (formats : List (Option (Policy F))) (of : ChainsState) (at_flip : List (Option Address)) (x z : Traced)
-    (run : RunningState) (y : Collecting) (most : ℕ) → AreScansDone layout formats of at_flip
-    → UnitStands layout formats of at_flip x run y → (ends : EndsWithin layout formats of x run most z)
-    → AreLastTracedUnitsDone x y (suc ends.count) z
-the_end_is_done layout formats of at_flip x z run y most scanning stands ends =
-    let before = row_done layout formats of at_flip scanning x run y stands ends.before ends.run_before ends.count ends.units in
-    let last = the_last_unit_is_done layout formats of at_flip ends.before z ends.run_before before.after before.stands ends.last in
+    (f f' : FinalsState) (run : RunningState) (y : Collecting) (most : ℕ) → AreScansDone layout formats of at_flip
+    → UnitStands layout formats of at_flip x f run y → (ends : EndsWithin layout formats of x f run most z f')
+    → AreLastTracedUnitsDone x y (suc ends.count) z f'
+the_end_is_done layout formats of at_flip x z f f' run y most scanning stands ends =
+    let before = row_done layout formats of at_flip scanning x f run y stands ends.before f' ends.run_before ends.count ends.units in
+    let last = the_last_unit_is_done layout formats of at_flip ends.before z f' ends.run_before before.after before.stands ends.last in
     let leads = (units_done y before.after ends.count before.moves stands.running before.units).leads in
     let whole : world_after_moves y.world (before.moves ++ last.moves) ≡ world_after_moves before.after.world last.moves =
     world_after_moves-append y.world before.moves last.moves ∙ ap (λ w. world_after_moves w last.moves) leads
@@ -85,16 +95,17 @@ the_end_is_done layout formats of at_flip x z run y most scanning stands ends =
       ended = ap (λ (w : World). w.collection) whole ∙ last.ended;
       stands = subst (StandsAtRest z.segs) (sym whole) last.stands;
       segments = subst (HasSegmentsOf z.segs) (sym whole) last.segments;
+      finals = subst (HasFinalsOf f') (sym whole) last.finals;
       trail = last.trail ∙ ap (λ ms. ms ++ last.moves) before.trail ∙ append_assoc x.moves.moves before.moves last.moves;
     }
 
 -- a collection doesn't go on after as many units as the abstract collector has left
 pub units_run_out : {F : Type 0}
     → (layout : F → Layout) (formats : List (Option (Policy F))) (of : ChainsState) (at_flip : List (Option Address)) (x z : Traced)
-    (run run' : RunningState) (y : Collecting) (count : ℕ) → AreScansDone layout formats of at_flip
-    → UnitStands layout formats of at_flip x run y → UnitsTo layout formats of x run count z run' → count < units_left y
-units_run_out layout formats of at_flip x z run run' y count scanning stands units =
-    let row = row_done layout formats of at_flip scanning x run y stands z run' count units in
+    (f f' : FinalsState) (run run' : RunningState) (y : Collecting) (count : ℕ) → AreScansDone layout formats of at_flip
+    → UnitStands layout formats of at_flip x f run y → UnitsTo layout formats of x f run count z f' run' → count < units_left y
+units_run_out layout formats of at_flip x z f f' run run' y count scanning stands units =
+    let row = row_done layout formats of at_flip scanning x f run y stands z f' run' count units in
     let shown = units_done y row.after count row.moves stands.running row.units in
     let some = shown.some_left in
     let fewer = shown.fewer in

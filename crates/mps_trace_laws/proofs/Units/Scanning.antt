@@ -1,7 +1,7 @@
 -- A scan of a grey block is a unit of the abstract collector, and each grey block can be scanned.
 use Rattle.std.proofs.Common.{◌≡◌, ◌∙◌, ℕ, true, false, refl, sym, ap, subst, List, [], Option, Some, arith}
 use Rattle.std.proofs.lemmas.Bool.{false≢true, or_right}
-use Rattle.std.specs.Prelude.{◌==◌, Contains, ◌||◌, map, slice_get}
+use Rattle.std.specs.Prelude.{◌==◌, Contains, ◌||◌, length, map, slice_get}
 use Rattle.std.specs.Option.{option_map_or}
 use Rattle.mps_base.specs.Address.{Address, Id, Word, address_of_word}
 use Rattle.mps_base.specs.declared.moves.Move.{Move}
@@ -10,7 +10,7 @@ use Rattle.mps_format.specs.Layout.{Layout}
 use Rattle.mps_trace.specs.GenState.{ChainsState}
 use Rattle.mps_seg.specs.Segs.{at_word, SegsState}
 use Rattle.mps_model.specs.Accessing.{address_or_null}
-use Rattle.mps_model.specs.Graph.{Cell, ReferenceCell, Body, Automatic, Manual, Object, contains, entry_at, targets, targets_of, targets_of_body, targets_of_cells, target_of_cell, is_automatic, is_automatic_body}
+use Rattle.mps_model.specs.Graph.{Graph, Cell, ReferenceCell, Body, Automatic, Manual, Object, contains, entry_at, targets, targets_of, targets_of_body, targets_of_cells, target_of_cell, is_automatic, is_automatic_body}
 use Rattle.mps_abstract.specs.Colours.{is_grey}
 use Rattle.mps_abstract.specs.Collecting.{Collecting, Running, is_tracing_band}
 use Rattle.mps_abstract.specs.Fixing.{Fixes, fixes_no_more, passes, keeps}
@@ -39,7 +39,10 @@ use Rattle.mps_model.specs.World.{World}
 use Rattle.mps_trace_laws.specs.Reclaim.Left.{IsUnreserved}
 use Rattle.mps_trace_laws.proofs.Reclaim.HeldSegments.{found_at, found_held, same_base}
 use Rattle.mps_trace_laws.proofs.Units.Entering.{held_in_order}
-use Rattle.mps_trace_laws.specs.Units.Standing.{AreCondemnedUnreserved, StandsTracing, UnitStands, IsMoving, tracing, reclaiming}
+use Rattle.mps_abstract.proofs.KeptPlaces.{running_may_keep, fixes_stay}
+use Rattle.mps_trace.specs.State.{FinalsState}
+use Rattle.mps_trace_laws.proofs.Units.Finals.{finals_stay}
+use Rattle.mps_trace_laws.specs.Units.Standing.{AreCondemnedUnreserved, AreFinalsOf, StandsTracing, UnitStands, IsMoving, tracing, reclaiming}
 use Rattle.mps_trace_laws.specs.Units.Laws.{IsTracedUnitDone, AreScansDone}
 use Rattle.mps_format.specs.declared.pool.Policy.{Policy}
 use Rattle.mps_base.specs.Trail.{Moves}
@@ -114,7 +117,7 @@ body_refers (Manual words) i t tag e automatic = absurd (false≢true automatic)
 
 module _ {F : Type 0} (layout : F
     → Layout) (formats : List (Option (Policy F))) (of : ChainsState) (at_flip : List (Option Address)) (x : Traced)
-    (run : RunningState) (y : Collecting) (stands : UnitStands layout formats of at_flip x run y) where
+    (f : FinalsState) (run : RunningState) (y : Collecting) (stands : UnitStands layout formats of at_flip x f run y) where
   -- where a block is grey objects are traced
   pub traced_so : (n : Word) → bit x.segs.marks.exact n ≡ true → StandsTracing layout formats of at_flip x y
   traced_so n grey =
@@ -236,13 +239,25 @@ module _ {F : Type 0} (layout : F
         (subst (λ g. IsUnreserved g.points scan.after.world.point_memories t) (sym stays.graph)
         (subst (λ ms. IsUnreserved y.world.graph.points ms t) (sym stays.memories) (stands.unreserved t one.1 bit_then)))
 
-    pub scan_done : IsTracedUnitDone layout formats of at_flip x y z run
+    finals : AreFinalsOf at_flip (collecting_after_scan scan.after g.id) f
+    finals =
+        finals_stay at_flip y (collecting_after_scan scan.after g.id) f stands.running
+        (fixes_stay scan.fixes (running_may_keep y stands.running) live).in_place stays.next
+        (ap (λ (h : Graph). h.registered) stays.graph) (ap (λ (h : Graph). h.messages) stays.graph) stands.finals
+
+    pub scan_done : IsTracedUnitDone layout formats of at_flip x y z f run
     scan_done = record {
       moves = scan.moves;
       after = collecting_after_scan scan.after g.id;
       unit = scans g.id g.grey (stands.moving.strong g.id) scan.fixes;
       stands = record {
         running = (scans_shown y scan.after g.id scan.moves stands.running g.grey (stands.moving.strong g.id) scan.fixes).running;
+        next = stands.next ∙ sym stays.next;
+        before = stands.before ∙ sym (fixed_same scan.fixes).registered_before;
+        finals = finals;
+        all =
+            (fixed_same scan.fixes).registered_before ∙ stands.all
+            ∙ ap (λ (h : Graph). length h.registered) (sym stays.graph);
         examined = stays.next ∙ stands.examined ∙ sym (fixed_same scan.fixes).registered_before;
         cursor = stands.cursor ∙ sym stays.cursor;
         moving = stays.moving stands.moving;
@@ -262,15 +277,15 @@ module _ {F : Type 0} (layout : F
 pub scans_are_done : {F : Type 0}
     → (layout : F → Layout) (formats : List (Option (Policy F))) (of : ChainsState) (at_flip : List (Option Address))
     → AreScansDone layout formats of at_flip
-scans_are_done layout formats of at_flip x z run y stands one = scan_done layout formats of at_flip x run y stands z one
+scans_are_done layout formats of at_flip x z f run y stands one = scan_done layout formats of at_flip x f run y stands z one
 
 -- each grey block can be scanned
 pub scans_are_ready : {F : Type 0}
-    → (layout : F → Layout) (t : TraceState F) (s : SegsState) (m : Moves) (at_flip : List (Option Address)) (run : RunningState)
-    (y : Collecting) → UnitStands layout t.formats t.chains at_flip (traced t s m) run y → CanScanGrey layout t s m
-scans_are_ready layout t s m at_flip run y stands n grey =
-    let g = grey_at layout t.formats t.chains at_flip (traced t s m) run y stands n grey in
-    let found = scanned_next layout t.formats t.chains at_flip (traced t s m) run y stands n grey g in
-    let st = traced_so layout t.formats t.chains at_flip (traced t s m) run y stands n grey in
+    → (layout : F → Layout) (t : TraceState F) (s : SegsState) (m : Moves) (at_flip : List (Option Address)) (f : FinalsState)
+    (run : RunningState) (y : Collecting) → UnitStands layout t.formats t.chains at_flip (traced t s m) f run y → CanScanGrey layout t s m
+scans_are_ready layout t s m at_flip f run y stands n grey =
+    let g = grey_at layout t.formats t.chains at_flip (traced t s m) f run y stands n grey in
+    let found = scanned_next layout t.formats t.chains at_flip (traced t s m) f run y stands n grey g in
+    let st = traced_so layout t.formats t.chains at_flip (traced t s m) f run y stands n grey in
     object_can_be_scanned layout t s m at_flip (black_cells y.running.condemned y.colours) y g.id (at_word n) found.object
     stands.moving.shaped st.traces found.found

@@ -17,7 +17,8 @@ use Rattle.mps_trace_laws.specs.Image.AtRest.{StandsAtRest, AreTargetsLive}
 use Rattle.mps_trace_laws.specs.Image.Image.{AreShaped}
 use Rattle.mps_trace_laws.specs.Image.Memory.{pool_layout}
 use Rattle.mps_trace.specs.Trace.{TraceState}
-use Rattle.mps_trace_laws.specs.Fix.Housed.{AreHoused, HasNoWeakMark}
+use Rattle.mps_trace_laws.specs.Fix.Housed.{AreHoused}
+use Rattle.mps_trace.specs.Splat.{HasNoWeakMark}
 use Rattle.mps_trace_laws.specs.Fix.Tracing.{AreSegmentsOf, AreHeld, HasTables, AreCoveredInOrder, AreReservationsHeld, AreKnownPools}
 use Rattle.mps_trace_laws.specs.Nails.Nailed.{AreTablesWhole, AreMarkedAt}
 use Rattle.mps_trace_laws.specs.Flip.Condemned.{AreFormatsOf, AllCopying}

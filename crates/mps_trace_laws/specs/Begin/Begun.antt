@@ -21,12 +21,14 @@ use Rattle.mps_trace.specs.Begin.{nailed_at_flip, Begins, EndsAtOnce, CanFixRoot
 use Rattle.mps_trace.specs.Roots.{key_at, slot_of}
 use Rattle.mps_trace.specs.Trace.{TraceState, Traced, traced}
 use Rattle.mps_trace.specs.declared.running.Running.{Running as RunningState}
-use Rattle.mps_trace_laws.specs.Fix.Housed.{AreHoused, HasNoWeakMark}
+use Rattle.mps_trace_laws.specs.Fix.Housed.{AreHoused}
+use Rattle.mps_trace.specs.Splat.{HasNoWeakMark}
 use Rattle.mps_trace_laws.specs.Fix.Tracing.{TracingStands}
 use Rattle.mps_trace_laws.specs.Nails.Nailed.{AreWordsShown, words_of_areas}
 use Rattle.mps_trace_laws.specs.Roots.OneRoot.{IsWhere}
 use Rattle.mps_trace_laws.specs.Roots.Rows.{AreHeldAtFlip}
 use Rattle.mps_trace_laws.specs.Roots.Tables.{AreTablesHeld}
+use Rattle.mps_trace_laws.specs.Units.Finals.{address_of_id}
 use Rattle.mps_trace_laws.specs.Units.Standing.{IsMoving, AreCondemnedUnreserved, UnitStands}
 use Rattle.mps_trace_laws.specs.Begin.Before.{StandsBefore}
 
@@ -55,11 +57,13 @@ AFlipStands F =
 
 -- ---- roots
 
--- the tables in order, and messages, hold what those of a world do
+-- the tables in order, messages and registrations hold what those of a world do
 pub record AreRootsHeld (w : World) (roots : RootsState) (finals : FinalsState) (rows : List (List (Option Id))) : Type 0 where
   pub tables : AreTablesHeld w.addresses (collecting_after_flip w Everything []) roots rows
   pub messages : AreHeldAtFlip w.addresses (collecting_after_flip w Everything []) finals.messages (map Some w.graph.messages)
   pub all : entries (flat_map (λ row. row) rows) ≡ ids_in_slots w.graph
+  pub waiting : length finals.messages ≡ length w.graph.messages
+  pub registered : finals.registered ≡ map (address_of_id w.addresses) w.graph.registered
 
 -- the roots can be fixed after the flip
 abbrev pub RootsCanBeFixed : (F : Type 0) → Type 0
@@ -77,7 +81,7 @@ pub record IsActDone {F : Type 0} (layout : F → Layout) (t : TraceState F) (m 
   pub first : List Move
   pub after : Collecting
   pub fixes : FixesHeld w (collecting_after_flip w Everything []) first after
-  pub stands : UnitStands layout t.formats t.chains w.addresses z run after
+  pub stands : UnitStands layout t.formats t.chains w.addresses z finals' run after
   pub trail : z.moves.moves ≡ m.moves ++ flip_of w Everything ∷ first
   pub slots : (n : ℕ) (row : List (Option Id)) → slice_get rows n ≡ Some row → (i : ℕ) (target : Option Id)
       → slice_get row i ≡ Some target → IsWhere after (slot_of roots' (key_at roots n) i) target

@@ -1,11 +1,11 @@
 -- In which segments objects lie, of what rank segments and marks are, and that what a collector does keeps both.
 use Rattle.std.proofs.Common.{ap, arith}
-use Rattle.std.specs.Prelude.{◌≡◌, ℕ, zero, suc, ◌+◌, ◌≤◌, true, false, Option, Some, List, [], ◌∷◌, slice_get, Contains, refl}
-use Rattle.mps_base.specs.Address.{Address, Id, Word, word_of}
+use Rattle.std.specs.Prelude.{◌≡◌, ℕ, zero, suc, ◌+◌, ◌≤◌, true, Option, Some, List, [], ◌∷◌, slice_get, Contains, refl}
+use Rattle.mps_base.specs.Address.{Address, Id, word_of}
 use Rattle.mps_base.specs.Segment.{Segment, end_of_segment}
 use Rattle.mps_base.specs.declared.names.Rank.TheVariants.{Exact, Weak}
-use Rattle.mps_extents.specs.Table.{bit}
 use Rattle.mps_seg.specs.Segs.{SegsState}
+use Rattle.mps_trace.specs.Splat.{HasNoWeakMark}
 use Rattle.mps_model.specs.Graph.{Object, contains, entry_at, size_of}
 use Rattle.mps_model.specs.World.{World, is_live}
 
@@ -29,10 +29,6 @@ abbrev pub AreLive : List Id → World → Type 0
 AreLive ids w = (id : Id) → contains ids id ≡ true → is_live w id ≡ true
 
 -- ---- ranks
-
--- no weak block is grey
-abbrev pub HasNoWeakMark : SegsState → Type 0
-HasNoWeakMark s = (n : Word) → bit s.marks.weak n ≡ false
 
 -- no segment is of weak blocks
 abbrev pub AreAllExact : List Segment → Type 0

@@ -1,6 +1,6 @@
 -- When the segments and the moves of a collector represent the abstract collector between two units of a collection. Automatic pools
 -- are those that move blocks, and no object is weak.
-use Rattle.std.specs.Prelude.{◌≡◌, ◌+◌, ◌*◌, ◌≤◌, true, false, IsTrue, Option, List, Contains}
+use Rattle.std.specs.Prelude.{◌≡◌, ◌+◌, ◌*◌, ◌≤◌, true, false, IsTrue, Option, List, length, Contains}
 use Rattle.mps_base.specs.Address.{Address, Id, word_of, words_of_grain, grain_of}
 use Rattle.mps_base.specs.Segment.{Segment, end_of_segment}
 use Rattle.mps_extents.specs.Table.{bit}
@@ -15,10 +15,13 @@ use Rattle.mps_trace_laws.specs.Image.Memory.{pool_layout}
 use Rattle.mps_trace_laws.specs.Image.Image.{AreShaped, black_cells}
 use Rattle.mps_trace.specs.Trace.{Traced}
 use Rattle.mps_trace.specs.declared.running.Running.{Running as RunningState}
-use Rattle.mps_trace_laws.specs.Fix.Housed.{AreAllExact, AreHoused, HasNoWeakMark}
+use Rattle.mps_trace_laws.specs.Fix.Housed.{AreAllExact, AreHoused}
+use Rattle.mps_trace.specs.Splat.{HasNoWeakMark}
 use Rattle.mps_trace_laws.specs.Fix.Tracing.{AreKnownPools, AreSegmentsOf, TracingStands, moves_left}
 use Rattle.mps_trace_laws.specs.Reclaim.Left.{IsUnreserved}
 use Rattle.mps_trace_laws.specs.Reclaim.Units.{FreesFor}
+use Rattle.mps_trace_laws.specs.Units.Finals.{AreFinals}
+use Rattle.mps_trace.specs.State.{FinalsState}
 use Rattle.mps_format.specs.declared.pool.Policy.{Policy}
 
 -- what units leave as it is of a world: its objects, its pools, and that none is weak
@@ -60,10 +63,19 @@ pub data StandsInBand {F : Type 0} (layout : F → Layout) (formats : List (Opti
     tracing : StandsTracing layout formats of at_flip x y → StandsInBand layout formats of at_flip x y
     reclaiming : StandsReclaiming x y → StandsInBand layout formats of at_flip x y
 
--- between two units: the abstract collector runs, its registrations are examined, and it has reclaimed as much
+-- registrations and messages by what collects
+abbrev pub AreFinalsOf : (at_flip : List (Option Address)) → Collecting → FinalsState → Type 0
+AreFinalsOf at_flip y f = AreFinals at_flip y.world.addresses y.world.graph.registered y.world.graph.messages y.next f
+
+-- between two units: the abstract collector runs, its registrations are examined, and it has examined and reclaimed as much
 pub record UnitStands {F : Type 0} (layout : F → Layout) (formats : List (Option (Policy F))) (of : ChainsState)
-    (at_flip : List (Option Address)) (x : Traced) (run : RunningState) (y : Collecting) : Type 0 where
+    (at_flip : List (Option Address)) (x : Traced) (f : FinalsState) (run : RunningState) (y : Collecting) : Type 0 where
   pub running : Running y
+  pub next : run.next ≡ y.next
+  pub before : run.registered_before ≡ y.running.registered_before
+  pub finals : AreFinalsOf at_flip y f
+  -- each registration was made before the flip
+  pub all : y.running.registered_before ≡ length y.world.graph.registered
   pub examined : AreAllExamined y
   pub cursor : run.cursor.0 ≡ y.cursor
   pub moving : IsMoving layout formats of y.world

@@ -13,7 +13,8 @@ loop-preserved g c =
     let z = traced c.unit.new.self c.unit.new.segs c.unit.new.trail in
     let Q : TraceState g.row.F.Denot → TraceState g.row.F.Denot = λ u. record u { amc = c.unit.new.self.amc } in (
       goes_on c.loop.counter c.loop.invariant.0
-          (goes_still g.F.Format.layout c.args.self.now c.loop.self c.loop.invariant.1 y z c.loop.running c.in-Some.next
+          (goes_still g.F.Format.layout c.args.self.now c.loop.self c.loop.invariant.1 y z c.loop.finals c.unit.new.finals
+          c.loop.running c.in-Some.next
           c.in-Some.ensures.goes_on),
       c.unit.ensures.unchanged ∙ ap Q c.loop.invariant.1,
     )

@@ -21,7 +21,7 @@ use Rattle.mps_abstract.proofs.UnitScans.{targets_may_be_fixed, strong_is_tracin
 use Rattle.mps_abstract.proofs.Reclaimed.{frees, final_world, final_collection, not_freed}
 use Rattle.mps_abstract.proofs.Reclaiming.{goes_on_leads, last_leads}
 use Rattle.mps_abstract.proofs.Rows.{units_shown}
-use Rattle.mps_refinement.specs.Collect.Staying.{StaysInPlace, EndsInPlace}
+use Rattle.mps_abstract.specs.Staying.{StaysInPlace, EndsInPlace, AKeptObjectStays}
 
 pub stays_still : (x : Collecting) → StaysInPlace x x
 stays_still x = record { not_white = λ id h. h; in_place = λ id h. refl }
@@ -145,9 +145,7 @@ ends_stay {x} run (by_last {y = y} {done = done} {piece} row last) =
     λ id h. ap (λ (v : World). address_of v id) leads
     ∙ (last_unit_stays shown.running last id (before.not_white id h) ∙ before.in_place id h)
 
-pub a_kept_object_stays : ((x y : Collecting) (ms : List Move) → Running x → IsUnit x ms y → StaysInPlace x y)
-    × ((x y : Collecting) (count : ℕ) (ms : List Move) → Running x → GoesOn x count ms y → StaysInPlace x y)
-    × ((x : Collecting) (count : ℕ) (ms : List Move) → Running x → Ends x count ms → EndsInPlace x (world_after_moves x.world ms))
+pub a_kept_object_stays : AKeptObjectStays
 a_kept_object_stays = (
   (λ x y ms run unit. unit_stays run unit),
   (λ x y count ms run row. units_stay run row),
