@@ -6,7 +6,7 @@ use Rattle.mps_buffer.specs.Points.{points_after_flip}
 use Rattle.mps_format.specs.Layout.{Layout}
 use Rattle.mps_ld.specs.State as ld
 use Rattle.mps_trace.specs.Collect.{most_moves}
-use Rattle.mps_trace.specs.Flip.{automatic_of, zones_of}
+use Rattle.mps_trace.specs.Flip.{moving_of, zones_of}
 use Rattle.mps_heap_spec.specs.Collecting.{CanCollectAll, IsCollected, is_empty}
 use Rattle.mps_heap_spec.specs.State.{HeapState}
 use Rattle.mps_format.specs.Pools.{policy_of_pool}
@@ -35,7 +35,7 @@ module _ {F : Type 0} (layout : F → Layout) (h : HeapState F) (m : Moves) wher
     roots = h'.roots;
     finals = h'.finals;
     points = points_after_flip seen.points;
-    epochs = ld.epochs_after_flip seen.epochs (zones_of (automatic_of formats seen.segs.segments));
+    epochs = ld.epochs_after_flip seen.epochs (zones_of (moving_of formats seen.segs.segments));
     arena = arena.Parked;
   }
 

@@ -7,7 +7,7 @@ use Rattle.mps_format.specs.Layout.{Layout}
 use Rattle.mps_trace.specs.LdState as ld
 use Rattle.mps_trace.specs.Trace.{TraceState, traced}
 use Rattle.mps_trace.specs.Collect.{CanCollect, Collects, most_moves}
-use Rattle.mps_trace.specs.Flip.{automatic_of, zones_of}
+use Rattle.mps_trace.specs.Flip.{moving_of, zones_of}
 use Rattle.mps_trace.specs.PoolsCollecting.{IsTraceOf}
 use Rattle.mps_heap_spec.specs.State.{HeapState}
 use Rattle.mps_format.specs.Pools.{is_moved_or_manual}
@@ -44,6 +44,6 @@ module _ {F : Type 0} where
       roots = h'.roots;
       finals = h'.finals;
       points = points_after_flip h.points;
-      epochs = ld.epochs_after_flip h.epochs (zones_of (automatic_of before.formats h.segs.segments));
+      epochs = ld.epochs_after_flip h.epochs (zones_of (moving_of before.formats h.segs.segments));
       arena = arena.Parked;
     }

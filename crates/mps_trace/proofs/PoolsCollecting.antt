@@ -9,7 +9,7 @@ use Rattle.mps_seg.specs.Segs.{SegsState}
 use Rattle.mps_ld.specs.State.{EpochsState}
 use Rattle.mps_ld.specs.State as ld
 use Rattle.mps_format.specs.declared.pool.Policy.{Policy}
-use Rattle.mps_trace.specs.Flip.{automatic_of, zones_of}
+use Rattle.mps_trace.specs.Flip.{moving_of, zones_of}
 use Rattle.mps_trace.specs.Collect.{CanCollect, Collects}
 use Rattle.mps_trace.specs.Trace.{TraceState, traced}
 use Rattle.mps_trace.specs.PoolsCollecting.{IsTraceOf}
@@ -35,8 +35,8 @@ module _ {F : Type 0} (layout : F → Layout) (seen value : PoolsState F) (is : 
   are_collected roots' finals' t' s' m' collects = record { before = t; after = t'; of_pools = known; collects = collects }
 
   -- the zones of the segments of automatic pools are flipped
-  pub are_flipped : (epochs epochs' : EpochsState) → epochs' ≡ ld.epochs_after_flip epochs (zones_of (automatic_of t.formats s.segments))
-      → epochs' ≡ ld.epochs_after_flip epochs (zones_of (automatic_of (map policy_of_pool value.pools) s.segments))
+  pub are_flipped : (epochs epochs' : EpochsState) → epochs' ≡ ld.epochs_after_flip epochs (zones_of (moving_of t.formats s.segments))
+      → epochs' ≡ ld.epochs_after_flip epochs (zones_of (moving_of (map policy_of_pool value.pools) s.segments))
   are_flipped epochs epochs' is =
       is ∙ ap (λ (formats : List (Option (Policy F))). ld.epochs_after_flip epochs (zones_of
-      (automatic_of formats s.segments))) known.formats
+      (moving_of formats s.segments))) known.formats

@@ -12,7 +12,7 @@ ghost use Rattle.mps_ld.specs.State as ld;
 ghost use Rattle.mps_seg.specs.Collecting.{collected};
 ghost use Rattle.mps_trace.specs.Trace.{traced};
 ghost use Rattle.mps_trace.specs.Condemned.{AreInOrder};
-ghost use Rattle.mps_trace.specs.Flip.{automatic_of, zones_of};
+ghost use Rattle.mps_trace.specs.Flip.{moving_of, zones_of};
 ghost use Rattle.mps_trace.specs.Begin.{nailed_by_areas, nailed_at_flip, Begins, EndsAtOnce, CanFixRoots};
 
 use crate::Trace;
@@ -51,7 +51,7 @@ impl<F: Format> Trace<F> {
             (traced self.old segs.old trail.old) roots.new finals.new (traced self.new segs.new trail.new)) }
         ensures unchanged { self.new ≡ record self.old { amc = self.new.amc } }
         ensures points { points.new ≡ buffer.points_after_flip points.old }
-        ensures epochs { epochs.new ≡ ld.epochs_after_flip epochs.old (zones_of (automatic_of self.old.formats segs.old.segments)) }
+        ensures epochs { epochs.new ≡ ld.epochs_after_flip epochs.old (zones_of (moving_of self.old.formats segs.old.segments)) }
     {
         let condemned = self.flip(segs, trail, points, epochs);
         if condemned == 0 {

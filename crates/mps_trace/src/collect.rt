@@ -5,7 +5,7 @@ ghost use Rattle.std.specs.Prelude.{◌≡◌, ◌^◌, ◌<◌};
 ghost use Rattle.mps_buffer.specs.Points as buffer;
 ghost use Rattle.mps_ld.specs.State as ld;
 ghost use Rattle.mps_trace.specs.Collect.{CanCollect, Collects};
-ghost use Rattle.mps_trace.specs.Flip.{automatic_of, zones_of};
+ghost use Rattle.mps_trace.specs.Flip.{moving_of, zones_of};
 ghost use Rattle.mps_trace.specs.Trace.{traced};
 
 use crate::Trace;
@@ -36,7 +36,7 @@ impl<F: Format> Trace<F> {
             (traced self.old segs.old trail.old) most roots.new finals.new (traced self.new segs.new trail.new) }
         ensures unchanged { self.new ≡ record self.old { amc = self.new.amc } }
         ensures points { points.new ≡ buffer.points_after_flip points.old }
-        ensures epochs { epochs.new ≡ ld.epochs_after_flip epochs.old (zones_of (automatic_of self.old.formats segs.old.segments)) }
+        ensures epochs { epochs.new ≡ ld.epochs_after_flip epochs.old (zones_of (moving_of self.old.formats segs.old.segments)) }
     {
         let Some(running) = self.begin(segs, trail, roots, points, finals, epochs) else {
             return;

@@ -1,7 +1,7 @@
 // A flip: what it condemns, what it drops, and which blocks it nails.
 #![tactic(auto)]
 
-ghost use Rattle.std.specs.Prelude.{◌≡◌, ℕ, ◌+◌, ◌*◌, ◌^◌, ◌<◌, ◌≤◌, length};
+ghost use Rattle.std.specs.Prelude.{◌≡◌, ℕ, ◌+◌, ◌*◌, ◌^◌, ◌<◌, ◌≤◌, if◌then◌else◌, length};
 ghost use Rattle.mps_base.specs.Address.{grain_of, words_of_grain};
 ghost use Rattle.mps_base.specs.Run.{IsAscending};
 ghost use Rattle.mps_base.specs.Zones.{zones_from};
@@ -10,7 +10,7 @@ ghost use Rattle.mps_buffer.specs.Points as buffer;
 ghost use Rattle.mps_ld.specs.State as ld;
 ghost use Rattle.mps_trace.specs.Trace.{traced};
 ghost use Rattle.mps_trace.specs.Condemned.{AreInOrder};
-ghost use Rattle.mps_trace.specs.Flip.{automatic_of, all_condemned, zones_of, at_flip, nailed_by, nailed_by_all};
+ghost use Rattle.mps_trace.specs.Flip.{automatic_of, moves_blocks, moving_of, all_condemned, zones_of, at_flip, nailed_by, nailed_by_all};
 
 use crate::Trace;
 use crate::finding::segment_at;
@@ -22,7 +22,7 @@ use mps_ld::Epochs;
 use mps_root::Stored;
 use mps_seg::Segs;
 
-/// How many segments a flip condemns, and the zones of their grains.
+/// How many segments a flip condemns, and the zones of the grains of those whose blocks move.
 #[derive(Clone, Copy)]
 struct Condemned {
     segments: u64,
@@ -31,7 +31,7 @@ struct Condemned {
 
 impl<F: Format> Trace<F> {
     /// A full flip: each segment of an automatic pool is condemned, all reservations end, all buffers of points and all
-    /// tails of pools are empty, and the flip counts for dependencies. Returns how many segments are condemned.
+    /// tails of pools are empty, and the flip counts for dependencies on what may move. Returns how many segments are condemned.
     pub(crate) fn flip(
         &mut self,
         segs: &mut Segs,
@@ -48,7 +48,7 @@ impl<F: Format> Trace<F> {
         ensures flipped { traced self.new segs.new trail.new ≡ at_flip self.old.formats points.old (traced self.old segs.old trail.old) }
         ensures unchanged { self.new ≡ record self.old { amc = self.new.amc } }
         ensures points { points.new ≡ buffer.points_after_flip points.old }
-        ensures epochs { epochs.new ≡ ld.epochs_after_flip epochs.old (zones_of (automatic_of self.old.formats segs.old.segments)) }
+        ensures epochs { epochs.new ≡ ld.epochs_after_flip epochs.old (zones_of (moving_of self.old.formats segs.old.segments)) }
     {
         points.flip(segs);
         let condemned = self.condemn(segs);
@@ -66,7 +66,7 @@ impl<F: Format> Trace<F> {
     fn condemn(&self, segs: &mut Segs) -> Condemned
         requires { AreInOrder segs.old }
         ensures count { result.segments ≡ length (automatic_of self.now.formats segs.old.segments) }
-        ensures zones { result.zones.0 ≡ zones_of (automatic_of self.now.formats segs.old.segments) }
+        ensures zones { result.zones.0 ≡ zones_of (moving_of self.now.formats segs.old.segments) }
         ensures state { segs.new ≡ all_condemned self.now.formats segs.old }
     {
         let mut zones = 0;
@@ -76,7 +76,7 @@ impl<F: Format> Trace<F> {
             let segment = segs.segment(base);
             if self.is_automatic(segment.pool) {
                 segs.condemn(base);
-                zones |= zones_of_grains(base.grain(), segment.grains);
+                zones |= self.moving_zones(segment.pool, base, segment.grains);
                 segments += 1;
             }
             at = Addr(base.0 + 1);
@@ -84,6 +84,17 @@ impl<F: Format> Trace<F> {
         Condemned {
             segments,
             zones: ZoneSet(zones),
+        }
+    }
+
+    /// The zones of a segment of a pool at `base`, if the blocks of the pool move; none if they don't.
+    fn moving_zones(&self, pool: u32, base: Addr, grains: u32) -> u64
+        ensures zones { result ≡ (if moves_blocks self.now.formats pool then zones_from grains (grain_of base.0) else 0) }
+    {
+        if self.moves_blocks(pool) {
+            zones_of_grains(base.grain(), grains)
+        } else {
+            0
         }
     }
 

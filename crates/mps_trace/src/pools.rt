@@ -9,7 +9,7 @@ ghost use Rattle.mps_gen.specs.State.{max_pools};
 ghost use Rattle.mps_ld.specs.State as ld;
 ghost use Rattle.mps_format.specs.Pools.{is_moved_or_manual, policy_of_pool};
 ghost use Rattle.mps_trace.specs.Collect.{most_moves};
-ghost use Rattle.mps_trace.specs.Flip.{automatic_of, zones_of};
+ghost use Rattle.mps_trace.specs.Flip.{moving_of, zones_of};
 ghost use Rattle.mps_trace.specs.PoolsCollecting.{CanCollectPools, ArePoolsCollected};
 ghost use Rattle.mps_trace.specs.Pools.{none_made, with_one_more};
 
@@ -122,7 +122,7 @@ impl<F: Format> Pools<F> {
             roots.new finals.new segs.new trail.new }
         ensures points { points.new ≡ buffer.points_after_flip points.old }
         ensures epochs { epochs.new
-            ≡ ld.epochs_after_flip epochs.old (zones_of (automatic_of (map policy_of_pool self.old.pools) segs.old.segments)) }
+            ≡ ld.epochs_after_flip epochs.old (zones_of (moving_of (map policy_of_pool self.old.pools) segs.old.segments)) }
     {
         self.trace
             .collect(segs, trail, roots, points, finals, epochs, most);

@@ -9,7 +9,7 @@ ghost use Rattle.mps_format.specs.declared.pool.Policy.{Policy};
 ghost use Rattle.mps_gen.specs.State.{max_pools};
 ghost use Rattle.mps_amc.specs.Amc.{tails_after_flip};
 ghost use Rattle.mps_amc.specs.Moving.{nailed};
-ghost use Rattle.mps_trace.specs.Flip.{is_automatic};
+ghost use Rattle.mps_trace.specs.Flip.{is_automatic, moves_blocks};
 ghost use Rattle.mps_trace.specs.Finding.{CanFind, FindsTo};
 ghost use Rattle.mps_trace.specs.Trace.{traced, KeepsTo, FixesTo, CanKeep, CanFix, no_pools, with_pool};
 ghost use Rattle.mps_base.specs.declared.address.Addr.{Addr};
@@ -83,6 +83,16 @@ impl<F: Format> Trace<F> {
         ensures { result ≡ is_automatic self.now.formats pool }
     {
         (pool as usize) < self.formats.len() && self.formats[pool as usize].is_some()
+    }
+
+    /// Whether a collection moves the blocks of a pool.
+    pub(crate) fn moves_blocks(&self, pool: u32) -> bool
+        ensures { result ≡ moves_blocks self.now.formats pool }
+    {
+        match self.formats.get(pool as usize) {
+            Some(Some(policy)) => policy.moves,
+            _ => false,
+        }
     }
 
     /// Keeps the block at `at` where it lies, as an ambiguous reference to it asks at a flip.

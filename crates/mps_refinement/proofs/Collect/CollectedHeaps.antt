@@ -11,7 +11,7 @@ use Rattle.mps_root.specs.State.{kept}
 use Rattle.mps_heap_spec.specs.Collecting.{IsCollected}
 use Rattle.mps_heap_spec.specs.State.{HeapState}
 use Rattle.mps_trace_laws.specs.Image.AtRest.{StandsAtRest}
-use Rattle.mps_trace.specs.Flip.{automatic_of, zones_of}
+use Rattle.mps_trace.specs.Flip.{automatic_of, moving_of, zones_of}
 use Rattle.mps_trace.specs.Trace.{TraceState}
 use Rattle.mps_trace_laws.proofs.Flip.Condemned.{flip_is_the_models}
 use Rattle.mps_trace_laws.specs.Units.Laws.{HasSegmentsOf, HasFinalsOf}
@@ -46,11 +46,11 @@ module _ {F : Type 0} (layout : F → Layout) (past : Past) (h : HeapState F) (w
   pub plain : IsPlain w
   plain = record { none_registered = before.plain.none_registered; none_weak = before.plain.none_weak }
 
-  same_zones : zones_of (automatic_of t.formats h.segs.segments) ≡ condemned_zones w Everything
-  same_zones = (flip_is_the_models t.formats h.segs.segments w parts.segments before.pools.formats before.pools.copying).zones
+  same_zones : zones_of (moving_of t.formats h.segs.segments) ≡ condemned_zones w Everything
+  same_zones = (flip_is_the_models t.formats h.segs.segments w parts.segments before.pools.formats before.pools.moves).zones
 
   pub same_condemned : automatic_of t.formats h.segs.segments ≡ condemned_by w Everything
-  same_condemned = (flip_is_the_models t.formats h.segs.segments w parts.segments before.pools.formats before.pools.copying).segments
+  same_condemned = (flip_is_the_models t.formats h.segs.segments w parts.segments before.pools.formats before.pools.moves).segments
 
   -- what is left of it stands as the call has to leave it
   pub collected_heap : (acted : List (Option Address)) (u : World) → IsButMoved (world_flipped w (condemned_zones w Everything)) u

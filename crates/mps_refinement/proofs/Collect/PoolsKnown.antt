@@ -16,10 +16,10 @@ use Rattle.mps_model.specs.World as world
 use Rattle.mps_model.specs.World.{World, is_automatic_kind, pool_is, generations_of}
 use Rattle.mps_trace_laws.specs.Image.Memory.{pool_layout}
 use Rattle.mps_trace_laws.proofs.Image.Shaped.{all_at}
-use Rattle.mps_trace.specs.Flip.{is_automatic}
+use Rattle.mps_trace.specs.Flip.{is_automatic, moves_blocks}
 use Rattle.mps_trace.specs.Trace.{TraceState}
 use Rattle.mps_trace_laws.specs.Fix.Tracing.{AreKnownPools}
-use Rattle.mps_trace_laws.specs.Flip.Condemned.{AreFormatsOf, AllCopying}
+use Rattle.mps_trace_laws.specs.Flip.Condemned.{AreFormatsOf, AreMovesOf, AllCopying}
 use Rattle.mps_trace_laws.specs.Begin.Before.{ArePoolsKnown}
 use Rattle.mps_trace.specs.PoolsCollecting.{IsTraceOf}
 use Rattle.mps_format.specs.Pools.{is_moved_or_manual, policy_of_pool, is_copying_pool}
@@ -55,6 +55,11 @@ module _ {F : Type 0} where
   moves_by (pool.OneSize words) format e = absurd (none-some format e)
   moves_by pool.AnySize format e = absurd (none-some format e)
 
+  moves_as : (p : Pool F) → option_map_or (λ (x : Policy F). x.moves) (policy_of_pool p) false ≡ is_copying_pool p
+  moves_as (pool.Automatic kind format) = refl
+  moves_as (pool.OneSize words) = refl
+  moves_as pool.AnySize = refl
+
   layout_is : (layout : F → Layout) (formats : ℕ → Layout) (p : Pool F) (q : world.Pool) (format : Policy F) → IsPool layout formats p q
       → policy_of_pool p ≡ Some format → layout format.format ≡ formats q.format
   layout_is layout formats (pool.Automatic kind other) q format is e = ap (λ (x : Policy F). layout x.format) (sym
@@ -69,6 +74,16 @@ module _ {F : Type 0} where
       ap is_some (sym (unwrap_or-slice_get formats number None) ∙ ap (λ (x : Option (Option (Policy F))). unwrap_or x None) e)
   format_there formats number (Some format) e =
       ap is_some (sym (unwrap_or-slice_get formats number None) ∙ ap (λ (x : Option (Option (Policy F))). unwrap_or x None) e)
+
+  -- whether its blocks move
+  moves_there : (formats : List (Option (Policy F))) (number : ℕ) (o : Option (Option (Policy F))) → slice_get formats number ≡ o
+      → moves_blocks formats number ≡ option_map_or (λ (f : Option (Policy F)). option_map_or (λ (p : Policy F). p.moves) f false) o false
+  moves_there formats number None e =
+      ap (λ (f : Option (Policy F)). option_map_or (λ (p : Policy F). p.moves) f false)
+      (sym (unwrap_or-slice_get formats number None) ∙ ap (λ (x : Option (Option (Policy F))). unwrap_or x None) e)
+  moves_there formats number (Some format) e =
+      ap (λ (f : Option (Policy F)). option_map_or (λ (p : Policy F). p.moves) f false)
+      (sym (unwrap_or-slice_get formats number None) ∙ ap (λ (x : Option (Option (Policy F))). unwrap_or x None) e)
 
 -- no chain has generations where there is none
 none_on_chain : (o : Option ℕ) → option_map (λ (capacities : List ℕ). length capacities) (option_and_then (λ chain. slice_get [] chain) o)
@@ -119,6 +134,17 @@ module _ {F : Type 0} (layout : F → Layout) (pools : List (Pool F)) (t : Trace
       by_cases (neither e f) =
           format_there t.formats number None (format_at number None e)
           ∙ sym (ap (λ (o : Option world.Pool). option_map_or (λ p. is_automatic_kind p.kind) o false) f)
+
+  moves_known : AreMovesOf t.formats (world.is_copying_pool w)
+  moves_known number = by_cases (at_number number)
+    where
+      by_cases : AtNumber number → moves_blocks t.formats number ≡ world.is_copying_pool w number
+      by_cases (both p q e f is) =
+          moves_there t.formats number (Some (policy_of_pool p)) (format_at number (Some p) e) ∙ moves_as p
+          ∙ copying_by_number layout w.formats p q is w number f
+      by_cases (neither e f) =
+          moves_there t.formats number None (format_at number None e)
+          ∙ sym (ap (λ (o : Option world.Pool). option_map_or (λ p. world.is_copying_kind p.kind) o false) f)
 
   all_copying : AllCopying (pool_is is_automatic_kind w) (world.is_copying_pool w)
   all_copying number automatic = by_cases (at_number number)
@@ -213,6 +239,7 @@ module _ {F : Type 0} (layout : F → Layout) (pools : List (Pool F)) (t : Trace
   pub pools_known : ArePoolsKnown layout t w
   pools_known = record {
     formats = formats_known;
+    moves = moves_known;
     copying = all_copying;
     pools = known_pools;
     tails = λ number generation copying.

@@ -11,7 +11,7 @@ use Rattle.mps_root.specs.State.{RootsState}
 use Rattle.mps_refinement.specs.RightMoving.{KeepsRoom}
 use Rattle.mps_abstract.specs.Collecting.{Collecting}
 use Rattle.mps_trace.specs.Begin.{nailed_at_flip, Begins, EndsAtOnce}
-use Rattle.mps_trace.specs.Flip.{automatic_of, zones_of}
+use Rattle.mps_trace.specs.Flip.{moving_of, zones_of}
 use Rattle.mps_trace.specs.Trace.{TraceState, Traced}
 use Rattle.mps_trace.specs.Unit.{EndsWithin, HasRoomToEnd}
 use Rattle.mps_trace.specs.declared.running.Running.{Running}
@@ -34,7 +34,7 @@ module _ {F : Type 0} (layout : F → Layout) (t : TraceState F) where
   pub begin_pushes : (points : PointsState) (roots roots' : RootsState) (finals finals' : FinalsState) (x z : Traced) (run : Running)
       → Begins layout t.formats t.chains points roots finals x roots' finals' z run → IsPushed x.moves z.moves
   begin_pushes points roots roots' finals finals' x z run b =
-      pushed_on (one_pushed x.moves (Flip (record { 0 = zones_of (automatic_of t.formats x.segs.segments) }) max_chains 0))
+      pushed_on (one_pushed x.moves (Flip (record { 0 = zones_of (moving_of t.formats x.segs.segments) }) max_chains 0))
       (pushed_on
       (tables_push layout t.formats t.chains roots (nailed_at_flip t.formats points roots x) (length roots.order) roots' b.before b.slots)
       (messages_push layout t.formats t.chains finals b.before (length finals.messages) finals' z b.messages))
@@ -67,6 +67,6 @@ module _ {F : Type 0} (layout : F → Layout) (t : TraceState F) where
   pub at_once_keeps_room : (points : PointsState) (roots roots' : RootsState) (finals finals' : FinalsState) (x z : Traced)
       → EndsAtOnce t.formats points roots finals x roots' finals' z → 2 ≤ x.moves.spare → KeepsRoom x.moves z.moves
   at_once_keeps_room points roots roots' finals finals' x z ends room =
-      let flip = Flip (record { 0 = zones_of (automatic_of t.formats x.segs.segments) }) max_chains 0 in
+      let flip = Flip (record { 0 = zones_of (moving_of t.formats x.segs.segments) }) max_chains 0 in
       subst (λ (v : Traced). KeepsRoom x.moves v.moves) (sym ends.over)
       (pushed_keeps (pushed_on (one_pushed x.moves flip) (one_pushed (with_move x.moves flip) End)) room)

@@ -41,7 +41,7 @@ use Rattle.mps_trace_laws.specs.Roots.Beginning.{AreRootsFixed}
 use Rattle.mps_trace_laws.specs.Roots.Housed.{AreRootsHoused}
 use Rattle.mps_trace_laws.proofs.Roots.Beginning.{roots_are_steps, what_is_held_is_fixed}
 use Rattle.mps_trace_laws.proofs.Roots.Housed.{roots_keep_housed}
-use Rattle.mps_trace_laws.specs.Flip.Condemned.{AreFormatsOf, AllCopying}
+use Rattle.mps_trace_laws.specs.Flip.Condemned.{AreFormatsOf, AreMovesOf}
 use Rattle.mps_trace_laws.proofs.Flip.Condemned.{flip_is_the_models}
 use Rattle.mps_trace_laws.proofs.Flip.Reservations.{no_reservation_is_live}
 use Rattle.mps_trace_laws.specs.Units.Finals.{address_of_id}
@@ -59,10 +59,10 @@ has_some (x ∷ xs) some = refl
 
 -- where segments of automatic pools are condemned in words, the model's flip condemns some
 pub something_condemned : {F : Type 0} (formats : List (Option (Policy F))) (ts : List Segment) (w : World) → ts ≡ w.segments
-    → AreFormatsOf formats (pool_is is_automatic_kind w) → AllCopying (pool_is is_automatic_kind w) (is_copying_pool w)
+    → AreFormatsOf formats (pool_is is_automatic_kind w) → AreMovesOf formats (is_copying_pool w)
     → 0 < length (automatic_of formats ts) → is_nothing (condemned_by w Everything) ≡ false
-something_condemned formats ts w same known copying some =
-    subst (λ (us : List Segment). is_nothing us ≡ false) (flip_is_the_models formats ts w same known copying).segments
+something_condemned formats ts w same known moves some =
+    subst (λ (us : List Segment). is_nothing us ≡ false) (flip_is_the_models formats ts w same known moves).segments
     (has_some (automatic_of formats ts) some)
 
 -- ---- what fixes leave
@@ -106,7 +106,7 @@ module _ {F : Type 0} (flip_stands : AFlipStands F) (layout : F → Layout) (t :
 
   some : is_nothing (condemned_by w Everything) ≡ false
   some =
-      something_condemned t.formats s.segments w before.segments.segments.same_segments before.pools.formats before.pools.copying
+      something_condemned t.formats s.segments w before.segments.segments.same_segments before.pools.formats before.pools.moves
       begins.some
 
   flip : IsFlipStanding layout t m w x

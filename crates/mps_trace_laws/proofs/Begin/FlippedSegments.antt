@@ -49,8 +49,8 @@ module _ {F : Type 0} (layout : F → Layout) (t : TraceState F) (s : SegsState)
   pub moved : IsNothingMoved s g
   moved = flip_moves_nothing t.formats points (traced t s m)
 
-  pub models : IsFlipOfEverything (flip.automatic_of t.formats s.segments) w
-  models = flip_is_the_models t.formats s.segments w b.segments.segments.same_segments b.pools.formats b.pools.copying
+  pub models : IsFlipOfEverything (flip.automatic_of t.formats s.segments) (flip.moving_of t.formats s.segments) w
+  models = flip_is_the_models t.formats s.segments w b.segments.segments.same_segments b.pools.formats b.pools.moves
 
   pub condemns : AreCondemnedToo s g (bases_of (flip.automatic_of t.formats s.segments))
   condemns = flip_condemns t.formats points (traced t s m) (begin_in_table s b.segments.held b.segments.tables)

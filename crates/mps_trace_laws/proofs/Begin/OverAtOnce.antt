@@ -28,7 +28,7 @@ use Rattle.mps_trace_laws.specs.Image.Memory.{Setting, memory_in, pool_layout, s
 use Rattle.mps_trace_laws.proofs.Image.Placed.{placed_unreserved}
 use Rattle.mps_trace_laws.proofs.Image.Reserved.{image_reserved}
 use Rattle.mps_trace.specs.Begin.{EndsAtOnce}
-use Rattle.mps_trace.specs.Flip.{at_flip, automatic_of, condemning_all}
+use Rattle.mps_trace.specs.Flip.{at_flip, automatic_of, moving_of, condemning_all}
 use Rattle.mps_trace.specs.Trace.{TraceState, Traced, traced}
 use Rattle.mps_trace.proofs.Ending.{segments_stay}
 use Rattle.mps_trace_laws.proofs.Reclaim.Ending.{image_at_rest}
@@ -118,9 +118,9 @@ module _ {F : Type 0} (layout : F → Layout) (t : TraceState F) (s : SegsState)
   abbrev after : SegsState
   after = after_all_end points.flips points.points s
 
-  the_models : IsFlipOfEverything (automatic_of t.formats s.segments) w
+  the_models : IsFlipOfEverything (automatic_of t.formats s.segments) (moving_of t.formats s.segments) w
   the_models =
-      flip_is_the_models t.formats s.segments w before.segments.segments.same_segments before.pools.formats before.pools.copying
+      flip_is_the_models t.formats s.segments w before.segments.segments.same_segments before.pools.formats before.pools.moves
 
   none_automatic : automatic_of t.formats s.segments ≡ []
   none_automatic = no_entries (automatic_of t.formats s.segments) ends.none

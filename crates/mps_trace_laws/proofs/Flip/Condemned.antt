@@ -3,9 +3,9 @@ use Rattle.std.proofs.Common.{◌≡◌, ◌∙◌, ℕ, suc, ◌==◌, ◌<◌,
 use Rattle.std.proofs.lemmas.Bool.{false≢true, cases_Bool, or_right, eqb-true, eqb-false, cond-true, cond-false}
 use Rattle.std.proofs.lemmas.List.{get_or-set_same, get_or-set_other, length-set}
 use Rattle.std.specs.Prelude.{◌||◌, ◌≢◌, filter, if◌then◌else◌, slice_set}
+use Rattle.std.specs.Option.{option_map_or}
 use Rattle.mps_base.specs.Address.{Address, Grain, address_of_grain, grain_of}
-use Rattle.mps_base.specs.Segment.{Segment, grains_of_segment}
-use Rattle.mps_base.specs.Zones.{zones_of_runs}
+use Rattle.mps_base.specs.Segment.{Segment}
 use Rattle.mps_base.specs.declared.moves.Move.{Move}
 use Rattle.mps_base.specs.declared.moves.Move.TheVariants.{Flip}
 use Rattle.mps_extents.specs.Table.{bit}
@@ -15,36 +15,48 @@ use Rattle.mps_buffer.specs.Points.{after_end, after_end_at, after_all_end, with
 use Rattle.mps_abstract.proofs.Lists.{contains_cases}
 use Rattle.mps_trace.specs.GenState.{max_chains}
 use Rattle.mps_model.specs.Graph.{contains}
-use Rattle.mps_model.specs.World.{is_automatic_kind, is_copying_pool, pool_is, World}
+use Rattle.mps_model.specs.World.{World, Pool, PoolKind, Collected, OneSize, AnySize, is_automatic_kind, is_copying_kind, is_copying_pool, pool_at, pool_is}
 use Rattle.mps_model.specs.Effect.{Everything, condemned_by}
 use Rattle.mps_seg.specs.Segs.{SegsState}
 use Rattle.mps_seg.specs.Collecting.{condemning}
-use Rattle.mps_trace.specs.Flip.{is_automatic, automatic_of, condemning_all, zones_of, at_flip}
+use Rattle.mps_trace.specs.Flip.{is_automatic, moves_blocks, automatic_of, moving_of, condemning_all, zones_of, at_flip}
 use Rattle.mps_trace.proofs.Ending.{segments_stay}
-use Rattle.mps_trace_laws.specs.Flip.Condemned.{bases_of, AreCondemnedToo, BeginInTable, AllCopying, AreFormatsOf, IsFlipOfEverything}
-use Rattle.mps_trace_laws.proofs.Flip.Filtered.{filter_same, filter_again}
+use Rattle.mps_trace_laws.specs.Flip.Condemned.{bases_of, AreCondemnedToo, BeginInTable, AreFormatsOf, AreMovesOf, IsFlipOfEverything}
+use Rattle.mps_trace_laws.proofs.Flip.Filtered.{filter_same, filter_within}
 use Rattle.mps_trace.specs.Trace.{Traced}
 use Rattle.mps_format.specs.declared.pool.Policy.{Policy}
 
 -- ---- the model's flip
 
--- if segments are those of a world, formats are of its automatic pools alone, and all of these move blocks
+-- a pool that copies is automatic
+copying_is_automatic : (o : Option Pool) → option_map_or (λ (p : Pool). is_copying_kind p.kind) o false ≡ true
+    → option_map_or (λ (p : Pool). is_automatic_kind p.kind) o false ≡ true
+copying_is_automatic None copies = absurd (false≢true copies)
+copying_is_automatic (Some p) copies = of_kind p.kind copies
+  where
+    of_kind : (k : PoolKind) → is_copying_kind k ≡ true → is_automatic_kind k ≡ true
+    of_kind (Collected which) copies = refl
+    of_kind (OneSize words) copies = absurd (false≢true copies)
+    of_kind AnySize copies = absurd (false≢true copies)
+
+-- if segments are those of a world, and formats and what moves are those of its pools
 pub flip_is_the_models : {F : Type 0}
     → (formats : List (Option (Policy F))) (ts : List Segment) (w : World) → ts ≡ w.segments → AreFormatsOf formats
     (pool_is is_automatic_kind w)
-    → AllCopying (pool_is is_automatic_kind w) (is_copying_pool w) → IsFlipOfEverything (automatic_of formats ts) w
-flip_is_the_models formats ts w same known copying =
+    → AreMovesOf formats (is_copying_pool w) → IsFlipOfEverything (automatic_of formats ts) (moving_of formats ts) w
+flip_is_the_models formats ts w same known moves =
+    let automatic : Segment → Bool = λ t. pool_is is_automatic_kind w t.pool in
+    let copies : Segment → Bool = λ t. is_copying_pool w t.pool in
     let segments : automatic_of formats ts ≡ condemned_by w Everything =
-    filter_same (λ (t : Segment). is_automatic formats t.pool) (λ (t : Segment). pool_is is_automatic_kind w t.pool) ts
-    (λ t. known t.pool)
-    ∙ ap (λ (xs : List Segment). filter (λ (t : Segment). pool_is is_automatic_kind w t.pool) xs) same
+    filter_same (λ (t : Segment). is_automatic formats t.pool) automatic ts (λ t. known t.pool)
+    ∙ ap (λ (xs : List Segment). filter automatic xs) same
     in
-    let zones =
-    ap (λ (xs : List Segment). zones_of xs) segments
-    ∙ sym (ap (λ (xs : List Segment). zones_of_runs (map grains_of_segment xs))
-    (filter_again (λ (t : Segment). pool_is is_automatic_kind w t.pool) (λ (t : Segment). is_copying_pool w t.pool) w.segments
-    (λ t. copying t.pool)))
+    let moving : moving_of formats ts ≡ filter copies (condemned_by w Everything) =
+    filter_same (λ (t : Segment). moves_blocks formats t.pool) copies ts (λ t. moves t.pool)
+    ∙ ap (λ (xs : List Segment). filter copies xs) same
+    ∙ sym (filter_within automatic copies w.segments (λ t. copying_is_automatic (pool_at w t.pool)))
     in
+    let zones = ap (λ (xs : List Segment). zones_of xs) moving in
     record {
       segments = segments;
       bases = ap (λ (xs : List Segment). bases_of xs) segments;

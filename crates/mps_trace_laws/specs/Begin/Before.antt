@@ -21,7 +21,7 @@ use Rattle.mps_trace_laws.specs.Fix.Housed.{AreHoused}
 use Rattle.mps_trace.specs.Splat.{HasNoWeakMark}
 use Rattle.mps_trace_laws.specs.Fix.Tracing.{AreSegmentsOf, AreHeld, HasTables, AreCoveredInOrder, AreReservationsHeld, AreKnownPools}
 use Rattle.mps_trace_laws.specs.Nails.Nailed.{AreTablesWhole, AreMarkedAt}
-use Rattle.mps_trace_laws.specs.Flip.Condemned.{AreFormatsOf, AllCopying}
+use Rattle.mps_trace_laws.specs.Flip.Condemned.{AreFormatsOf, AreMovesOf, AllCopying}
 use Rattle.mps_trace_laws.specs.Flip.Ended.{open_runs}
 
 -- the segments of an arena at rest, as a world has them: nothing is marked or condemned, and each block and each live reservation lies
@@ -39,10 +39,11 @@ pub record AreSegmentsAtRest (s : SegsState) (w : World) : Type 0 where
   pub housed : AreHoused w.graph.objects s.segments w.addresses
   pub reserved : AreReservationsHeld s w.graph.points w.point_memories
 
--- the pools of a world as a collector knows them: it has the format of each automatic pool, all of these move blocks, and each has words
--- at hand for each generation
+-- the pools of a world as a collector knows them: it has the format of each automatic pool, moves the blocks of those that copy, which
+-- are all of them, and each has words at hand for each generation
 pub record ArePoolsKnown {F : Type 0} (layout : F → Layout) (t : TraceState F) (w : World) : Type 0 where
   pub formats : AreFormatsOf t.formats (pool_is is_automatic_kind w)
+  pub moves : AreMovesOf t.formats (is_copying_pool w)
   pub copying : AllCopying (pool_is is_automatic_kind w) (is_copying_pool w)
   pub pools : AreKnownPools layout t.formats t.chains (pool_is is_automatic_kind w) (is_copying_pool w) (pool_layout w) (generations_of w)
   pub tails : (pool generation : ℕ) → IsTrue (is_copying_pool w pool)

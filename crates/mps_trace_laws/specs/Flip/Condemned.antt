@@ -12,12 +12,16 @@ use Rattle.mps_model.specs.World.{World}
 use Rattle.mps_model.specs.Effect.{Everything, condemned_by, condemned_zones, collection_at_flip, world_flipped}
 use Rattle.mps_model.specs.Flip.{flip_of}
 use Rattle.mps_seg.specs.Segs.{SegsState}
-use Rattle.mps_trace.specs.Flip.{is_automatic, automatic_of, zones_of}
+use Rattle.mps_trace.specs.Flip.{is_automatic, moves_blocks, automatic_of, zones_of}
 use Rattle.mps_format.specs.declared.pool.Policy.{Policy}
 
 -- a collector has the format of a pool exactly if the pool is automatic
 abbrev pub AreFormatsOf : {F : Type 0} → (formats : List (Option (Policy F))) → (is_automatic_pool : ℕ → Bool) → Type 0
 AreFormatsOf formats is_automatic_pool = (pool : ℕ) → is_automatic formats pool ≡ is_automatic_pool pool
+
+-- a collector moves the blocks of a pool exactly if the pool is one that copies
+abbrev pub AreMovesOf : {F : Type 0} → (formats : List (Option (Policy F))) → (is_copying : ℕ → Bool) → Type 0
+AreMovesOf formats is_copying = (pool : ℕ) → moves_blocks formats pool ≡ is_copying pool
 
 -- all automatic pools move blocks
 abbrev pub AllCopying : (is_automatic_pool is_copying : ℕ → Bool) → Type 0
@@ -29,13 +33,13 @@ bases_of ts = map (λ (t : Segment). t.base) ts
 
 -- ---- the model's flip
 
--- a flip that condemns these segments is the model's full flip
-pub record IsFlipOfEverything (ts : List Segment) (w : World) : Type 0 where
-  pub segments : ts ≡ condemned_by w Everything
+-- a flip that condemns these segments, of which these move blocks, is the model's full flip
+pub record IsFlipOfEverything (condemned moving : List Segment) (w : World) : Type 0 where
+  pub segments : condemned ≡ condemned_by w Everything
   -- in the model's order
-  pub bases : bases_of ts ≡ (collection_at_flip (world_flipped w (zones_of ts)) Everything).condemned_segments
-  pub zones : zones_of ts ≡ condemned_zones w Everything
-  pub move : Flip (record { 0 = zones_of ts }) max_chains 0 ≡ flip_of w Everything
+  pub bases : bases_of condemned ≡ (collection_at_flip (world_flipped w (zones_of moving)) Everything).condemned_segments
+  pub zones : zones_of moving ≡ condemned_zones w Everything
+  pub move : Flip (record { 0 = zones_of moving }) max_chains 0 ≡ flip_of w Everything
 
 -- ---- the segments after a flip
 
@@ -68,6 +72,9 @@ a_format_of_a_manual_pool known = let e : true ≡ false = known 1 in absurd cc
 
 pub an_automatic_pool_without_a_format : AreFormatsOf known_formats (λ pool. true) → ⊥
 an_automatic_pool_without_a_format known = let e : false ≡ true = known 0 in absurd cc
+
+pub a_pool_that_moves_blocks : AreMovesOf known_formats (λ pool. false) → ⊥
+a_pool_that_moves_blocks moves = let e : true ≡ false = moves 1 in absurd cc
 
 pub the_base_of_a_condemned_segment : bases_of (automatic_of known_formats (segment_at 0x1000 0 ∷ segment_at 0x3000 1 ∷ [])) ≡ 0x3000 ∷ []
 the_base_of_a_condemned_segment = refl

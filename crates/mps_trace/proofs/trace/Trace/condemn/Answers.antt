@@ -3,9 +3,7 @@ use Rattle.std.proofs.Math.Facts.{Fits-lt-pow}
 use Rattle.mps_base.specs.Segment.{Segment}
 use Rattle.mps_seg.specs.declared.segment_info.SegmentInfo.{SegmentInfo}
 use Rattle.mps_trace.specs.Flip.{is_automatic}
-use Rattle.mps_base.specs.Zones.{zones_from}
-use Rattle.mps_base.specs.Address.{grain_of}
-use Rattle.mps_trace.proofs.Condemning.{next_found, none_found, none_yet, one_passed, one_condemned, all_done, zones_done, count_done}
+use Rattle.mps_trace.proofs.Condemning.{next_found, none_found, none_yet, one_passed, one_condemned, zones_told, all_done, zones_done, count_done}
 use Rattle.mps_trace.proofs.trace.Trace.condemn.Goals.{then-is_automatic, else-is_automatic}
 use Rattle.mps_trace.proofs.trace.Trace.condemn.Goals as goal
 
@@ -85,10 +83,8 @@ loop-base-preserved g c =
           (w.segs-is ∙ w.condemn.ensures)
           (w.zones-is
           ∙ ap (λ (z : ℕ). bit_or c.loop-base.zones z)
-          (w.zones_of_grains-zones.ensures
-          ∙ ap (λ (n : ℕ). zones_from n w.grain.result) (ap (λ (i : SegmentInfo). i.grains) info)
-          ∙ ap (λ (n : ℕ). zones_from l.segment.grains n)
-          (w.grain.ensures ∙ ap (λ (n : ℕ). grain_of n) (sym l.begins))))
+          (w.moving_zones-zones.ensures.zones
+          ∙ zones_told formats l.segment _ _ c.in-Some.base.0 pool_is (ap (λ (i : SegmentInfo). i.grains) info) l.begins))
           w.segments-is (Fits-lt-pow c.loop-base.auto.zones-fits)
       | else-is_automatic w ↦
           one_passed formats before c.loop-base.at.0 c.in-Some.base.0 c.loop-base.segs c.loop-base.zones c.loop-base.segments so_far

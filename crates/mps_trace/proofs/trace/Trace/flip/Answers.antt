@@ -7,7 +7,7 @@ use Rattle.mps_buffer.specs.Points.{after_all_end}
 use Rattle.mps_gen.specs.State.{max_chains}
 use Rattle.mps_ld.specs.State as ld
 use Rattle.mps_seg.specs.Segs.{SegsState}
-use Rattle.mps_trace.specs.Flip.{automatic_of, all_condemned, zones_of}
+use Rattle.mps_trace.specs.Flip.{automatic_of, moving_of, all_condemned, zones_of}
 use Rattle.mps_trace.specs.Trace.{TraceState, Traced}
 use Rattle.mps_trace.proofs.Ending.{segments_stay, in_order_still}
 use Rattle.mps_trace.proofs.trace.Trace.flip.Goals as goal
@@ -30,7 +30,7 @@ returns-clause-flipped g c =
     let m = c.args.trail.now in
     let formats = c.args.self.now.formats in
     let same = ap (λ (s : SegsState). s.segments) c.flip.ensures.state ∙ segments_stay p.flips p.points c.args.segs.now in
-    let zones_is = c.condemn-condemned.ensures.zones ∙ ap (λ (ts : List Segment). zones_of (automatic_of formats ts)) same in
+    let zones_is = c.condemn-condemned.ensures.zones ∙ ap (λ (ts : List Segment). zones_of (moving_of formats ts)) same in
     let segs_is = c.condemn-condemned.ensures.state ∙ ap (λ (s : SegsState). all_condemned formats s) c.flip.ensures.state in
     let moves_is = c.push.ensures ∙ ap (λ (z : ℕ). with_move m (Flip (record { 0 = z }) max_chains 0)) zones_is in
     let amc_is = ap (λ (t : TraceState g.row.F.Denot). t.amc) c.drop_tails.ensures in
@@ -48,4 +48,4 @@ returns-clause-epochs g c =
     let same = ap (λ (s : SegsState). s.segments) c.flip.ensures.state ∙ segments_stay p.flips p.points c.args.segs.now in
     c.flip-2.ensures.state
     ∙ ap (λ (z : ℕ). ld.epochs_after_flip c.args.epochs.now z)
-    (c.condemn-condemned.ensures.zones ∙ ap (λ (ts : List Segment). zones_of (automatic_of c.args.self.now.formats ts)) same)
+    (c.condemn-condemned.ensures.zones ∙ ap (λ (ts : List Segment). zones_of (moving_of c.args.self.now.formats ts)) same)
