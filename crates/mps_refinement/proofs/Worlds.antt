@@ -19,3 +19,4 @@ pub mod ReachedGraph
 pub mod Staying
 pub mod Appending
 pub mod Room
+pub mod Unreserved

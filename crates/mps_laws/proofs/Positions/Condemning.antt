@@ -12,7 +12,7 @@ use Rattle.mps_model.specs.World.{PointMemory}
 use Rattle.mps_model.specs.Effect.{doomed, without_buffer}
 use Rattle.mps_laws.proofs.Lookups.{opened}
 use Rattle.mps_laws.proofs.Positions.Occupancy.{Occupancy, Occupant, OfBlock, OfReservation, OfBuffer, OfTail, PointShape, shape_of_point, reserved_words, run_of, run_of_reservation, run_of_buffer}
-use Rattle.mps_laws.proofs.Positions.LaidOut.{Home, HomeOf, ArePlaced, IsLaidOut, IsRightPointShape, IsKept, AreDistinct, is_at_hand, kind_in, placed_kept, laid_out_again, home_otherwise}
+use Rattle.mps_laws.proofs.Positions.LaidOut.{Home, HomeOf, ArePlaced, IsLaidOut, IsRightPointShape, IsKept, AreDistinct, is_at_hand, kind_in, placed_kept, laid_out_again, home_otherwise, is_reserved}
 use Rattle.mps_laws.proofs.Positions.Segments.{IsAmong, IsAligned, all_without, among_kept, ascending_without, segment_bounds}
 
 -- ---- lists of bases
@@ -99,16 +99,23 @@ without_first-none (k ∷ ks) n h =
 recondemned_home : {segments : List Segment} {pool : ℕ} {rank : Rattle.mps_base.specs.declared.names.Rank.Rank} {r : Run}
     (pools : List Rattle.mps_model.specs.World.Pool) (condemned condemned' : List Address) (o : Occupant)
     → ((base : Address) → is_at_hand o ≡ true → contains condemned base ≡ false → contains condemned' base ≡ false)
+    → ((base : Address) → is_reserved o ≡ true → contains condemned base ≡ false → contains condemned' base ≡ false)
     → Home segments pools condemned o pool rank r → Home segments pools condemned' o pool rank r
-recondemned_home pools condemned condemned' o spared home =
-    home_otherwise pools condemned' home home.copying (λ h. spared home.segment.base h (home.spared h))
+recondemned_home pools condemned condemned' o spared reserved home =
+    home_otherwise pools condemned' home home.copying (λ h. spared home.segment.base h (home.spared h)) (λ h.
+    elim (home.uncondemned h) [
+      | inl free ↦ inl (reserved home.segment.base h free)
+      | inr staying ↦ inr staying
+    ])
 
 pub recondemned : (limit : ℕ) (g : Occupancy) (condemned : List Address) → IsLaidOut limit g
     → ((o : Occupant) (base : Address) → 0 < (run_of g o).count → is_at_hand o ≡ true → contains g.condemned base ≡ false
     → contains condemned base ≡ false)
+    → ((o : Occupant) (base : Address) → 0 < (run_of g o).count → is_reserved o ≡ true → contains g.condemned base ≡ false
+    → contains condemned base ≡ false)
     → ((base : Address) → contains condemned base ≡ true → (s : Segment) × IsAmong s g.segments × (s.base ≡ base)) → AreDistinct condemned
     → IsLaidOut limit (record g { condemned = condemned })
-recondemned limit g condemned laid spared held distinct = record {
+recondemned limit g condemned laid spared reserved held distinct = record {
   in_range = laid.in_range;
   lengths = laid.lengths;
   memories = laid.memories;
@@ -123,13 +130,15 @@ recondemned limit g condemned laid spared held distinct = record {
   placed = record {
     apart = laid.placed.apart;
     homes = λ o some.
-        recondemned_home g.pools g.condemned condemned o (λ base h free. spared o base some h free) (laid.placed.homes o some);
+        recondemned_home g.pools g.condemned condemned o (λ base h free. spared o base some h free)
+        (λ base h free. reserved o base some h free) (laid.placed.homes o some);
   };
 }
 
 -- a collection ends
 pub ended_laid_out : (limit : ℕ) (g : Occupancy) → IsLaidOut limit g → IsLaidOut limit (record g { condemned = [] })
-ended_laid_out limit g laid = recondemned limit g [] laid (λ o base some h free. refl) (λ base h. absurd (false≢true h)) tt
+ended_laid_out limit g laid =
+    recondemned limit g [] laid (λ o base some h free. refl) (λ o base some h free. refl) (λ base h. absurd (false≢true h)) tt
 
 -- ---- a flip
 
@@ -206,12 +215,21 @@ module _ (limit : ℕ) (g : Occupancy) (laid : IsLaidOut limit g) where
       ap (λ m. (run_of_buffer m).count) (slice_get-map without_buffer g.memories n) ∙ no_buffer (slice_get g.memories n)
   none_at_hand (OfTail pool generation) h = refl
 
+  none_reserved : (o : Occupant) → is_reserved o ≡ true → (run_of flipped o).count ≡ 0
+  none_reserved (OfBlock id) h = absurd (false≢true h)
+  none_reserved (OfReservation n) h =
+      ap (λ p. (run_of_reservation p (slice_get (map without_buffer g.memories) n)).count) (entry_unreserved n)
+      ∙ no_reservation (entry_at g.points n) (slice_get (map without_buffer g.memories) n)
+  none_reserved (OfBuffer n) h = absurd (false≢true h)
+  none_reserved (OfTail pool generation) h = absurd (false≢true h)
+
   -- every reservation is doomed, nothing is at hand, and some segments are condemned
   pub condemning_laid_out : (test : Segment → Bool)
       → IsLaidOut limit (record flipped { condemned = map (λ (s : Segment). s.base) (filter test g.segments) })
   condemning_laid_out test =
       recondemned limit flipped (map (λ (s : Segment). s.base) (filter test g.segments)) flipped_laid_out
       (λ o base some h free. absurd (omega (arith, none_at_hand o h, some)))
+      (λ o base some h free. absurd (omega (arith, none_reserved o h, some)))
       (λ base h. contains-filter test g.segments base h) (distinct_bases test 1 limit g.segments laid.ascending)
 
 -- ---- a segment is given back
@@ -259,6 +277,10 @@ module _ (limit : ℕ) (g : Occupancy) (base : Address) (laid : IsLaidOut limit 
             copying = home.copying;
             spared = λ h. still_spared home.segment.base (home.spared h);
             to_end = home.to_end;
+            uncondemned = λ h. elim (home.uncondemned h) [
+              | inl free ↦ inl (still_spared home.segment.base free)
+              | inr staying ↦ inr staying
+            ];
           };
     };
   }

@@ -152,6 +152,7 @@ in_more segments s o home = record {
   copying = home.copying;
   spared = home.spared;
   to_end = home.to_end;
+  uncondemned = home.uncondemned;
 }
 
 -- ---- a segment more
@@ -244,6 +245,7 @@ module _ (limit : ℕ) (g : Occupancy) (s : Segment) (laid : IsLaidOut limit g) 
         copying = λ _. copying;
         spared = λ _. fresh_spared;
         to_end = λ _. refl;
+        uncondemned = λ h. absurd (false≢true h);
       }))
       (λ o n c d. fresh_unoccupied o n c (subst (λ (r : Run). Covers r n) own d)) held.placed)
 
@@ -289,6 +291,7 @@ module _ (limit : ℕ) (g : Occupancy) (s : Segment) (laid : IsLaidOut limit g) 
             copying = λ _. copying;
             spared = λ _. fresh_spared;
             to_end = λ h. absurd (false≢true h);
+            uncondemned = λ h. absurd (false≢true h);
           })
 
       buffered_kept : (point : ℕ) (o : Occupant) → (o ≡ OfBuffer point) ⊎ IsKept holding_it (buffered point) o

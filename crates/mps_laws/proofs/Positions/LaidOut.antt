@@ -1,6 +1,6 @@
 -- What an arena is laid out by: whoever has words has them alone, and in a held segment. By components, not by worlds.
 use Rattle.std.proofs.Common.{◌≡◌, ◌∙◌, ◌⊎◌, ℕ, ◌<◌, ◌≤◌, Bool, true, false, sym, List, [], ◌∷◌, length, Option, Some, subst, inl, inr, arith}
-use Rattle.std.specs.Prelude.{map, slice_get, ◌≢◌}
+use Rattle.std.specs.Prelude.{map, slice_get, ◌≢◌, not}
 use Rattle.std.specs.Option.{option_map_or}
 use Rattle.std.specs.List.{AllByRecursion}
 use Rattle.mps_base.specs.Address.{Address}
@@ -24,6 +24,17 @@ is_at_hand (OfReservation point) = false
 is_at_hand (OfBuffer point) = true
 is_at_hand (OfTail pool generation) = true
 
+-- a reservation
+abbrev pub is_reserved : Occupant → Bool
+is_reserved (OfBlock id) = false
+is_reserved (OfReservation point) = true
+is_reserved (OfBuffer point) = false
+is_reserved (OfTail pool generation) = false
+
+-- blocks of these pools don't move
+abbrev pub is_staying_kind : PoolKind → Bool
+is_staying_kind kind = not (is_copying_kind kind)
+
 abbrev pub is_tail : Occupant → Bool
 is_tail (OfBlock id) = false
 is_tail (OfReservation point) = false
@@ -43,13 +54,17 @@ pub record Home (segments : List Segment) (pools : List Pool) (condemned : List 
   pub copying : is_at_hand o ≡ true → kind_in is_copying_kind pools segment.pool ≡ true
   pub spared : is_at_hand o ≡ true → contains condemned segment.base ≡ false
   pub to_end : is_tail o ≡ true → end_of r ≡ end_of (words_of_segment segment)
+  -- a reservation lies in no condemned segment, unless blocks of its pool don't move
+  pub uncondemned : is_reserved o ≡ true → (contains condemned segment.base ≡ false) ⊎ (kind_in is_staying_kind pools segment.pool ≡ true)
 
 -- the segment of a home serves with other pools and condemned segments too
 pub home_otherwise : {segments : List Segment} {pools : List Pool} {condemned : List Address} {o : Occupant} {pool : ℕ} {rank : Rank}
     {r : Run} (pools' : List Pool) (condemned' : List Address) (home : Home segments pools condemned o pool rank r)
     → (is_at_hand o ≡ true → kind_in is_copying_kind pools' home.segment.pool ≡ true)
-    → (is_at_hand o ≡ true → contains condemned' home.segment.base ≡ false) → Home segments pools' condemned' o pool rank r
-home_otherwise pools' condemned' home copying spared = record {
+    → (is_at_hand o ≡ true → contains condemned' home.segment.base ≡ false)
+    → (is_reserved o ≡ true → (contains condemned' home.segment.base ≡ false) ⊎ (kind_in is_staying_kind pools' home.segment.pool ≡ true))
+    → Home segments pools' condemned' o pool rank r
+home_otherwise pools' condemned' home copying spared uncondemned = record {
   segment = home.segment;
   held = home.held;
   of_pool = home.of_pool;
@@ -59,6 +74,7 @@ home_otherwise pools' condemned' home copying spared = record {
   copying = copying;
   spared = spared;
   to_end = home.to_end;
+  uncondemned = uncondemned;
 }
 
 abbrev pub HomeOf : Occupancy → Occupant → Type 0

@@ -15,7 +15,7 @@ use Rattle.mps_model.specs.World.{Pool, PointMemory, extent, is_copying_kind, is
 use Rattle.mps_laws.proofs.InOrder.{all_weaker}
 use Rattle.mps_laws.proofs.Lookups.{slice_get-last, slice_get-at_last, slice_get-after_last, slice_get-set_other, entry_at-last, entry_at-at_last, entry_at-after_last, entry_at-set_other, entry_at-set_none, entry_within, entry_within_set, length-with_last, length-slice_set, there_is}
 use Rattle.mps_laws.proofs.Positions.Occupancy.{Occupancy, Occupant, OfBlock, OfReservation, OfBuffer, OfTail, Shape, PointShape, run_of, run_of_block, run_of_reservation, run_of_reserved, run_of_buffer, pool_of_occupant, rank_of_occupant, rank_where}
-use Rattle.mps_laws.proofs.Positions.LaidOut.{Home, IsLaidOut, IsRightShape, IsRightPointShape, IsRightlyRanked, IsKept, placed_kept, placed_new, laid_out_again, home_otherwise}
+use Rattle.mps_laws.proofs.Positions.LaidOut.{Home, IsLaidOut, IsRightShape, IsRightPointShape, IsRightlyRanked, IsKept, placed_kept, placed_new, laid_out_again, home_otherwise, is_staying_kind}
 use Rattle.mps_laws.proofs.Sound.PoolKinds.{kind_in-more}
 use Rattle.mps_laws.proofs.Positions.Segments.{IsAmong}
 
@@ -47,7 +47,11 @@ in_more_pools : {segments : List Segment} {condemned : List Address} {pool : ℕ
     → Home segments pools condemned o pool at_rank r → Home segments (with_last pools p) condemned o pool at_rank r
 in_more_pools {condemned = condemned} pools p o home =
     home_otherwise (with_last pools p) condemned home
-    (λ h. kind_in-more is_copying_kind pools p home.segment.pool (home.copying h)) home.spared
+    (λ h. kind_in-more is_copying_kind pools p home.segment.pool (home.copying h)) home.spared (λ h.
+    elim (home.uncondemned h) [
+      | inl free ↦ inl free
+      | inr staying ↦ inr (kind_in-more is_staying_kind pools p home.segment.pool staying)
+    ])
 
 pub pool_laid_out : (limit : ℕ) (p : Pool) (g : Occupancy) → IsLaidOut limit g → IsLaidOut limit (record g { pools = with_last g.pools p })
 pool_laid_out limit p g laid = record {
@@ -298,6 +302,7 @@ module _ (limit : ℕ) (g : Occupancy) (laid : IsLaidOut limit g) where
           copying = λ e. absurd (false≢true e);
           spared = λ e. absurd (false≢true e);
           to_end = λ e. absurd (false≢true e);
+          uncondemned = λ e. absurd (false≢true e);
         })
         (λ o n c d. room.unoccupied o n c (subst (λ (r : Run). Covers r n) run d)) laid.placed)
 

@@ -139,6 +139,7 @@ module _ (limit : ℕ) (g : Occupancy) (id to generation : ℕ) (s : Shape) (lai
           copying = λ e. absurd (false≢true e);
           spared = λ e. absurd (false≢true e);
           to_end = λ e. absurd (false≢true e);
+          uncondemned = λ e. absurd (false≢true e);
         };
         rest_home = λ _. record {
           segment = h.segment;
@@ -150,6 +151,7 @@ module _ (limit : ℕ) (g : Occupancy) (id to generation : ℕ) (s : Shape) (lai
           copying = h.copying;
           spared = h.spared;
           to_end = λ e. (let ends = h.to_end e in omega (arith, ends, from', count', m.fits));
+          uncondemned = λ e. absurd (false≢true e);
         };
         given = λ n c. (omega (arith, c.0, from), omega (arith, c.1, from, count, m.fits));
         rest = λ n c. (omega (arith, c.0, from'), omega (arith, c.1, from', count', m.fits));

@@ -15,7 +15,7 @@ use Rattle.mps_model.specs.World.{PointMemory, extent}
 use Rattle.mps_model.specs.Allocating.{without_front}
 use Rattle.mps_laws.proofs.Lookups.{entry_at-set_same, entry_at-set_other, entry_within, entry_within_set, slice_get-set_same, slice_get-set_other, length-slice_set, there_is}
 use Rattle.mps_laws.proofs.Positions.Occupancy.{Occupancy, Occupant, OfBlock, OfReservation, OfBuffer, OfTail, Shape, PointShape, run_of, run_of_block, run_of_reservation, run_of_reserved, run_of_buffer, rank_where}
-use Rattle.mps_laws.proofs.Positions.LaidOut.{IsLaidOut, IsRightShape, IsRightPointShape, IsKept, IsGiven, placed_given, placed_new, laid_out_again}
+use Rattle.mps_laws.proofs.Positions.LaidOut.{IsLaidOut, IsRightShape, IsRightPointShape, IsKept, IsGiven, placed_given, placed_new, laid_out_again, is_staying_kind, kind_in}
 use Rattle.mps_laws.proofs.Positions.Making.{blocks_kept, new_run, new_pool, new_rank, right_shapes, more_lengths}
 use Rattle.mps_laws.proofs.Positions.Segments.{IsAmong}
 
@@ -152,6 +152,7 @@ module _ (limit : ℕ) (g : Occupancy) (laid : IsLaidOut limit g) (n : ℕ) (p :
       pub of_rank : segment.rank ≡ p.rank
       pub above : (words_of_segment segment).from ≤ word_of m.reserved_at
       pub below : word_of m.reserved_at + words ≤ end_of (words_of_segment segment)
+      pub staying : kind_in is_staying_kind g.pools segment.pool ≡ true
       pub unoccupied : (o : Occupant) (k : ℕ) → Covers (run_of g o) k → Covers (extent m.reserved_at words) k → ⊥
 
     room_kept : IsRoomToReserve → (o : Occupant) → (o ≡ OfReservation n) ⊎ IsKept g after_reserving o
@@ -191,6 +192,7 @@ module _ (limit : ℕ) (g : Occupancy) (laid : IsLaidOut limit g) (n : ℕ) (p :
           copying = λ e. absurd (false≢true e);
           spared = λ e. absurd (false≢true e);
           to_end = λ e. absurd (false≢true e);
+          uncondemned = λ e. inr room.staying;
         })
         (λ o k c d. room.unoccupied o k c (subst (λ (r : Run). Covers r k) reserved_run d)) laid.placed)
 
@@ -241,6 +243,7 @@ module _ (limit : ℕ) (g : Occupancy) (laid : IsLaidOut limit g) (n : ℕ) (p :
             copying = λ e. absurd (false≢true e);
             spared = λ e. absurd (false≢true e);
             to_end = λ e. absurd (false≢true e);
+            uncondemned = λ e. inl (h.spared refl);
           };
           rest_home = λ _. record {
             segment = h.segment;
@@ -252,6 +255,7 @@ module _ (limit : ℕ) (g : Occupancy) (laid : IsLaidOut limit g) (n : ℕ) (p :
             copying = h.copying;
             spared = h.spared;
             to_end = λ e. absurd (false≢true e);
+            uncondemned = λ e. absurd (false≢true e);
           };
           given = λ k c. (omega (arith, c.0, from_is, first), omega (arith, c.1, from_is, first, count_is, i.fits));
           rest = λ k c. (omega (arith, c.0, from'), omega (arith, c.1, from', count', i.fits));
@@ -347,6 +351,7 @@ module _ (limit : ℕ) (g : Occupancy) (laid : IsLaidOut limit g) (n : ℕ) (p :
             copying = λ e. absurd (false≢true e);
             spared = λ e. absurd (false≢true e);
             to_end = λ e. absurd (false≢true e);
+            uncondemned = λ e. absurd (false≢true e);
           };
           rest_home = λ h'. absurd (omega (arith, gone_run, h'));
           given = λ k c. (omega (arith, c.0, from, from'), omega (arith, c.1, from, from', count, count'));

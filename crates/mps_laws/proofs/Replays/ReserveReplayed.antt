@@ -1,7 +1,7 @@
 -- The law of replay for whole steps that reserve.
 use Rattle.std.proofs.Common.{◌≡◌, ◌∙◌, ℕ, ◌+◌, ◌<◌, Bool, true, false, refl, sym, ap, List, [], ◌∷◌, length, Option, Some, None, Ok, Err, subst, arith}
 use Rattle.std.proofs.lemmas.List.{map-append}
-use Rattle.std.specs.Prelude.{option_map, option_and_then, not, is_some, if◌then◌else◌}
+use Rattle.std.specs.Prelude.{option_map, option_and_then, not, is_some, if◌then◌else◌, slice_get}
 use Rattle.mps_base.specs.Address.{address_of_grain}
 use Rattle.mps_base.specs.Placement.{Placement, Place, NewSegment, OverLimit, NoFreeRun}
 use Rattle.mps_base.specs.declared.moves.Move.{Move}
@@ -10,7 +10,7 @@ use Rattle.mps_base.specs.declared.names.Name.{Name}
 use Rattle.mps_base.specs.declared.refusal.Refusal.TheVariants as refusal
 use Rattle.mps_model.specs.declared.call.Call.TheVariants as call
 use Rattle.mps_model.specs.Answer.{Answer, is_unsupported}
-use Rattle.mps_model.specs.Graph.{Point, Reservation, thing_in}
+use Rattle.mps_model.specs.Graph.{Point, Reservation, thing_in, NamedThing}
 use Rattle.mps_model.specs.Collection.{Collection}
 use Rattle.mps_model.specs.World.{World, Pool, id_at, is_copying_pool, object_is, pool_at}
 use Rattle.mps_model.specs.Graph.{is_automatic}
@@ -78,28 +78,31 @@ all_names_kept w (m ∷ ms) = all_names_kept (world_after_move w m) ms ∙ names
 
 record IsChecked (v : World) (name : Name) (r : Reserving) : Type 0 where
   pub point : point_named v name ≡ Ok r.point
+  pub exists : (q : Pool) × (slice_get v.pools r.point.value.pool ≡ Some q)
   pub some : 0 < length r.cells
 
 module _ (v : World) (name : Name) (head : ℕ) where
   checked_open : (p : Numbered Point) (pool : Pool) (b c : Bool) (r : Reserving) → point_named v name ≡ Ok p
+      → pool_at v p.value.pool ≡ Some pool
       → (refuse_when b refusal.BadHead >> (refuse_when c refusal.Open
       >> Ok (record { point = p; cells = Rattle.mps_model.specs.Graph.new_cells (layout_of v pool) head }))) ≡ Ok r
       → IsChecked v name r
-  checked_open p pool true c r e f = absurd (cc)
-  checked_open p pool false true r e f = absurd (cc)
-  checked_open p pool false false r e f =
+  checked_open p pool true c r e is f = absurd (cc)
+  checked_open p pool false true r e is f = absurd (cc)
+  checked_open p pool false false r e is f =
       let same : record { point = p; cells = Rattle.mps_model.specs.Graph.new_cells (layout_of v pool) head } ≡ r = cc in
       record {
         point = e ∙ ap Ok (ap (λ (x : Reserving). x.point) same);
+        exists = (pool, ap (λ (x : Reserving). slice_get v.pools x.point.value.pool) (sym same) ∙ is);
         some = subst (λ (x : Reserving). 0 < length x.cells) same (omega arith);
       }
 
-  checked_pool : (p : Numbered Point) (o : Option Pool) (r : Reserving) → point_named v name ≡ Ok p
+  checked_pool : (p : Numbered Point) (o : Option Pool) (r : Reserving) → point_named v name ≡ Ok p → pool_at v p.value.pool ≡ o
       → (required o refusal.BadName >>= (λ pool. refuse_when (not (takes_head v pool head)) refusal.BadHead
       >> (refuse_when (is_some p.value.reservation) refusal.Open
       >> Ok (record { point = p; cells = Rattle.mps_model.specs.Graph.new_cells (layout_of v pool) head })))) ≡ Ok r → IsChecked v name r
-  checked_pool p None r e f = absurd (cc)
-  checked_pool p (Some pool) r e f = checked_open p pool (not (takes_head v pool head)) (is_some p.value.reservation) r e f
+  checked_pool p None r e is f = absurd (cc)
+  checked_pool p (Some pool) r e is f = checked_open p pool (not (takes_head v pool head)) (is_some p.value.reservation) r e is f
 
   checked : (r : Reserving) → check_reserve v name head ≡ Ok r → IsChecked v name r
   checked r f = of_point (point_named v name) refl f
@@ -111,7 +114,7 @@ module _ (v : World) (name : Name) (head : ℕ) where
           >> Ok (record { point = p; cells = Rattle.mps_model.specs.Graph.new_cells (layout_of v pool) head }))))) ≡ Ok r
           → IsChecked v name r
       of_point (Err why) e g = absurd (cc)
-      of_point (Ok p) e g = checked_pool p (pool_at v p.value.pool) r e g
+      of_point (Ok p) e g = checked_pool p (pool_at v p.value.pool) r e refl g
 
 -- ---- the units that are asked
 
@@ -173,7 +176,7 @@ module _ (limit : ℕ) (v : World) (name : Name) (head : ℕ) (units : Option �
       subst (λ u. IsReservedIn limit v (world_from u (reserve_in u name head r))) (sym (asking_is units v))
       (reserved_by a r c.point
       (reserved_at_place limit a (subst (IsLaidOut limit) (sym kept) laid) r.point
-      (point_named-is v name r.point c.point).1 head r.cells c.some word e)
+      (point_named-is v name r.point c.point).1 head r.cells c.some c.exists word e)
       (ap blocks_of kept))
 
   in_new : (r : Reserving) (grain grains : ℕ) → IsChecked v name r
@@ -204,10 +207,11 @@ module _ (limit : ℕ) (v : World) (name : Name) (head : ℕ) (units : Option �
                   (Rattle.mps_base.specs.Segment.words_of_segment s);
             }) (asked units)) r c.point
             (in_own_buffer limit v laid r.point there head r.cells c.some grain grains e (asked units)
-            (asked_condemned units) copying) refl)
+            (asked_condemned units) c.exists copying) refl)
         | false ↦
             (λ manual. reserved_by (with_collection (holding v own) (asked units)) r c.point
-            (in_own_gap limit v laid r.point there head r.cells c.some grain grains e (asked units) (asked_condemned units) manual) refl)
+            (in_own_gap limit v laid r.point there head r.cells c.some grain grains e (asked units) (asked_condemned units) c.exists
+            manual) refl)
       ] refl)
 
   -- the world in which it takes effect

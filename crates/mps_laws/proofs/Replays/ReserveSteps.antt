@@ -3,7 +3,7 @@ use Rattle.std.proofs.Common.{◌≡◌, ◌∙◌, ℕ, suc, ◌-◌, ◌*◌, 
 use Rattle.std.proofs.lemmas.Bool.{le-leb}
 use Rattle.std.proofs.lemmas.Option.{slice_get-map}
 use Rattle.std.proofs.lemmas.List.{map-append}
-use Rattle.std.specs.Prelude.{map, slice_get, slice_set, option_map, option_and_then, nat_le, filter, if◌then◌else◌}
+use Rattle.std.specs.Prelude.{map, slice_get, slice_set, option_map, option_and_then, nat_le, filter, if◌then◌else◌, not}
 use Rattle.std.specs.Option.{option_map_or}
 use Rattle.mps_base.specs.Address.{Address, word_of, address_of_word, address_of_grain, grains_needed}
 use Rattle.mps_base.specs.Placement.{Place, NewSegment}
@@ -13,7 +13,7 @@ use Rattle.mps_base.specs.declared.moves.Move.{Move}
 use Rattle.mps_base.specs.declared.names.Rank.TheVariants as rank
 use Rattle.mps_model.specs.Graph.{Point, Reservation, Cell, entry_at}
 use Rattle.mps_model.specs.Collection.{Collection}
-use Rattle.mps_model.specs.World.{World, PointMemory, covered, is_copying_pool}
+use Rattle.mps_model.specs.World.{World, PointMemory, covered, is_copying_pool, Pool, is_copying_kind}
 use Rattle.mps_model.specs.Making.{is_weak_rank}
 use Rattle.mps_model.specs.Checked.{Numbered}
 use Rattle.mps_model.specs.Allocating.{address_of_placement, with_reserved, buffer_after, without_front}
@@ -23,7 +23,7 @@ use Rattle.mps_model.specs.LegalMove.{IsPlaceAt}
 use Rattle.mps_model.specs.History.{own_segment, moves_of_poll, is_segment_taken, with_buffer, rank_of_point}
 use Rattle.mps_laws.proofs.Lookups.{map-slice_set, there_is, entry_within, entry_is_there}
 use Rattle.mps_laws.proofs.Positions.Occupancy.{PointShape, shape_of_point, reserved_words, occupancy_of}
-use Rattle.mps_laws.proofs.Positions.LaidOut.{IsLaidOut, IsRightlyRanked}
+use Rattle.mps_laws.proofs.Positions.LaidOut.{IsLaidOut, IsRightlyRanked, is_staying_kind, kind_in}
 use Rattle.mps_laws.proofs.Positions.Covered.{covered_in, covered-shapes}
 use Rattle.mps_laws.proofs.Positions.Gaps.{room_in_gap, gap_in_empty}
 use Rattle.mps_laws.proofs.Positions.Holding.{IsFresh, need_of_placement, held_laid_out, buffered_laid_out, fresh_unoccupied, own_buffer}
@@ -70,7 +70,7 @@ shape_there w n p e =
     (slice_get-map shape_of_point w.graph.points n ∙ ap (option_map shape_of_point) (entry_is_there w.graph.points n p e))
 
 module _ (limit : ℕ) (a : World) (laid : HasLayout limit a) (p : Numbered Point) (there : entry_at a.graph.points p.number ≡ Some p.value)
-    (head : ℕ) (cells : List Cell) (some : 0 < length cells) where
+    (head : ℕ) (cells : List Cell) (some : 0 < length cells) (exists : (q : Pool) × (slice_get a.pools p.value.pool ≡ Some q)) where
   abbrev reservation : Reservation
   reservation = record { head = head; cells = cells; is_doomed = false }
 
@@ -106,6 +106,11 @@ module _ (limit : ℕ) (a : World) (laid : HasLayout limit a) (p : Numbered Poin
         rest = ap (λ b. if b then without_front (buffer_of a p.number) (length cells) else buffer_of a p.number) copying;
       }))
 
+  stays : is_copying_pool a p.value.pool ≡ false → kind_in is_staying_kind a.pools p.value.pool ≡ true
+  stays manual =
+      ap (λ o. option_map_or (λ (q : Pool). is_staying_kind q.kind) o false) exists.1
+      ∙ ap not (sym (ap (λ o. option_map_or (λ (q : Pool). is_copying_kind q.kind) o false) exists.1) ∙ manual)
+
   in_gap : (word : ℕ) → is_copying_pool a p.value.pool ≡ false
       → placement_in_gaps a (gaps_of (covered a) a.segments p.value.pool p.value.rank) (length cells) ≡ Place word
       → HasLayout limit (with_reserved a p reservation (address_of_word word))
@@ -124,6 +129,7 @@ module _ (limit : ℕ) (a : World) (laid : HasLayout limit a) (p : Numbered Poin
         of_rank = room.of_rank;
         above = omega (arith, room.above, at);
         below = omega (arith, room.below, at);
+        staying = ap (kind_in is_staying_kind a.pools) room.of_pool ∙ stays manual;
         unoccupied = λ o n c d. room.unoccupied o n c (omega (arith, d.0, at)) (omega (arith, d.1, at));
       }))
 
@@ -162,7 +168,8 @@ new_for v n p words grain grains e =
 module _ (limit : ℕ) (v : World) (laid : HasLayout limit v) (p : Numbered Point) (there : entry_at v.graph.points p.number ≡ Some p.value)
     (head : ℕ) (cells : List Cell) (some : 0 < length cells) (grain grains : ℕ)
     (new : placement_of v (ForReserve p.number (length cells)) ≡ NewSegment grain grains) (change : Collection → Collection)
-    (each : (c : Collection) → (change c).condemned_segments ≡ c.condemned_segments) where
+    (each : (c : Collection) → (change c).condemned_segments ≡ c.condemned_segments)
+    (exists : (q : Pool) × (slice_get v.pools p.value.pool ≡ Some q)) where
   abbrev reservation' : Reservation
   reservation' = record { head = head; cells = cells; is_doomed = false }
 
@@ -225,7 +232,7 @@ module _ (limit : ℕ) (v : World) (laid : HasLayout limit v) (p : Numbered Poin
       (shape_there v p.number p.value there) refl own_rank own_ranked copying) in
       let buffer : buffer_of a p.number ≡ words_of_segment own =
       own_buffer v.point_memories p.number (words_of_segment own) own_memory.0 own_memory.1 in
-      reserved_at_place limit a laid' p there head cells some (words_of_segment own).from
+      reserved_at_place limit a laid' p there head cells some exists (words_of_segment own).from
       (ap (λ o. option_map_or (λ x. placement_at_point a p.number x (length cells)) o (new_segment_for a (length cells))) there
       ∙ ap (λ b. if b then placement_at_front a (buffer_of a p.number) (length cells)
       else placement_in_gaps a (gaps_of (covered a) a.segments p.value.pool p.value.rank) (length cells)) copying
@@ -245,7 +252,7 @@ module _ (limit : ℕ) (v : World) (laid : HasLayout limit v) (p : Numbered Poin
       let fits : lowest_fitting (length cells) (gaps_of (covered a) a.segments p.value.pool p.value.rank) ≡ Some gap.0 =
       ap (λ c. lowest_fitting (length cells) (gaps_of c a.segments p.value.pool p.value.rank)) (covered-shapes a)
       ∙ ap (λ r. lowest_fitting (length cells) (gaps_of (covered_in (occupancy_of a)) a.segments p.value.pool r)) (sym own_rank) ∙ gap.1 in
-      reserved_at_place limit a laid' p there head cells some gap.0
+      reserved_at_place limit a laid' p there head cells some exists gap.0
       (ap (λ o. option_map_or (λ x. placement_at_point a p.number x (length cells)) o (new_segment_for a (length cells))) there
       ∙ ap (λ b. if b then placement_at_front a (buffer_of a p.number) (length cells)
       else placement_in_gaps a (gaps_of (covered a) a.segments p.value.pool p.value.rank) (length cells)) manual

@@ -294,10 +294,12 @@ module _ {F : Type 0} (layout : F → Layout) (h : HeapState F) (trail : Moves) 
               };
               keeps = record {
                 rest = λ rest. rest;
-                not_condemned = λ not_condemned grain. ap (λ bits. bit bits grain) (segs_condemned layout past h w parts own graph at id b time t given)
-                    ∙ not_condemned grain;
-                not_kept = λ not_condemned not_kept n. ap (λ bits. bit bits n) (segs_kept layout past h w parts own graph at id b time t given)
-                    ∙ none_set h.segs.marks.kept (word_of at) n (not_kept n);
+                not_condemned = λ none grain. ap (λ bits. bit bits grain)
+                    (segs_condemned layout past h w parts own graph at id b time t given)
+                    ∙ none grain;
+                not_kept = λ none unmarked n. ap (λ bits. bit bits n)
+                    (segs_kept layout past h w parts own graph at id b time t given)
+                    ∙ none_set h.segs.marks.kept (word_of at) n (unmarked n);
                 flip = flip_after layout past h w parts own graph at id b time v.graph.blocks v.segments;
                 condemned = λ y same run marked u there.
                     ap (λ bits. bit bits (grain_of u.base)) (segs_condemned layout past h w parts own graph at id b time t given)

@@ -2,78 +2,41 @@
 use Rattle.mps_refinement.proofs.Parts.Resting.{at_rest}
 use Rattle.mps_refinement.proofs.Worlds.Known.{known_now}
 use Rattle.mps_refinement.specs.RightStep.{IsRight}
-use Rattle.std.proofs.Common.{◌≡◌, ◌∙◌, ◌⊎◌, ℕ, ◌+◌, ◌-◌, ◌*◌, ◌<◌, ◌≤◌, Bool, true, false, refl, sym, ap, subst, List, [], ◌∷◌, ◌++◌, length, Some, None, Ok, Err, inl, inr, arith}
-use Rattle.std.specs.Prelude.{MatchBool, ◌&&◌, not, if◌then◌else◌, option_map, slice_set}
+use Rattle.std.proofs.Common.{◌≡◌, ◌∙◌, ◌⊎◌, ℕ, Bool, true, false, refl, sym, ap, subst, List, [], length, Some, None, inl, inr}
+use Rattle.std.specs.Prelude.{MatchBool, ◌&&◌, not, if◌then◌else◌}
 use Rattle.std.specs.Option.{option_map_or}
-use Rattle.mps_seg.specs.Arena.{answer_of_placement}
-use Rattle.mps_base.specs.Address.{word_of, address_of_word, address_of_grain, grain_of}
-use Rattle.mps_base.specs.Placement.{Placement, Place, NewSegment, OverLimit, NoFreeRun}
-use Rattle.mps_base.specs.Run.{Run}
-use Rattle.mps_base.specs.Segment.{Segment, segment_over, with_segment, words_of_segment}
 use Rattle.mps_base.specs.Trail.{Moves}
 use Rattle.mps_base.specs.declared.moves.Move.{Move}
-use Rattle.mps_base.specs.declared.moves.Move.TheVariants as moves
 use Rattle.mps_base.specs.declared.names.Name.{Name}
-use Rattle.mps_base.specs.declared.names.Rank.{Rank}
-use Rattle.mps_base.specs.declared.refusal.Refusal.{Refusal}
-use Rattle.mps_base.specs.declared.refusal.Refusal.TheVariants as refusal
-use Rattle.mps_extents.specs.Table.{bit}
-use Rattle.mps_buffer.specs.declared.point.Point.{Point}
-use Rattle.mps_buffer.specs.Points.{buffer_after, after_open, placement_at, with_place, with_point, with_reservation}
-use Rattle.mps_seg.specs.Buffer.{rest_at_hand, run_of}
+use Rattle.mps_buffer.specs.Points.{placement_at}
 use Rattle.mps_format.specs.Layout.{Layout}
-use Rattle.mps_trace_laws.specs.Image.Memory.{is_condemned_word}
-use Rattle.mps_trace_laws.proofs.Image.SegmentMarks.{clear_bit}
-use Rattle.mps_laws.proofs.Positions.LegalMoves.{HasLayout, at_front}
-use Rattle.mps_laws.proofs.Positions.Occupancy.{OfBuffer, occupancy_of}
 use Rattle.mps_laws.proofs.Same.{Same, fits}
 use Rattle.mps_laws.proofs.Same as same
-use Rattle.mps_laws.proofs.Positions.Segments.{IsAmong, among_new, found_segment}
-use Rattle.mps_seg.specs.Segs.{moves_after, segments_after}
-use Rattle.mps_seg.specs.Collecting.{bit_of}
-use Rattle.mps_model.specs.declared.call.Call.{Call}
 use Rattle.mps_model.specs.declared.call.Call.TheVariants as call
-use Rattle.mps_model.specs.declared.reply.Reply.TheVariants as reply
 use Rattle.mps_model.specs.Allocating as model
 use Rattle.mps_model.specs.Allocating.{act_reserve, without_front}
-use Rattle.mps_model.specs.Answer.{Answer, Replied, refused}
-use Rattle.mps_model.specs.Checked.{Act, Checked, Numbered, ◌>>=◌, done, point_named}
-use Rattle.mps_model.specs.Graph as graph
-use Rattle.mps_model.specs.Graph.{contains, entry_at, ids_in_blocks, new_cells}
-use Rattle.mps_model.specs.History.{IsPoll, segment_taken, segment_of_reserve, segment_where_judged}
-use Rattle.mps_model.specs.LegalMove.{IsPlaceAt}
-use Rattle.mps_model.specs.Placement.{ForReserve, placement_of, placement_at_front, placement_at_point, new_segment_for, buffer_of}
+use Rattle.mps_model.specs.Checked.{Checked}
+use Rattle.mps_model.specs.Graph.{new_cells}
+use Rattle.mps_model.specs.History.{IsPoll}
+use Rattle.mps_model.specs.Placement.{ForReserve, placement_of}
 use Rattle.mps_model.specs.World.{World, PointMemory, is_copying_pool, is_live, is_running}
-use Rattle.mps_heap_spec.specs.Allocating.{check_reserve, held_at, after_reserve}
+use Rattle.mps_heap_spec.specs.Allocating.{check_reserve, after_reserve}
 use Rattle.mps_heap_spec.specs.declared.arena.ArenaState.{ArenaState}
 use Rattle.mps_heap_spec.specs.declared.arena.ArenaState.TheVariants as arena
 use Rattle.mps_model.specs.Policy.{is_place, polls, units_of_poll}
 use Rattle.mps_model.specs.World as world
-use Rattle.mps_heap_spec.specs.Coming.{ComesMoving, Moved, answer_moved, state_moved, trail_moved}
-use Rattle.mps_heap_spec.specs.declared.found.Kept.{Kept}
+use Rattle.mps_heap_spec.specs.Coming.{ComesMoving, answer_moved, state_moved, trail_moved}
 use Rattle.mps_heap_spec.specs.declared.found.Reserving.{Reserving}
 use Rattle.mps_heap_spec.specs.State.{HeapState}
 use Rattle.mps_refinement.specs.Answering.{answer_to, says_ok}
 use Rattle.mps_refinement.specs.RightStep.{IsRightIn, step_of}
-use Rattle.mps_refinement.specs.StandsFor.{AreParts, IsInTime, IsReached, Past, rests, runs, state_of}
-use Rattle.mps_refinement.proofs.Parts.CommittedParts.{segment_there}
+use Rattle.mps_refinement.specs.StandsFor.{AreParts, IsInTime, IsReached, Past, state_of}
 use Rattle.mps_refinement.proofs.Worlds.Known.{IsKnown}
-use Rattle.mps_refinement.proofs.Lookups.Lookups.{IsPointFound}
 use Rattle.mps_refinement.proofs.Worlds.Placing.{reserve_agrees}
-use Rattle.mps_refinement.proofs.Calls.ReserveChecks.{is_unclamped, polls_for, IsReserving, checked_point, reserve_checked}
-use Rattle.mps_refinement.proofs.Calls.ReserveStep.{Polls, cut_segment, cut_without, layout_after, reserved_rightly}
-use Rattle.mps_refinement.proofs.Parts.ReservedParts.{parts_after}
-use Rattle.mps_refinement.proofs.Worlds.Reserved.{IsReservedBy, memory_in_own, own, own_rank, refused_there, reserved_at_place, reserved_in_new, reserved_world}
+use Rattle.mps_refinement.proofs.Calls.ReserveChecks.{is_unclamped, polls_for, IsReserving, reserve_checked}
+use Rattle.mps_refinement.proofs.Calls.ReserveStep.{Polls}
 use Rattle.mps_refinement.proofs.Calls.Reserving as resting
 use Rattle.mps_refinement.proofs.Calls.Reserving.{reserve_from}
-use Rattle.mps_refinement.proofs.Worlds.RestingActs.{resting_sound}
-use Rattle.mps_refinement.proofs.Parts.AllocatedParts.{noted_clear}
-use Rattle.mps_laws.proofs.Sound.HeldIds.{new_cells_written}
-use Rattle.mps_laws.proofs.QuietSteps.{IsSound}
-use Rattle.mps_laws.proofs.Sound.SoundChanges.{sound_again}
-use Rattle.mps_laws.proofs.Sound.SoundEffects.{reservation_sound}
-use Rattle.std.proofs.lemmas.Option.{none-some}
-use Rattle.mps_refinement.proofs.Parts.SegmentsTaken.{condemned_held, condemned_stay}
 use Rattle.mps_refinement.proofs.Calls.RightReserve.{reserve_runs_on}
 
 abbrev no_moves : List Move

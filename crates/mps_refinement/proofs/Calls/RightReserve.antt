@@ -1,9 +1,6 @@
 -- A `reserve` after its poll is right, at any time.
-use Rattle.mps_refinement.proofs.Parts.Resting.{at_rest}
-use Rattle.mps_refinement.proofs.Worlds.Known.{known_now}
-use Rattle.mps_refinement.specs.RightStep.{IsRight}
 use Rattle.std.proofs.Common.{◌≡◌, ◌∙◌, ◌⊎◌, ℕ, ◌+◌, ◌-◌, ◌*◌, ◌<◌, ◌≤◌, Bool, true, false, refl, sym, ap, subst, List, [], ◌∷◌, ◌++◌, length, Some, None, Ok, Err, inl, inr, arith}
-use Rattle.std.specs.Prelude.{MatchBool, ◌&&◌, not, if◌then◌else◌, option_map, slice_set}
+use Rattle.std.specs.Prelude.{if◌then◌else◌, option_map, slice_set}
 use Rattle.std.specs.Option.{option_map_or}
 use Rattle.mps_seg.specs.Arena.{answer_of_placement}
 use Rattle.mps_base.specs.Address.{word_of, address_of_word, address_of_grain, grain_of}
@@ -40,31 +37,27 @@ use Rattle.mps_model.specs.Answer.{Answer, Replied, refused}
 use Rattle.mps_model.specs.Checked.{Act, Checked, Numbered, ◌>>=◌, done, point_named}
 use Rattle.mps_model.specs.Graph as graph
 use Rattle.mps_model.specs.Graph.{contains, entry_at, ids_in_blocks, new_cells}
-use Rattle.mps_model.specs.History.{IsPoll, segment_taken, segment_of_reserve, segment_where_judged}
+use Rattle.mps_model.specs.History.{segment_taken, segment_of_reserve, segment_where_judged}
 use Rattle.mps_model.specs.LegalMove.{IsPlaceAt}
 use Rattle.mps_model.specs.Placement.{ForReserve, placement_of, placement_at_front, placement_at_point, new_segment_for, buffer_of}
 use Rattle.mps_model.specs.World.{World, PointMemory, is_copying_pool, is_live, is_running}
 use Rattle.mps_heap_spec.specs.Allocating.{check_reserve, held_at, after_reserve}
-use Rattle.mps_heap_spec.specs.declared.arena.ArenaState.{ArenaState}
-use Rattle.mps_heap_spec.specs.declared.arena.ArenaState.TheVariants as arena
-use Rattle.mps_model.specs.Policy.{is_place, polls, units_of_poll}
 use Rattle.mps_model.specs.World as world
-use Rattle.mps_heap_spec.specs.Coming.{ComesMoving, Moved, answer_moved, state_moved, trail_moved}
+use Rattle.mps_heap_spec.specs.Coming.{Moved, answer_moved, state_moved, trail_moved}
 use Rattle.mps_heap_spec.specs.declared.found.Kept.{Kept}
 use Rattle.mps_heap_spec.specs.declared.found.Reserving.{Reserving}
 use Rattle.mps_heap_spec.specs.State.{HeapState}
 use Rattle.mps_refinement.specs.Answering.{answer_to, says_ok}
 use Rattle.mps_refinement.specs.RightStep.{IsRightIn, step_of}
-use Rattle.mps_refinement.specs.StandsFor.{AreParts, IsInTime, IsReached, Past, rests, runs, state_of}
+use Rattle.mps_refinement.specs.StandsFor.{AreParts, IsInTime, IsReached, Past, rests, runs}
 use Rattle.mps_refinement.proofs.Parts.CommittedParts.{segment_there}
 use Rattle.mps_refinement.proofs.Worlds.Known.{IsKnown}
 use Rattle.mps_refinement.proofs.Lookups.Lookups.{IsPointFound}
 use Rattle.mps_refinement.proofs.Worlds.Placing.{reserve_agrees}
-use Rattle.mps_refinement.proofs.Calls.ReserveChecks.{is_unclamped, polls_for, IsReserving, checked_point, reserve_checked}
+use Rattle.mps_refinement.proofs.Calls.ReserveChecks.{IsReserving, checked_point, reserve_checked}
 use Rattle.mps_refinement.proofs.Calls.ReserveStep.{Polls, cut_segment, cut_without, layout_after, reserved_rightly}
 use Rattle.mps_refinement.proofs.Parts.ReservedParts.{parts_after}
 use Rattle.mps_refinement.proofs.Worlds.Reserved.{IsReservedBy, memory_in_own, own, own_rank, refused_there, reserved_at_place, reserved_in_new, reserved_world}
-use Rattle.mps_refinement.proofs.Calls.Reserving as resting
 use Rattle.mps_refinement.proofs.Calls.Reserving.{reserve_from}
 use Rattle.mps_refinement.proofs.Worlds.RestingActs.{resting_sound}
 use Rattle.mps_refinement.proofs.Parts.AllocatedParts.{noted_clear}

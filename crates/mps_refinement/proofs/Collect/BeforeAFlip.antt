@@ -50,7 +50,7 @@ module _ {F : Type 0} (layout : F → Layout) (past : Past) (h : HeapState F) (w
   is_before = record {
     stands = stands_before;
     rows = rows layout past h w parts reached;
-    roots = roots_held layout past h w parts reached;
+    roots = roots_held layout past h w parts reached rest.time;
     areas = words_shown layout past h w parts reached;
     ordered =
         keys_in_order (AreSlots w.addresses) past.table_number h.roots (kept h.roots.tables) w.graph.tables parts.tables parts.ordered;

@@ -34,6 +34,7 @@ use Rattle.mps_trace_laws.specs.Units.Laws.{HasSegmentsOf, HasFinalsOf, AreScans
 use Rattle.mps_trace_laws.proofs.Units.Rows.{the_end_is_done}
 use Rattle.mps_trace_laws.specs.Begin.Before.{StandsBefore}
 use Rattle.mps_trace_laws.specs.Begin.Begun.{AreRootsHeld, IsActDone, ACollectionBegins, ACollectionOfNothingEnds, IsOverAtOnce}
+use Rattle.mps_refinement.proofs.Parts.Resting.{at_rest, registered_at_rest}
 use Rattle.mps_refinement.specs.RightMoving.{IsRightMoving, KeepsRoom}
 use Rattle.mps_refinement.specs.RightStep.{IsRightIn, step_of}
 use Rattle.mps_refinement.specs.StandsFor.{StandsFor, AreSlots}
@@ -188,7 +189,10 @@ module _ {F : Type 0} (layout : F → Layout) (begins : ACollectionBegins F) (no
             subst (λ (f : FinalsState). HasFinalsOf f v) (sym ends.finals_are)
             (subst (λ ms. HasFinalsOf h.finals (world_after_moves w ms))
             (sym (flip_ended w Everything before.plain.rest refl over.nothing).act)
-            (record { registrations = st.parts.registered; waiting = st.parts.messages }));
+            (record {
+              registrations = registered_at_rest layout st.past h w st.parts (at_rest st.time).time;
+              waiting = st.parts.messages;
+            }));
       }
 
       pub right_at_once : IsRightThere layout w m m' h'

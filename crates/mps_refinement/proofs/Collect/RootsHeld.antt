@@ -1,6 +1,7 @@
 -- What the roots of a heap at rest hold, as a flip of everything finds it: the tables in their order have the slots of the world's, and
 -- words of areas are those that the world shows.
 use Rattle.mps_laws.proofs.Sound.HeldIds.{AreHeld, of_client}
+use Rattle.mps_refinement.proofs.Parts.Resting.{registered_at_rest}
 use Rattle.mps_refinement.proofs.Worlds.Reached.{reached_live}
 use Rattle.std.proofs.Common.{◌≡◌, ◌∙◌, ℕ, zero, suc, ◌+◌, ◌<◌, Bool, true, false, refl, sym, ap, subst, List, [], ◌∷◌, ◌++◌, length, map, Option, Some, None, IsSome, inl, inr, arith}
 use Rattle.std.proofs.lemmas.List.{length-map, map-append}
@@ -29,7 +30,7 @@ use Rattle.mps_trace_laws.specs.Roots.Rows.{AreHeldAtFlip, HoldsAtFlip, WasAt}
 use Rattle.mps_trace_laws.specs.Roots.Tables.{AreTablesHeld}
 use Rattle.mps_trace_laws.specs.Begin.Begun.{AreRootsHeld}
 use Rattle.mps_refinement.specs.Numbering.{numbers_from}
-use Rattle.mps_refinement.specs.StandsFor.{AreParts, IsReached, Past, address_of_id, address_of_target, stored_word}
+use Rattle.mps_refinement.specs.StandsFor.{AreParts, IsReached, Past, address_of_id, address_of_target, stored_word, time_at_rest}
 use Rattle.mps_refinement.proofs.Lookups.Found.{some_there}
 use Rattle.mps_refinement.proofs.Lookups.ManualBlocks.{passes_there}
 use Rattle.mps_refinement.proofs.Parts.Ordering.{all_in_order, ordered_apart}
@@ -235,13 +236,13 @@ module _ {F : Type 0} (layout : F → Layout) (past : Past) (h : HeapState F) (w
       (subst (λ (ids : List Id). All (auto w) ids) (sym (all_some w.graph.messages)) sound.messages)
 
   -- the tables in order, and messages, hold what those of the world do
-  pub roots_held : AreRootsHeld w h.roots h.finals rows
-  roots_held = record {
+  pub roots_held : past.time ≡ time_at_rest → AreRootsHeld w h.roots h.finals rows
+  roots_held time = record {
     tables = tables_held;
     messages = messages_held;
     all = rows_are_all past.table_number h.roots.order w.graph.tables parts.ordered.numbers;
     waiting = ap (λ (xs : List Address). length xs) parts.messages ∙ length-map w.graph.messages (address_of_id w.addresses);
-    registered = parts.registered;
+    registered = registered_at_rest layout past h w parts time;
   }
 
   -- ---- words of areas

@@ -1,5 +1,5 @@
 -- After a `reserve` the parts of a heap stand for those of the world after it.
-use Rattle.std.proofs.Common.{◌≡◌, ◌∙◌, ◌⊎◌, ℕ, ◌+◌, ◌-◌, ◌%◌, ◌<◌, ◌≤◌, false, refl, sym, ap, subst, List, length, Some, None, inl, inr, arith, slice_index, map, Option, Contains}
+use Rattle.std.proofs.Common.{◌≡◌, ◌∙◌, ◌⊎◌, ℕ, ◌+◌, ◌-◌, ◌%◌, ◌<◌, ◌≤◌, false, refl, sym, ap, subst, List, length, Some, None, inl, inr, arith, slice_index, map, Contains}
 use Rattle.std.proofs.lemmas.Bool.{cases_eq}
 use Rattle.std.proofs.lemmas.Option.{same_Some, slice_get_within}
 use Rattle.std.specs.Prelude.{◌≢◌, not, ◌==◌, slice_get, slice_set, option_map, if◌then◌else◌}
@@ -14,7 +14,7 @@ use Rattle.mps_seg.specs.Buffer.{run_of}
 use Rattle.mps_format.specs.Layout.{Layout}
 use Rattle.mps_trace_laws.specs.Image.ArenaLaws.{setting_with_segments}
 use Rattle.mps_trace_laws.specs.Image.Image.{Stands, black_cells}
-use Rattle.mps_trace_laws.specs.Image.Memory.{Setting, is_condemned_word, memory_in, pool_layout, pool_over_word, words_of_arena, LiesReserved, live_reservation}
+use Rattle.mps_trace_laws.specs.Image.Memory.{Setting, is_condemned_word, memory_in, pool_layout, pool_over_word, words_of_arena}
 use Rattle.mps_trace_laws.proofs.Image.ArenaLaws.{segments_change}
 use Rattle.mps_trace_laws.proofs.Image.ClientLaws.{reservation_is_made}
 use Rattle.mps_model.specs.Graph as graph
@@ -22,14 +22,14 @@ use Rattle.mps_model.specs.Graph.{Cell, Reservation, entry_at, new_cells}
 use Rattle.mps_model.specs.World.{World, PointMemory, is_copying_pool}
 use Rattle.mps_seg.specs.Segs.{SegsState, segments_after}
 use Rattle.mps_laws.proofs.Positions.LegalMoves.{HasLayout}
-use Rattle.mps_laws.proofs.Lookups.{entry_is_there, slice_get-set_other, entry_at-set_other, entry_at-set_same, entry_within}
-use Rattle.mps_laws.proofs.Positions.Segments.{AreAligned, among_aligned, found_segment}
+use Rattle.mps_laws.proofs.Lookups.{entry_is_there, slice_get-set_other, entry_at-set_same, entry_within}
+use Rattle.mps_laws.proofs.Positions.Segments.{AreAligned, among_aligned}
 use Rattle.mps_heap_spec.specs.State.{HeapState}
 use Rattle.mps_refinement.specs.StandsFor.{AreParts, BothHeld, IsArena, IsPoint, Past, IsInTime, StandsAt, setting_at}
 use Rattle.mps_refinement.proofs.Parts.ClearedWords.{reserved_head, reserved_long, reserved_others, reserved_words, reserved_zero}
 use Rattle.mps_refinement.proofs.Parts.Counts.{reservation_written_points}
 use Rattle.mps_refinement.proofs.Parts.PointWritten.{points_anew, points_there, points_written, written_point, other_point}
-use Rattle.mps_refinement.proofs.Parts.ReservedImage.{new_cell_is_fixed, own_free, own_within, live, memory_now, own_begins, own_covers, reservation_covers, shape_there}
+use Rattle.mps_refinement.proofs.Parts.ReservedImage.{new_cell_is_fixed, own_free, own_within, memory_now, own_begins, own_covers, shape_there}
 use Rattle.mps_base.specs.Run.{Covers, IsAscending}
 use Rattle.mps_seg.specs.Collecting.{bit_of}
 use Rattle.std.specs.Option.{option_map_or}
@@ -40,11 +40,6 @@ use Rattle.mps_trace_laws.specs.Image.Changes.{AreHome, IsOfNoMovedBlock}
 use Rattle.mps_trace_laws.specs.Image.SegmentWords.{AreSegmentsInOrder}
 use Rattle.mps_trace_laws.proofs.Image.SegmentWords.{segments_are_home}
 use Rattle.mps_laws.proofs.Positions.Occupancy.{OfReservation, PointShape, occupancy_of, run_of as run_of_occupant}
-
--- no word of a live reservation lies in a condemned segment, by words
-abbrev pub AreReservedSpared : SegsState → List (Option graph.Point) → List PointMemory → Type 0
-AreReservedSpared s points memories =
-    (point l : ℕ) (r : Reservation) (n : Word) → LiesReserved points memories point l r n → is_condemned_word s n ≡ false
 
 module _ {F : Type 0} (layout : F → Layout) (past : Past) (h : HeapState F) (w : World) (parts : AreParts layout past h w)
     (key n : ℕ) (number : n ≡ past.point_number key) (p : Point) (q : graph.Point) (at_key : point_at h.points key ≡ Some p)
@@ -213,44 +208,6 @@ module _ {F : Type 0} (layout : F → Layout) (past : Past) (h : HeapState F) (w
         (let z : from + l ≡ from = omega (arith, first) in z) ∙ reserved_head h.segs.words from (length cells) head some fits_words)
         (λ later. reserved_zero h.segs.words from (length cells) head some fits_words l later (slice_get_within cells l c e)))
         (λ x apart. reserved_others h.segs.words from (length cells) head some fits_words x apart)
-
-    -- no word of a live reservation lies in a condemned segment, if none did before and the new one's first word doesn't
-    pub spared_after : is_condemned_word segs_after (word_of m.reserved_at) ≡ false
-        → AreReservedSpared h.segs w.graph.points w.point_memories
-        → AreReservedSpared segs_after world_after.graph.points world_after.point_memories
-    spared_after here before i l r k y =
-        elim (cases_eq i n) [
-          | inl same ↦
-              let mine : y.memory ≡ m =
-              same_Some y.memory m (sym y.has ∙ ap (slice_get (slice_set w.point_memories n m)) same
-              ∙ memory_now w n q there closed reservation_made refl m segments fit.memory fit.has) in
-              let made : r ≡ reservation_made =
-              same_Some r reservation_made
-              (sym y.reserved ∙ ap (λ j. live_reservation (entry_at (slice_set w.graph.points n (Some entry_after)) j)) same
-              ∙ live w n q there closed reservation_made refl m segments fit.memory fit.has) in
-              ap (is_condemned_word segs_after) (y.is ∙ ap (λ (x : PointMemory). word_of x.reserved_at + l) mine)
-              ∙ at_home.whole l (subst (λ (x : Reservation). l < length x.cells) made y.within) ∙ here
-          | inr apart ↦
-              let z : LiesReserved w.graph.points w.point_memories i l r k = record {
-                memory = y.memory;
-                reserved = sym (ap live_reservation (entry_at-set_other w.graph.points n i (Some entry_after) (λ e. apart (sym e))))
-                    ∙ y.reserved;
-                has = sym (slice_get-set_other w.point_memories n i m (λ e. apart (sym e))) ∙ y.has;
-                within = y.within;
-                is = y.is;
-              } in
-              let c = reservation_covers (occupancy_of w) w.graph.points w.point_memories i l r k refl refl z in
-              let home = laid.placed.homes (OfReservation i) (omega (arith, c.0, c.1)) in
-              let above = home.above in
-              let below = home.below in
-              let over : segment_over w.segments (address_of_word k) ≡ Some home.segment =
-              found_segment 1 (w.grains + 1) w.segments home.segment laid.ascending laid.aligned home.held k
-              (omega (arith, above, c.0), omega (arith, below, c.1)) in
-              condemned_kept k home.segment.pool
-              (ap (λ ss. option_map (λ (t : Segment). t.pool) (segment_over ss (address_of_word k))) parts.segments
-              ∙ ap (option_map (λ (t : Segment). t.pool)) over)
-              ∙ before i l r k z
-        ]
 
     -- a reservation is the new one, or it was there
     own_or_there : (k : ℕ) (x : Point) (held : Held) → point_at (with_point h.points key (Some point_after)) k ≡ Some x

@@ -140,7 +140,8 @@ module _ {F : Type 0} (layout : F → Layout) (past : Past) (h : HeapState F) (w
               doomed = is.doomed;
             })))
 
-        pub reservation_parts : AreParts layout past (with_word h word value) (with_graph w (model.with_reservation w.graph n (Some written)))
+        pub reservation_parts : AreParts layout past (with_word h word value)
+            (with_graph w (model.with_reservation w.graph n (Some written)))
         reservation_parts =
             points_anew layout past h w parts (record h.segs { words = slice_set h.segs.words word value }) h.points
             (slice_set w.graph.points n.number (Some entry_written)) w.segments w.point_memories

@@ -1,30 +1,27 @@
 -- A call that makes no moves is a legal step while a collection runs, and the collector's invariant is true after it.
 use Rattle.std.proofs.Common.{◌≡◌, ◌∙◌, ℕ, Bool, true, false, true≢false, refl, sym, ap, subst, [], None}
 use Rattle.std.proofs.lemmas.Bool.{false≢true}
-use Rattle.std.specs.Prelude.{MatchBool, ◌||◌, IsTrue, is_some, if◌then◌else◌, not}
-use Rattle.std.specs.List.{list_all, flat_map}
+use Rattle.std.specs.Prelude.{not}
+use Rattle.std.specs.List.{list_all}
 use Rattle.mps_model.specs.declared.call.Call.{Call}
 use Rattle.mps_model.specs.declared.call.Call.TheVariants as call
 use Rattle.mps_model.specs.Answer.{Answer, is_block, is_unsupported}
-use Rattle.mps_model.specs.Step.{Step}
-use Rattle.mps_model.specs.Graph.{ids_in_blocks, targets}
-use Rattle.mps_model.specs.World.{World, is_live, live_ids}
-use Rattle.mps_model.specs.WellFormed.{IsWellFormed}
+use Rattle.mps_model.specs.Graph.{ids_in_blocks}
+use Rattle.mps_model.specs.World.{World, is_live}
 use Rattle.mps_model.specs.Checked.{Act, Checked}
 use Rattle.mps_model.specs.LegalMove.{AreLegalMoves}
-use Rattle.mps_model.specs.Reply.{act, answer_from, world_from}
-use Rattle.mps_model.specs.History.{IsLegalStep, IsAnsweredStep, HeldAreLive, judged_world, moved_world, moves_of_collector, world_after, world_after_call, with_client_remembered}
+use Rattle.mps_model.specs.Reply.{act, world_from}
+use Rattle.mps_model.specs.History.{judged_world, moved_world, moves_of_collector}
 use Rattle.mps_changes.specs.Change.{makes_arena, Change, Unchanged, Allocated, Committed, PlaceEmptied, BlocksMade}
 use Rattle.mps_changes.proofs.ActChanges.{but, of_changes}
 use Rattle.mps_changes.proofs.Checks.{for_world}
 use Rattle.mps_laws.proofs.Sound.HeldIds.{blocks_made}
-use Rattle.mps_laws.proofs.QuietSteps.{IsQuiet, quiet}
+use Rattle.mps_laws.proofs.QuietSteps.{IsQuiet}
 use Rattle.mps_abstract.specs.Colours.{AreDifferent}
 use Rattle.mps_abstract.specs.Collecting.{Collecting, Running}
-use Rattle.mps_abstract.specs.ClientLaws.{AreApartFrom, IsMarkedKept, IsReadKept, IsWellPlaced, after_client, collected_world}
+use Rattle.mps_abstract.specs.ClientLaws.{AreApartFrom, IsMarkedKept, IsReadKept, IsWellPlaced, collected_world}
 use Rattle.mps_abstract.proofs.HeldSegments.{segments_ordered}
 use Rattle.mps_abstract.proofs.OwnAddresses.{well_formed_different}
-use Rattle.mps_abstract.proofs.Calls.ClientCalls.{clients_keep}
 use Rattle.mps_abstract.proofs.LeftRightly.{left_rightly}
 use Rattle.mps_refinement.proofs.Worlds.RestingActs.{may_move}
 use Rattle.mps_refinement.proofs.Worlds.RunningSteps.{IsOwnStep, own_step_runs_on}

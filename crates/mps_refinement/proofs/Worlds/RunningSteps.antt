@@ -25,7 +25,7 @@ use Rattle.mps_model.specs.WellFormed.{IsWellFormed}
 use Rattle.mps_model.specs.Checked.{Act, Checked}
 use Rattle.mps_model.specs.LegalMove.{AreLegalMoves}
 use Rattle.mps_model.specs.Reply.{act, answer_from, world_from}
-use Rattle.mps_model.specs.History.{IsLegalStep, IsAnsweredStep, HeldAreLive, AreMovesOf, IsPossiblyMarked, judged_world, moved_world, moves_of_collector, remembering, world_after, world_after_call, with_client_remembered}
+use Rattle.mps_model.specs.History.{IsAnsweredStep, HeldAreLive, AreMovesOf, IsPossiblyMarked, judged_world, moved_world, moves_of_collector, remembering, world_after, world_after_call, with_client_remembered}
 use Rattle.mps_refinement.specs.QuietCalls.{RunsOn}
 use Rattle.mps_refinement.specs.RightStep.{step_of}
 

@@ -206,7 +206,8 @@ module _ {F : Type 0} (layout : F → Layout) where
 
   -- a call that isn't a `poke`, with what its act comes to
   pub plain_is_right : (w : World) (line : ℕ) (c : Call) (answer : Answer) (x : Checked Act) (h after : HeapState F)
-      → never_moves c ≡ true → is_poke c ≡ false → is_unsupported answer ≡ false → (st : StandsFor layout h w) → KeepsMarks h.segs after.segs
+      → never_moves c ≡ true → is_poke c ≡ false → is_unsupported answer ≡ false → (st : StandsFor layout h w)
+      → KeepsMarks h.segs after.segs
       → act false w w c ≡ x → answer ≡ answer_from x → (world_from w x).formats ≡ w.formats
       → HasParts st.past.time after (world_from w x) → IsRightIn layout w (step_of line c [] answer) after
   plain_is_right w line c answer x h after still plain supported st same comes answers formats has =
