@@ -43,11 +43,11 @@ flip_same formats points x y is =
     }
 
 pub nailed_is : {F : Type 0} (formats : List (Option (Policy F))) (points : PointsState) (roots : RootsState) (x y : Traced) (s : SegsState)
-    → y ≡ at_flip formats points x → s ≡ nailed_by_areas roots.areas y.segs
+    → y ≡ at_flip formats points x → s ≡ nailed_by_areas formats roots.areas y.segs
     → record y { segs = s } ≡ nailed_at_flip formats points roots x
 nailed_is formats points roots x y s flipped nailed =
     ap (λ (u : SegsState). let z : Traced = record y { segs = u } in z) nailed
-    ∙ ap (λ (w : Traced). let z : Traced = record w { segs = nailed_by_areas roots.areas w.segs } in z) flipped
+    ∙ ap (λ (w : Traced). let z : Traced = record w { segs = nailed_by_areas formats roots.areas w.segs } in z) flipped
 
 -- roots are fixed at states of which only what is at hand has changed
 module _ {F : Type 0} (layout : F → Layout) (t f : TraceState F) (same : f ≡ record t { amc = f.amc }) where

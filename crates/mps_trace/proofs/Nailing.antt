@@ -8,8 +8,9 @@ use Rattle.mps_base.specs.declared.address.Addr.{Addr}
 use Rattle.mps_amc.specs.Moving.{nailed, kept_in_place}
 use Rattle.mps_seg.specs.Extents.{run_over, has_word}
 use Rattle.mps_seg.specs.Segs.{SegsState, at_word}
-use Rattle.mps_seg.specs.Collecting.{is_condemned_at, is_kept_at}
-use Rattle.mps_trace.specs.Flip.{nailed_in}
+use Rattle.mps_seg.specs.Collecting.{is_kept_at}
+use Rattle.mps_trace.specs.Flip.{nailed_in, pins}
+use Rattle.mps_format.specs.declared.pool.Policy.{Policy}
 
 ends_above : (low high : ℕ) (rs : List Run) → IsAscending low high rs → low ≤ high
 ends_above low high [] ascending = ascending
@@ -61,20 +62,21 @@ nailed_same s at =
           record { blocks = ap (λ (x : SegsState). x.blocks) same; grains = ap (λ (x : SegsState). x.grains) same }
     ]
 
-pub nailed_in_same : (s : SegsState) (o : Option Word) → AreBlocksSame s (nailed_in s o)
-nailed_in_same s None = record { blocks = refl; grains = refl }
-nailed_in_same s (Some word) =
-    let at = address_of_word word in
-    let condemned : Bool = is_condemned_at s at in
+pub nailed_in_same : {F : Type 0} (formats : List (Option (Policy F))) (s : SegsState) (word : ℕ) (o : Option Word)
+    → AreBlocksSame s (nailed_in formats s word o)
+nailed_in_same formats s word None = record { blocks = refl; grains = refl }
+nailed_in_same formats s word (Some n) =
+    let at = address_of_word n in
+    let pinned : Bool = pins formats s word at in
     let rest = nailed_same s at in
-    elim (cases_Bool condemned) [
+    elim (cases_Bool pinned) [
       | inl is ↦
-          let same = cond-true condemned (nailed s at) s is in
+          let same = cond-true pinned (nailed s at) s is in
           record {
             blocks = ap (λ (x : SegsState). x.blocks) same ∙ rest.blocks;
             grains = ap (λ (x : SegsState). x.grains) same ∙ rest.grains;
           }
       | inr is ↦
-          let same = cond-false condemned (nailed s at) s is in
+          let same = cond-false pinned (nailed s at) s is in
           record { blocks = ap (λ (x : SegsState). x.blocks) same; grains = ap (λ (x : SegsState). x.grains) same }
     ]

@@ -1,5 +1,5 @@
 -- How a collection begins.
-use Rattle.std.specs.Prelude.{◌≡◌, ◌<◌, Option, Some, None, List, [], ◌∷◌, length, refl}
+use Rattle.std.specs.Prelude.{ℕ, ◌≡◌, ◌<◌, Option, Some, None, List, [], ◌∷◌, length, refl}
 use Rattle.mps_buffer.specs.Points.{PointsState}
 use Rattle.mps_final.specs.State.{FinalsState}
 use Rattle.mps_format.specs.Layout.{Layout}
@@ -15,20 +15,20 @@ use Rattle.mps_trace.specs.declared.running.Running.{Running}
 use Rattle.mps_trace.specs.declared.running.Band.TheVariants.{Exact}
 use Rattle.mps_format.specs.declared.pool.Policy.{Policy}
 
--- the blocks in which words of an area lie are nailed
-abbrev pub nailed_by_area : Option (List Stored) → SegsState → SegsState
-nailed_by_area None s = s
-nailed_by_area (Some words) s = nailed_by_all words s
+-- the blocks that words of an area pin are nailed
+abbrev pub nailed_by_area : {F : Type 0} → (formats : List (Option (Policy F))) → Option (List Stored) → SegsState → SegsState
+nailed_by_area formats None s = s
+nailed_by_area formats (Some words) s = nailed_by_all formats words s
 
--- the blocks in which words of these areas lie are nailed, area by area
-abbrev pub nailed_by_areas : List (Option (List Stored)) → SegsState → SegsState
-nailed_by_areas [] s = s
-nailed_by_areas (a ∷ areas) s = nailed_by_areas areas (nailed_by_area a s)
+-- the blocks that words of these areas pin are nailed, area by area
+abbrev pub nailed_by_areas : {F : Type 0} → (formats : List (Option (Policy F))) → List (Option (List Stored)) → SegsState → SegsState
+nailed_by_areas formats [] s = s
+nailed_by_areas formats (a ∷ areas) s = nailed_by_areas formats areas (nailed_by_area formats a s)
 
--- what a flip leaves, with the blocks nailed in which area words lie
+-- what a flip leaves, with the blocks nailed that area words pin
 abbrev pub nailed_at_flip : {F : Type 0} → (formats : List (Option (Policy F))) → PointsState → RootsState → Traced → Traced
 nailed_at_flip formats points roots x = record (at_flip formats points x) {
-  segs = nailed_by_areas roots.areas (at_flip formats points x).segs;
+  segs = nailed_by_areas formats roots.areas (at_flip formats points x).segs;
 }
 
 -- a collection begins: after the flip, slots and then messages are fixed, and no unit is done
@@ -58,5 +58,5 @@ pub record CanFixRoots {F : Type 0} (layout : F → Layout) (t : TraceState F) (
 
 -- ---- vectors
 
-pub no_area_nails_nothing : nailed_by_areas (None ∷ Some [] ∷ []) (new_segments 1 1) ≡ new_segments 1 1
+pub no_area_nails_nothing : nailed_by_areas {F = ℕ} [] (None ∷ Some [] ∷ []) (new_segments 1 1) ≡ new_segments 1 1
 no_area_nails_nothing = refl

@@ -1,8 +1,8 @@
 -- What a flip condemns and drops, and the blocks that area words nail.
-use Rattle.std.specs.Prelude.{◌≡◌, ℕ, ◌+◌, Bool, true, false, is_some, if◌then◌else◌, Option, Some, None, List, [], ◌∷◌, filter, get_or, map, refl}
+use Rattle.std.specs.Prelude.{◌≡◌, ℕ, ◌+◌, ◌&&◌, ◌||◌, ◌==◌, Bool, true, false, is_some, option_map, if◌then◌else◌, Option, Some, None, List, [], ◌∷◌, filter, get_or, map, refl}
 use Rattle.std.specs.Option.{option_map_or}
-use Rattle.mps_base.specs.Address.{Word, word_of, address_of_word}
-use Rattle.mps_base.specs.Segment.{Segment, grains_of_segment}
+use Rattle.mps_base.specs.Address.{Address, Word, word_of, address_of_word}
+use Rattle.mps_base.specs.Segment.{Segment, grains_of_segment, segment_over}
 use Rattle.mps_base.specs.Trail.{with_move}
 use Rattle.mps_base.specs.Zones.{zones_of_runs}
 use Rattle.mps_base.specs.declared.moves.Move.TheVariants.{Flip}
@@ -13,7 +13,8 @@ use Rattle.mps_buffer.specs.Points.{PointsState, after_all_end}
 use Rattle.mps_seg.specs.Extents.{run_over}
 use Rattle.mps_gen.specs.State.{max_chains}
 use Rattle.mps_root.specs.declared.roots.Stored.{Stored}
-use Rattle.mps_seg.specs.Segs.{SegsState}
+use Rattle.mps_seg.specs.BitsTable.{bit}
+use Rattle.mps_seg.specs.Segs.{SegsState, new_segments}
 use Rattle.mps_seg.specs.Collecting.{condemning, is_condemned_at}
 use Rattle.mps_trace.specs.Trace.{Traced}
 use Rattle.mps_format.specs.declared.pool.Policy.{Policy}
@@ -62,19 +63,28 @@ at_flip formats points x = record {
 
 -- ---- area words
 
--- the block that begins at a word is nailed, if it is condemned
-abbrev pub nailed_in : SegsState → Option Word → SegsState
-nailed_in s None = s
-nailed_in s (Some word) = if is_condemned_at s (address_of_word word) then nailed s (address_of_word word) else s
+-- whether a collection moves the blocks of the segment over an address
+abbrev pub moves_at : {F : Type 0} → (formats : List (Option (Policy F))) → SegsState → (at : Address) → Bool
+moves_at formats s at = option_map_or (moves_blocks formats) (option_map (λ (t : Segment). t.pool) (segment_over s.segments at)) false
 
--- the condemned block in which a word of an area lies is nailed
-abbrev pub nailed_by : SegsState → (word : ℕ) → SegsState
-nailed_by s word = nailed_in s (run_over s.blocks (word_of word))
+-- whether a number in the bytes of the block at an address pins it: it does if the block is condemned and may move, and if it doesn't
+-- move only if the number is its address
+abbrev pub pins : {F : Type 0} → (formats : List (Option (Policy F))) → SegsState → (word : ℕ) → (at : Address) → Bool
+pins formats s word at = is_condemned_at s at && (moves_at formats s at || word == at)
 
--- the blocks in which these words lie are nailed, one after the other
-abbrev pub nailed_by_all : List Stored → SegsState → SegsState
-nailed_by_all [] s = s
-nailed_by_all (w ∷ ws) s = nailed_by_all ws (nailed_by s w.word)
+-- the block that begins at a word is nailed, if a number in its bytes pins it
+abbrev pub nailed_in : {F : Type 0} → (formats : List (Option (Policy F))) → SegsState → (word : ℕ) → Option Word → SegsState
+nailed_in formats s word None = s
+nailed_in formats s word (Some n) = if pins formats s word (address_of_word n) then nailed s (address_of_word n) else s
+
+-- the block that a word of an area pins is nailed
+abbrev pub nailed_by : {F : Type 0} → (formats : List (Option (Policy F))) → SegsState → (word : ℕ) → SegsState
+nailed_by formats s word = nailed_in formats s word (run_over s.blocks (word_of word))
+
+-- the blocks that these words pin are nailed, one after the other
+abbrev pub nailed_by_all : {F : Type 0} → (formats : List (Option (Policy F))) → List Stored → SegsState → SegsState
+nailed_by_all formats [] s = s
+nailed_by_all formats (w ∷ ws) s = nailed_by_all formats ws (nailed_by formats s w.word)
 
 -- ---- vectors: pool 0 isn't collected, the blocks of pool 1 move, and those of pool 2 don't
 
@@ -98,3 +108,26 @@ a_zone_for_each_grain = refl
 
 pub a_pool_that_is_not_known : is_automatic formats 3 ≡ false
 a_pool_that_is_not_known = refl
+
+-- one block of three words in a condemned segment of a pool
+abbrev one_block : (pool : ℕ) → SegsState
+one_block pool = condemning (record (new_segments 2 2) {
+  segments = record (segment_of_pool 0x1000 pool) { grains = 1 } ∷ [];
+  blocks = record { from = 512; count = 3 } ∷ [];
+}) 0x1000
+
+pub any_byte_pins_what_moves : pins formats (one_block 1) 0x1009 0x1000 ≡ true
+unfolding bit
+any_byte_pins_what_moves = refl
+
+pub its_address_pins_what_stays : pins formats (one_block 2) 0x1000 0x1000 ≡ true
+unfolding bit
+its_address_pins_what_stays = refl
+
+pub the_byte_after_does_not : pins formats (one_block 2) 0x1001 0x1000 ≡ false
+unfolding bit
+the_byte_after_does_not = refl
+
+pub nor_does_its_next_word : nailed_by formats (one_block 2) 0x1008 ≡ one_block 2
+unfolding bit
+nor_does_its_next_word = refl

@@ -26,7 +26,7 @@ use mps_root::Roots;
 use mps_seg::Segs;
 
 impl<F: Format> Trace<F> {
-    /// Begins a full collection: the flip, then the blocks in which area words lie are nailed, and slots and messages are fixed.
+    /// Begins a full collection: the flip, then the blocks that area words pin are nailed, and slots and messages are fixed.
     /// None if nothing is condemned: the collection has ended.
     pub fn begin(
         &mut self,
@@ -70,10 +70,10 @@ impl<F: Format> Trace<F> {
         })
     }
 
-    /// Nails each condemned block in which a word of an area lies.
+    /// Nails each condemned block that a word of an area pins.
     fn nail_areas(&self, segs: &mut Segs, roots: &Roots)
         requires { IsAscending 0 (words_of_grain * (segs.old.grains + 1)) segs.old.blocks }
-        ensures { segs.new ≡ nailed_by_areas roots.now.areas segs.old }
+        ensures { segs.new ≡ nailed_by_areas self.now.formats roots.now.areas segs.old }
     {
         for key in 0..roots.area_keys() {
             if let Some(words) = roots.words(key) {

@@ -10,7 +10,7 @@ ghost use Rattle.mps_buffer.specs.Points as buffer;
 ghost use Rattle.mps_ld.specs.State as ld;
 ghost use Rattle.mps_trace.specs.Trace.{traced};
 ghost use Rattle.mps_trace.specs.Condemned.{AreInOrder};
-ghost use Rattle.mps_trace.specs.Flip.{automatic_of, moves_blocks, moving_of, all_condemned, zones_of, at_flip, nailed_by, nailed_by_all};
+ghost use Rattle.mps_trace.specs.Flip.{automatic_of, moves_blocks, moving_of, all_condemned, zones_of, at_flip, pins, nailed_by, nailed_by_all};
 
 use crate::Trace;
 use crate::finding::segment_at;
@@ -98,30 +98,38 @@ impl<F: Format> Trace<F> {
         }
     }
 
-    /// Nails each condemned block in which a word of an area lies, given the words of the area.
+    /// Nails each condemned block that a word of an area pins, given the words of the area.
     pub(crate) fn nail_words(&self, segs: &mut Segs, words: &[Stored])
         requires { IsAscending 0 (words_of_grain * (segs.old.grains + 1)) segs.old.blocks }
-        ensures { segs.new ≡ nailed_by_all words.now segs.old }
+        ensures { segs.new ≡ nailed_by_all self.now.formats words.now segs.old }
     {
         for index in 0..words.len() {
             self.nail_over(segs, words[index].word);
         }
     }
 
-    /// Nails the condemned block in which a word lies, if there is one.
+    /// Nails the condemned block that a word pins, if there is one.
     fn nail_over(&self, segs: &mut Segs, word: u64)
         requires { IsAscending 0 (words_of_grain * (segs.old.grains + 1)) segs.old.blocks }
-        ensures { segs.new ≡ nailed_by segs.old word }
+        ensures state { segs.new ≡ nailed_by self.now.formats segs.old word }
     {
         let Some(at) = segs.block_at(word) else {
             return;
         };
-        let Some(segment) = segment_at(segs, at) else {
-            return;
-        };
-        if segment.is_condemned {
+        if self.pins(segs, word, at) {
             self.nail(segs, at);
         }
+    }
+
+    /// Whether a word that lies in the block at `at` pins it: the block is condemned, and either its pool moves its blocks or the
+    /// word is its address.
+    fn pins(&self, segs: &Segs, word: u64, at: Addr) -> bool
+        ensures value { result ≡ pins self.now.formats segs.now word at.0 }
+    {
+        let Some(segment) = segment_at(segs, at) else {
+            return false;
+        };
+        segment.is_condemned && (self.moves_blocks(segment.pool) || word == at.0)
     }
 }
 

@@ -29,7 +29,7 @@ use Rattle.mps_trace_laws.specs.Flip.Reservations.{AreNoneLive}
 use Rattle.mps_trace_laws.proofs.Flip.Reservations.{no_reservation_is_live}
 use Rattle.mps_trace_laws.specs.Units.Standing.{IsMoving}
 use Rattle.mps_trace_laws.specs.Nails.Flipped.{setting_flipped_in}
-use Rattle.mps_trace_laws.specs.Nails.Nailed.{AreWordsShown, AreMarkedTo, nails, pinned_colours, words_of_areas}
+use Rattle.mps_trace_laws.specs.Nails.Nailed.{AreWordsShown, AreMarkedTo, is_moving_word, nails, pinned_colours, words_of_areas}
 use Rattle.mps_trace_laws.proofs.Nails.Marks.{areas_marked}
 use Rattle.mps_trace_laws.specs.Begin.Before.{StandsBefore}
 use Rattle.mps_trace_laws.specs.Begin.Begun.{AFlipStands, IsFlipStanding}
@@ -68,9 +68,10 @@ module _ {F : Type 0} (layout : F → Layout) (t : TraceState F) (s : SegsState)
 
   -- ---- words of areas change marks alone
 
-  now : AreMarkedTo g z.segs (λ n. nails g.blocks (is_condemned_word g) (words_of_areas roots.areas) n || false)
+  now : AreMarkedTo g z.segs
+      (λ n. nails g.blocks (is_condemned_word g) (is_moving_word t.formats g) (words_of_areas roots.areas) n || false)
   now =
-      areas_marked g roots.areas (λ n. false) (whole layout t s m points w b) (unmarked layout t s m points w b)
+      areas_marked t.formats g roots.areas (λ n. false) (whole layout t s m points w b) (unmarked layout t s m points w b)
 
   same_grains : z.segs.grains ≡ s.grains
   same_grains = ap (λ (x : SegsState). x.grains) now.same ∙ (moved layout t s m points w b).grains
@@ -178,7 +179,7 @@ module _ {F : Type 0} (layout : F → Layout) (t : TraceState F) (s : SegsState)
     traces = record { state = state; room = room };
     housed = subst (λ (ts : List Segment). AreHoused w.graph.objects ts w.addresses) (sym same_segments)
         b.segments.housed;
-    strong = strong_areas roots.areas g (strong layout t s m points w b);
+    strong = strong_areas t.formats roots.areas g (strong layout t s m points w b);
     moving = moving;
     unreserved = λ u there is point l r n lies. absurd (none_live.not_live point r lies.reserved);
     trail = ap (λ (move : Move). m.moves ++ move ∷ []) (models layout t s m points w b).move;

@@ -1,9 +1,9 @@
 -- The image of objects right after a flip of everything, once words of areas have nailed blocks.
-use Rattle.std.proofs.Common.{◌≡◌, ◌∙◌, ℕ, zero, suc, true, false, List, [], ◌∷◌, map, Option, Some, None, refl, sym, subst}
-use Rattle.std.proofs.lemmas.Bool.{false≢true, true≢false}
+use Rattle.std.proofs.Common.{◌≡◌, ◌∙◌, ℕ, zero, suc, Bool, true, false, List, [], ◌∷◌, map, Option, Some, None, refl, sym, ap, subst}
+use Rattle.std.proofs.lemmas.Bool.{true≢false}
 use Rattle.std.proofs.lemmas.Option.{none-some, same_Some}
-use Rattle.std.specs.Prelude.{slice_get}
-use Rattle.std.specs.Option.{option_map_or}
+use Rattle.std.specs.Prelude.{◌&&◌, slice_get}
+use Rattle.std.specs.List.{list_any}
 use Rattle.mps_base.specs.Address.{Id, Word, word_of}
 use Rattle.mps_base.specs.Trail.{Moves}
 use Rattle.mps_format.specs.Layout.{Layout}
@@ -14,8 +14,8 @@ use Rattle.mps_trace.specs.Begin.{nailed_by_areas}
 use Rattle.mps_trace.specs.Flip as flip
 use Rattle.mps_trace.specs.Trace.{TraceState, traced}
 use Rattle.mps_model.specs.Effect.{Everything, condemned_zones, doomed, without_buffer, world_flipped}
-use Rattle.mps_model.specs.Graph.{Body, Automatic, Manual, Cell, NumberCell, Object, Point, contains, is_automatic, is_automatic_body, target_of_cell}
-use Rattle.mps_model.specs.World.{World, PointMemory, area_words, is_automatic_kind, is_copying_pool, pool_is}
+use Rattle.mps_model.specs.Graph.{Body, Automatic, Manual, Cell, NumberCell, Object, Point, contains, is_automatic, is_automatic_body, size_of, target_of_cell}
+use Rattle.mps_model.specs.World.{World, PointMemory, area_words, is_automatic_kind, is_word_in, pool_is}
 use Rattle.mps_model.specs.WellFormed.{is_right_object}
 use Rattle.mps_abstract.specs.FlipLaws.{collecting_after_flip}
 use Rattle.mps_abstract.proofs.Calls.ClientThings.{list_all-at}
@@ -30,7 +30,7 @@ use Rattle.mps_trace_laws.specs.Nails.Nailed.{AreWordsShown, ArePinned, pinned_c
 use Rattle.mps_trace_laws.proofs.Nails.Flipped.{flip_pins}
 use Rattle.mps_trace_laws.proofs.Nails.Modelled.{model_pins}
 use Rattle.mps_trace_laws.specs.Begin.Before.{StandsBefore}
-use Rattle.mps_trace_laws.proofs.Begin.CondemnedIds.{condemned_automatic, condemned_is}
+use Rattle.mps_trace_laws.proofs.Begin.CondemnedIds.{condemned_is}
 use Rattle.mps_trace_laws.proofs.Begin.FlippedSegments.{segments_flipped, condemns_words, moved, unmarked, whole}
 
 -- ---- manual objects refer to nothing
@@ -69,16 +69,6 @@ module _ {F : Type 0} (layout : F → Layout) (t : TraceState F) (s : SegsState)
   pub kind_is : (id : Id) (o : Object) → slice_get w.graph.objects id ≡ Some o → pool_is is_automatic_kind w o.pool ≡ is_automatic o
   kind_is id o object = pool_kind w o (list_all-at (is_right_object w) w.graph.objects id o b.plain.rest.well_formed.objects object)
 
-  -- objects of automatic pools are in pools that move blocks
-  pub automatic_copies : (id : Id) (o : Object) → slice_get w.graph.objects id ≡ Some o → is_automatic o ≡ true
-      → is_copying_pool w o.pool ≡ true
-  automatic_copies id o object is = b.pools.copying o.pool (kind_is id o object ∙ is)
-
-  copies : (id : Id) (found : Option Object) → slice_get w.graph.objects id ≡ found → option_map_or is_automatic found false ≡ true
-      → option_map_or (λ (o : Object). is_copying_pool w o.pool) found false ≡ true
-  copies id None there is = absurd (false≢true is)
-  copies id (Some o) there is = automatic_copies id o there is
-
   -- a word of an object is condemned where its pool is automatic
   word_condemned : (id k : ℕ) (o : Object) (n : Word) → Lies w.graph.objects w.addresses id k o n
       → is_condemned_word g n ≡ flip.is_automatic t.formats o.pool
@@ -99,6 +89,7 @@ module _ {F : Type 0} (layout : F → Layout) (t : TraceState F) (s : SegsState)
         at_rest = refl;
         all_read = λ id. refl;
         words = (moved layout t s m points w b).words;
+        pools = λ n. sym ((condemns_words layout t s m points w b).pools n);
         runs = flip_leaves_runs t.formats points (traced t s m) resting w.addresses condemned (is_condemned_word g)
             (words_of_arena s.grains) b.segments.image.runs b.segments.covered b.reservations;
         doomed = (no_reservation_is_live w.graph.points w.point_memories).not_live;
@@ -119,13 +110,14 @@ module _ {F : Type 0} (layout : F → Layout) (t : TraceState F) (s : SegsState)
     abbrev pinned : List Id
     pinned = (collecting_after_flip w Everything []).running.pinned
 
-    pins : ArePinned w.graph.objects w.addresses condemned pinned (words_of_areas areas)
-    pins =
-        model_pins (world_flipped w (condemned_zones w Everything)) Everything (words_of_areas areas) shown (λ id there.
-        copies id (slice_get w.graph.objects id) refl (condemned_automatic w b.plain.rest id there))
+    pins : ArePinned w.graph.objects w.addresses (flip.moves_blocks t.formats) condemned pinned (words_of_areas areas)
+    pins id at o there object =
+        let inside : Bool → Stored → Bool = λ kind x. is_word_in kind at (size_of o) x.word in
+        model_pins (world_flipped w (condemned_zones w Everything)) Everything (words_of_areas areas) shown id at o there object
+        ∙ ap (λ (kind : Bool). contains condemned id && list_any (inside kind) (words_of_areas areas)) (sym (b.pools.moves o.pool))
 
     pub image_pinned : Stands (setting_flipped_in resting g w.addresses points_after memories_after condemned)
-        (memory_in (nailed_by_areas areas g)) w.addresses (pinned_colours pinned)
+        (memory_in (nailed_by_areas t.formats areas g)) w.addresses (pinned_colours pinned)
     image_pinned =
         flip_pins resting (memory_in s) g w.addresses no_colours (black_cells [] no_colours) points_after memories_after condemned
-        b.segments.image is_flipped areas pinned pins
+        b.segments.image is_flipped t.formats areas pinned pins

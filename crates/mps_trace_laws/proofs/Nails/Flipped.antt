@@ -7,6 +7,8 @@ use Rattle.mps_base.specs.Address.{Address, Id, Word, word_of}
 use Rattle.mps_root.specs.declared.roots.Stored.{Stored}
 use Rattle.mps_seg.specs.Segs.{SegsState}
 use Rattle.mps_trace.specs.Begin.{nailed_by_areas}
+use Rattle.mps_trace.specs.Flip.{moves_blocks}
+use Rattle.mps_format.specs.declared.pool.Policy.{Policy}
 use Rattle.mps_model.specs.Checked.{head_of_body}
 use Rattle.mps_model.specs.Graph.{Cell, Object, Point, contains}
 use Rattle.mps_model.specs.World.{PointMemory}
@@ -79,8 +81,8 @@ module _ (s : Setting) (m : Memory) (g : SegsState) (addresses : List (Option Ad
     runs = f.runs;
   }
 
-  pub flip_pins : (areas : List (Option (List Stored))) (pinned : List Id)
-      → ArePinned s.objects addresses condemned pinned (words_of_areas areas)
-      → Stands after (memory_in (nailed_by_areas areas g)) addresses (pinned_colours pinned)
-  flip_pins areas pinned pins =
-      pinned_image after g addresses areas pinned unmarked_image f.tables f.unmarked (λ n. refl) pins
+  pub flip_pins : {F : Type 0} (formats : List (Option (Policy F))) (areas : List (Option (List Stored))) (pinned : List Id)
+      → ArePinned s.objects addresses (moves_blocks formats) condemned pinned (words_of_areas areas)
+      → Stands after (memory_in (nailed_by_areas formats areas g)) addresses (pinned_colours pinned)
+  flip_pins formats areas pinned pins =
+      pinned_image formats after g addresses areas pinned unmarked_image f.tables f.unmarked (λ n. refl) f.pools pins

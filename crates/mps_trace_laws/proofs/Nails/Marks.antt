@@ -23,7 +23,8 @@ use Rattle.mps_trace.specs.Begin.{nailed_by_areas}
 use Rattle.mps_trace.specs.Flip.{nailed_in, nailed_by, nailed_by_all}
 use Rattle.mps_trace_laws.specs.Image.Memory.{is_condemned_word, words_of_arena}
 use Rattle.mps_trace_laws.proofs.Nails.OneWord.{run_that_is_over}
-use Rattle.mps_trace_laws.specs.Nails.Nailed.{AreTablesWhole, AreMarkedAt, AreMarkedTo, begins_at, is_over_block, nails, words_of_areas}
+use Rattle.mps_trace_laws.specs.Nails.Nailed.{AreTablesWhole, AreMarkedAt, AreMarkedTo, begins_at, is_moving_word, pins_block, nails, words_of_areas}
+use Rattle.mps_format.specs.declared.pool.Policy.{Policy}
 
 -- ---- one bit more
 
@@ -116,16 +117,15 @@ module _ (s : SegsState) (f : Word → Bool) (whole : AreTablesWhole s) (marked 
   told : (s' : SegsState) (g h : Word → Bool) → ((n : Word) → g n ≡ h n) → AreMarkedTo s s' g → AreMarkedTo s s' h
   told s' g h same m = record { same = m.same; whole = m.whole; marks = marked_alike s' g h same m.marks }
 
-  -- whether a word is a given one that is condemned
-  here_only : (n : Word) (c : Bool) → is_condemned_word s n ≡ c → (k : Word) → (n == k && c) ≡ (is_condemned_word s k && n == k)
-  here_only n c is k =
+  -- whether a word is a given one that passes a test
+  here_only : (p : Word → Bool) (n : Word) (c : Bool) → p n ≡ c → (k : Word) → (n == k && c) ≡ (p k && n == k)
+  here_only p n c is k =
       elim (cases_eq n k) [
         | inl e ↦
-            ap (λ (b : Bool). b && c) (eq-eqb n k e) ∙ sym is ∙ ap (is_condemned_word s) e
-            ∙ and_true (is_condemned_word s k) ∙ ap (λ (b : Bool). is_condemned_word s k && b) (sym (eq-eqb n k e))
+            ap (λ (b : Bool). b && c) (eq-eqb n k e) ∙ sym is ∙ ap p e ∙ and_true (p k)
+            ∙ ap (λ (b : Bool). p k && b) (sym (eq-eqb n k e))
         | inr other ↦
-            ap (λ (b : Bool). b && c) (ne_eqb n k other)
-            ∙ sym (ap (λ (b : Bool). is_condemned_word s k && b) (ne_eqb n k other) ∙ and_false (is_condemned_word s k))
+            ap (λ (b : Bool). b && c) (ne_eqb n k other) ∙ sym (ap (λ (b : Bool). p k && b) (ne_eqb n k other) ∙ and_false (p k))
       ]
     where
       and_true : (x : Bool) → x ≡ (x && true)
@@ -135,6 +135,13 @@ module _ (s : SegsState) (f : Word → Bool) (whole : AreTablesWhole s) (marked 
       and_false : (x : Bool) → (x && false) ≡ false
       and_false true = refl
       and_false false = refl
+
+  last_first : (a b c : Bool) → ((a && b) && c) ≡ (a && (c && b))
+  last_first false b c = refl
+  last_first true true true = refl
+  last_first true true false = refl
+  last_first true false true = refl
+  last_first true false false = refl
 
   first_of : (b c x : Bool) → c ≡ true → (b || x) ≡ ((b && c) || x)
   first_of true true x e = refl
@@ -149,24 +156,29 @@ module _ (s : SegsState) (f : Word → Bool) (whole : AreTablesWhole s) (marked 
   word_again : (n : Word) → word_of (address_of_word n) ≡ n
   word_again n = omega arith
 
-  pub nailed_at_most_one : (o : Option Word) → ((n : Word) → o ≡ Some n → n < words_of_arena s.grains)
-      → AreMarkedTo s (nailed_in s o) (λ k. (is_condemned_word s k && begins_at o k) || f k)
-  nailed_at_most_one None within =
+  pub nailed_at_most_one : {F : Type 0} (formats : List (Option (Policy F))) (word : ℕ) (o : Option Word)
+      → ((n : Word) → o ≡ Some n → n < words_of_arena s.grains)
+      → AreMarkedTo s (nailed_in formats s word o)
+      (λ k. (is_condemned_word s k && (begins_at o k && (is_moving_word formats s k || word == address_of_word k))) || f k)
+  nailed_at_most_one formats word None within =
       unchanged (λ k. (is_condemned_word s k && false) || f k) (λ k. none_of (is_condemned_word s k) false (f k) refl)
-  nailed_at_most_one (Some n) within =
-      let goal : Word → Bool = λ k. (is_condemned_word s k && n == k) || f k in
-      elim (cases_Bool (is_condemned_word s n)) [
+  nailed_at_most_one formats word (Some n) within =
+      let by_kind : Word → Bool = λ k. is_moving_word formats s k || word == address_of_word k in
+      let goal : Word → Bool = λ k. (is_condemned_word s k && (n == k && by_kind k)) || f k in
+      let pinned : Word → Bool = λ k. is_condemned_word s k && by_kind k in
+      let here : (c : Bool) → pinned n ≡ c → (k : Word) → (n == k && c) ≡ (is_condemned_word s k && (n == k && by_kind k)) =
+      λ c is k. here_only pinned n c is k ∙ last_first (is_condemned_word s k) (by_kind k) (n == k)
+      in
+      elim (cases_Bool (pinned n)) [
         | inl is ↦
-            subst (λ (x : SegsState). AreMarkedTo s x goal)
-            (sym (cond-true (is_condemned_word s n) (nailed s (address_of_word n)) s is))
+            subst (λ (x : SegsState). AreMarkedTo s x goal) (sym (cond-true (pinned n) (nailed s (address_of_word n)) s is))
             (told (nailed s (address_of_word n)) (λ k. word_of (address_of_word n) == k || f k) goal (λ k.
             ap (λ (i : ℕ). i == k || f k) (word_again n) ∙ first_of (n == k) true (f k) refl
-            ∙ ap (λ (b : Bool). b || f k) (here_only n true is k))
+            ∙ ap (λ (b : Bool). b || f k) (here true is k))
             (nailed_now (address_of_word n) (subst (λ i. i < words_of_arena s.grains) (sym (word_again n)) (within n refl))))
         | inr outside ↦
-            subst (λ (x : SegsState). AreMarkedTo s x goal)
-            (sym (cond-false (is_condemned_word s n) (nailed s (address_of_word n)) s outside))
-            (unchanged goal (λ k. none_of (n == k) false (f k) refl ∙ ap (λ (b : Bool). b || f k) (here_only n false outside k)))
+            subst (λ (x : SegsState). AreMarkedTo s x goal) (sym (cond-false (pinned n) (nailed s (address_of_word n)) s outside))
+            (unchanged goal (λ k. none_of (n == k) false (f k) refl ∙ ap (λ (b : Bool). b || f k) (here false outside k)))
       ]
 
 -- ---- one word after the other
@@ -183,61 +195,75 @@ joined : (c a b f : Bool) → ((c && a) || ((c && b) || f)) ≡ ((c && (b || a))
 joined true a b f = second_more b a f ∙ sym (first_more b a f)
 joined false a b f = refl
 
-module _ (blocks : List Run) (is_condemned_over : Word → Bool) where
-  -- the segments have these blocks, and the same words are condemned
+module _ {F : Type 0} (formats : List (Option (Policy F))) (blocks : List Run) (is_condemned_over moves_over : Word → Bool) where
+  -- the segments have these blocks, and the same words are condemned and may move
   pub record Has (s : SegsState) : Type 0 where
     pub blocks_are : s.blocks ≡ blocks
     pub condemned_are : (n : Word) → is_condemned_word s n ≡ is_condemned_over n
+    pub moving_are : (n : Word) → is_moving_word formats s n ≡ moves_over n
 
   has_still : (s s' : SegsState) → s' ≡ record s { marks = s'.marks } → Has s → Has s'
-  has_still s s' same h = subst Has (sym same) (record { blocks_are = h.blocks_are; condemned_are = h.condemned_are })
+  has_still s s' same h =
+      subst Has (sym same) (record { blocks_are = h.blocks_are; condemned_are = h.condemned_are; moving_are = h.moving_are })
 
   word_marked : (s : SegsState) (f : Word → Bool) (w : Stored) → Has s → AreTablesWhole s → AreMarkedAt s f
-      → AreMarkedTo s (nailed_by s w.word) (λ n. (is_condemned_over n && is_over_block blocks n w) || f n)
+      → AreMarkedTo s (nailed_by formats s w.word) (λ n. (is_condemned_over n && pins_block blocks moves_over n w) || f n)
   word_marked s f w h whole marked =
       let found = run_over s.blocks (word_of w.word) in
-      told s f whole marked (nailed_by s w.word) (λ n. (is_condemned_word s n && begins_at found n) || f n)
-      (λ n. (is_condemned_over n && is_over_block blocks n w) || f n) (λ n.
-      ap (λ (c : Bool). (c && begins_at found n) || f n) (h.condemned_are n)
-      ∙ ap (λ (bs : List Run). (is_condemned_over n && begins_at (run_over bs (word_of w.word)) n) || f n) h.blocks_are)
-      (nailed_at_most_one s f whole marked found (λ n is.
+      let is_here : Word → Bool = λ n. w.word == address_of_word n in
+      told s f whole marked (nailed_by formats s w.word)
+      (λ n. (is_condemned_word s n && (begins_at found n && (is_moving_word formats s n || is_here n))) || f n)
+      (λ n. (is_condemned_over n && pins_block blocks moves_over n w) || f n) (λ n.
+      ap (λ (c : Bool). (c && (begins_at found n && (is_moving_word formats s n || is_here n))) || f n) (h.condemned_are n)
+      ∙ ap (λ (b : Bool). (is_condemned_over n && (begins_at found n && (b || is_here n))) || f n) (h.moving_are n)
+      ∙ ap (λ (bs : List Run).
+      (is_condemned_over n && (begins_at (run_over bs (word_of w.word)) n && (moves_over n || is_here n))) || f n) h.blocks_are)
+      (nailed_at_most_one s f whole marked formats w.word found (λ n is.
       run_below (words_of_arena s.grains) s.blocks (word_of w.word) n whole.order is))
 
   pub words_marked : (words : List Stored) (s : SegsState) (f : Word → Bool) → Has s → AreTablesWhole s → AreMarkedAt s f
-      → AreMarkedTo s (nailed_by_all words s) (λ n. nails blocks is_condemned_over words n || f n)
+      → AreMarkedTo s (nailed_by_all formats words s) (λ n. nails blocks is_condemned_over moves_over words n || f n)
   words_marked [] s f h whole marked =
-      unchanged s f whole marked (λ n. nails blocks is_condemned_over [] n || f n) (λ n.
+      unchanged s f whole marked (λ n. nails blocks is_condemned_over moves_over [] n || f n) (λ n.
       none_of s f whole marked (is_condemned_over n) false (f n) refl)
   words_marked (w ∷ ws) s f h whole marked =
-      let s' = nailed_by s w.word in
-      let f' : Word → Bool = λ n. (is_condemned_over n && is_over_block blocks n w) || f n in
+      let s' = nailed_by formats s w.word in
+      let f' : Word → Bool = λ n. (is_condemned_over n && pins_block blocks moves_over n w) || f n in
       let first = word_marked s f w h whole marked in
       let rest = words_marked ws s' f' (has_still s s' first.same h) first.whole first.marks in
-      let last = nailed_by_all ws s' in
+      let last = nailed_by_all formats ws s' in
       record {
         same = rest.same ∙ ap (λ (x : SegsState). record x { marks = last.marks }) first.same;
         whole = rest.whole;
-        marks = marked_alike last (λ n. nails blocks is_condemned_over ws n || f' n) (λ n. nails blocks is_condemned_over (w ∷ ws) n || f n)
-            (λ n. joined (is_condemned_over n) (list_any (is_over_block blocks n) ws) (is_over_block blocks n w) (f n)) rest.marks;
+        marks = marked_alike last (λ n. nails blocks is_condemned_over moves_over ws n || f' n)
+            (λ n. nails blocks is_condemned_over moves_over (w ∷ ws) n || f n)
+            (λ n. joined (is_condemned_over n) (list_any (pins_block blocks moves_over n) ws) (pins_block blocks moves_over n w) (f n))
+            rest.marks;
       }
 
 -- ---- all areas
 
-all_append : (xs ys : List Stored) (s : SegsState) → nailed_by_all (xs ++ ys) s ≡ nailed_by_all ys (nailed_by_all xs s)
-all_append [] ys s = refl
-all_append (x ∷ xs) ys s = all_append xs ys (nailed_by s x.word)
+module _ {F : Type 0} (formats : List (Option (Policy F))) where
+  all_append : (xs ys : List Stored) (s : SegsState)
+      → nailed_by_all formats (xs ++ ys) s ≡ nailed_by_all formats ys (nailed_by_all formats xs s)
+  all_append [] ys s = refl
+  all_append (x ∷ xs) ys s = all_append xs ys (nailed_by formats s x.word)
 
-pub areas_are_words : (areas : List (Option (List Stored))) (s : SegsState)
-    → nailed_by_areas areas s ≡ nailed_by_all (words_of_areas areas) s
-areas_are_words [] s = refl
-areas_are_words (None ∷ areas) s = areas_are_words areas s
-areas_are_words (Some words ∷ areas) s =
-    areas_are_words areas (nailed_by_all words s) ∙ sym (all_append words (words_of_areas areas) s)
+  pub areas_are_words : (areas : List (Option (List Stored))) (s : SegsState)
+      → nailed_by_areas formats areas s ≡ nailed_by_all formats (words_of_areas areas) s
+  areas_are_words [] s = refl
+  areas_are_words (None ∷ areas) s = areas_are_words areas s
+  areas_are_words (Some words ∷ areas) s =
+      areas_are_words areas (nailed_by_all formats words s) ∙ sym (all_append words (words_of_areas areas) s)
 
-pub areas_marked : (s : SegsState) (areas : List (Option (List Stored))) (marked : Word → Bool) → AreTablesWhole s → AreMarkedAt s marked
-    → AreMarkedTo s (nailed_by_areas areas s) (λ n. nails s.blocks (is_condemned_word s) (words_of_areas areas) n || marked n)
-areas_marked s areas marked whole marks =
-    subst (λ (x : SegsState). AreMarkedTo s x (λ n. nails s.blocks (is_condemned_word s) (words_of_areas areas) n || marked n))
-    (sym (areas_are_words areas s))
-    (words_marked s.blocks (is_condemned_word s) (words_of_areas areas) s marked
-    (record { blocks_are = refl; condemned_are = λ n. refl }) whole marks)
+  pub areas_marked : (s : SegsState) (areas : List (Option (List Stored))) (marked : Word → Bool) → AreTablesWhole s
+      → AreMarkedAt s marked
+      → AreMarkedTo s (nailed_by_areas formats areas s)
+      (λ n. nails s.blocks (is_condemned_word s) (is_moving_word formats s) (words_of_areas areas) n || marked n)
+  areas_marked s areas marked whole marks =
+      let goal : Word → Bool =
+      λ n. nails s.blocks (is_condemned_word s) (is_moving_word formats s) (words_of_areas areas) n || marked n
+      in
+      subst (λ (x : SegsState). AreMarkedTo s x goal) (sym (areas_are_words areas s))
+      (words_marked formats s.blocks (is_condemned_word s) (is_moving_word formats s) (words_of_areas areas) s marked
+      (record { blocks_are = refl; condemned_are = λ n. refl; moving_are = λ n. refl }) whole marks)

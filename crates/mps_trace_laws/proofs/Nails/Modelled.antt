@@ -1,14 +1,14 @@
 -- The objects that the model's flip pins.
 use Rattle.std.proofs.Common.{◌≡◌, ◌∙◌, ℕ, Bool, true, false, List, [], ◌∷◌, map, Option, Some, refl, sym, ap, inl, inr, subst}
 use Rattle.std.proofs.lemmas.Bool.{cases_Bool, and_parts, and_from, both_ways, false_from_ne_true, false≢true, or_cases, or_left, or_right}
-use Rattle.std.specs.Prelude.{◌&&◌, ◌||◌, IsTrue, slice_get, filter}
+use Rattle.std.specs.Prelude.{◌&&◌, ◌||◌, slice_get, filter}
 use Rattle.std.specs.List.{list_any}
 use Rattle.std.specs.Option.{option_map_or}
 use Rattle.mps_base.specs.Address.{Address, Id}
 use Rattle.mps_root.specs.declared.roots.Stored.{Stored}
 use Rattle.mps_model.specs.Effect.{Condemnation, condemned_by, condemned_ids, collection_at_flip, lies_in_one}
 use Rattle.mps_model.specs.Graph.{Object, contains, entry_at, size_of, is_automatic}
-use Rattle.mps_model.specs.World.{World, area_words, has_area_word, is_copying_object, is_word_in, lies_in, live_automatic_ids, live_ids, object_is, words_of}
+use Rattle.mps_model.specs.World.{World, area_words, has_area_word, is_copying_object, is_copying_pool, is_word_in, lies_in, live_automatic_ids, live_ids, object_is, words_of}
 use Rattle.mps_abstract.proofs.Lists.{contains_cases, contains_here, contains_later, contains-filter, contains_filtered}
 use Rattle.mps_trace_laws.specs.Nails.Nailed.{ArePinned, AreWordsShown}
 
@@ -80,24 +80,27 @@ module _ (w : World) (what : Condemnation) where
       let live = contains-filter (lies_in_one w (condemned_by w what)) (live_automatic_ids w) id there in
       (contains-filter (object_is is_automatic w) (live_ids w) id live.0).1
 
-  -- a word lies in an object that moves by its bytes
-  lies_by_bytes : (id : Id) (at : Address) (o : Object) (word : ℕ) → entry_at w.addresses id ≡ Some at
-      → slice_get w.graph.objects id ≡ Some o → object_is is_automatic w id ≡ true → is_copying_object w id ≡ true
-      → lies_in w word id ≡ is_word_in true at (size_of o) word
-  lies_by_bytes id at o word there object automatic copying =
+  -- a word lies in an object by its kind
+  lies_by_kind : (id : Id) (at : Address) (o : Object) (word : ℕ) → entry_at w.addresses id ≡ Some at
+      → slice_get w.graph.objects id ≡ Some o → object_is is_automatic w id ≡ true
+      → lies_in w word id ≡ is_word_in (is_copying_pool w o.pool) at (size_of o) word
+  lies_by_kind id at o word there object automatic =
       let size : words_of w id ≡ size_of o = ap (λ (x : Option Object). option_map_or size_of x 0) object in
+      let kind : is_copying_object w id ≡ is_copying_pool w o.pool =
+      ap (λ (x : Option Object). option_map_or (λ (p : Object). is_copying_pool w p.pool) x false) object in
       ap (λ (b : Bool).
       b && option_map_or (λ a. is_word_in (is_copying_object w id) a (words_of w id) word) (entry_at w.addresses id) false) automatic
       ∙ ap (λ (x : Option Address). option_map_or (λ a. is_word_in (is_copying_object w id) a (words_of w id) word) x false) there
-      ∙ ap (λ (b : Bool). is_word_in b at (words_of w id) word) copying ∙ ap (λ (n : ℕ). is_word_in true at n word) size
+      ∙ ap (λ (b : Bool). is_word_in b at (words_of w id) word) kind
+      ∙ ap (λ (n : ℕ). is_word_in (is_copying_pool w o.pool) at n word) size
 
   pub model_pins : (words : List Stored) → AreWordsShown words (area_words w)
-      → ((id : Id) → IsTrue (contains (condemned_ids w what) id) → IsTrue (is_copying_object w id))
-      → ArePinned w.graph.objects w.addresses (collection_at_flip w what).condemned (collection_at_flip w what).pinned words
-  model_pins words shown copying id at o there object =
+      → ArePinned w.graph.objects w.addresses (is_copying_pool w) (collection_at_flip w what).condemned
+      (collection_at_flip w what).pinned words
+  model_pins words shown id at o there object =
+      let inside : Stored → Bool = λ x. is_word_in (is_copying_pool w o.pool) at (size_of o) x.word in
       filter_is (has_area_word w) (condemned_ids w what) id
-      ∙ where_first (contains (condemned_ids w what) id) (has_area_word w id)
-      (list_any (λ (x : Stored). is_word_in true at (size_of o) x.word) words) (λ is.
+      ∙ where_first (contains (condemned_ids w what) id) (has_area_word w id) (list_any inside words) (λ is.
       sym (any_of_same (λ word. lies_in w word id) (map (λ (x : Stored). x.word) words) (area_words w) shown)
-      ∙ any_shown (λ word. lies_in w word id) (λ (x : Stored). is_word_in true at (size_of o) x.word) words (λ x.
-      lies_by_bytes id at o x.word there object (condemned_automatic id is) (copying id is)))
+      ∙ any_shown (λ word. lies_in w word id) inside words (λ x.
+      lies_by_kind id at o x.word there object (condemned_automatic id is)))

@@ -7,7 +7,7 @@ use Rattle.mps_model.specs.World.{PointMemory}
 use Rattle.mps_trace_laws.specs.Image.Bands.{setting_flipped}
 use Rattle.mps_trace_laws.specs.Image.Image.{RunsStand}
 use Rattle.mps_trace_laws.specs.Image.Laws.{AreAllRead}
-use Rattle.mps_trace_laws.specs.Image.Memory.{Setting, Memory, Lies, all_cells, is_condemned_word, live_reservation, memory_in}
+use Rattle.mps_trace_laws.specs.Image.Memory.{Setting, Memory, Lies, all_cells, is_condemned_word, live_reservation, memory_in, pool_over_word}
 use Rattle.mps_trace_laws.specs.Nails.Nailed.{AreMarkedAt, AreTablesWhole}
 
 -- the setting after a flip that condemned these objects, in an arena whose segments are so now
@@ -16,13 +16,14 @@ abbrev pub setting_flipped_in : Setting → SegsState → List (Option Address) 
 setting_flipped_in s g addresses points memories condemned = setting_flipped s addresses points memories condemned (is_condemned_word g)
 
 -- from an arena with this memory in which no collection ran, a flip that condemned these objects has led to these segments: the words
--- are as they were, no reservation is live, an object is condemned exactly if its segment is, what is live and isn't condemned
+-- and the pools over them are as they were, no reservation is live, an object is condemned exactly if its segment is, what is live and isn't condemned
 -- refers to nothing condemned, and nothing is marked yet
 pub record IsFlipped (s : Setting) (m : Memory) (g : SegsState) (addresses : List (Option Address)) (points : List (Option Point))
     (memories : List PointMemory) (condemned : List Id) : Type 0 where
   pub at_rest : s.at_flip ≡ []
   pub all_read : AreAllRead s
   pub words : g.words ≡ m.words
+  pub pools : (n : Word) → s.pool_over n ≡ pool_over_word g n
   pub runs : RunsStand (setting_flipped_in s g addresses points memories condemned) (memory_in g) addresses
   pub doomed : (point : ℕ) (r : Reservation) → live_reservation (entry_at points point) ≡ Some r → ⊥
   pub over : (id i : ℕ) (o : Object) (n : Word) (at : Address) → Lies s.objects addresses id i o n → entry_at addresses id ≡ Some at

@@ -1,6 +1,6 @@
-use Rattle.std.proofs.Common.{length}
-use Rattle.mps_trace.specs.Begin.{nailed_at_flip}
-use Rattle.mps_trace.specs.Trace.{traced}
+use Rattle.std.proofs.Common.{length, ap, ◌∙◌}
+use Rattle.mps_trace.specs.Begin.{nailed_at_flip, nailed_by_areas}
+use Rattle.mps_trace.specs.Trace.{TraceState, traced}
 use Rattle.mps_trace.proofs.Beginning.{ascending_still, flip_same, nailed_is, same_on, tables_still, messages_ready}
 use Rattle.mps_trace.proofs.trace.Trace.begin.Goals as goal
 
@@ -25,7 +25,9 @@ fix_messages-requires g c =
     let roots = c.args.roots.now in
     let start = traced f.self c.nail_areas.new.segs f.trail in
     let nailed =
-    nailed_is t.formats c.args.points.now roots x (traced f.self f.segs f.trail) c.nail_areas.new.segs flipped.flipped c.nail_areas.ensures
+    nailed_is t.formats c.args.points.now roots x (traced f.self f.segs f.trail) c.nail_areas.new.segs flipped.flipped
+    (c.nail_areas.ensures
+    ∙ ap (λ (u : TraceState g.row.F.Denot). nailed_by_areas u.formats roots.areas f.segs) flipped.unchanged)
     in
     messages_ready layout t z.self (same_on layout t f.self flipped.unchanged z.self c.fix_slots.ensures.unchanged) z.segs z.trail
     c.args.finals.now

@@ -6,5 +6,5 @@ use Rattle.mps_trace.proofs.trace.Trace.nail_areas.Given as goal
 -- the areas from this key on are still to go
 abbrev pub invariant-loop-key : goal.invariant-loop-key
 invariant-loop-key g l =
-    (nailed_by_areas (drop l.key l.roots.areas) l.segs ≡ nailed_by_areas l.roots.areas l.initial.segs)
+    (nailed_by_areas l.self.formats (drop l.key l.roots.areas) l.segs ≡ nailed_by_areas l.self.formats l.roots.areas l.initial.segs)
     × AreBlocksSame l.initial.segs l.segs
