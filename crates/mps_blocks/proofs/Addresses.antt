@@ -1,23 +1,20 @@
 -- The blocks of a map's entries, in ascending order of their addresses.
-use Rattle.std.proofs.Common.{◌≡◌, ℕ, ◌+◌, ◌<◌, Bool, cond, eqb, ltb, [], ◌∷◌, ◌++◌, Option, Some, length, map, drop, get_or, drop-cons, add-one, true, false, refl, sym, ap, ◌∙◌, arith}
-use Rattle.std.specs.Cmp.{nat_eq_equiv}
-use Rattle.std.specs.List.{AllByRecursion, IsDistinct}
-use Rattle.std.specs.List.Sorted.{IsPermutation, IsNonDecreasing, IsNonDecreasingBy, IsStrictlySortedBy}
+use Rattle.std.proofs.Common.{◌≡◌, ℕ, ◌+◌, ◌<◌, Bool, cond, eqb, ltb, [], ◌∷◌, ◌++◌, Option, Some, length, map, drop, get_or, drop-cons, add-one, true, false, refl, sym, ap, ◌∙◌}
+use Rattle.std.specs.List.{AllByRecursion}
+use Rattle.std.specs.List.Sorted.{IsStrictlySortedBy}
 use Rattle.std.specs.Map.{keys_of}
 use Rattle.std.specs.Ordering.{nat_cmp}
 use Rattle.std.specs.declared.cmp.Ordering.TheVariants.{Less, Equal, Greater}
 use Rattle.std.proofs.lemmas.Bool.{ltb-true, eqb-true}
-use Rattle.std.proofs.lemmas.List.{get_or-map, length-map}
-use Rattle.std.proofs.lemmas.List.Sorted.{IsPermutation-map}
-use Rattle.std.proofs.lemmas.Map.Keys.{IsDistinct-IsPermutation, IsStrictlyIncreasing-from_distinct, sorted_from_strictly_increasing}
-use Rattle.indexmap.proofs.MapLemmas.{lookup_permutation}
+use Rattle.std.proofs.lemmas.Map.Keys.{sorted_from_strictly_increasing}
 use Rattle.mps_model.specs.Replay.{Block, block_at}
+use Rattle.mps_address_map.specs.AddressMap.{found_at, Lists}
 use Rattle.mps_blocks.specs.declared.replay.Extent.{Extent}
 use Rattle.mps_blocks.specs.Entries.{block_of, store_of}
 use Rattle.mps_blocks.specs.Listing.{block_line, listing}
 use Rattle.mps_blocks.proofs.Ascending.{Above, Ascends}
 use Rattle.mps_blocks.proofs.Stores.{same_store}
-use Rattle.mps_blocks.proofs.Entries.{Entries, found_at, shown, eqb-sym, ascends-store, block_at-store}
+use Rattle.mps_blocks.proofs.Entries.{Entries, shown, eqb-sym, ascends-store, block_at-store}
 
 -- ---- what is found
 
@@ -52,29 +49,14 @@ unfolding IsStrictlySortedBy
 ascends_each [] h = tt
 ascends_each (e ∷ es) h = (above_each e.0 es h.0, ascends_each es h.1)
 
-keys_ascend : (es : Entries) → IsNonDecreasingBy (λ (e : ℕ × Extent). e.0) es → IsNonDecreasing (keys_of es)
-keys_ascend es ascending i j d le within =
-    let key : ℕ × Extent → ℕ = λ e. e.0 in
-    let some : ℕ × Extent = (d, record { words = 0; pool = 0 }) in
-    let inside : j < length es = omega (arith, within, length-map es key) in
-    omega (arith, get_or-map key es i some d (omega arith), get_or-map key es j some d inside, ascending i j some le inside)
-
 -- ---- all of them
 
--- the entries of a map, sorted by their addresses, are its blocks in order
-pub all_in_order : (es sorted : Entries) → IsDistinct eqb (keys_of es) → IsPermutation es sorted
-    → IsNonDecreasingBy (λ (e : ℕ × Extent). e.0) sorted → map block_of sorted ≡ store_of es
-all_in_order es sorted distinct permutation ascending =
-    let apart : IsDistinct eqb (keys_of sorted) =
-    IsDistinct-IsPermutation eqb eqb-sym (keys_of es) (keys_of sorted) (IsPermutation-map (λ (e : ℕ × Extent). e.0) es sorted permutation)
-    distinct in
-    let rising = IsStrictlyIncreasing-from_distinct (keys_of sorted) (keys_ascend sorted ascending) apart in
-    same_store (map block_of sorted) (store_of es) (ascends_each sorted (sorted_from_strictly_increasing (keys_of sorted) rising))
-    (ascends-store es)
-    (λ q.
-    block_at-map sorted q
-    ∙ ap (shown q) (lookup_permutation nat_eq_equiv es sorted permutation apart (eqb q) (nat_eq_equiv.congr q))
-    ∙ sym (block_at-store es q))
+-- the entries of a map, in ascending order, are its blocks in order
+pub all_in_order : (es sorted : Entries) → Lists es sorted → map block_of sorted ≡ store_of es
+all_in_order es sorted lists =
+    same_store (map block_of sorted) (store_of es)
+    (ascends_each sorted (sorted_from_strictly_increasing (keys_of sorted) lists.ascending)) (ascends-store es)
+    (λ q. block_at-map sorted q ∙ ap (shown q) (lists.same q) ∙ sym (block_at-store es q))
 
 -- ---- the lines
 

@@ -2,9 +2,9 @@
 use Rattle.std.proofs.Common.{◌≡◌, ℕ, ◌<◌, ◌≤◌, Bool, true, false, cond, eqb, ltb, List, [], ◌∷◌, Option, Some, None, Result, Ok, Err, refl, sym, ap, ◌∙◌, arith}
 use Rattle.std.specs.Prelude.{is_some}
 use Rattle.std.specs.Option.{option_map}
-use Rattle.std.specs.Map.{lookup}
 use Rattle.std.proofs.lemmas.Bool.{eqb-true, eq-eqb, le-ltb, lt-ltb}
 use Rattle.mps_model.specs.Replay.{Block, Store, block_at, is_live, with_block, without_block, after_making, after_moving, after_touching, after_freeing}
+use Rattle.mps_address_map.specs.AddressMap.{found_at, Changes}
 use Rattle.mps_blocks.specs.declared.replay.Extent.{Extent}
 use Rattle.mps_blocks.specs.Entries.{block_of, store_of}
 use Rattle.mps_blocks.specs.declared.replay.ReplayFault.{ReplayFault}
@@ -16,14 +16,6 @@ use Rattle.mps_blocks.proofs.Stores.{at_with, at_without, same_store}
 
 abbrev pub Entries : Type 0
 Entries = List (ℕ × Extent)
-
--- what the map has at an address
-abbrev pub found_at : Entries → ℕ → Option Extent
-found_at es at = lookup (eqb at) es
-
--- the new map has this at an address, and at each other what the old one has
-abbrev pub Changes : Entries → Entries → (at : ℕ) → Option Extent → Type 0
-Changes old new at x = (q : ℕ) → found_at new q ≡ cond (eqb at q) x (found_at old q)
 
 -- the block of an entry that was found at an address
 abbrev pub shown : ℕ → Option Extent → Option Block

@@ -68,7 +68,7 @@ fn list_blocks<D: Desk>(alloc: Global, log: &str, desk: &mut D) -> Result<(), St
         Err(_) => return Err(Stop::OutOfMemory),
     };
     let replay = replay_log(alloc, log, desk)?;
-    let blocks = match sorted_blocks(alloc, replay.into_live()) {
+    let blocks = match sorted_blocks(replay.into_live()) {
         Ok(blocks) => blocks,
         Err(_) => return Err(Stop::OutOfMemory),
     };

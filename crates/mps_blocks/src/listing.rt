@@ -7,21 +7,16 @@ ghost use Rattle.mps_blocks.specs.Entries.{store_of, block_of};
 ghost use Rattle.mps_blocks.specs.Listing.{block_line, listing};
 
 use crate::replay::Extent;
-use indexmap::IndexMap;
+use mps_address_map::AddressMap;
 use mps_desk::{Desk, Failed};
 use mps_report::Output;
-use std::alloc::{AllocError, Global};
+use std::alloc::AllocError;
 
 /// The live blocks, each with its address, in ascending order of their addresses.
-pub(crate) fn sorted_blocks(
-    alloc: Global,
-    live: IndexMap<u64, Extent>,
-) -> Result<Vec<(u64, Extent)>, AllocError>
-    ensures { IfOk result (λ blocks. map block_of blocks.items ≡ store_of live.entries) }
+pub(crate) fn sorted_blocks(live: AddressMap<Extent>) -> Result<Vec<(u64, Extent)>, AllocError>
+    ensures { IfOk result (λ blocks. map block_of blocks.items ≡ store_of live) }
 {
-    let mut blocks: Vec<(u64, Extent)> = live.into_iter().collect(alloc)?;
-    blocks.sort_unstable_by_key(|block| block.0);
-    Ok(blocks)
+    live.into_sorted()
 }
 
 /// Prints a line for each of these blocks. `Failed` where a write failed, after a prefix of the lines was printed.

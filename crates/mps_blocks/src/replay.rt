@@ -5,7 +5,7 @@ ghost use Rattle.mps_model.specs.Replay.{store_after, after_making, after_moving
 ghost use Rattle.mps_blocks.specs.Entries.{store_of};
 ghost use Rattle.mps_blocks.specs.Replaying.{Gives};
 
-use indexmap::IndexMap;
+use mps_address_map::AddressMap;
 use mps_event::RecordRef;
 use std::alloc::Global;
 use std::marker::Model;
@@ -27,7 +27,7 @@ pub(crate) enum ReplayFault {
 /// The live blocks by their addresses, and how many names were interned.
 #[derive(Drop)]
 pub(crate) struct Replay {
-    live: IndexMap<u64, Extent>,
+    live: AddressMap<Extent>,
     interned: u64,
 }
 
@@ -38,7 +38,7 @@ impl Model for Replay {
 
     ghost Value = { State };
 
-    ghost view = { λ r. record { blocks = store_of r.live.entries; interned = r.interned } };
+    ghost view = { λ r. record { blocks = store_of r.live; interned = r.interned } };
 }
 
 impl Replay {
@@ -49,14 +49,14 @@ impl Replay {
         ensures { result ≡ at_the_start }
     {
         Replay {
-            live: IndexMap::new(alloc),
+            live: AddressMap::new(alloc),
             interned: 0,
         }
     }
 
     /// The live blocks by their addresses.
-    pub(crate) fn into_live(self) -> IndexMap<u64, Extent>
-        ensures { store_of result.entries ≡ self.blocks }
+    pub(crate) fn into_live(self) -> AddressMap<Extent>
+        ensures { store_of result ≡ self.blocks }
     {
         self.live
     }
@@ -95,11 +95,8 @@ impl Replay {
 }
 
 /// What a record does to the live blocks.
-fn apply_to_blocks(
-    live: &mut IndexMap<u64, Extent>,
-    entry: &RecordRef<'_>,
-) -> Result<(), ReplayFault>
-    ensures { Gives (store_after (store_of live.old.entries) entry.now) (store_of live.new.entries) result }
+fn apply_to_blocks(live: &mut AddressMap<Extent>, entry: &RecordRef<'_>) -> Result<(), ReplayFault>
+    ensures { Gives (store_after (store_of live.old) entry.now) (store_of live.new) result }
 {
     match entry.code() {
         80 | 81 => make(
@@ -119,8 +116,8 @@ fn apply_to_blocks(
 
 /// Makes a block.
 #[inline(always)]
-fn make(live: &mut IndexMap<u64, Extent>, at: u64, extent: Extent) -> Result<(), ReplayFault>
-    ensures { Gives (after_making (store_of live.old.entries) at extent.words extent.pool) (store_of live.new.entries) result }
+fn make(live: &mut AddressMap<Extent>, at: u64, extent: Extent) -> Result<(), ReplayFault>
+    ensures { Gives (after_making (store_of live.old) at extent.words extent.pool) (store_of live.new) result }
 {
     match live.insert(at, extent) {
         Ok(None) => Ok(()),
@@ -130,34 +127,33 @@ fn make(live: &mut IndexMap<u64, Extent>, at: u64, extent: Extent) -> Result<(),
 }
 
 /// Moves a block.
-fn relocate(live: &mut IndexMap<u64, Extent>, from: u64, to: u64) -> Result<(), ReplayFault>
-    ensures { Gives (after_moving (store_of live.old.entries) from to) (store_of live.new.entries) result }
+fn relocate(live: &mut AddressMap<Extent>, from: u64, to: u64) -> Result<(), ReplayFault>
+    ensures { Gives (after_moving (store_of live.old) from to) (store_of live.new) result }
 {
     if from == to {
         return Err(ReplayFault::BadReplay);
     }
-    match live.swap_remove(&from) {
+    match live.remove(from) {
         None => Err(ReplayFault::BadReplay),
         Some(extent) => make(live, to, extent),
     }
 }
 
 /// Leaves a block as it is.
-fn touch(live: &IndexMap<u64, Extent>, at: u64) -> Result<(), ReplayFault>
-    ensures { Gives (after_touching (store_of live.now.entries) at) (store_of live.now.entries) result }
+fn touch(live: &AddressMap<Extent>, at: u64) -> Result<(), ReplayFault>
+    ensures { Gives (after_touching (store_of live.now) at) (store_of live.now) result }
 {
-    if live.contains_key(&at) {
-        Ok(())
-    } else {
-        Err(ReplayFault::BadReplay)
+    match live.get(at) {
+        Some(_) => Ok(()),
+        None => Err(ReplayFault::BadReplay),
     }
 }
 
 /// Frees a block.
-fn free(live: &mut IndexMap<u64, Extent>, at: u64) -> Result<(), ReplayFault>
-    ensures { Gives (after_freeing (store_of live.old.entries) at) (store_of live.new.entries) result }
+fn free(live: &mut AddressMap<Extent>, at: u64) -> Result<(), ReplayFault>
+    ensures { Gives (after_freeing (store_of live.old) at) (store_of live.new) result }
 {
-    match live.swap_remove(&at) {
+    match live.remove(at) {
         Some(_) => Ok(()),
         None => Err(ReplayFault::BadReplay),
     }

@@ -5,16 +5,13 @@ use Rattle.std.specs.BTreeMap.{insert_entry, is_at}
 use Rattle.std.specs.Map.{lookup, remove_entry}
 use Rattle.std.specs.Ordering.{nat_cmp}
 use Rattle.std.proofs.lemmas.Bool.{eqb-true, eq-eqb, ltb-true, ltb-false}
+use Rattle.mps_address_map.specs.AddressMap.{Changes}
 use Rattle.mps_txt.specs.LabelEntries.{labels_of}
 use Rattle.mps_txt.proofs.AscendingLabels.{Entries, Above, Ascends, lower_above, ascends_with, ascends_without, at_is, absent_above, found_with, found_without}
 
 -- what labels have at an address
 abbrev found : Entries → ℕ → Option ℕ
 found es q = lookup (is_at (nat_cmp q)) es
-
--- the new map has this at an address, and at each other what the old one has
-abbrev pub Changes : Entries → Entries → (at : ℕ) → Option ℕ → Type 0
-Changes old new at x = (q : ℕ) → lookup (eqb q) new ≡ cond (eqb at q) x (lookup (eqb q) old)
 
 -- ---- labels that have the same at each address
 

@@ -7,7 +7,7 @@ ghost use Rattle.mps_event.specs.Name.{name_in, interned_bytes};
 ghost use Rattle.mps_txt.specs.Labels.{no_names, id_at, label_at, after_event, takes_memory, with_name, with_label, without_label, moved};
 
 use crate::record_line::RecordLine;
-use indexmap::IndexMap;
+use mps_address_map::AddressMap;
 use mps_event::Event;
 use std::alloc::Global;
 use std::marker::Model;
@@ -25,7 +25,7 @@ pub(crate) enum LabelFault {
 #[derive(Drop)]
 pub(crate) struct Labels {
     names: Vec<[u8; 16]>,
-    at: IndexMap<u64, u64>,
+    at: AddressMap<u64>,
 }
 
 impl Model for Labels {
@@ -36,7 +36,7 @@ impl Model for Labels {
 
     ghost Value = { Naming };
 
-    ghost view = { λ l. record { names = map name_in l.names.items; labels = labels_of l.at.entries } };
+    ghost view = { λ l. record { names = map name_in l.names.items; labels = labels_of l.at } };
 }
 
 impl Labels {
@@ -46,7 +46,7 @@ impl Labels {
     {
         Labels {
             names: Vec::new(alloc),
-            at: IndexMap::new(alloc),
+            at: AddressMap::new(alloc),
         }
     }
 
@@ -62,7 +62,7 @@ impl Labels {
     fn id_at(&self, address: u64) -> Option<u64>
         ensures { result ≡ id_at self.now address }
     {
-        self.at.get(&address).copied()
+        self.at.get(address)
     }
 
     /// Applies a record to the names and the labels.
@@ -124,7 +124,7 @@ impl Labels {
     fn unlabel(&mut self, at: u64)
         ensures { self.new ≡ without_label self.old at }
     {
-        let _ = self.at.swap_remove(&at);
+        let _ = self.at.remove(at);
     }
 
     /// Moves the label of an address to another.

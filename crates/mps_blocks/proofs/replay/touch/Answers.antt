@@ -1,9 +1,10 @@
-use Rattle.std.proofs.Common.{sym, ◌∙◌}
+use Rattle.std.proofs.Common.{sym, ap}
+use Rattle.std.specs.Prelude.{is_some}
 use Rattle.mps_blocks.proofs.Entries.{touched, touched_none}
 use Rattle.mps_blocks.proofs.replay.touch.Goals as goal
 
-pub returns-then-contains_key : goal.returns-then-contains_key
-returns-then-contains_key c = touched c.args.live.now.entries c.args.at (sym c.contains_key.ensures ∙ c.if-contains_key.true)
+pub returns-in-Some : goal.returns-in-Some
+returns-in-Some c = touched c.args.live.now c.args.at (ap is_some (sym c.in-Some.ensures))
 
-pub returns-else-contains_key : goal.returns-else-contains_key
-returns-else-contains_key c = touched_none c.args.live.now.entries c.args.at (sym c.contains_key.ensures ∙ c.if-contains_key.false)
+pub returns-in-None : goal.returns-in-None
+returns-in-None c = touched_none c.args.live.now c.args.at (ap is_some (sym c.in-None.ensures))

@@ -5,5 +5,5 @@ use Rattle.mps_txt.proofs.labels.Labels.id_at.Goals as goal
 
 pub returns : goal.returns
 returns c =
-    c.copied.ensures ∙ c.get.ensures.value ∙ sym (found_labels c.self.inside.at.entries c.args.address)
+    c.get.ensures ∙ sym (found_labels c.self.inside.at c.args.address)
     ∙ ap (λ (s : Naming). id_at s c.args.address) c.self.view_is

@@ -11,7 +11,7 @@ returns-clause-state c =
     let naming : List (ℕ × ℕ) → Naming = λ labels. record { names = map name_in c.self.inside.names.items; labels = labels } in
     elim c.match-insert.branch [
       | in-Ok w ↦ on_ok_of c.match-insert.result
-          (ap naming (labels_with c.self.inside.at.entries c.insert.new.self.entries c.args.at c.args.id w.in-Ok.ensures.updates.0)
+          (ap naming (labels_with c.self.inside.at c.insert.new.self c.args.at c.args.id w.in-Ok.ensures.changes)
           ∙ ap (λ (s : Naming). with_label s c.args.at c.args.id) c.self.view_is)
       | in-Err w ↦ on_ok_failed _ c.match-insert.result _ w.result-is
     ]

@@ -8,5 +8,5 @@ use Rattle.mps_txt.proofs.labels.Labels.unlabel.Goals as goal
 pub returns : goal.returns
 returns c =
     let naming : List (ℕ × ℕ) → Naming = λ labels. record { names = map name_in c.self.inside.names.items; labels = labels } in
-    ap naming (labels_without c.self.inside.at.entries c.swap_remove.new.self.entries c.args.at c.swap_remove.ensures.updates.0)
+    ap naming (labels_without c.self.inside.at c.remove.new.self c.args.at c.remove.ensures.changes)
     ∙ ap (λ (s : Naming). without_label s c.args.at) c.self.view_is

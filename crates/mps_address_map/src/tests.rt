@@ -1,0 +1,73 @@
+// A map over addresses that fall into few places of its table, and over others.
+use crate::AddressMap;
+use std::alloc::{AllocError, Global};
+
+/// Numbers whose sums, added to an address by xor, leave the low bits of its hash nearly as they are.
+const STEPS: [u64; 10] = [
+    0x005f_aa90_bde5_0000,
+    0x04db_0dfb_54e5_5000,
+    0x0774_5eb6_9f55_7000,
+    0x01b1_a214_be1a_0000,
+    0x02c2_e0ec_d64f_6000,
+    0x01c6_5d3a_88ba_3000,
+    0x0665_f4be_c7f5_9000,
+    0x04fb_6a51_48e5_2000,
+    0x0656_2e22_8bec_f000,
+    0x042e_2092_c4a0_8000,
+];
+
+/// An address for each number below 1,024: these fall into a few places of 4,096.
+fn colliding(number: u64) -> u64 {
+    let mut sum: u64 = 0;
+    for (bit, step) in STEPS.iter().enumerate() {
+        if number >> bit & 1 == 1 {
+            sum = sum.wrapping_add(*step);
+        }
+    }
+    0x243f_6a88_85a3_08d3 ^ sum
+}
+
+/// All addresses are put in, and every third is taken out; whether each call answers as it should, and what is listed.
+fn fill_and_empty(
+    alloc: Global,
+    address: fn(u64) -> u64,
+) -> Result<(bool, Vec<(u64, u64)>), AllocError> {
+    let mut map: AddressMap<u64> = AddressMap::new(alloc);
+    let mut right = true;
+    for number in 0..1024u64 {
+        right &= map.get(address(number)).is_none();
+        right &= map.insert(address(number), number)?.is_none();
+    }
+    right &= map.insert(address(1000), 7)? == Some(1000);
+    for number in 0..1024u64 {
+        if number % 3 == 0 {
+            right &= map.remove(address(number)) == Some(number);
+            right &= map.remove(address(number)).is_none();
+        }
+    }
+    right &= map.get(address(1000)) == Some(7) && map.get(address(1023)).is_none();
+    Ok((right, map.into_sorted()?))
+}
+
+#[test]
+fn addresses_of_an_arena(rt: HostRuntime) -> Result<(), AllocError> {
+    let (right, entries) = fill_and_empty(
+        rt.alloc(),
+        |number| 0x1000u64.wrapping_add(number << 3),
+    )?;
+    assert!(rt; right);
+    assert_eq!(rt; entries.len(), 682);
+    assert!(rt; entries[0] == (0x1008, 1) && entries[681] == (0x2ff0, 1022));
+    Ok(())
+}
+
+#[test]
+fn addresses_that_collide(rt: HostRuntime) -> Result<(), AllocError> {
+    let (right, entries) = fill_and_empty(rt.alloc(), colliding)?;
+    assert!(rt; right);
+    assert_eq!(rt; entries.len(), 682);
+    for entry in &entries {
+        assert!(rt; entry.1 == 7 || entry.0 == colliding(entry.1));
+    }
+    Ok(())
+}
