@@ -33,5 +33,6 @@ pub mod Due
 pub mod LeftRightly
 pub mod WholeCollections
 pub mod KeptPlaces
+pub mod Leavings
 pub mod Calls
 pub mod FlipActs

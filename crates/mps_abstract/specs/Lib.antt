@@ -8,4 +8,5 @@ pub mod Units
 pub mod Laws
 pub mod DueLaws
 pub mod Staying
+pub mod Leaving
 pub mod Examples

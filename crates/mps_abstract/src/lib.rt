@@ -7,6 +7,7 @@ mod flips;
 mod whole;
 
 ghost use Rattle.mps_abstract.specs.DueLaws.{RunningIsLegal, WorkIsDue};
+ghost use Rattle.mps_abstract.specs.Leaving.{UnitsLeaveTheRest};
 ghost use Rattle.mps_abstract.specs.Staying.{AKeptObjectStays};
 ghost use Rattle.mps_abstract.specs.Laws.{ReachableIsKept, AUnitKeepsRunning, UnitsRunOut, ABarrierKeepsRunning};
 
@@ -51,4 +52,10 @@ pub fn running_is_legal()
 /// Over units, and to the end of a collection, an object that isn't white stays so, and where it lies.
 pub fn a_kept_object_stays()
     ensures { AKeptObjectStays }
+{}
+
+/// Units change objects, registrations and messages, where objects lie, segments, tails and the collection, and nothing else of a
+/// world.
+pub fn units_leave_the_rest()
+    ensures { UnitsLeaveTheRest }
 {}

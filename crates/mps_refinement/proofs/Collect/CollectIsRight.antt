@@ -1,4 +1,6 @@
 -- A `collect` of a heap at rest is right: its step is legal, and the heap stands for the world after it.
+use Rattle.mps_model.specs.History.{world_after, with_client_remembered}
+use Rattle.mps_model.proofs.AtRest.{with_client_remembered-none}
 use Rattle.mps_refinement.proofs.Parts.Resting.{at_rest}
 use Rattle.std.proofs.Common.{◌≡◌, ◌∙◌, ℕ, zero, suc, ◌<◌, Bool, true, false, refl, sym, ap, subst, List, [], ◌∷◌, ◌++◌, length, Option, Some, None, is_some, inl, inr, arith}
 use Rattle.std.proofs.lemmas.Bool.{false≢true, true≢false}
@@ -42,10 +44,11 @@ use Rattle.mps_abstract.proofs.WholeCollections.WholeBegins.{nothing_remembered,
 use Rattle.mps_abstract.proofs.WholeCollections.WholeEnds.{a_whole_collection}
 use Rattle.mps_refinement.specs.RightStep.{IsRightIn, step_of}
 use Rattle.mps_refinement.specs.StandsFor.{AreParts, ArePools, IsPool, IsReached, Past, Rests, StandsFor, time_at_rest}
-use Rattle.mps_refinement.proofs.Worlds.Reached.{reached_well_formed, reached_live}
+use Rattle.mps_refinement.proofs.Worlds.Reached.{reached_well_formed, reached_live, reached_next}
 use Rattle.mps_refinement.proofs.Worlds.RestingActs.{resting_sound}
+use Rattle.mps_refinement.proofs.Worlds.RestingSteps.{IsMoving, moving_step}
 use Rattle.mps_refinement.proofs.Worlds.Steps.{HasParts, moved_to_rest}
-use Rattle.mps_refinement.specs.Collect.Leaving.{IsPlain, IsCollected, AreInPlace}
+use Rattle.mps_refinement.specs.Collect.Leaving.{IsCollected, AreInPlace}
 use Rattle.mps_refinement.specs.Collect.Standing.{IsCollectedHeap, world_collected}
 use Rattle.mps_refinement.proofs.Collect.Leavings.{a_collection_moves_objects}
 use Rattle.mps_refinement.proofs.Collect.CollectedParts as parts_of
@@ -125,19 +128,19 @@ module _ {F : Type 0} (layout : F → Layout) where
     pub referred_live : AllReferredLive (world_after_moves w ms).graph (is_live (world_after_moves w ms))
 
   module _ (past : Past) (h after : HeapState F) (w : World) (parts : AreParts layout past h w) (reached : IsReached w)
-      (timed : past.time ≡ time_at_rest) (plain : IsPlain w) (made : WereMadeBefore (length w.flips) h.points) (acted : Collecting)
-      (ms : List Move) (c : IsCollection w acted ms) where
+      (timed : past.time ≡ time_at_rest) (made : WereMadeBefore (length w.flips) h.points) (acted : Collecting) (ms : List Move)
+      (c : IsCollection w acted ms) where
     abbrev v : World
-    v = parts_of.v layout past h after w parts timed (reached_well_formed w reached) plain.none_registered made acted
-        c.leaves.but_moved.addresses
-        c.leaves.but_moved.segments c.leaves.but_moved.tails
+    v = parts_of.v layout past h after w parts timed (reached_well_formed w reached) made acted c.leaves.but_collected.objects
+        c.leaves.but_collected.registered c.leaves.but_collected.messages c.leaves.but_collected.addresses
+        c.leaves.but_collected.segments c.leaves.but_collected.tails
 
-    none_runs : c.leaves.but_moved.collection ≡ None
-    none_runs = sym (ap (λ (u : World). u.collection) c.leaves.but_moved.world) ∙ c.leaves.ended
+    none_runs : c.leaves.but_collected.collection ≡ None
+    none_runs = sym (ap (λ (u : World). u.collection) c.leaves.but_collected.world) ∙ c.leaves.ended
 
     world_is : world_collected w ms ≡ v
     world_is =
-        ap (λ (u : World). record u { state = world.Parked }) c.leaves.but_moved.world
+        ap (λ (u : World). record u { state = world.Parked }) c.leaves.but_collected.world
         ∙ ap (λ (o : Option Collection). record v { collection = o }) none_runs
 
     places_then : AreInPlace w acted v
@@ -164,7 +167,8 @@ module _ {F : Type 0} (layout : F → Layout) where
         client = list_all-members (is_live v) (ids_of_client v.graph) held_then;
         blocks = list_all-members (is_live v) (ids_in_blocks v.graph) (λ id there.
             ap is_some (places_then.manual id (parts_of.places_same layout past h after w parts timed (reached_well_formed w reached)
-            plain.none_registered made acted c.leaves.but_moved.addresses c.leaves.but_moved.segments c.leaves.but_moved.tails heap_then
+            made acted c.leaves.but_collected.objects c.leaves.but_collected.registered c.leaves.but_collected.messages
+            c.leaves.but_collected.addresses c.leaves.but_collected.segments c.leaves.but_collected.tails heap_then
             places_then id there))
             ∙ list_all-contains (is_live w) (ids_in_blocks w.graph) id (reached_live w reached).blocks there);
         referred = all_flat (is_live v) (targets v.graph) (live_ids v) (λ id listed.
@@ -172,24 +176,37 @@ module _ {F : Type 0} (layout : F → Layout) where
             referred_then id target (listed_is_live v id listed) refers));
       }
 
+      moves : IsMoving w call.Collect ms (Replied reply.Ok) (done (world_collected w ms))
+      moves = record {
+        legal = c.moves_done.legal;
+        due = c.moves_done.due;
+        comes = refl;
+        answers = refl;
+        marked = tt;
+        supported = refl;
+        sound = subst IsSound (sym world_is) (resting_sound v refl live_then);
+      }
+
+      -- the world after it is reached, so what is registered is live
+      reached_then : (line : ℕ) → IsReached v
+      reached_then line =
+          let step = moving_step w line call.Collect ms (Replied reply.Ok) (done (world_collected w ms)) moves in
+          let same : world_after w (step_of line call.Collect ms (Replied reply.Ok)) ≡ v =
+          step.world ∙ (ap with_client_remembered world_is ∙ with_client_remembered-none v refl) in
+          subst IsReached same
+          (reached_next w (step_of line call.Collect ms (Replied reply.Ok)) reached step.legal (ap (λ (u : World). u.formats) same) refl)
+
       pub collection_is_right : (line : ℕ) → IsRightIn layout w (step_of line call.Collect ms (Replied reply.Ok)) after
       collection_is_right line =
           moved_to_rest layout past.time w line call.Collect ms (Replied reply.Ok) after (done (world_collected w ms)) refl
-          (ap (λ (u : World). u.formats) world_is) reached
-          (record {
-            legal = c.moves_done.legal;
-            due = c.moves_done.due;
-            comes = refl;
-            answers = refl;
-            marked = tt;
-            supported = refl;
-            sound = subst IsSound (sym world_is) (resting_sound v refl live_then);
-          })
+          (ap (λ (u : World). u.formats) world_is) reached moves
           (subst (λ u. HasParts layout past.time after u) (sym world_is) (record {
             past = past;
             timed = refl;
-            parts = parts_of.collected_parts layout past h after w parts timed (reached_well_formed w reached) plain.none_registered made
-                acted c.leaves.but_moved.addresses c.leaves.but_moved.segments c.leaves.but_moved.tails heap_then places_then;
+            parts = parts_of.collected_parts layout past h after w parts timed (reached_well_formed w reached) made acted
+                c.leaves.but_collected.objects c.leaves.but_collected.registered c.leaves.but_collected.messages
+                c.leaves.but_collected.addresses c.leaves.but_collected.segments c.leaves.but_collected.tails heap_then places_then
+                (reached_well_formed v (reached_then line)).registered;
           }))
           (subst (λ u. Rests past.time after.segs u) (sym world_is) (record {
             none = refl;
@@ -202,9 +219,9 @@ module _ {F : Type 0} (layout : F → Layout) where
 
   ends_collection : (w : World) (first later : List Move) (y : Collecting) (count : ℕ) → IsAtRest w
       → is_nothing (condemned_by w Everything) ≡ false → FixesHeld w (collecting_after_flip w Everything []) first y
-      → Ends y count later → IsPlain w
+      → Ends y count later
       → IsCollection w y (flip_act w Everything ++ later)
-  ends_collection w first later y count rest some fixed ends plain =
+  ends_collection w first later y count rest some fixed ends =
       let act_leads = (flip_done w Everything [] first y rest refl some (nothing_remembered w rest) fixed).leads in
       let leads : world_after_moves w (flip_act w Everything ++ later) ≡ world_after_moves y.world later =
       world_after_moves-append w (flip_act w Everything) later ∙ ap (λ (u : World). world_after_moves u later) act_leads in
@@ -212,7 +229,7 @@ module _ {F : Type 0} (layout : F → Layout) where
       record {
         moves_done = a_whole_collection.2 w (flip_act w Everything ++ later) rest.none_runs
             (a_whole_collection.0 w first later y count rest some fixed ends);
-        leaves = a_collection_moves_objects.0 w first later y count rest some fixed ends plain;
+        leaves = a_collection_moves_objects.0 w first later y count rest some fixed ends;
         places = a_collection_moves_objects.1 w first later y count rest some fixed ends;
         held_live = subst (λ (u : World). (id : Id) → contains (ids_of_client u.graph) id ≡ true → is_live u id ≡ true) (sym leads)
             last.held_live;
@@ -221,15 +238,15 @@ module _ {F : Type 0} (layout : F → Layout) where
 
   -- a `collect` of a heap at rest, where something is condemned
   pub collect_is_right : (h after : HeapState F) (w : World) (line : ℕ) (first later : List Move) (y : Collecting) (count : ℕ)
-      → (st : StandsFor layout h w) → IsPlain w → WereMadeBefore (length w.flips) h.points
+      → (st : StandsFor layout h w) → WereMadeBefore (length w.flips) h.points
       → is_nothing (condemned_by w Everything) ≡ false → FixesHeld w (collecting_after_flip w Everything []) first y → Ends y count later
       → IsCollectedHeap st.past w h after y.world.addresses (world_collected w (flip_act w Everything ++ later))
       → IsRightIn layout w (step_of line call.Collect (flip_act w Everything ++ later) (Replied reply.Ok)) after
-  collect_is_right h after w line first later y count st plain made some fixed ends heap =
+  collect_is_right h after w line first later y count st made some fixed ends heap =
       let now = at_rest st.time in
       let rest = may_begin st.past h w st.parts st.reached now.none in
-      collection_is_right st.past h after w st.parts st.reached now.time plain made y (flip_act w Everything ++ later)
-      (ends_collection w first later y count rest some fixed ends plain) heap line
+      collection_is_right st.past h after w st.parts st.reached now.time made y (flip_act w Everything ++ later)
+      (ends_collection w first later y count rest some fixed ends) heap line
 
   -- ---- where nothing is condemned
 
@@ -252,12 +269,12 @@ module _ {F : Type 0} (layout : F → Layout) where
       }
 
   -- a `collect` where nothing is condemned: slots and messages hold what they held
-  pub collect_of_nothing_is_right : (h after : HeapState F) (w : World) (line : ℕ) → (st : StandsFor layout h w) → IsPlain w
+  pub collect_of_nothing_is_right : (h after : HeapState F) (w : World) (line : ℕ) → (st : StandsFor layout h w)
       → WereMadeBefore (length w.flips) h.points → is_nothing (condemned_by w Everything) ≡ true
       → IsCollectedHeap st.past w h after w.addresses (world_collected w (flip_act w Everything))
       → IsRightIn layout w (step_of line call.Collect (flip_act w Everything) (Replied reply.Ok)) after
-  collect_of_nothing_is_right h after w line st plain made nothing heap =
+  collect_of_nothing_is_right h after w line st made nothing heap =
       let now = at_rest st.time in
-      collection_is_right st.past h after w st.parts st.reached now.time plain made (collecting_after_flip w Everything [])
+      collection_is_right st.past h after w st.parts st.reached now.time made (collecting_after_flip w Everything [])
       (flip_act w Everything)
       (nothing_collection w (may_begin st.past h w st.parts st.reached now.none) nothing) heap line

@@ -39,10 +39,10 @@ use Rattle.mps_refinement.specs.RightMoving.{IsRightMoving, KeepsRoom}
 use Rattle.mps_refinement.specs.RightStep.{IsRightIn, step_of}
 use Rattle.mps_refinement.specs.StandsFor.{StandsFor, AreSlots}
 use Rattle.mps_refinement.specs.Numbering.{AreNumbered}
-use Rattle.mps_refinement.specs.Collect.Leaving.{IsButMoved}
+use Rattle.mps_abstract.specs.Leaving.{IsButCollected}
 use Rattle.mps_refinement.proofs.Collect.ActedRoots.{IsInOrder, tables_acted}
 use Rattle.mps_refinement.proofs.Collect.CollectIsRight.{collect_is_right, collect_of_nothing_is_right}
-use Rattle.mps_refinement.proofs.Collect.CollectedHeaps.{IsLeft, collected_heap, plain, same_condemned}
+use Rattle.mps_refinement.proofs.Collect.CollectedHeaps.{IsLeft, collected_heap, same_condemned}
 use Rattle.mps_refinement.proofs.Collect.CollectedSegments.{none_condemned, none_kept, segments_at_once}
 use Rattle.mps_refinement.proofs.Collect.Leavings.{a_collection_moves_objects}
 use Rattle.mps_refinement.proofs.Collect.RoomKept.{begin_pushes, units_keep_room, at_once_keeps_room}
@@ -125,10 +125,9 @@ module _ {F : Type 0} (layout : F → Layout) (begins : ACollectionBegins F) (no
       leads =
           world_after_moves-append w (flip_act w Everything) last.moves ∙ ap (λ (v : World). world_after_moves v last.moves) act_leads.leads
 
-      moved : IsButMoved (world_flipped w (condemned_zones w Everything)) u
+      moved : IsButCollected (world_flipped w (condemned_zones w Everything)) u
       moved =
-          (a_collection_moves_objects.0 w act.first last.moves y (suc ends.count) rest some act.fixes last.units
-          (plain layout st.past h w st.parts m h' m' collected before)).but_moved
+          (a_collection_moves_objects.0 w act.first last.moves y (suc ends.count) rest some act.fixes last.units).but_collected
 
       left : IsLeft st.past w h h' y.world.addresses u
       left =
@@ -156,7 +155,7 @@ module _ {F : Type 0} (layout : F → Layout) (begins : ACollectionBegins F) (no
             ∙ append_assoc m.moves (flip_act w Everything) last.moves;
         right = λ line.
             collect_is_right layout h h' w line act.first last.moves y (suc ends.count) st
-            (plain layout st.past h w st.parts m h' m' collected before) made_then some act.fixes last.units
+            made_then some act.fixes last.units
             (collected_heap layout st.past h w st.parts m h' m' collected before y.world.addresses u moved left);
         room =
             units_keep_room layout t w.addresses m b z f h'.finals run y (most_moves h.segs.grains) (scans t.formats t.chains w.addresses)
@@ -172,8 +171,8 @@ module _ {F : Type 0} (layout : F → Layout) (begins : ACollectionBegins F) (no
       abbrev v : World
       v = world_after_moves w (flip_act w Everything)
 
-      moved_at_once : IsButMoved (world_flipped w (condemned_zones w Everything)) v
-      moved_at_once = (a_collection_moves_objects.2 w before.plain.rest over.nothing).but_moved
+      moved_at_once : IsButCollected (world_flipped w (condemned_zones w Everything)) v
+      moved_at_once = (a_collection_moves_objects.2 w before.plain.rest over.nothing).but_collected
 
       left_at_once : IsLeft st.past w h h' w.addresses v
       left_at_once = record {
@@ -200,7 +199,7 @@ module _ {F : Type 0} (layout : F → Layout) (begins : ACollectionBegins F) (no
         moves = flip_act w Everything;
         appended = over.trail;
         right = λ line.
-            collect_of_nothing_is_right layout h h' w line st (plain layout st.past h w st.parts m h' m' collected before) made_then
+            collect_of_nothing_is_right layout h h' w line st made_then
             over.nothing
             (collected_heap layout st.past h w st.parts m h' m' collected before w.addresses v moved_at_once left_at_once);
         room =

@@ -18,7 +18,7 @@ use Rattle.mps_trace_laws.specs.Units.Laws.{HasSegmentsOf, HasFinalsOf}
 use Rattle.mps_trace_laws.specs.Begin.Before.{StandsBefore}
 use Rattle.mps_refinement.specs.Numbering.{AreNumbered}
 use Rattle.mps_refinement.specs.StandsFor.{AreSlots, AreParts, Past}
-use Rattle.mps_refinement.specs.Collect.Leaving.{IsButMoved, IsPlain}
+use Rattle.mps_abstract.specs.Leaving.{IsButCollected}
 use Rattle.mps_refinement.specs.Collect.Standing.{IsCollectedHeap}
 use Rattle.mps_refinement.proofs.Collect.CollectedSegments.{same_size}
 use Rattle.mps_refinement.proofs.Collect.RootsAfter.{AreRootsAfter, still_there}
@@ -43,9 +43,6 @@ module _ {F : Type 0} (layout : F → Layout) (past : Past) (h : HeapState F) (w
   abbrev t : TraceState F
   t = collected.before
 
-  pub plain : IsPlain w
-  plain = record { none_registered = before.plain.none_registered; none_weak = before.plain.none_weak }
-
   same_zones : zones_of (moving_of t.formats h.segs.segments) ≡ condemned_zones w Everything
   same_zones = (flip_is_the_models t.formats h.segs.segments w parts.segments before.pools.formats before.pools.moves).zones
 
@@ -53,7 +50,7 @@ module _ {F : Type 0} (layout : F → Layout) (past : Past) (h : HeapState F) (w
   same_condemned = (flip_is_the_models t.formats h.segs.segments w parts.segments before.pools.formats before.pools.moves).segments
 
   -- what is left of it stands as the call has to leave it
-  pub collected_heap : (acted : List (Option Address)) (u : World) → IsButMoved (world_flipped w (condemned_zones w Everything)) u
+  pub collected_heap : (acted : List (Option Address)) (u : World) → IsButCollected (world_flipped w (condemned_zones w Everything)) u
       → IsLeft past w h h' acted u
       → IsCollectedHeap past w h h' acted (record u { state = Parked })
   collected_heap acted u moved left =

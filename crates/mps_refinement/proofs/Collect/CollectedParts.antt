@@ -1,5 +1,5 @@
 -- The parts of a heap after a collection of everything stand for the world after it.
-use Rattle.mps_refinement.proofs.Parts.Registered.{none_registered_now}
+use Rattle.mps_refinement.proofs.Parts.Registered.{all_now, live_at}
 use Rattle.std.proofs.Common.{◌≡◌, ◌∙◌, ℕ, ◌+◌, ◌≤◌, ◌<◌, true, false, refl, sym, ap, subst, List, [], length, map, Option, Some, None, IsSome, is_some}
 use Rattle.std.proofs.lemmas.Bool.{false≢true}
 use Rattle.std.specs.Prelude.{Bool, option_map, not}
@@ -16,7 +16,9 @@ use Rattle.mps_ld.specs.Flips.{AreFlips}
 use Rattle.mps_model.specs.Graph.{Object, contains, ids_in_blocks, ids_in_slots, is_automatic, object_at}
 use Rattle.mps_model.specs.World as world
 use Rattle.mps_model.specs.World.{World, object_is}
-use Rattle.mps_model.specs.WellFormed.{IsWellFormed}
+use Rattle.std.specs.Prelude.{IsTrue}
+use Rattle.std.specs.List.{list_all}
+use Rattle.mps_model.specs.WellFormed.{IsWellFormed, is_live_automatic}
 use Rattle.mps_model.specs.Effect.{Everything, condemned_zones, world_flipped}
 use Rattle.mps_model.proofs.Reaching.{list_all-contains}
 use Rattle.mps_root.specs.State.{kept}
@@ -25,7 +27,7 @@ use Rattle.mps_abstract.specs.Collecting.{Collecting}
 use Rattle.mps_names.specs.State.{thing_named}
 use Rattle.mps_heap_spec.specs.State.{HeapState}
 use Rattle.mps_format.specs.Pools.{size_of_pool}
-use Rattle.mps_refinement.specs.StandsFor.{AreParts, ArePools, IsPoint, Past, address_of_id, StandsAt, state_of, time_at_rest}
+use Rattle.mps_refinement.specs.StandsFor.{AreParts, AreRegistered, ArePools, IsPoint, Past, address_of_id, StandsAt, state_of, time_at_rest}
 use Rattle.mps_refinement.specs.Numbering.{AreNumbered}
 use Rattle.mps_refinement.proofs.Parts.Named.{ThingsStay, named_alike}
 use Rattle.mps_refinement.proofs.Parts.Numbering.{kept_alike}
@@ -36,13 +38,18 @@ use Rattle.mps_refinement.proofs.Collect.SameAddresses.{same_places, tables_same
 use Rattle.mps_refinement.proofs.Collect.FlippedPoints.{points_counted, points_flipped, one_flip_more}
 
 module _ {F : Type 0} (layout : F → Layout) (past : Past) (h after : HeapState F) (w : World) (parts : AreParts layout past h w)
-    (timed : past.time ≡ time_at_rest)
-    (formed : IsWellFormed w) (none_registered : w.graph.registered ≡ []) (made : WereMadeBefore (length w.flips) h.points)
-    (acted : Collecting) (addresses : List (Option Address)) (segments : List Segment)
+    (timed : past.time ≡ time_at_rest) (formed : IsWellFormed w) (made : WereMadeBefore (length w.flips) h.points)
+    (acted : Collecting) (objects : List Object) (registered messages : List Id) (addresses : List (Option Address)) (segments : List Segment)
     (tails : List world.Tail) where
   -- the world after it
   abbrev pub v : World
   v = record (world_flipped w (condemned_zones w Everything)) {
+    graph =
+        record (world_flipped w (condemned_zones w Everything)).graph {
+          objects = objects;
+          registered = registered;
+          messages = messages;
+        };
     addresses = addresses;
     segments = segments;
     tails = tails;
@@ -93,8 +100,8 @@ module _ {F : Type 0} (layout : F → Layout) (past : Past) (h after : HeapState
         (points_flipped (length w.flips) (world.is_copying_pool w) w.point_memories past.point_number h.points w.graph.points made
         parts.points))
 
-    pub collected_parts : AreParts layout past after v
-    collected_parts = record {
+    pub collected_parts : IsTrue (list_all (is_live_automatic v) registered) → AreParts layout past after v
+    collected_parts lives = record {
       grains = heap.grains ∙ parts.grains;
       limit = heap.limit ∙ parts.limit;
       segments = heap.segments;
@@ -120,8 +127,8 @@ module _ {F : Type 0} (layout : F → Layout) (past : Past) (h after : HeapState
       slots_counted = heap.live_slots ∙ parts.slots_counted;
       points = points_now;
       points_counted = heap.live_points ∙ (parts.points_counted ∙ sym (points_counted w.graph.points));
-      registered = none_registered_now addresses past.time.at_flip after.finals.registered w.graph.registered
-          (heap.finals.registrations ∙ ap (map (address_of_id addresses)) none_registered) none_registered;
+      registered = subst (λ ats. AreRegistered addresses past.time.at_flip ats registered) (sym heap.finals.registrations)
+          (all_now addresses past.time.at_flip (is_live_automatic v) (λ id is. live_at v id is) registered lives);
       messages = heap.finals.waiting;
       flips = subst (λ e. AreFlips e v.flips) (sym heap.epochs) (flips_after h.epochs w.flips (condemned_zones w Everything) parts.flips);
       point_flips = ap (λ (s : PointsState). s.flips) heap.points

@@ -18,7 +18,7 @@ use Rattle.mps_trace.specs.Unit.{traced_after_end}
 use Rattle.mps_trace.proofs.Ending.{segments_stay}
 use Rattle.mps_trace_laws.proofs.Flip.Reservations.{flip_moves_nothing}
 use Rattle.mps_trace_laws.specs.Units.Laws.{HasSegmentsOf}
-use Rattle.mps_refinement.specs.Collect.Leaving.{IsButMoved}
+use Rattle.mps_abstract.specs.Leaving.{IsButCollected}
 use Rattle.mps_format.specs.declared.pool.Policy.{Policy}
 
 -- ---- condemned and kept
@@ -61,6 +61,6 @@ segments_at_once formats points x z w has rest nothing over =
 
 -- ---- sizes
 
--- a world from which only where objects lie has changed since a flip has the size and the limit that it had
-pub same_size : (w u : World) (zones : ℕ) → IsButMoved (world_flipped w zones) u → (u.grains ≡ w.grains) × (u.limit ≡ w.limit)
+-- a world after a flip and a collection has the size and the limit that it had
+pub same_size : (w u : World) (zones : ℕ) → IsButCollected (world_flipped w zones) u → (u.grains ≡ w.grains) × (u.limit ≡ w.limit)
 same_size w u zones moved = (ap (λ (v : World). v.grains) moved.world, ap (λ (v : World). v.limit) moved.world)

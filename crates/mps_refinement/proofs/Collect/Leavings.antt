@@ -11,122 +11,19 @@ use Rattle.mps_model.specs.Effect.{Everything, condemned_by, condemned_zones, wo
 use Rattle.mps_model.specs.Flip.{flip_act, is_nothing}
 use Rattle.mps_model.proofs.Cutting.{world_after_moves-append}
 use Rattle.mps_abstract.specs.Collecting.{Collecting, Running, is_white_in}
-use Rattle.mps_abstract.specs.Fixing.{Fixes, fixes_no_more, passes, keeps}
-use Rattle.mps_abstract.specs.Units.{IsUnit, scans, examines, posts, splats, reclaims, IsLastUnit, reclaims_last, GoesOn, begun, by_one_more, Ends, by_last}
+use Rattle.mps_abstract.specs.Units.{Ends}
 use Rattle.mps_abstract.specs.FlipLaws.{IsAtRest, collecting_after_flip, FixesHeld}
-use Rattle.mps_abstract.proofs.Lists.{contains_here, contains_later, contains_at, contains_left, contains-filter, contains_filtered}
+use Rattle.mps_abstract.proofs.Lists.{contains_left, contains-filter, contains_filtered}
 use Rattle.mps_abstract.proofs.Keeping.{not_white_if_kept, not_white_outside}
-use Rattle.mps_abstract.proofs.UnitScans.{targets_may_be_fixed, strong_is_tracing}
-use Rattle.mps_abstract.proofs.Reclaimed.{frees, cleared, final_collection}
-use Rattle.mps_abstract.proofs.Reclaiming.{goes_on_leads, last_leads}
-use Rattle.mps_abstract.proofs.Rows.{units_shown}
 use Rattle.mps_abstract.proofs.FlipActs.FlipLists.{holds_show}
 use Rattle.mps_abstract.proofs.FlipActs.Flipped.{flipped_running}
 use Rattle.mps_abstract.proofs.FlipActs.FlipBegins.{client_of_fixed, flip_done, flip_ended}
 use Rattle.mps_abstract.proofs.WholeCollections.WholeBegins.{everything, nothing_remembered, begun_running, whole_begun}
 use Rattle.mps_abstract.specs.Staying.{StaysInPlace}
-use Rattle.mps_refinement.specs.Collect.Leaving.{IsButMoved, IsPlain, IsCollected, AreInPlace}
-use Rattle.mps_abstract.proofs.KeptPlaces.{MayKeep, running_may_keep, kept, keep_may, keep_live, fixes_stay, ends_stay}
-
--- ---- worlds that differ by where objects lie
-
-pub same_world : (w : World) → IsButMoved w w
-same_world w = record { addresses = w.addresses; segments = w.segments; tails = w.tails; collection = w.collection; world = refl }
-
-pub moved_on : {u v w : World} → IsButMoved u v → IsButMoved v w → IsButMoved u w
-moved_on a b = record {
-  addresses = b.addresses;
-  segments = b.segments;
-  tails = b.tails;
-  collection = b.collection;
-  world = b.world ∙ ap (λ (t : World). record t {
-    addresses = b.addresses;
-    segments = b.segments;
-    tails = b.tails;
-    collection = b.collection;
-  }) a.world;
-}
-
-pub still_plain : {v w : World} → IsButMoved v w → IsPlain v → IsPlain w
-still_plain m p = subst (λ (v : World). IsPlain v) (sym m.world) (record {
-  none_registered = p.none_registered;
-  none_weak = p.none_weak;
-})
-
--- ---- objects are fixed
-
-pub fixes_move : {x y : Collecting} {ids : List Id} {ms : List Move} → Fixes x ids ms y → MayKeep x
-    → ((n : Id) → contains ids n ≡ true → is_live x.world n ≡ true) → IsButMoved x.world y.world
-fixes_move (fixes_no_more {x}) may live = same_world x.world
-fixes_move (passes {id = id} {ids} black rest) may live = fixes_move rest may (λ n h. live n (contains_later id ids n h))
-fixes_move {x} (keeps {id = id} {ids} {these} {those} {c} white keep rest) may live =
-    let there = live id (contains_here id ids) in
-    let one = kept x may id there these c keep in
-    moved_on (record {
-      addresses = one.addresses;
-      segments = one.segments;
-      tails = one.tails;
-      collection = Some c;
-      world = one.world;
-    })
-    (fixes_move rest (keep_may x may id there these c keep)
-    (λ n h. keep_live x may id there these c keep n ∙ live n (contains_later id ids n h)))
-
--- ---- units
-
-pub unit_moves : {x y : Collecting} {ms : List Move} → Running x → IsPlain x.world → IsUnit x ms y → IsButMoved x.world y.world
-unit_moves {x} run plain (scans id {y} {ms} grey strong fixes) =
-    let may = targets_may_be_fixed x id run (strong_is_tracing x id run grey strong) grey in
-    fixes_move fixes (running_may_keep x run) (λ n h. (may n h).0)
-unit_moves {x} run plain (examines id due black) = same_world x.world
-unit_moves {x} run plain (posts id {ms} {c} due white keep) =
-    absurd (false≢true (sym (ap (λ ids. contains ids id) plain.none_registered)
-    ∙ contains_at x.world.graph.registered x.next id due.registered))
-unit_moves {x} run plain (splats id {y} {cells} drained examined grey done) =
-    absurd (false≢true (sym (plain.none_weak id) ∙ drained id grey))
-unit_moves {x} run plain (reclaims {s = s} {freed} {c} next not_last runs) = record {
-  addresses = (frees x run s freed next).addresses;
-  segments = (cleared x run s freed next).segments;
-  tails = x.world.tails;
-  collection = Some (final_collection x run s freed next);
-  world = goes_on_leads x run s freed next not_last;
-}
-
-pub units_move : {x y : Collecting} {count : ℕ} {ms : List Move} → Running x → IsPlain x.world → GoesOn x count ms y
-    → IsButMoved x.world y.world
-units_move {x} run plain begun = same_world x.world
-units_move run plain (by_one_more row unit) =
-    let before = units_move run plain row in
-    moved_on before (unit_moves (units_shown run row).running (still_plain before plain) unit)
-
--- the last one, after which no collection runs
-pub record EndsMoved (before after : World) : Type 0 where
-  pub but_moved : IsButMoved before after
-  pub ended : after.collection ≡ None
-
-last_unit_moves : {x : Collecting} {ms : List Move} → Running x → IsLastUnit x ms → EndsMoved x.world (world_after_moves x.world ms)
-last_unit_moves {x} run (reclaims_last {s = s} {freed} next last) = record {
-  but_moved = record {
-    addresses = (frees x run s freed next).addresses;
-    segments = (cleared x run s freed next).segments;
-    tails = x.world.tails;
-    collection = None;
-    world = last_leads x run s freed next last;
-  };
-  ended = ap (λ (v : World). v.collection) (last_leads x run s freed next last);
-}
-
-pub ends_move : {x : Collecting} {count : ℕ} {ms : List Move} → Running x → IsPlain x.world → Ends x count ms
-    → EndsMoved x.world (world_after_moves x.world ms)
-ends_move {x} run plain (by_last {y = y} {done = done} {piece} row last) =
-    let shown = units_shown run row in
-    let leads : world_after_moves x.world (done ++ piece) ≡ world_after_moves y.world piece =
-    world_after_moves-append x.world done piece ∙ ap (λ v. world_after_moves v piece) shown.leads in
-    let at_end = last_unit_moves shown.running last in
-    subst (λ v. EndsMoved x.world v) (sym leads) (record {
-      but_moved = moved_on (units_move run plain row) at_end.but_moved;
-      ended = at_end.ended;
-    })
+use Rattle.mps_refinement.specs.Collect.Leaving.{IsCollected, AreInPlace}
+use Rattle.mps_abstract.specs.Leaving.{IsButCollected}
+use Rattle.mps_abstract.proofs.Leavings.{moved_on, fixes_move, ends_move}
+use Rattle.mps_abstract.proofs.KeptPlaces.{MayKeep, fixes_stay, ends_stay}
 
 -- ---- the whole collection
 
@@ -147,7 +44,7 @@ module _ (w : World) (first : List Move) (y : Collecting) (rest : IsAtRest w) (s
   flip_stays : StaysInPlace begins y
   flip_stays = fixes_stay fixed may_keep held_live
 
-  flip_moves : IsButMoved begins.world y.world
+  flip_moves : IsButCollected begins.world y.world
   flip_moves = fixes_move fixed may_keep held_live
 
   act_leads : world_after_moves w (flip_act w Everything) ≡ y.world
@@ -157,8 +54,11 @@ module _ (w : World) (first : List Move) (y : Collecting) (rest : IsAtRest w) (s
   all_lead later = world_after_moves-append w (flip_act w Everything) later ∙ ap (λ (v : World). world_after_moves v later) act_leads
 
   -- right after the record of the flip
-  from_flip : IsButMoved (world_flipped w (condemned_zones w Everything)) begins.world
+  from_flip : IsButCollected (world_flipped w (condemned_zones w Everything)) begins.world
   from_flip = record {
+    objects = w.graph.objects;
+    registered = w.graph.registered;
+    messages = w.graph.messages;
     addresses = w.addresses;
     segments = w.segments;
     tails = [];
@@ -166,15 +66,12 @@ module _ (w : World) (first : List Move) (y : Collecting) (rest : IsAtRest w) (s
     world = refl;
   }
 
-  plain_then : IsPlain w → IsPlain y.world
-  plain_then plain = still_plain flip_moves (record { none_registered = plain.none_registered; none_weak = plain.none_weak })
-
-  pub whole_collected : (count : ℕ) (later : List Move) → Ends y count later → IsPlain w
+  pub whole_collected : (count : ℕ) (later : List Move) → Ends y count later
       → IsCollected w (world_after_moves w (flip_act w Everything ++ later))
-  whole_collected count later ends plain =
-      let at_end = ends_move running (plain_then plain) ends in
+  whole_collected count later ends =
+      let at_end = ends_move running ends in
       subst (λ v. IsCollected w v) (sym (all_lead later)) (record {
-        but_moved = moved_on (moved_on from_flip flip_moves) at_end.but_moved;
+        but_collected = moved_on (moved_on from_flip flip_moves) at_end.but_collected;
         ended = at_end.ended;
       })
 
@@ -238,14 +135,23 @@ nothing_collected : (w : World) → IsAtRest w → is_nothing (condemned_by w Ev
 nothing_collected w rest nothing =
     let ended = flip_ended w Everything rest refl nothing in
     subst (λ ms. IsCollected w (world_after_moves w ms)) (sym ended.act) (record {
-      but_moved = record { addresses = w.addresses; segments = w.segments; tails = []; collection = None; world = refl };
+      but_collected = record {
+        objects = w.graph.objects;
+        registered = w.graph.registered;
+        messages = w.graph.messages;
+        addresses = w.addresses;
+        segments = w.segments;
+        tails = [];
+        collection = None;
+        world = refl;
+      };
       ended = refl;
     })
 
 -- if something is condemned, and if nothing is
 pub a_collection_moves_objects : ((w : World) (first later : List Move) (y : Collecting) (count : ℕ) → IsAtRest w → is_nothing
     (condemned_by w Everything) ≡ false
-    → FixesHeld w (collecting_after_flip w Everything []) first y → Ends y count later → IsPlain w
+    → FixesHeld w (collecting_after_flip w Everything []) first y → Ends y count later
     → IsCollected w (world_after_moves w (flip_act w Everything ++ later)))
     × ((w : World) (first later : List Move) (y : Collecting) (count : ℕ) → IsAtRest w → is_nothing (condemned_by w Everything) ≡ false
     → FixesHeld w (collecting_after_flip w Everything []) first y → Ends y count later
@@ -253,7 +159,7 @@ pub a_collection_moves_objects : ((w : World) (first later : List Move) (y : Col
     × ((w : World) → IsAtRest w → IsTrue (is_nothing (condemned_by w Everything))
     → IsCollected w (world_after_moves w (flip_act w Everything)))
 a_collection_moves_objects = (
-  (λ w first later y count rest some fixed ends plain. whole_collected w first y rest some fixed count later ends plain),
+  (λ w first later y count rest some fixed ends. whole_collected w first y rest some fixed count later ends),
   (λ w first later y count rest some fixed ends. in_place w first y rest some fixed count later ends),
   (λ w rest nothing. nothing_collected w rest nothing),
 )

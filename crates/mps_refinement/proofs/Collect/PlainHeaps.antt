@@ -18,12 +18,16 @@ use Rattle.mps_format.specs.declared.pool.Pool.TheVariants as pool
 use Rattle.mps_refinement.specs.StandsFor.{AreParts, IsReached, Past}
 use Rattle.mps_refinement.proofs.Lookups.PoolKinds.{kind_of, kinds_alike}
 use Rattle.mps_refinement.proofs.Worlds.ReachedGraph.{reached_graph}
-use Rattle.mps_refinement.specs.Collect.Leaving.{IsPlain}
 use Rattle.mps_refinement.proofs.Collect.CollectIsRight.{something}
 
 none_mapped : {A B : Type 0} (f : A → B) (xs : List A) → [] ≡ map f xs → xs ≡ []
 none_mapped f [] e = refl
 none_mapped f (x ∷ xs) e = absurd (let n = ap length e in omega (arith, n))
+
+-- nothing is registered, and no object is weak
+pub record IsPlain (w : World) : Type 0 where
+  pub none_registered : w.graph.registered ≡ []
+  pub none_weak : (id : Id) → object_is is_weak_object w id ≡ false
 
 module _ {F : Type 0} (layout : F → Layout) where
   weak_alike : (p : Pool F) → is_weak_pool p ≡ is_weak_kind (kind_of p)

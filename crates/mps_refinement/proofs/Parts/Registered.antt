@@ -1,6 +1,6 @@
 -- Registrations, each of which has an address that its object has now or had at the flip.
-use Rattle.std.proofs.Common.{◌≡◌, ◌∙◌, ℕ, suc, ◌+◌, Bool, true, false, refl, sym, ap, ap₂, subst, List, [], ◌∷◌, length, map, Option, Some, inl, inr, arith}
-use Rattle.std.proofs.lemmas.Bool.{and_parts}
+use Rattle.std.proofs.Common.{◌≡◌, ◌∙◌, ℕ, suc, ◌+◌, Bool, true, false, refl, sym, ap, ap₂, subst, List, [], ◌∷◌, length, map, Option, Some, None, is_some, inl, inr, arith}
+use Rattle.std.proofs.lemmas.Bool.{and_parts, false≢true}
 use Rattle.std.proofs.lemmas.Option.{none-some, same_Some}
 use Rattle.std.specs.Prelude.{◌==◌, option_map, if◌then◌else◌}
 use Rattle.std.specs.List.{list_all, remove}
@@ -8,7 +8,9 @@ use Rattle.std.specs.Option.{option_map_or}
 use Rattle.mps_base.specs.Address.{Address, Id}
 use Rattle.mps_trace_laws.specs.Image.Image.{MeansAt}
 use Rattle.mps_laws.proofs.Sound.SoundGraph.{All}
-use Rattle.mps_model.specs.Graph.{entry_at, position_of_first, with_last, without_first}
+use Rattle.mps_model.specs.World.{World, is_live, object_is}
+use Rattle.mps_model.specs.WellFormed.{is_live_automatic}
+use Rattle.mps_model.specs.Graph.{is_automatic, entry_at, position_of_first, with_last, without_first}
 use Rattle.mps_refinement.specs.StandsFor.{AreRegistered, address_of_id}
 use Rattle.mps_refinement.proofs.Lookups.Found.{mapped_some}
 
@@ -64,6 +66,27 @@ module _ (addresses at_flip : List (Option Address)) where
         ],
         as_before after test same ats ids parts.1 are.1,
       )
+
+-- ---- what is registered is live
+
+-- a live automatic object has an address
+pub live_at : (w : World) (id : Id) → is_live_automatic w id ≡ true → (a : Address) × (entry_at w.addresses id ≡ Some a)
+live_at w id is = of_entry (entry_at w.addresses id) refl (and_parts (is_live w id) (object_is is_automatic w id) is).0
+  where
+    of_entry : (o : Option Address) → entry_at w.addresses id ≡ o → is_some o ≡ true → (a : Address) × (entry_at w.addresses id ≡ Some a)
+    of_entry None e some = absurd (false≢true some)
+    of_entry (Some a) e some = (a, e)
+
+-- so the addresses of now are those of what is registered
+pub all_now : (addresses at_flip : List (Option Address)) (test : Id → Bool)
+    → ((id : Id) → test id ≡ true → (a : Address) × (entry_at addresses id ≡ Some a)) → (ids : List Id) → All test ids
+    → AreRegistered addresses at_flip (map (address_of_id addresses) ids) ids
+all_now addresses at_flip test there [] all = tt
+all_now addresses at_flip test there (id ∷ ids) all =
+    let parts = and_parts (test id) (list_all test ids) all in
+    let lies = there id parts.0 in
+    let now : address_of_id addresses id ≡ lies.0 = ap (λ o. option_map_or (λ at. at) o 0) lies.1 in
+    (inl (lies.1 ∙ ap (λ (a : Address). Some a) (sym now)), all_now addresses at_flip test there ids parts.1)
 
 -- at rest they are the addresses of now
 pub now_alone : (addresses : List (Option Address)) (ats : List Address) (ids : List Id) → AreRegistered addresses [] ats ids
