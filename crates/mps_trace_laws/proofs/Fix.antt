@@ -23,4 +23,3 @@ pub mod Scanned
 pub mod CanScan
 pub mod Housed
 pub mod Ranks
-pub mod ExactSegments

@@ -1,5 +1,5 @@
--- What a collector knows of the pools of a heap, where it has their formats and none is on a chain, and each automatic one moves its
--- blocks.
+-- What a collector knows of the pools of a heap, where it has their policies and none is on a chain, and each automatic one moves its
+-- blocks, so none has weak references.
 use Rattle.std.proofs.Common.{◌≡◌, ◌∙◌, ℕ, true, false, refl, sym, ap, subst, List, [], length, replicate, Option, Some, None, is_some, arith}
 use Rattle.std.proofs.lemmas.Bool.{false≢true}
 use Rattle.std.proofs.lemmas.List.{length-replicate}
@@ -8,18 +8,19 @@ use Rattle.std.specs.Prelude.{option_map, option_and_then, slice_get}
 use Rattle.std.specs.List.{list_all}
 use Rattle.std.specs.Option.{option_map_or, unwrap_or}
 use Rattle.mps_base.specs.Generation.{target_generation}
+use Rattle.mps_base.proofs.PoolKinds.{moving_is_not_weak}
 use Rattle.mps_format.specs.Layout.{Layout}
 use Rattle.mps_amc.specs.Amc.{HasTail}
 use Rattle.mps_trace.specs.GenState as chains
 use Rattle.mps_trace.specs.GenState.{ChainsState}
 use Rattle.mps_model.specs.World as world
-use Rattle.mps_model.specs.World.{World, is_automatic_kind, pool_is, generations_of}
+use Rattle.mps_model.specs.World.{World, is_automatic_kind, is_weak_kind, pool_is, generations_of}
 use Rattle.mps_trace_laws.specs.Image.Memory.{pool_layout}
 use Rattle.mps_trace_laws.proofs.Image.Shaped.{all_at}
 use Rattle.mps_trace.specs.Flip.{is_automatic, moves_blocks}
 use Rattle.mps_trace.specs.Trace.{TraceState}
 use Rattle.mps_trace_laws.specs.Fix.Tracing.{AreKnownPools}
-use Rattle.mps_trace_laws.specs.Flip.Condemned.{AreFormatsOf, AreMovesOf, AllCopying}
+use Rattle.mps_trace_laws.specs.Flip.Condemned.{AreFormatsOf, AreMovesOf}
 use Rattle.mps_trace_laws.specs.Begin.Before.{ArePoolsKnown}
 use Rattle.mps_trace.specs.PoolsCollecting.{IsTraceOf}
 use Rattle.mps_format.specs.Pools.{is_moved_or_manual, policy_of_pool, is_copying_pool}
@@ -38,10 +39,10 @@ module _ {F : Type 0} where
   has_format (pool.OneSize words) = refl
   has_format pool.AnySize = refl
 
-  moved_if_automatic : (p : Pool F) → is_moved_or_manual p ≡ true → is_automatic_kind (kind_of p) ≡ true → is_copying_pool p ≡ true
-  moved_if_automatic (pool.Automatic kind format) moved automatic = moved
-  moved_if_automatic (pool.OneSize words) moved automatic = absurd (false≢true automatic)
-  moved_if_automatic pool.AnySize moved automatic = absurd (false≢true automatic)
+  not_weak : (p : Pool F) → is_moved_or_manual p ≡ true → is_weak_kind (kind_of p) ≡ false
+  not_weak (pool.Automatic kind format) moved = moving_is_not_weak kind moved
+  not_weak (pool.OneSize words) moved = refl
+  not_weak pool.AnySize moved = refl
 
   format_where_automatic : (p : Pool F) → is_automatic_kind (kind_of p) ≡ true
       → (format : Policy F) × (policy_of_pool p ≡ Some format)
@@ -146,18 +147,15 @@ module _ {F : Type 0} (layout : F → Layout) (pools : List (Pool F)) (t : Trace
           moves_there t.formats number None (format_at number None e)
           ∙ sym (ap (λ (o : Option world.Pool). option_map_or (λ p. world.is_copying_kind p.kind) o false) f)
 
-  all_copying : AllCopying (pool_is is_automatic_kind w) (world.is_copying_pool w)
-  all_copying number automatic = by_cases (at_number number)
+  none_weak : (number : ℕ) → pool_is is_weak_kind w number ≡ false
+  none_weak number = by_cases (at_number number)
     where
-      by_cases : AtNumber number → world.is_copying_pool w number ≡ true
+      by_cases : AtNumber number → pool_is is_weak_kind w number ≡ false
       by_cases (both p q e f is) =
-          let kind : is_automatic_kind (kind_of p) ≡ true =
-          ap is_automatic_kind (sym (kinds_alike layout w.formats p q is)) ∙ sym (kind_at number q f) ∙ automatic in
-          sym (copying_by_number layout w.formats p q is w number f)
-          ∙ moved_if_automatic p (all_at is_moved_or_manual pools number p moved e) kind
-      by_cases (neither e f) =
-          absurd (false≢true
-          (sym (ap (λ (o : Option world.Pool). option_map_or (λ p. is_automatic_kind p.kind) o false) f) ∙ automatic))
+          ap (λ (o : Option world.Pool). option_map_or (λ p. is_weak_kind p.kind) o false) f
+          ∙ ap is_weak_kind (kinds_alike layout w.formats p q is)
+          ∙ not_weak p (all_at is_moved_or_manual pools number p moved e)
+      by_cases (neither e f) = ap (λ (o : Option world.Pool). option_map_or (λ p. is_weak_kind p.kind) o false) f
 
   -- an automatic pool, with its policy
   record IsCollectedPool (number : ℕ) : Type 0 where
@@ -240,7 +238,7 @@ module _ {F : Type 0} (layout : F → Layout) (pools : List (Pool F)) (t : Trace
   pools_known = record {
     formats = formats_known;
     moves = moves_known;
-    copying = all_copying;
+    strong = none_weak;
     pools = known_pools;
     tails = λ number generation copying.
         let m = mover number copying in

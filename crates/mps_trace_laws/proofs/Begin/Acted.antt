@@ -32,7 +32,6 @@ use Rattle.mps_trace.specs.declared.running.Running.{Running as RunningState}
 use Rattle.mps_trace_laws.specs.Fix.Steps.{IsSameGraph}
 use Rattle.mps_trace_laws.specs.Fix.Tracing.{AreKnownPools, TracingStands}
 use Rattle.mps_trace_laws.specs.Fix.Housed.{AreAllExact}
-use Rattle.mps_trace_laws.proofs.Fix.ExactSegments.{copying_segments_are_exact}
 use Rattle.mps_trace_laws.proofs.Fix.CellLists.{fewer_done}
 use Rattle.mps_trace_laws.proofs.Fix.ScanRun.{shaped_still}
 use Rattle.mps_trace_laws.specs.Nails.Nailed.{AreWordsShown, words_of_areas}
@@ -44,6 +43,7 @@ use Rattle.mps_trace_laws.proofs.Roots.Housed.{roots_keep_housed}
 use Rattle.mps_trace_laws.specs.Flip.Condemned.{AreFormatsOf, AreMovesOf}
 use Rattle.mps_trace_laws.proofs.Flip.Condemned.{flip_is_the_models}
 use Rattle.mps_trace_laws.proofs.Flip.Reservations.{no_reservation_is_live}
+use Rattle.mps_trace_laws.proofs.Begin.HeldSegments.{segments_are_exact}
 use Rattle.mps_trace_laws.specs.Units.Finals.{address_of_id}
 use Rattle.mps_trace_laws.proofs.Begin.FinalsThen.{AreFinalsAfter, messages_after, messages_are}
 use Rattle.mps_trace_laws.specs.Units.Standing.{AreFinalsOf, AreCondemnedUnreserved, IsMoving, UnitStands, tracing}
@@ -132,7 +132,7 @@ module _ {F : Type 0} (flip_stands : AFlipStands F) (layout : F → Layout) (t :
       (record {
         exact =
             subst (λ (ts : List Segment). AreAllExact ts) (sym flip.traces.state.segments.same_segments)
-            (copying_segments_are_exact w before.plain.rest.well_formed before.pools.copying);
+            (segments_are_exact w before.plain.rest.well_formed before.pools.strong);
         marks = flip.strong;
       })
       held.tables held.messages begins.slots begins.messages all

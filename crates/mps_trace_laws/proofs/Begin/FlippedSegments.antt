@@ -1,6 +1,6 @@
 -- The segments right after a flip of everything.
-use Rattle.std.proofs.Common.{◌≡◌, ◌∙◌, ℕ, ◌+◌, ◌*◌, true, false, List, [], length, Option, Some, None, Contains, refl, sym, ap, subst}
-use Rattle.std.specs.Prelude.{◌||◌, IsTrue, option_map}
+use Rattle.std.proofs.Common.{◌≡◌, ◌∙◌, ℕ, ◌+◌, ◌*◌, false, List, [], length, Option, Some, None, Contains, refl, sym, ap, subst}
+use Rattle.std.specs.Prelude.{◌||◌, IsTrue}
 use Rattle.mps_base.specs.Address.{Address, Word, address_of_word, grain_of, words_of_grain}
 use Rattle.mps_base.specs.Run.{IsAscending}
 use Rattle.mps_base.specs.Segment.{Segment, segment_over}
@@ -20,7 +20,7 @@ use Rattle.mps_model.specs.Graph.{contains}
 use Rattle.mps_model.specs.World.{World}
 use Rattle.mps_abstract.specs.Collecting.{Collecting}
 use Rattle.mps_abstract.specs.FlipLaws.{collecting_after_flip}
-use Rattle.mps_trace_laws.specs.Image.Memory.{is_condemned_word, pool_over_word, words_of_arena}
+use Rattle.mps_trace_laws.specs.Image.Memory.{words_of_arena}
 use Rattle.mps_trace_laws.specs.Flip.Condemned.{IsFlipOfEverything, AreCondemnedToo, bases_of}
 use Rattle.mps_trace_laws.specs.Flip.CondemnedWords.{AreWordsCondemned}
 use Rattle.mps_trace_laws.specs.Flip.Reservations.{IsNothingMoved}
@@ -29,7 +29,7 @@ use Rattle.mps_trace_laws.proofs.Flip.CondemnedWords.{flip_condemns_words}
 use Rattle.mps_trace_laws.proofs.Flip.Reservations.{flip_moves_nothing}
 use Rattle.mps_trace_laws.specs.Nails.Nailed.{AreTablesWhole, AreMarkedAt}
 use Rattle.mps_trace_laws.specs.Begin.Before.{StandsBefore}
-use Rattle.mps_trace_laws.proofs.Begin.HeldSegments.{begin_in_table, ready_to_condemn, copying_is_exact}
+use Rattle.mps_trace_laws.proofs.Begin.HeldSegments.{begin_in_table, ready_to_condemn, segments_are_exact}
 use Rattle.mps_trace_laws.proofs.Begin.StrongNails.{AreCondemnedExact}
 
 module _ {F : Type 0} (layout : F → Layout) (t : TraceState F) (s : SegsState) (m : Moves) (points : PointsState) (w : World)
@@ -99,23 +99,16 @@ module _ {F : Type 0} (layout : F → Layout) (t : TraceState F) (s : SegsState)
     grey = λ n. ap (λ (k : MarkTables). bit k.exact n || bit k.weak n) moved.marks ∙ b.segments.unmarked.grey n;
   }
 
-  -- condemned segments are of pools that move blocks, so of rank exact
-  exact_over : (n : Word) → is_condemned_word g n ≡ true → (o : Option Segment) → segment_over g.segments (address_of_word n) ≡ o
-      → rank_of o ≡ Exact
-  exact_over n condemned None over = refl
-  exact_over n condemned (Some u) over =
-      let pool : pool_over_word s n ≡ Some u.pool =
-      sym (condemns_words.pools n) ∙ ap (λ (o : Option Segment). option_map (λ (v : Segment). v.pool) o) over
-      in
-      let automatic : flip.is_automatic t.formats u.pool ≡ true = sym (condemns_words.words n u.pool pool) ∙ condemned in
-      let there : Contains w.segments u =
-      subst (λ (ts : List Segment). Contains ts u) (condemns.segments ∙ b.segments.segments.same_segments)
-      (over_is_there g.segments (address_of_word n) u over)
-      in
-      copying_is_exact w b.plain.rest.well_formed u there (b.pools.copying u.pool (sym (b.pools.formats u.pool) ∙ automatic))
+  -- no segment has weak blocks
+  exact_over : (n : Word) (o : Option Segment) → segment_over g.segments (address_of_word n) ≡ o → rank_of o ≡ Exact
+  exact_over n None over = refl
+  exact_over n (Some u) over =
+      segments_are_exact w b.plain.rest.well_formed b.pools.strong u
+      (subst (λ (ts : List Segment). Contains ts u) (condemns.segments ∙ b.segments.segments.same_segments)
+      (over_is_there g.segments (address_of_word n) u over))
 
   pub strong : AreCondemnedExact g
   strong = record {
     none = λ n. ap (λ (k : MarkTables). bit k.weak n) moved.marks ∙ b.segments.strong n;
-    exact = λ n condemned. exact_over n condemned (segment_over g.segments (address_of_word n)) refl;
+    exact = λ n condemned. exact_over n (segment_over g.segments (address_of_word n)) refl;
   }

@@ -1,19 +1,18 @@
--- Held segments of an arena at rest can be condemned, and those that move blocks are of rank exact.
-use Rattle.std.proofs.Common.{◌≡◌, zero, suc, ◌+◌, Bool, true, false, refl, sym, subst, List, [], ◌∷◌, length, map, Option, Some, None, Contains, inl, inr, arith}
+-- Held segments of an arena at rest can be condemned, and are of rank exact where no pool has weak references.
+use Rattle.std.proofs.Common.{◌≡◌, ℕ, zero, suc, ◌+◌, Bool, true, false, refl, sym, subst, List, [], ◌∷◌, length, map, Contains, inl, inr, arith}
 use Rattle.std.proofs.lemmas.Bool.{false≢true, and_parts, or_cases, both_ways}
 use Rattle.std.specs.Prelude.{◌&&◌, ◌||◌, ◌==◌, not, nat_lt}
 use Rattle.std.specs.List.{list_all}
-use Rattle.std.specs.Option.{option_map_or}
 use Rattle.mps_base.specs.Address.{address_of_grain, grain_of}
 use Rattle.mps_base.specs.Segment.{Segment, grains_of_segment}
-use Rattle.mps_base.proofs.PoolKinds.{moving_is_not_weak}
 use Rattle.mps_base.specs.declared.names.Rank.{Rank}
 use Rattle.mps_base.specs.declared.names.Rank.TheVariants.{Exact, Weak}
 use Rattle.mps_extents.specs.Table.{bit}
 use Rattle.mps_model.specs.Making.{is_weak_rank}
-use Rattle.mps_model.specs.World.{World, Pool, PoolKind, Collected, OneSize, AnySize, is_copying_kind, is_copying_pool, is_weak_kind, pool_at, pool_is}
+use Rattle.mps_model.specs.World.{World, is_weak_kind, pool_is}
 use Rattle.mps_model.specs.WellFormed.{IsWellFormed, is_right_segment, are_apart, lies_within}
 use Rattle.mps_seg.specs.Segs.{SegsState}
+use Rattle.mps_trace_laws.specs.Fix.Housed.{AreAllExact}
 use Rattle.mps_trace_laws.specs.Fix.Tracing.{AreHeld, HasTables}
 use Rattle.mps_trace_laws.proofs.Reclaim.SegmentBounds.{aligned_in}
 use Rattle.mps_trace_laws.proofs.Reclaim.HeldSegments.{some_grains}
@@ -52,30 +51,19 @@ passes_there test (x ∷ xs) t all (zero, within, is) =
 passes_there test (x ∷ xs) t all (suc k, within, is) =
     passes_there test xs t (and_parts (test x) (list_all test xs) all).1 (k, omega (arith, within), is)
 
--- no pool that moves blocks has weak references
-copying_not_weak : (k : PoolKind) → is_copying_kind k ≡ true → is_weak_kind k ≡ false
-copying_not_weak (Collected kind) copies = moving_is_not_weak kind copies
-copying_not_weak (OneSize words) copies = absurd (false≢true copies)
-copying_not_weak AnySize copies = absurd (false≢true copies)
-
-pool_not_weak : (o : Option Pool) → option_map_or (λ (p : Pool). is_copying_kind p.kind) o false ≡ true
-    → option_map_or (λ (p : Pool). is_weak_kind p.kind) o false ≡ false
-pool_not_weak None copies = refl
-pool_not_weak (Some p) copies = copying_not_weak p.kind copies
-
 exact_if_strong : (r : Rank) → not (is_weak_rank r) ≡ true → r ≡ Exact
 exact_if_strong Exact strong = refl
 exact_if_strong Weak strong = absurd (false≢true strong)
 
-pub copying_is_exact : (w : World) → IsWellFormed w → (t : Segment) → Contains w.segments t → is_copying_pool w t.pool ≡ true
-    → t.rank ≡ Exact
-copying_is_exact w formed t there copies =
+-- where no pool has weak references no segment of a well-formed world has weak blocks
+pub segments_are_exact : (w : World) → IsWellFormed w → ((pool : ℕ) → pool_is is_weak_kind w pool ≡ false) → AreAllExact w.segments
+segments_are_exact w formed strong t there =
     let all = (and_parts (list_all (is_right_segment w) w.segments) (are_apart (map grains_of_segment w.segments)) formed.segments).0 in
     let right = passes_there (is_right_segment w) w.segments t all there in
     let last = (and_parts (address_of_grain (grains_of_segment t).from == t.base && nat_lt 0 t.grains
     && lies_within (record { from = 1; count = w.grains }) (grains_of_segment t))
     (not (is_weak_rank t.rank) || pool_is is_weak_kind w t.pool) right).1 in
     elim (or_cases (not (is_weak_rank t.rank)) (pool_is is_weak_kind w t.pool) last) [
-      | inl strong ↦ exact_if_strong t.rank strong
-      | inr weak ↦ absurd (both_ways (pool_is is_weak_kind w t.pool) (pool_not_weak (pool_at w t.pool) copies) weak)
+      | inl exact ↦ exact_if_strong t.rank exact
+      | inr weak ↦ absurd (both_ways (pool_is is_weak_kind w t.pool) (strong t.pool) weak)
     ]

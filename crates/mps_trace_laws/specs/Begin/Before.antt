@@ -11,7 +11,7 @@ use Rattle.mps_buffer.specs.Points.{PointsState}
 use Rattle.mps_amc.specs.Amc.{HasTail}
 use Rattle.mps_trace.specs.GenState as chains
 use Rattle.mps_model.specs.Graph.{is_weak_object}
-use Rattle.mps_model.specs.World.{World, is_automatic_kind, is_copying_pool, generations_of, pool_is, object_is, live_ids}
+use Rattle.mps_model.specs.World.{World, is_automatic_kind, is_weak_kind, is_copying_pool, generations_of, pool_is, object_is, live_ids}
 use Rattle.mps_abstract.specs.FlipLaws.{IsAtRest}
 use Rattle.mps_trace_laws.specs.Image.AtRest.{StandsAtRest, AreTargetsLive}
 use Rattle.mps_trace_laws.specs.Image.Image.{AreShaped}
@@ -21,7 +21,7 @@ use Rattle.mps_trace_laws.specs.Fix.Housed.{AreHoused}
 use Rattle.mps_trace.specs.Splat.{HasNoWeakMark}
 use Rattle.mps_trace_laws.specs.Fix.Tracing.{AreSegmentsOf, AreHeld, HasTables, AreCoveredInOrder, AreReservationsHeld, AreKnownPools}
 use Rattle.mps_trace_laws.specs.Nails.Nailed.{AreTablesWhole, AreMarkedAt}
-use Rattle.mps_trace_laws.specs.Flip.Condemned.{AreFormatsOf, AreMovesOf, AllCopying}
+use Rattle.mps_trace_laws.specs.Flip.Condemned.{AreFormatsOf, AreMovesOf}
 use Rattle.mps_trace_laws.specs.Flip.Ended.{open_runs}
 
 -- the segments of an arena at rest, as a world has them: nothing is marked or condemned, and each block and each live reservation lies
@@ -39,12 +39,12 @@ pub record AreSegmentsAtRest (s : SegsState) (w : World) : Type 0 where
   pub housed : AreHoused w.graph.objects s.segments w.addresses
   pub reserved : AreReservationsHeld s w.graph.points w.point_memories
 
--- the pools of a world as a collector knows them: it has the format of each automatic pool, moves the blocks of those that copy, which
--- are all of them, and each has words at hand for each generation
+-- the pools of a world as a collector knows them: it has the format of each automatic pool, and moves the blocks of exactly those that
+-- copy, each of which has words at hand for each generation. No pool has weak references
 pub record ArePoolsKnown {F : Type 0} (layout : F → Layout) (t : TraceState F) (w : World) : Type 0 where
   pub formats : AreFormatsOf t.formats (pool_is is_automatic_kind w)
   pub moves : AreMovesOf t.formats (is_copying_pool w)
-  pub copying : AllCopying (pool_is is_automatic_kind w) (is_copying_pool w)
+  pub strong : (pool : ℕ) → pool_is is_weak_kind w pool ≡ false
   pub pools : AreKnownPools layout t.formats t.chains (pool_is is_automatic_kind w) (is_copying_pool w) (pool_layout w) (generations_of w)
   pub tails : (pool generation : ℕ) → IsTrue (is_copying_pool w pool)
       → HasTail t.amc pool (target_generation (chains.generations_of t.chains pool) generation)

@@ -23,10 +23,6 @@ AreFormatsOf formats is_automatic_pool = (pool : ℕ) → is_automatic formats p
 abbrev pub AreMovesOf : {F : Type 0} → (formats : List (Option (Policy F))) → (is_copying : ℕ → Bool) → Type 0
 AreMovesOf formats is_copying = (pool : ℕ) → moves_blocks formats pool ≡ is_copying pool
 
--- all automatic pools move blocks
-abbrev pub AllCopying : (is_automatic_pool is_copying : ℕ → Bool) → Type 0
-AllCopying is_automatic_pool is_copying = (pool : ℕ) → IsTrue (is_automatic_pool pool) → IsTrue (is_copying pool)
-
 -- the addresses at which segments begin
 abbrev pub bases_of : List Segment → List Address
 bases_of ts = map (λ (t : Segment). t.base) ts
