@@ -4,9 +4,9 @@ use Rattle.std.specs.Prelude.{option_map}
 use Rattle.mps_base.specs.Address.{Id}
 use Rattle.mps_base.specs.declared.moves.Move.{Move}
 use Rattle.mps_model.specs.Collection.{Collection}
-use Rattle.mps_model.specs.Graph.{contains, graph_with_cells, with_target_cell, without_first, with_last}
+use Rattle.mps_model.specs.Graph.{contains, without_first, with_last}
 use Rattle.mps_model.specs.World.{World, is_live}
-use Rattle.mps_model.specs.Effect.{world_after_moves, after_post, splatting}
+use Rattle.mps_model.specs.Effect.{world_after_moves, after_post, objects_splatted, splatting}
 use Rattle.mps_model.proofs.Cutting.{world_after_moves-append}
 use Rattle.mps_abstract.specs.Collecting.{Collecting, Running}
 use Rattle.mps_abstract.specs.Fixing.{Keeps, Fixes, fixes_no_more, passes, keeps}
@@ -26,6 +26,7 @@ same_world w = record {
   objects = w.graph.objects;
   registered = w.graph.registered;
   messages = w.graph.messages;
+  dependents = w.graph.dependents;
   addresses = w.addresses;
   segments = w.segments;
   tails = w.tails;
@@ -38,12 +39,13 @@ moved_on a b = record {
   objects = b.objects;
   registered = b.registered;
   messages = b.messages;
+  dependents = b.dependents;
   addresses = b.addresses;
   segments = b.segments;
   tails = b.tails;
   collection = b.collection;
   world = b.world ∙ ap (λ (t : World). record t {
-    graph = record t.graph { objects = b.objects; registered = b.registered; messages = b.messages };
+    graph = record t.graph { objects = b.objects; registered = b.registered; messages = b.messages; dependents = b.dependents };
     addresses = b.addresses;
     segments = b.segments;
     tails = b.tails;
@@ -60,6 +62,7 @@ one_kept x may id live ms c keep =
       objects = x.world.graph.objects;
       registered = x.world.graph.registered;
       messages = x.world.graph.messages;
+      dependents = x.world.graph.dependents;
       addresses = one.addresses;
       segments = one.segments;
       tails = one.tails;
@@ -81,9 +84,10 @@ splats_move : {holder : Id} {x y : Collecting} {cells : List ℕ} → Splats hol
 splats_move {x = x} (splats_no_more done) = same_world x.world
 splats_move {holder} {x} (splats_cell {cell = cell} refers white rest) =
     moved_on (record {
-      objects = (graph_with_cells x.world.graph holder (λ cells. with_target_cell cells cell None)).objects;
+      objects = objects_splatted x.world.graph holder cell;
       registered = x.world.graph.registered;
       messages = x.world.graph.messages;
+      dependents = x.world.graph.dependents;
       addresses = x.world.addresses;
       segments = x.world.segments;
       tails = x.world.tails;
@@ -97,6 +101,7 @@ post_moves w id = record {
   objects = w.graph.objects;
   registered = without_first w.graph.registered id;
   messages = with_last w.graph.messages id;
+  dependents = w.graph.dependents;
   addresses = w.addresses;
   segments = w.segments;
   tails = w.tails;
@@ -117,6 +122,7 @@ unit_moves {x} run (reclaims {s = s} {freed} {c} next not_last runs) = record {
   objects = x.world.graph.objects;
   registered = x.world.graph.registered;
   messages = x.world.graph.messages;
+  dependents = (frees x run s freed next).dependents;
   addresses = (frees x run s freed next).addresses;
   segments = (cleared x run s freed next).segments;
   tails = x.world.tails;
@@ -134,6 +140,7 @@ last_unit_moves {x} run (reclaims_last {s = s} {freed} next last) = record {
     objects = x.world.graph.objects;
     registered = x.world.graph.registered;
     messages = x.world.graph.messages;
+    dependents = (frees x run s freed next).dependents;
     addresses = (frees x run s freed next).addresses;
     segments = (cleared x run s freed next).segments;
     tails = x.world.tails;

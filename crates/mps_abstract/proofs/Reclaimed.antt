@@ -20,7 +20,7 @@ use Rattle.mps_abstract.proofs.Lists.{contains_cases, count_by-cons, count_by-lt
 use Rattle.mps_abstract.proofs.Addresses.{address_of-live}
 use Rattle.mps_abstract.proofs.Joining.{AreLegalAnywhere, legal_append}
 use Rattle.mps_abstract.proofs.Covering.{still_holds}
-use Rattle.mps_abstract.proofs.Sweeping.{IsSweeping, AreFreed, are_freed, sweeping_on, contains-above}
+use Rattle.mps_abstract.proofs.Sweeping.{IsSweeping, AreFreed, are_freed, sweeping_on, contains-above, with_freed}
 use Rattle.mps_abstract.proofs.GivingBack.{IsCleared, IsGivenBack, is_given_back}
 
 -- ---- lists
@@ -84,7 +84,7 @@ module _ (x : Collecting) (run : Running x) (s : Segment) (freed : List Address)
   swept_collection = sweeping_on x.running frees.phase frees.reclaimed_to
 
   abbrev pub swept_world : World
-  swept_world = record x.world { addresses = frees.addresses; collection = Some swept_collection }
+  swept_world = with_freed x.world frees.addresses frees.dependents (Some swept_collection)
 
   -- the segment is given back where nothing is left in it
   pub given : IsGivenBack swept_world swept_collection s refl run.condemned.bases next.condemned next.held
@@ -120,7 +120,8 @@ module _ (x : Collecting) (run : Running x) (s : Segment) (freed : List Address)
   final_collection = record x.running { condemned_segments = cleared.bases; phase = cleared.phase; reclaimed_to = cleared.reclaimed_to }
 
   abbrev pub final_world : World
-  final_world = record x.world { addresses = frees.addresses; segments = cleared.segments; collection = Some final_collection }
+  final_world =
+      record (with_freed x.world frees.addresses frees.dependents (Some final_collection)) { segments = cleared.segments }
 
   pub final_lead : world_after_moves x.world moves_made ≡ final_world
   final_lead = made_lead ∙ cleared.leads

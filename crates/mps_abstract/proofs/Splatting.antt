@@ -10,7 +10,7 @@ use Rattle.mps_model.specs.Graph.{Graph, Object, Body, Automatic, Manual, Cell, 
 use Rattle.mps_model.specs.Collection.{Collection}
 use Rattle.mps_model.specs.World.{id_at, is_live, object_is, is_copying_object, is_copying_pool}
 use Rattle.mps_model.specs.Accessing.{address_or_null}
-use Rattle.mps_model.specs.Effect.{splatting, after_splat, where_one, world_after_moves}
+use Rattle.mps_model.specs.Effect.{splatting, after_splat, where_one, world_after_moves, graph_nulled, graph_splatted}
 use Rattle.mps_model.specs.Flip.{at_address}
 use Rattle.mps_model.specs.LegalMove.{ForOne, IsLegalMove, IsLegalSplat, IsGone, target_in_cell}
 use Rattle.mps_model.specs.Units.{splats_of, splats}
@@ -26,6 +26,7 @@ use Rattle.mps_abstract.proofs.Gone.{white_is_gone}
 use Rattle.mps_abstract.proofs.Pieces.{may_be_scanned}
 use Rattle.mps_abstract.proofs.Scanning.{scanned_running, scanned_fewer}
 use Rattle.mps_abstract.proofs.UnitScans.{IsUnitShown}
+use Rattle.mps_model.proofs.Nulled.{splatted_holds}
 
 automatic_still : (change : List Cell → List Cell) (b : Body) → is_automatic_body (body_with_cells b change) ≡ is_automatic_body b
 automatic_still change (Automatic head cells is_weak) = refl
@@ -39,29 +40,26 @@ weak_still change (Manual words) = refl
 abbrev splat : (cell : ℕ) → List Cell → List Cell
 splat cell cells = with_target_cell cells cell None
 
+-- a reference became null, of any object
 module _ (x : Collecting) (run : Running x) (later : is_tracing_band x.band ≡ false) (before_last : is_reclaiming_band x.band ≡ false)
-    (holder : Id) (grey : is_grey x.colours holder ≡ true) (cell : ℕ) where
-  -- the graph after the splat
+    (holder : Id) (cell : ℕ) where
+  -- the graph after it
   abbrev graph_now : Graph
   graph_now = graph_with_cells x.world.graph holder (splat cell)
 
-  abbrev splat_state : Collecting
-  splat_state = record x {
+  abbrev nulled_state : Collecting
+  nulled_state = record x {
     world = record x.world { graph = graph_now; collection = Some (splatting x.running) };
     running = splatting x.running;
   }
 
-  same_state : collecting_after_splat x holder cell ≡ splat_state
-  same_state = ap (λ (o : Option Collection). record splat_state
-      { world = record splat_state.world { collection = option_map splatting o } }) run.runs
-
-  automatic_same : (n : Id) → object_is is_automatic splat_state.world n ≡ object_is is_automatic x.world n
+  automatic_same : (n : Id) → object_is is_automatic nulled_state.world n ≡ object_is is_automatic x.world n
   automatic_same n = for_object-with_cells x.world.graph holder n (splat cell) is_automatic false (λ p. automatic_still (splat cell) p.body)
 
-  weak_same : (n : Id) → object_is is_weak_object splat_state.world n ≡ object_is is_weak_object x.world n
+  weak_same : (n : Id) → object_is is_weak_object nulled_state.world n ≡ object_is is_weak_object x.world n
   weak_same n = for_object-with_cells x.world.graph holder n (splat cell) is_weak_object false (λ p. weak_still (splat cell) p.body)
 
-  copying_same : (n : Id) → is_copying_object splat_state.world n ≡ is_copying_object x.world n
+  copying_same : (n : Id) → is_copying_object nulled_state.world n ≡ is_copying_object x.world n
   copying_same n = for_object-with_cells x.world.graph holder n (splat cell) (λ (o : Object). is_copying_pool x.world o.pool) false
       (λ p. refl)
 
@@ -71,8 +69,8 @@ module _ (x : Collecting) (run : Running x) (later : is_tracing_band x.band ≡ 
     | inr before ↦ before
   ]
 
-  splat_running : Running splat_state
-  splat_running = record {
+  nulled_running : Running nulled_state
+  nulled_running = record {
     runs = refl;
     different = run.different;
     condemned = record {
@@ -123,6 +121,28 @@ module _ (x : Collecting) (run : Running x) (later : is_tracing_band x.band ≡ 
     units = run.units;
   }
 
+module _ (x : Collecting) (run : Running x) (later : is_tracing_band x.band ≡ false) (before_last : is_reclaiming_band x.band ≡ false)
+    (holder : Id) (cell : ℕ) where
+  abbrev with_splatted : Graph → Collecting
+  with_splatted g = record x {
+    world = record x.world { graph = g; collection = Some (splatting x.running) };
+    running = splatting x.running;
+  }
+
+  same_state : collecting_after_splat x holder cell ≡ with_splatted (graph_splatted x.world.graph holder cell)
+  same_state = ap (λ (o : Option Collection). let y = with_splatted (graph_splatted x.world.graph holder cell) in
+      record y { world = record y.world { collection = option_map splatting o } }) run.runs
+
+  -- the reference of the holder, and that of its dependent
+  pub splat_running : Running (collecting_after_splat x holder cell)
+  splat_running =
+      let first = nulled_running x run later before_last holder cell in
+      subst (λ y. Running y) (sym same_state)
+      (splatted_holds (λ g. Running (with_splatted g)) x.world.graph holder cell first (λ dependent.
+      nulled_running (with_splatted (graph_nulled x.world.graph holder cell)) first later before_last dependent cell))
+
+module _ (x : Collecting) (run : Running x) (later : is_tracing_band x.band ≡ false) (before_last : is_reclaiming_band x.band ≡ false)
+    (holder : Id) (grey : is_grey x.colours holder ≡ true) (cell : ℕ) where
   -- the splat is legal, where it is of a white object
   module _ (a : Address) (there : id_at x.world a ≡ Some holder) (target : Id) (refers : target_in_cell x.world holder cell ≡ Some target)
       (white : is_white_in x target ≡ true) where
@@ -187,9 +207,7 @@ are_splatted {x = x} (splats_no_more kept) run later before_last grey a there = 
 }
 are_splatted {holder = holder} {x = x} {y = z}
     (splats_cell {cell = cell} {target} {cells} refers white rest) run later before_last grey a there =
-    let running : Running (collecting_after_splat x holder cell) =
-    subst (λ y. Running y) (sym (same_state x run later before_last holder grey cell))
-    (splat_running x run later before_last holder grey cell) in
+    let running = splat_running x run later before_last holder cell in
     splatted_first x holder a cell cells (collecting_after_splat x holder cell) z
     (splat_leads x run later before_last holder grey cell a there target refers white)
     (one_legal x.world (moves.Splat (at_address a) cell)

@@ -2,14 +2,14 @@
 use Rattle.std.proofs.Common.{◌≡◌, ◌∙◌, ◌⊎◌, ℕ, ◌<◌, Bool, true, false, refl, sym, ap, List, [], ◌∷◌, Option, Some, None, subst, inl, inr, arith}
 use Rattle.std.proofs.lemmas.Bool.{false≢true, true≢false, and_parts, or_parts, eq-eqb, ltb-true}
 use Rattle.std.proofs.lemmas.Option.{none-some, same_Some}
-use Rattle.std.specs.Prelude.{◌==◌, ◌||◌, ◌&&◌, if◌then◌else◌, is_some, slice_set, nat_lt}
+use Rattle.std.specs.Prelude.{◌==◌, if◌then◌else◌, is_some, slice_set, nat_lt}
 use Rattle.mps_base.specs.Address.{Id, Address}
 use Rattle.mps_base.specs.declared.moves.Move.{Move}
 use Rattle.mps_base.specs.declared.moves.Move.TheVariants as moves
-use Rattle.mps_model.specs.Graph.{contains, entry_at, ids_of_client, is_automatic, is_weak_object}
+use Rattle.mps_model.specs.Graph.{contains, entry_at, ids_of_client, is_automatic, is_weak_object, without_named}
 use Rattle.mps_model.specs.Collection.{Collection, Phase, is_condemned}
 use Rattle.mps_model.specs.World.{World, id_at, is_live, object_is, is_copying_object}
-use Rattle.mps_model.specs.Effect.{after_free, with_collection, with_address, where_one, reclaiming, segment_base_of, world_after_moves}
+use Rattle.mps_model.specs.Effect.{after_free, with_collection, without_object, where_one, reclaiming, segment_base_of, world_after_moves}
 use Rattle.mps_model.specs.Flip.{at_address}
 use Rattle.mps_model.specs.LegalMove.{ForOne, IsLegalMove, IsLegalSweep}
 use Rattle.mps_model.specs.Units.{frees_at, is_ascending}
@@ -58,14 +58,14 @@ none_grey k weak scanned id grey = absurd (true≢false (sym grey ∙ scanned id
 module _ (w : World) (c : Collection) (k : Colours) (base : Address) (s : IsSweeping w c k) (id : Id) (at : Address)
     (address : entry_at w.addresses id ≡ Some at) (white : is_white c.condemned k id ≡ true) (in_base : segment_base_of w at ≡ base) where
   abbrev freed_world : World
-  freed_world = record w { addresses = slice_set w.addresses id None; collection = Some (reclaiming base c) }
+  freed_world = record (without_object w id) { collection = Some (reclaiming base c) }
 
   free_leads : world_after_moves w (moves.Free (at_address at) ∷ []) ≡ freed_world
   free_leads =
       ap (λ o. where_one w o (λ n. after_free w n at)) (id_at-address w id at s.different address)
-      ∙ ap (λ b. if b then with_collection (with_address w id None) (reclaiming (segment_base_of w at)) else with_address w id None)
+      ∙ ap (λ b. if b then with_collection (without_object w id) (reclaiming (segment_base_of w at)) else without_object w id)
       (s.automatic id (is_condemned_if_white c.condemned k id white))
-      ∙ ap (λ b. with_collection (with_address w id None) (reclaiming b)) in_base
+      ∙ ap (λ b. with_collection (without_object w id) (reclaiming b)) in_base
       ∙ ap (λ o. record freed_world { collection = Rattle.std.specs.Prelude.option_map (reclaiming base) o }) s.runs
 
   free_is_legal : (before next : Option Move) → IsLegalMove w before (moves.Free (at_address at)) next
@@ -115,15 +115,26 @@ module _ (w : World) (c : Collection) (k : Colours) (base : Address) (s : IsSwee
 abbrev pub sweeping_on : Collection → Phase → (reclaimed_to : Address) → Collection
 sweeping_on c phase reclaimed_to = record c { phase = phase; reclaimed_to = reclaimed_to }
 
--- the objects at these addresses are gone, and nothing else has changed but how far the collection is
+-- a world with these addresses, pairs of dependents and collection
+abbrev pub with_freed : World → (addresses : List (Option Address)) → (dependents : List (Id × Id)) → Option Collection → World
+with_freed w addresses dependents runs = record w {
+  graph = record w.graph { dependents = dependents };
+  addresses = addresses;
+  collection = runs;
+}
+
+-- the objects at these addresses are gone, and their pairs, and nothing else has changed but how far the collection is
 pub record AreFreed (w : World) (c : Collection) (k : Colours) (base : Address) (freed : List Address) : Type 0 where
   pub addresses : List (Option Address)
+  pub dependents : List (Id × Id)
   pub phase : Phase
   pub reclaimed_to : Address
   pub leads : world_after_moves w (frees_at freed)
-      ≡ record w { addresses = addresses; collection = Some (sweeping_on c phase reclaimed_to) }
-  pub sweeping : IsSweeping (record w { addresses = addresses; collection = Some (sweeping_on c phase reclaimed_to) })
+      ≡ with_freed w addresses dependents (Some (sweeping_on c phase reclaimed_to))
+  pub sweeping : IsSweeping (with_freed w addresses dependents (Some (sweeping_on c phase reclaimed_to)))
       (sweeping_on c phase reclaimed_to) k
+  -- where there were no pairs there are none
+  pub unpaired : w.graph.dependents ≡ [] → dependents ≡ []
   -- what has an address had it before
   pub fewer : (n : Id) (at : Address) → entry_at addresses n ≡ Some at → entry_at w.addresses n ≡ Some at
   -- what was elsewhere has its address
@@ -137,10 +148,12 @@ pub are_freed : (k : Colours) (base : Address) (above : ℕ) (freed : List Addre
     → AreFreed w c k base freed
 are_freed k base above [] w c s asc each = record {
   addresses = w.addresses;
+  dependents = w.graph.dependents;
   phase = c.phase;
   reclaimed_to = c.reclaimed_to;
   leads = ap (λ o. record w { collection = o }) s.runs;
   sweeping = subst (λ v. IsSweeping v c k) (ap (λ o. record w { collection = o }) s.runs) s;
+  unpaired = λ none. none;
   fewer = λ n at h. h;
   left = λ n at h e. h;
   gone = λ at h. absurd (false≢true h);
@@ -157,10 +170,12 @@ are_freed k base above (at ∷ ats) w c s asc each =
     (λ same. let up = contains-above at ats b parts.1 h in omega (arith, up, same))) in
     record {
       addresses = rest.addresses;
+      dependents = rest.dependents;
       phase = rest.phase;
       reclaimed_to = rest.reclaimed_to;
       leads = ap (λ u. world_after_moves u (frees_at ats)) lead ∙ rest.leads;
       sweeping = rest.sweeping;
+      unpaired = λ none. rest.unpaired (ap (λ ps. without_named ps x.id) none);
       fewer = λ n b e. elim (entry_at-set_cases w.addresses x.id n None b (rest.fewer n b e)) [
         | inl written ↦ absurd (none-some b written.1)
         | inr stood ↦ stood.1

@@ -10,18 +10,19 @@ use Rattle.mps_model.specs.Effect.{world_after_moves}
 use Rattle.mps_abstract.specs.Collecting.{Collecting, Running}
 use Rattle.mps_abstract.specs.Units.{GoesOn, Ends}
 
--- a world is another one, but for objects, registrations and messages, for where objects lie, in which segments, for tails and for the
--- collection
+-- a world is another one, but for objects, registrations, messages and pairs of dependents, for where objects lie, in which segments,
+-- for tails and for the collection
 pub record IsButCollected (before after : World) : Type 0 where
   pub objects : List Object
   pub registered : List Id
   pub messages : List Id
+  pub dependents : List (Id × Id)
   pub addresses : List (Option Address)
   pub segments : List Segment
   pub tails : List Tail
   pub collection : Option Collection
   pub world : after ≡ record before {
-    graph = record before.graph { objects = objects; registered = registered; messages = messages };
+    graph = record before.graph { objects = objects; registered = registered; messages = messages; dependents = dependents };
     addresses = addresses;
     segments = segments;
     tails = tails;

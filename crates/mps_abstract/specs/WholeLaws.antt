@@ -15,7 +15,7 @@ use Rattle.mps_model.specs.Answer.{Replied}
 use Rattle.mps_model.specs.declared.call.Call.TheVariants as call
 use Rattle.mps_model.specs.declared.reply.Reply.TheVariants as reply
 use Rattle.mps_abstract.specs.Colours.{Colours, is_grey}
-use Rattle.mps_abstract.specs.Collecting.{Collecting, Running, is_white_in}
+use Rattle.mps_abstract.specs.Collecting.{Collecting, Running, is_white_in, is_tracing_band}
 use Rattle.mps_abstract.specs.Units.{Ends}
 use Rattle.mps_abstract.specs.FlipLaws.{IsAtRest, collecting_after_flip, FixesHeld}
 
@@ -35,9 +35,17 @@ pub record AreRootsKept (collecting_after_flip : World) (posted : List Id) (x : 
   pub live : (id : Id) → IsTrue (contains (roots_of collecting_after_flip posted) id) → IsTrue (is_live x.world id)
   pub kept : (id : Id) → IsTrue (contains (roots_of collecting_after_flip posted) id) → is_white_in x id ≡ false
 
--- the strong references are those of the flip
+-- the strong references are those of the flip, as long as none is splatted
 abbrev pub IsAlike : (collecting_after_flip g : Graph) → Type 0
 IsAlike collecting_after_flip g = (id : Id) → strong_targets g id ≡ strong_targets collecting_after_flip id
+
+-- what an object that is kept referred to strongly at the flip is kept. From the weak band on this holds of those too that the splat of a
+-- weak reference cleared with it
+abbrev pub AreLedToKept : (collecting_after_flip : Graph) → Collecting → Type 0
+AreLedToKept collecting_after_flip x =
+    (id target : Id) → IsTrue (is_live x.world id) → is_white_in x id ≡ false
+    → IsTrue (contains (strong_targets collecting_after_flip id) target)
+    → IsTrue (is_live x.world target) × (is_white_in x target ≡ false)
 
 -- the registrations: those that were examined and are left, and those that are still to be examined
 pub record AreInTurn (x : Collecting) (passed remaining : List Id) : Type 0 where
@@ -58,7 +66,8 @@ pub record IsWholeSoFar (collecting_after_flip : World) (x : Collecting) : Type 
   -- if the posts of those that remain are exact, all are
   pub so_far : (later : List Id) → ArePostsExact collecting_after_flip posted remaining later
       → ArePostsExact collecting_after_flip [] collecting_after_flip.graph.registered (posts ++ later)
-  pub alike : IsAlike collecting_after_flip.graph x.world.graph
+  pub alike : IsTrue (is_tracing_band x.band) → IsAlike collecting_after_flip.graph x.world.graph
+  pub led : is_tracing_band x.band ≡ false → AreLedToKept collecting_after_flip.graph x
   pub reached : AreReached collecting_after_flip posted x.colours
   pub roots : AreRootsKept collecting_after_flip posted x
   -- the flip condemned everything

@@ -3,14 +3,15 @@ use Rattle.std.proofs.Common.{◌≡◌, ℕ, ◌+◌, Bool, true, false, refl, 
 use Rattle.std.proofs.Common.{arith}
 use Rattle.std.proofs.Math.Nat.{mod-lt}
 use Rattle.std.proofs.lemmas.Bool.{lt-ltb, true≢false}
-use Rattle.std.specs.Prelude.{◌%◌, if◌then◌else◌, is_none, is_some, nat_le, nat_lt, not, slice_get, slice_set}
+use Rattle.std.specs.Prelude.{◌%◌, ◌&&◌, if◌then◌else◌, is_none, is_some, nat_le, nat_lt, not, slice_get, slice_set}
 use Rattle.mps_base.specs.Staleness.{is_stale}
 use Rattle.mps_base.specs.declared.names.Name.{Name}
 use Rattle.mps_base.specs.declared.refusal.Refusal.TheVariants as refusal
 use Rattle.mps_model.specs.declared.call.Call.{Call}
 use Rattle.mps_model.specs.declared.call.Call.TheVariants as call
 use Rattle.mps_model.specs.declared.reply.Reply.TheVariants as reply
-use Rattle.mps_model.specs.Graph.{Graph, Object, Cell, NumberCell, AreaWord, PlainWord, Point, Reservation, is_taken, position_of_first, thing_named, with_target_cell}
+use Rattle.mps_model.specs.Graph.{Graph, Object, Cell, NumberCell, AreaWord, PlainWord, Point, Reservation, dependent_in, is_taken, position_of_first, thing_named, with_target_cell}
+use Rattle.mps_model.specs.Dependents.{may_depend, most_dependents}
 use Rattle.mps_model.specs.Tagging.{tag_count}
 use Rattle.mps_model.specs.World.{World, Pool, Dependency, Unclamped, Clamped, Parked, block_of_word, id_at, is_automatic_kind, is_running}
 use Rattle.mps_model.specs.Checked.{Act, Checked, Found, Numbered, block_place_in, cells_of_body, chain_named, dependency_named, done, label_named, tag_at, number_at, object_in, point_named, pool_named, reference_at, refuse_when, required, says, slot_in, tells, with_graph, word_in}
@@ -21,7 +22,7 @@ use Rattle.mps_model.specs.Accessing.{Poked, AsBlock, AsMarked, AsNumber, act_po
 use Rattle.mps_model.specs.Collecting.{act_message_in, most_registrations}
 use Rattle.mps_model.specs.Reply.{act}
 use Rattle.mps_changes.proofs.Checks.{with_value, after_check, andthen, checked, unless, required-is, without_root}
-use Rattle.mps_changes.specs.Change.{ForAct, accepted, refused, changes_points, Now, Before, makes_pool, is_kind_made, GotNull, FromSlot, FromCell, FromWord, ShownPlain, ShownPinned, ShownPoked, IsWritten, WritesReference, WritesNumber, WritesTag, AsideIs, ArenaMade, LimitIs, ChainMade, StateIs, DependencyMade, DependencyIs, LabelMade, Change, Unchanged, Aside, SlotIs, WordIs, MessageTaken, TableMade, AreaMade, BlocksMade, TableDropped, AreaDropped, CellsAre, BlockWordIs, PlaceEmptied, Allocated, PoolMade, PointMade, PointDropped, Opened, Written, Closed, Committed, Registered, Unregistered}
+use Rattle.mps_changes.specs.Change.{ForAct, accepted, refused, changes_points, Now, Before, makes_pool, is_kind_made, GotNull, FromSlot, FromCell, FromWord, ShownPlain, ShownPinned, ShownPoked, IsWritten, WritesReference, WritesNumber, WritesTag, ArenaMade, LimitIs, ChainMade, StateIs, DependencyMade, DependencyIs, LabelMade, Linked, Unlinked, Change, Unchanged, Aside, SlotIs, WordIs, MessageTaken, TableMade, AreaMade, BlocksMade, TableDropped, AreaDropped, CellsAre, BlockWordIs, PlaceEmptied, Allocated, PoolMade, PointMade, PointDropped, Opened, Written, Closed, Committed, Registered, Unregistered}
 
 not_not : (b : Bool) → not b ≡ false → b ≡ true
 not_not true h = refl
@@ -218,6 +219,20 @@ module _ (marked : Bool) (judged v : World) where
   act_changes_so (call.Label slot label) =
       andthen (slot_in v slot) (λ (from : Found (Option ℕ)). andthen (object_in v from.value) (λ (object : Numbered Object).
       andthen (label_named v label) (λ (found : Numbered Name). accepted Unchanged)))
+  act_changes_so (call.Depend holder dependent) =
+      with_value (slot_in v holder) (λ (from : Found (Option ℕ)) e.
+      with_value (slot_in v dependent) (λ (to : Found (Option ℕ)) f.
+      with_value (object_in v from.value) (λ (weak : Numbered Object) g.
+      with_value (object_in v to.value) (λ (exact : Numbered Object) h.
+      unless (not (may_depend v weak.value exact.value)) refusal.WrongPool (λ may.
+      after_check (refuse_when (is_none (dependent_in v.graph.dependents weak.number)
+      && nat_le most_dependents (length v.graph.dependents)) (refusal.TooMany most_dependents))
+      (accepted (Aside _ (Linked weak exact (record { slot = holder; from = from; there = e; is = g })
+      (record { slot = dependent; from = to; there = f; is = h }) (not_not (may_depend v weak.value exact.value) may)))))))))
+  act_changes_so (call.Undepend holder) =
+      andthen (slot_in v holder) (λ (from : Found (Option ℕ)). andthen (object_in v from.value) (λ (weak : Numbered Object).
+      after_check (required (dependent_in v.graph.dependents weak.number) refusal.NotLinked)
+      (accepted (Aside _ (Unlinked weak.number)))))
   act_changes_so (call.Peek word) = andthen (word_in v word) (λ (at : Found AreaWord). accepted Unchanged)
   act_changes_so (call.Pin word slot) =
       with_value (word_in v word) (λ (at : Found AreaWord) e.

@@ -3,7 +3,7 @@ use Rattle.std.proofs.Common.{◌≡◌, ◌∙◌, Bool, true, false, refl, sym
 use Rattle.std.proofs.lemmas.Bool.{true≢false}
 use Rattle.mps_model.specs.declared.call.Call.{Call}
 use Rattle.mps_model.specs.World.{World}
-use Rattle.mps_changes.specs.Change.{makes_arena, changes_dependencies, AsideIs, ArenaMade, LimitIs, ChainMade, StateIs, DependencyMade, DependencyIs, LabelMade}
+use Rattle.mps_changes.specs.Change.{makes_arena, changes_dependencies, AsideIs, ArenaMade, DependencyMade, DependencyIs}
 
 -- only the call that makes the arena changes its grains, and only those on dependencies change these
 pub record IsAside (c : Call) (v u : World) : Type 0 where

@@ -9,7 +9,7 @@ use Rattle.mps_base.specs.declared.names.Rank.{Rank}
 use Rattle.mps_base.specs.declared.names.Slot.{Slot}
 use Rattle.mps_model.specs.declared.call.Call.{Call}
 use Rattle.mps_model.specs.declared.call.Call.TheVariants as call
-use Rattle.mps_model.specs.Graph.{ChainThing, TableThing, AreaThing, DependencyThing, thing_named, is_taken, with_tag_cell, Object, Cell, NumberCell, AreaWord, PlainWord, Hold, Point, Reservation, NamedThing, with_last, with_target_cell, graph_with_cells, position_of_first, without_first, without_name}
+use Rattle.mps_model.specs.Graph.{ChainThing, TableThing, AreaThing, DependencyThing, thing_named, is_taken, with_tag_cell, without_holder, Object, Cell, NumberCell, AreaWord, PlainWord, Hold, Point, Reservation, with_last, with_target_cell, graph_with_cells, position_of_first, without_first, without_name}
 use Rattle.mps_model.specs.World.{World, Pool, PoolKind, Collected, OneSize, AnySize, ArenaState, Dependency, is_automatic_kind, block_of_word}
 use Rattle.mps_model.specs.Checked.{Act, Checked, Found, Numbered, block_place_in, cells_of_body, named, number_at, object_in, point_named, pool_named, reference_at, slot_in, with_graph, word_in}
 use Rattle.mps_model.specs.Making.{graph_with_area, graph_with_blocks, graph_with_table, is_block_size, may_have_point, with_point, with_pool, without_point}
@@ -17,6 +17,7 @@ use Rattle.mps_model.specs.Allocating.{Reserving, allows_size, check_reserve, gr
 use Rattle.mps_model.specs.Accessing.{AsBlock, held_in, hold_of, poked, with_word}
 use Rattle.mps_model.specs.Tagging.{tag_count}
 use Rattle.mps_model.specs.Labelling.{graph_with_label}
+use Rattle.mps_model.specs.Dependents.{graph_with_dependents, may_depend, with_dependent}
 use Rattle.mps_model.specs.Dependency.{with_dependency}
 use Rattle.mps_model.specs.Collecting.{with_state, without_registration}
 
@@ -58,7 +59,7 @@ changes_points _ = false
 -- a world with what no object, root or collection of another knows of
 abbrev pub with_aside : (v u : World) → World
 with_aside v u = record v {
-  graph = record v.graph { names = u.graph.names; labels = u.graph.labels };
+  graph = record v.graph { names = u.graph.names; labels = u.graph.labels; dependents = u.graph.dependents };
   grains = u.grains;
   limit = u.limit;
   chains = u.chains;
@@ -133,6 +134,10 @@ module _ (marked : Bool) (c : Call) (judged v : World) where
     DependencyIs : (number : ℕ) (d : Dependency) → changes_dependencies c ≡ true → AsideIs (with_dependency v number d)
     LabelMade : (name : Name) → c ≡ call.Intern name → is_taken v.graph name ≡ false
         → AsideIs (with_graph v (graph_with_label v.graph name))
+    Linked : (holder dependent : Numbered Object) → IsInSlot v holder → IsInSlot v dependent
+        → may_depend v holder.value dependent.value ≡ true
+        → AsideIs (with_graph v (graph_with_dependents v.graph (with_dependent v.graph.dependents holder.number dependent.number)))
+    Unlinked : (holder : ℕ) → AsideIs (with_graph v (graph_with_dependents v.graph (without_holder v.graph.dependents holder)))
 
   -- the worlds that the call may leave
   pub data Change : World → Type 0 where

@@ -18,8 +18,8 @@ is_moved_or_manual_kind of = not (is_automatic_kind of) || is_copying_kind of
 abbrev pub can_collect_world : World → Bool
 can_collect_world w = list_all (λ (p : Pool). is_moved_or_manual_kind p.kind) w.pools && is_empty w.graph.registered
 
--- whether the form of a call is built: all but chains of generations, what begins or drives a collection by steps, tags and labels; a
--- collection of everything is if it can be done
+-- whether the form of a call is built: all but chains of generations, what begins or drives a collection by steps, tags, labels and
+-- dependents; a collection of everything is if it can be done
 abbrev pub is_built : (collects : Bool) → Call → Bool
 is_built collects (call.Chain chain count capacities) = false
 is_built collects (call.PoolOnChain pool kind format chain) = false
@@ -31,6 +31,8 @@ is_built collects (call.SetTag slot cell tag) = false
 is_built collects (call.Tag slot cell) = false
 is_built collects (call.Intern label) = false
 is_built collects (call.Label slot label) = false
+is_built collects (call.Depend holder dependent) = false
+is_built collects (call.Undepend holder) = false
 is_built collects _ = true
 
 -- whether a heap answers it: it is built, and doesn't make the arena

@@ -12,7 +12,7 @@ use Rattle.mps_model.specs.Answer.{Answer}
 use Rattle.mps_model.specs.Graph.{is_automatic}
 use Rattle.mps_model.specs.World.{World, id_at, is_copying_pool, object_is, with_tail}
 use Rattle.mps_model.specs.Checked.{Act, Checked, number_named, as_point, point_named, pool_named, block_place_in}
-use Rattle.mps_model.specs.Effect.{where_one, world_after_move, world_after_moves, holding, segment_of_move, with_address, with_collection, reclaiming, segment_base_of}
+use Rattle.mps_model.specs.Effect.{where_one, world_after_move, world_after_moves, holding, segment_of_move, with_collection, reclaiming, segment_base_of, without_object}
 use Rattle.mps_model.specs.LegalMove.{IsLegalFlip, AreLegalMoves}
 use Rattle.mps_model.specs.Policy.{units_asked}
 use Rattle.mps_model.specs.Reply.{world_from}
@@ -87,7 +87,7 @@ segment_leaves w s true = record { flips = refl; dependencies = refl }
 segment_leaves w s false = record { flips = refl; dependencies = refl }
 
 free_leaves : (w : World) (id at : ℕ) (b : Bool)
-    → LeavesFlips w (if b then with_collection (with_address w id None) (reclaiming (segment_base_of w at)) else with_address w id None)
+    → LeavesFlips w (if b then with_collection (without_object w id) (reclaiming (segment_base_of w at)) else without_object w id)
 free_leaves w id at true = record { flips = refl; dependencies = refl }
 free_leaves w id at false = record { flips = refl; dependencies = refl }
 

@@ -9,7 +9,7 @@ use Rattle.mps_model.specs.declared.call.Call.{Call}
 use Rattle.mps_model.specs.declared.call.Call.TheVariants as call
 use Rattle.mps_model.specs.Collecting.{without_registration}
 use Rattle.mps_model.specs.Graph.{Graph, Object, Point, Cell, NumberCell, Body, Automatic, Manual, entry_at, object_at, size_of_body, is_weak_body, with_last, graph_with_cells, tagged, with_tag_cell}
-use Rattle.mps_model.specs.World.{World, Pool, PointMemory, is_running, empty_run, is_weak_kind, is_automatic_kind}
+use Rattle.mps_model.specs.World.{World, Pool, PointMemory, empty_run, is_weak_kind, is_automatic_kind}
 use Rattle.mps_model.specs.Checked.{with_graph}
 use Rattle.mps_model.specs.Making.{is_weak_rank, may_have_point}
 use Rattle.mps_model.specs.Allocating.{body_with_word, graph_with_word}

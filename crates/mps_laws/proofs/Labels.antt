@@ -1,10 +1,9 @@
 -- Each label of a log is a name, which represents it by its number, in each world that a history reaches: labels are never dropped.
-use Rattle.std.proofs.Common.{◌≡◌, ◌∙◌, ◌⊎◌, ℕ, zero, suc, ◌+◌, Bool, true, false, refl, sym, ap, subst, List, [], ◌∷◌, length, Option, Some, None, inl, inr, arith}
+use Rattle.std.proofs.Common.{◌≡◌, ◌∙◌, ℕ, suc, ◌+◌, Bool, true, false, refl, sym, ap, List, [], ◌∷◌, length, Option, Some, None, inl, inr, arith}
 use Rattle.std.proofs.lemmas.Bool.{and_from, cases_order, eq-eqb, false≢true}
 use Rattle.std.proofs.lemmas.Option.{none-some, same_Some}
 use Rattle.std.specs.Prelude.{slice_get, is_some, if◌then◌else◌}
 use Rattle.mps_base.specs.Name.{same_name}
-use Rattle.mps_base.specs.declared.moves.Move.{Move}
 use Rattle.mps_base.specs.declared.names.Name.{Name}
 use Rattle.mps_model.specs.Answer.{is_block, is_unsupported}
 use Rattle.mps_model.specs.declared.call.Call.{Call}
@@ -12,10 +11,10 @@ use Rattle.mps_model.specs.Step.{Step}
 use Rattle.mps_model.specs.Graph.{Graph, NamedThing, Thing, ChainThing, PoolThing, TableThing, AreaThing, BlocksThing, PointThing, DependencyThing, TransformThing, CacheThing, LabelThing, thing_in, thing_named, is_taken, with_last, without_name}
 use Rattle.mps_model.specs.World.{World}
 use Rattle.mps_model.specs.WellFormed.{is_label, are_labels}
-use Rattle.mps_model.specs.Checked.{as_point, number_named}
+use Rattle.mps_model.specs.Checked.{as_point}
 use Rattle.mps_model.specs.Reply.{act, world_from}
 use Rattle.mps_model.specs.History.{judged_world, moved_world, with_client_remembered, world_after}
-use Rattle.mps_changes.specs.Change.{AsideIs, ArenaMade, ChainMade, DependencyMade, LabelMade, Change, Aside, TableMade, AreaMade, BlocksMade, TableDropped, AreaDropped, PoolMade, PointMade, PointDropped}
+use Rattle.mps_changes.specs.Change.{AsideIs, ChainMade, DependencyMade, LabelMade, Change, Aside, TableMade, AreaMade, BlocksMade, TableDropped, AreaDropped, PoolMade, PointMade, PointDropped}
 use Rattle.mps_changes.proofs.ActChanges.{of_changes}
 use Rattle.mps_laws.proofs.Acts.{for_world, point_named-is}
 use Rattle.mps_laws.proofs.Lookups.{slice_get-at_last, slice_get-after_last, slice_get-last}

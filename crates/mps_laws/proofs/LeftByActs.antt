@@ -6,7 +6,7 @@ use Rattle.std.specs.Prelude.{replicate, slice_get, slice_set, option_map}
 use Rattle.std.specs.Option.{option_map_or}
 use Rattle.mps_model.specs.declared.call.Call.{Call}
 use Rattle.mps_model.specs.declared.call.Call.TheVariants as call
-use Rattle.mps_model.specs.Graph.{Graph, Object, Manual, Cell, object_at, graph_with_cells, object_with_cells, with_last}
+use Rattle.mps_model.specs.Graph.{Graph, Object, Manual, Cell, object_at, graph_with_cells, object_with_cells, with_last, with_target_cell}
 use Rattle.mps_model.specs.Collection.{Collection}
 use Rattle.mps_model.specs.World.{World}
 use Rattle.mps_model.specs.Allocating.{body_with_word, graph_with_word, reserved_address, committed_object}
@@ -18,6 +18,8 @@ use Rattle.mps_changes.proofs.AsideFacts.{aside_is}
 use Rattle.mps_changes.specs.Change.{Change, Aside, CellsAre, BlockWordIs, Allocated, PoolMade, PointMade, PointDropped, Opened, Written, Closed, Committed, Unregistered}
 use Rattle.mps_changes.proofs.ActChanges.{of_changes, but}
 use Rattle.mps_laws.proofs.Entries.{GoesOn}
+use Rattle.mps_model.specs.Effect.{graph_nulled, graph_splatted}
+use Rattle.mps_model.proofs.Nulled.{splatted_holds}
 
 -- ---- what an act leaves
 
@@ -66,6 +68,12 @@ owners-graph_with_cells g id change = by_case (object_at g id) refl
         → map (λ (x : Object). x.pool) (option_map_or (λ x. slice_set g.objects id (object_with_cells x change)) o g.objects) ≡ owners g
     by_case None e = refl
     by_case (Some o) e = owners-set g.objects id o (object_with_cells o change) e refl
+
+pub owners-splatted : (g : Graph) (holder cell : ℕ) → owners (graph_splatted g holder cell) ≡ owners g
+owners-splatted g holder cell =
+    let first = owners-graph_with_cells g holder (λ cells. with_target_cell cells cell None) in
+    splatted_holds (λ left. owners left ≡ owners g) g holder cell first (λ dependent.
+    owners-graph_with_cells (graph_nulled g holder cell) dependent (λ cells. with_target_cell cells cell None) ∙ first)
 
 pub owners-graph_with_word : (g : Graph) (id k value : ℕ) → owners (graph_with_word g id k value) ≡ owners g
 owners-graph_with_word g id k value = by_case (object_at g id) refl

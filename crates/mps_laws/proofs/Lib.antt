@@ -21,6 +21,7 @@ pub mod JoiningMoves
 pub mod QuietSteps
 pub mod Naming
 pub mod Labels
+pub mod Dependents
 pub mod WellFormed
 pub mod WellFormedHistories
 pub mod MadeAgain

@@ -20,7 +20,7 @@ use Rattle.mps_model.specs.World.{World, is_live, id_at, empty_world_of, is_copy
 use Rattle.mps_model.specs.Checked.{Act, Checked, Found, Numbered, ◌>>=◌, ◌>>◌, required, numbered, entry_in, number_named, as_table, slot_in, object_in, cells_of_body, reference_at, reference_in, done, with_graph}
 use Rattle.mps_model.specs.Allocating.{with_slot}
 use Rattle.mps_model.specs.Accessing.{act_get}
-use Rattle.mps_model.specs.Effect.{where_one, world_after_move, world_after_moves, holding, segment_of_move, with_address, with_collection, reclaiming, segment_base_of}
+use Rattle.mps_model.specs.Effect.{where_one, world_after_move, world_after_moves, holding, segment_of_move, with_collection, reclaiming, segment_base_of, without_object}
 use Rattle.mps_model.specs.LegalMove.{target_in_cell}
 use Rattle.mps_model.specs.Reply.{answer_from, reply_to, world_from}
 use Rattle.mps_model.specs.History.{HeldAreLive, IsLegalStep, judged_world, moved_world, world_after, world_after_call, with_client_remembered}
@@ -166,10 +166,10 @@ segment_leaves w s true = as_before w.graph
 segment_leaves w s false = as_before w.graph
 
 free_leaves : (w : World) (id at : ℕ) (b : Bool)
-    → LeavesTables w.graph (if b then with_collection (with_address w id None) (reclaiming
-    (segment_base_of w at)) else with_address w id None).graph
-free_leaves w id at true = as_before w.graph
-free_leaves w id at false = as_before w.graph
+    → LeavesTables w.graph (if b then with_collection (without_object w id) (reclaiming
+    (segment_base_of w at)) else without_object w id).graph
+free_leaves w id at true = record { names = refl; tables = refl }
+free_leaves w id at false = record { names = refl; tables = refl }
 
 move_leaves_tables : (w : World) (m : Move) → LeavesTables w.graph (world_after_move w m).graph
 move_leaves_tables w (moves.Seg base grains pool generation) =

@@ -1,6 +1,6 @@
 -- Moves, and the acts of calls with moves, change neither the arena's grains nor what the numbers of formats mean.
 use Rattle.std.proofs.Common.{◌≡◌, Bool, false, ◌∙◌, ℕ, true, false, refl, List, [], ◌∷◌, Option, Some, None}
-use Rattle.std.specs.Prelude.{if◌then◌else◌}
+use Rattle.std.specs.Prelude.{if◌then◌else◌, map}
 use Rattle.mps_base.specs.Segment.{Segment, words_of_segment}
 use Rattle.mps_base.specs.declared.moves.Move.{Move}
 use Rattle.mps_base.specs.declared.moves.Move.TheVariants as moves
@@ -9,7 +9,7 @@ use Rattle.mps_model.specs.declared.call.Call.TheVariants as call
 use Rattle.mps_model.specs.Graph.{is_automatic}
 use Rattle.mps_model.specs.World.{World, id_at, is_copying_pool, object_is, with_tail}
 use Rattle.mps_model.specs.Checked.{as_point, number_named}
-use Rattle.mps_model.specs.Effect.{world_after_move, world_after_moves, after_segment, after_free, after_moved, after_post, after_splat, holding, where_one, with_collection, with_address, reclaiming, segment_base_of, segment_of_move, placing}
+use Rattle.mps_model.specs.Effect.{world_after_move, world_after_moves, after_segment, after_free, after_moved, after_post, after_splat, holding, where_one, with_collection, reclaiming, segment_base_of, segment_of_move, placing, without_object}
 use Rattle.mps_model.specs.Policy.{units_asked}
 use Rattle.mps_model.specs.History.{after_own_segment, asking, moved_world, moves_of_poll, own_segment}
 use Rattle.mps_model.specs.Reply.{act}
@@ -17,6 +17,8 @@ use Rattle.mps_changes.proofs.AsideFacts.{aside_is}
 use Rattle.mps_changes.specs.Change.{ForAct, makes_arena, Change, Aside}
 use Rattle.mps_changes.proofs.ActChanges.{of_changes}
 use Rattle.mps_laws.proofs.OwnSegments.{own_segment_taken}
+use Rattle.mps_laws.proofs.Positions.LegalMoves.{splatted_kept}
+use Rattle.mps_laws.proofs.Positions.Occupancy.{shape_of}
 
 pub record IsSameArena (before after : World) : Type 0 where
   pub grains : after.grains ≡ before.grains
@@ -31,9 +33,11 @@ pub record IsLeftAlone (before after : World) : Type 0 where
   pub formats : after.formats ≡ before.formats
   pub names : after.graph.names ≡ before.graph.names
   pub labels : after.graph.labels ≡ before.graph.labels
+  pub pools : after.pools ≡ before.pools
+  pub shapes : map shape_of after.graph.objects ≡ map shape_of before.graph.objects
 
 left_alone : {w : World} → IsLeftAlone w w
-left_alone = record { grains = refl; formats = refl; names = refl; labels = refl }
+left_alone = record { grains = refl; formats = refl; names = refl; labels = refl; pools = refl; shapes = refl }
 
 then_same : (u v w : World) → IsLeftAlone u v → IsLeftAlone v w → IsLeftAlone u w
 then_same u v w first second = record {
@@ -41,6 +45,8 @@ then_same u v w first second = record {
   formats = second.formats ∙ first.formats;
   names = second.names ∙ first.names;
   labels = second.labels ∙ first.labels;
+  pools = second.pools ∙ first.pools;
+  shapes = second.shapes ∙ first.shapes;
 }
 
 -- ---- moves
@@ -51,34 +57,46 @@ one_same w (Some id) change each = each id
 
 free_same : (w : World) (id at : ℕ) → IsLeftAlone w (after_free w id at)
 free_same w id at =
-    elim (object_is is_automatic w id) as (λ b. IsLeftAlone w (if b then with_collection (with_address w id None)
-    (reclaiming (segment_base_of w at)) else with_address w id None)) [
-      | true ↦ record { grains = refl; formats = refl; names = refl; labels = refl }
-      | false ↦ record { grains = refl; formats = refl; names = refl; labels = refl }
+    elim (object_is is_automatic w id) as (λ b. IsLeftAlone w (if b then with_collection (without_object w id)
+    (reclaiming (segment_base_of w at)) else without_object w id)) [
+      | true ↦ record { grains = refl; formats = refl; names = refl; labels = refl; pools = refl; shapes = refl }
+      | false ↦ record { grains = refl; formats = refl; names = refl; labels = refl; pools = refl; shapes = refl }
     ]
 
 segment_same : (w : World) (s : Segment) → IsLeftAlone w (after_segment w s)
 segment_same w s =
     elim (is_copying_pool w s.pool) as (λ b. IsLeftAlone w (if b then with_tail (holding w s) s.pool s.generation (words_of_segment s)
     else holding w s)) [
-      | true ↦ record { grains = refl; formats = refl; names = refl; labels = refl }
-      | false ↦ record { grains = refl; formats = refl; names = refl; labels = refl }
+      | true ↦ record { grains = refl; formats = refl; names = refl; labels = refl; pools = refl; shapes = refl }
+      | false ↦ record { grains = refl; formats = refl; names = refl; labels = refl; pools = refl; shapes = refl }
     ]
 
 move_same : (w : World) (m : Move) → IsLeftAlone w (world_after_move w m)
 move_same w (moves.Seg base grains pool generation) = segment_same w (segment_of_move base.0 grains pool generation)
-move_same w (moves.Unseg base) = record { grains = refl; formats = refl; names = refl; labels = refl }
-move_same w (moves.Flip zones chain generation) = record { grains = refl; formats = refl; names = refl; labels = refl }
-move_same w moves.End = record { grains = refl; formats = refl; names = refl; labels = refl }
+move_same w (moves.Unseg base) = record { grains = refl; formats = refl; names = refl; labels = refl; pools = refl; shapes = refl }
+move_same w (moves.Flip zones chain generation) =
+    record { grains = refl; formats = refl; names = refl; labels = refl; pools = refl; shapes = refl }
+move_same w moves.End = record { grains = refl; formats = refl; names = refl; labels = refl; pools = refl; shapes = refl }
 move_same w (moves.Moved from to) =
-    one_same w (id_at w from.0) (λ id. after_moved w id to.0) (λ id. record { grains = refl; formats = refl; names = refl; labels = refl })
+    one_same w (id_at w from.0) (λ id. after_moved w id to.0) (λ id.
+    record { grains = refl; formats = refl; names = refl; labels = refl; pools = refl; shapes = refl })
 move_same w (moves.Stay at) =
-    one_same w (id_at w at.0) (λ id. with_collection w (placing id)) (λ id. record { grains = refl; formats = refl; names = refl; labels = refl })
+    one_same w (id_at w at.0) (λ id. with_collection w (placing id)) (λ id.
+    record { grains = refl; formats = refl; names = refl; labels = refl; pools = refl; shapes = refl })
 move_same w (moves.Splat holder cell) =
-    one_same w (id_at w holder.0) (λ id. after_splat w id cell) (λ id. record { grains = refl; formats = refl; names = refl; labels = refl })
-move_same w (moves.Post at) = one_same w (id_at w at.0) (after_post w) (λ id. record { grains = refl; formats = refl; names = refl; labels = refl })
-move_same w (moves.Commit at words pool) = record { grains = refl; formats = refl; names = refl; labels = refl }
-move_same w (moves.Alloc at words pool) = record { grains = refl; formats = refl; names = refl; labels = refl }
+    one_same w (id_at w holder.0) (λ id. after_splat w id cell) (λ id. record {
+      grains = refl;
+      formats = refl;
+      names = refl;
+      labels = refl;
+      pools = refl;
+      shapes = splatted_kept w.graph id cell;
+    })
+move_same w (moves.Post at) =
+    one_same w (id_at w at.0) (after_post w) (λ id.
+    record { grains = refl; formats = refl; names = refl; labels = refl; pools = refl; shapes = refl })
+move_same w (moves.Commit at words pool) = left_alone
+move_same w (moves.Alloc at words pool) = left_alone
 move_same w (moves.Free at) = one_same w (id_at w at.0) (λ id. after_free w id at.0) (λ id. free_same w id at.0)
 
 moves_same : (w : World) (ms : List Move) → IsLeftAlone w (world_after_moves w ms)
@@ -88,12 +106,13 @@ moves_same w (m ∷ ms) =
 
 asked_same : (units : Option ℕ) (w : World) → IsLeftAlone w (asking units w)
 asked_same None w = left_alone
-asked_same (Some units) w = record { grains = refl; formats = refl; names = refl; labels = refl }
+asked_same (Some units) w = record { grains = refl; formats = refl; names = refl; labels = refl; pools = refl; shapes = refl }
 
 own_same : (w : World) (ms : List Move) (number : Option ℕ) → IsLeftAlone w (after_own_segment w ms number)
 own_same w ms number =
-    own_segment_taken (IsLeftAlone w) w left_alone (λ s. record { grains = refl; formats = refl; names = refl; labels = refl })
-    (λ s n r. record { grains = refl; formats = refl; names = refl; labels = refl }) ms number
+    own_segment_taken (IsLeftAlone w) w left_alone
+    (λ s. record { grains = refl; formats = refl; names = refl; labels = refl; pools = refl; shapes = refl })
+    (λ s n r. record { grains = refl; formats = refl; names = refl; labels = refl; pools = refl; shapes = refl }) ms number
 
 -- the moves of a call
 pub moved_alone : (w : World) (c : Call) (ms : List Move) → IsLeftAlone w (moved_world w c ms)

@@ -6,19 +6,20 @@ use Rattle.std.proofs.lemmas.List.{length-map}
 use Rattle.std.specs.Prelude.{map, slice_get, option_map, option_and_then, ◌==◌, ◌||◌, nat_le, nat_lt, if◌then◌else◌, is_some}
 use Rattle.std.specs.Option.{option_map_or}
 use Rattle.std.specs.List.{list_all}
-use Rattle.mps_base.specs.Segment.{Segment, words_of_segment}
+use Rattle.mps_base.specs.Segment.{Segment}
 use Rattle.mps_base.specs.Run.{Run}
 use Rattle.mps_model.specs.Graph.{LabelThing, Point, Reservation, AreaWord, PlainWord, Hold, entry_at, held_by_word, holds_of, ids_in_slots, ids_in_holds, ids_in_reservations, ids_of_client}
 use Rattle.mps_model.specs.World.{World, PointMemory, extent, is_live, is_live_and, is_copying_object, is_word_in, pool_at, shown_word, words_of}
 use Rattle.mps_model.specs.Making.{is_weak_rank}
-use Rattle.mps_model.specs.WellFormed.{IsWellFormed, are_right_cells, is_home, is_right_at_hand, is_right_object, is_right_point, is_right_reservation, are_right_points, is_right_word, are_right_words, is_live_automatic}
+use Rattle.mps_model.specs.WellFormed.{IsWellFormed, are_right_cells, is_home, is_right_at_hand, is_right_object, is_right_point, is_right_reservation, are_right_points, is_right_word, are_right_words}
+use Rattle.mps_laws.proofs.Dependents.{ArePaired}
 use Rattle.mps_laws.proofs.Labels.{AreNamed, labels_from}
 use Rattle.mps_laws.proofs.Lookups.{entry_is_there}
-use Rattle.mps_laws.proofs.Positions.Occupancy.{Occupancy, OfBlock, OfReservation, OfBuffer, PointShape, shape_of_point, reserved_words, occupancy_of, run_of, run_of_reservation, run_of_reserved, run_of_buffer, pool_of_occupant, rank_of_occupant}
+use Rattle.mps_laws.proofs.Positions.Occupancy.{Occupancy, OfReservation, OfBuffer, PointShape, shape_of_point, reserved_words, occupancy_of, run_of, run_of_reservation, run_of_reserved, run_of_buffer, pool_of_occupant, rank_of_occupant}
 use Rattle.mps_laws.proofs.Positions.LaidOut.{Home}
 use Rattle.mps_laws.proofs.Positions.LegalMoves.{HasLayout}
 use Rattle.mps_laws.proofs.Positions.Reserving.{rank_where-weak}
-use Rattle.mps_laws.proofs.Sound.SoundGraph.{All, PassesOrNull, IsSoundGraph, auto, is_sound_word, is_sound_reservation, all-parts, all-at, entry-passes, each-all, all-both}
+use Rattle.mps_laws.proofs.Sound.SoundGraph.{All, PassesOrNull, IsSoundGraph, auto, is_sound_word, all-parts, all-at, entry-passes, each-all, all-both}
 use Rattle.mps_laws.proofs.Positions.WellPlaced.{segments_right, ascending_apart, apart_right, places_right, tails_right, home_is, at_hand_is}
 
 -- what the client holds is live
@@ -156,8 +157,9 @@ module _ (w : World) (s : IsSoundGraph w) (live : ClientIsLive w) where
 
 -- ---- a world that is laid out, whose graph is sound
 
-pub well_formed : (w : World) → HasLayout (w.grains + 1) w → IsSoundGraph w → AreNamed w.graph → ClientIsLive w → IsWellFormed w
-well_formed w laid s named live = record {
+pub well_formed : (w : World) → HasLayout (w.grains + 1) w → IsSoundGraph w → AreNamed w.graph → ArePaired w → ClientIsLive w
+    → IsWellFormed w
+well_formed w laid s named paired live = record {
   segments =
       and_from (list_all (Rattle.mps_model.specs.WellFormed.is_right_segment w) w.segments)
       (Rattle.mps_model.specs.WellFormed.are_apart (map Rattle.mps_base.specs.Segment.grains_of_segment w.segments))
@@ -177,4 +179,5 @@ well_formed w laid s named live = record {
   labels =
       labels_from w.graph 0 w.graph.labels (λ number label e.
       named number label e ∙ ap (λ n. Some (LabelThing n)) (let same : number ≡ 0 + number = omega arith in same));
+  dependents = paired;
 }

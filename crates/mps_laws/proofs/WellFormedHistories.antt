@@ -16,6 +16,7 @@ use Rattle.mps_changes.specs.Change.{makes_arena}
 use Rattle.mps_laws.specs.WellFormed.{ReachedWorldsAreWellFormed}
 use Rattle.mps_laws.proofs.Positions.LegalMoves.{HasLayout}
 use Rattle.mps_model.specs.Graph.{empty_graph}
+use Rattle.mps_laws.proofs.Dependents.{ArePaired, pairs_after}
 use Rattle.mps_laws.proofs.Labels.{AreNamed, labels_after}
 use Rattle.mps_laws.proofs.Acts.{for_world}
 use Rattle.mps_laws.proofs.Replays.FreeSteps.{BlocksAreLive}
@@ -55,6 +56,7 @@ record IsKeptWell (w : World) : Type 0 where
   pub client : ClientIsLive w
   pub sound : IsSoundGraph w
   pub named : AreNamed w.graph
+  pub paired : ArePaired w
 
 which : {A B : Type 0} (b : Bool) → MatchBool b A B → ((b ≡ true) × A) ⊎ ((b ≡ false) × B)
 which true a = inl (refl, a)
@@ -83,6 +85,7 @@ step_kept w s plain k legal =
       client = client_after w s k.client legal;
       sound = sound.0;
       named = labels_after w s k.named;
+      paired = pairs_after w s k.paired legal;
     }
 
 steps_kept : (w : World) (h : History) → list_any (λ (later : Step). makes_arena later.call) h ≡ false → IsKeptWell w → IsLegalFrom w h
@@ -111,7 +114,15 @@ none_labelled : AreNamed empty_graph
 none_labelled number label e = absurd (Rattle.std.proofs.lemmas.Option.none-some label e)
 
 empty_kept : (formats : ℕ → Layout) → IsKeptWell (empty_world_of formats)
-empty_kept formats = record { layout = empty_layout formats; blocks = refl; slots = refl; client = refl; sound = empty_sound formats; named = none_labelled }
+empty_kept formats = record {
+  layout = empty_layout formats;
+  blocks = refl;
+  slots = refl;
+  client = refl;
+  sound = empty_sound formats;
+  named = none_labelled;
+  paired = refl;
+}
 
 -- the first command makes the arena
 first_arena : (formats : ℕ → Layout) (line grains most : ℕ) (ms : List Move) (answer : Answer)
@@ -130,6 +141,7 @@ first_arena formats line grains most ms answer legal =
       client = client_after w s k.client legal;
       sound = sound.0;
       named = labels_after w s k.named;
+      paired = pairs_after w s k.paired legal;
     }
   where
     limited : (b : Bool) → is_unsupported answer ≡ b
@@ -170,8 +182,8 @@ not_true false e = refl
 
 pub reached_are_well_formed : ReachedWorldsAreWellFormed
 reached_are_well_formed formats [] once legal =
-    let k = empty_kept formats in well_formed (empty_world_of formats) k.layout k.sound k.named k.client
+    let k = empty_kept formats in well_formed (empty_world_of formats) k.layout k.sound k.named k.paired k.client
 reached_are_well_formed formats (s ∷ ss) once legal =
     let k = steps_kept (world_after (empty_world_of formats) s) ss (not_true (list_any (λ (later : Step). makes_arena later.call) ss) once)
     (first_kept formats s legal.0) legal.1 in
-    well_formed (world_after_steps (world_after (empty_world_of formats) s) ss) k.layout k.sound k.named k.client
+    well_formed (world_after_steps (world_after (empty_world_of formats) s) ss) k.layout k.sound k.named k.paired k.client

@@ -35,4 +35,5 @@ replayed_state w = record { blocks = live_blocks w; interned = length w.graph.la
 -- interned by its number, and each labelled address is that of a live block
 abbrev pub LabelledLogReplays : Type 0
 LabelledLogReplays =
-    (formats : ℕ → Layout) (steps : History) → IsLegalHistoryOf formats steps → replayed (log_in_version 2 steps) ≡ Some (replayed_state (reached formats steps))
+    (formats : ℕ → Layout) (steps : History) → IsLegalHistoryOf formats steps
+    → replayed (log_in_version 2 steps) ≡ Some (replayed_state (reached formats steps))

@@ -2,3 +2,4 @@ pub mod Appending
 pub mod Reaching
 pub mod Cutting
 pub mod AtRest
+pub mod Nulled

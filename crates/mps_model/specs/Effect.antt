@@ -1,6 +1,6 @@
 -- What each move does to a world: a function of the two. A move of the collector touches the object graph in three cases
 -- alone: a flip dooms the open reservations, a splat makes a reference null, and a post makes a registration a message.
-use Rattle.std.specs.Prelude.{ℕ, ◌+◌, ◌-◌, ◌*◌, Bool, true, false, ◌&&◌, ◌==◌, not, nat_le, if◌then◌else◌, Option, Some, None, option_map, option_and_then, List, [], ◌∷◌, ◌++◌, map, length, slice_set, filter}
+use Rattle.std.specs.Prelude.{ℕ, ◌+◌, ◌-◌, ◌*◌, Bool, true, false, ◌&&◌, ◌==◌, not, nat_le, if◌then◌else◌, Option, Some, None, option_map, option_and_then, List, [], ◌∷◌, ◌++◌, map, length, slice_set, filter, ◌≡◌, refl}
 use Rattle.std.specs.List.{list_any}
 use Rattle.std.specs.Option.{option_map_or}
 use Rattle.mps_base.specs.Address.{Address, Id, word_of}
@@ -10,7 +10,7 @@ use Rattle.mps_base.specs.declared.moves.Move.{Move}
 use Rattle.mps_base.specs.declared.moves.Move.TheVariants as moves
 use Rattle.mps_base.specs.declared.names.Rank.TheVariants as rank
 use Rattle.mps_base.specs.Segment.{Segment, is_in_segment, with_segment, without_segment, words_of_segment, grains_of_segment, end_of_segment}
-use Rattle.mps_model.specs.Graph.{Graph, Point, Reservation, contains, position_of_first, without_first, is_automatic, with_last, with_target_cell, graph_with_cells, ids_in_slots}
+use Rattle.mps_model.specs.Graph.{Graph, Point, Reservation, contains, position_of_first, without_first, is_automatic, with_last, with_target_cell, graph_with_cells, ids_in_slots, dependent_in, without_named, HeadCell, NumberCell, ReferenceCell, Automatic, Object, empty_graph, targets}
 use Rattle.mps_model.specs.Collection.{Collection, empty_collection, Splatting, Reclaiming}
 use Rattle.mps_model.specs.World.{World, PointMemory, is_automatic_kind, pool_is, is_copying_pool, pool_at, id_at, is_live_and, object_is, live_automatic_ids, has_area_word, segment_of, with_tail, pool_of, words_of, target_generation_for, empty_run}
 
@@ -183,10 +183,22 @@ after_moved w id to =
     with_tail (with_collection (with_address w id (Some to)) (placing id)) (pool_of w id) (target_generation_for w id)
     (words_after w to (words_of w id))
 
--- the weak reference in a cell becomes null and keeps its tag
+-- the reference in a cell of an object becomes null and keeps its tag; a number stays
+abbrev pub graph_nulled : Graph → (id cell : ℕ) → Graph
+graph_nulled g id cell = graph_with_cells g id (λ cells. with_target_cell cells cell None)
+
+-- the objects, where the reference in a cell of an object is null, and that of its dependent, if it has one
+abbrev pub objects_splatted : Graph → (holder cell : ℕ) → List Object
+objects_splatted g holder cell =
+    option_map_or (λ dependent. (graph_nulled (graph_nulled g holder cell) dependent cell).objects) (dependent_in g.dependents holder)
+    (graph_nulled g holder cell).objects
+
+abbrev pub graph_splatted : Graph → (holder cell : ℕ) → Graph
+graph_splatted g holder cell = record g { objects = objects_splatted g holder cell }
+
+-- the weak reference in a cell becomes null, and so does the reference in the same cell of its holder's dependent
 abbrev pub after_splat : World → (holder cell : ℕ) → World
-after_splat w holder cell =
-    with_collection (record w { graph = graph_with_cells w.graph holder (λ cells. with_target_cell cells cell None) }) splatting
+after_splat w holder cell = with_collection (record w { graph = graph_splatted w.graph holder cell }) splatting
 
 -- where the first registration of an object stands
 abbrev pub registration_of : Graph → (id : Id) → ℕ
@@ -203,11 +215,16 @@ after_post w id = with_collection (record w { graph = graph_posted w.graph id })
 abbrev pub segment_base_of : World → (address : Address) → Address
 segment_base_of w address = option_map_or (λ (s : Segment). s.base) (segment_of w address) 0
 
+-- an object lies nowhere any more, and no pair of dependents names it
+abbrev pub without_object : World → (id : Id) → World
+without_object w id =
+    with_address (record w { graph = record w.graph { dependents = without_named w.graph.dependents id } }) id None
+
 -- a block is freed. Freeing an automatic block is the collector's work
 abbrev pub after_free : World → (id at : ℕ) → World
 after_free w id at =
-    if object_is is_automatic w id then with_collection (with_address w id None) (reclaiming (segment_base_of w at))
-    else with_address w id None
+    if object_is is_automatic w id then with_collection (without_object w id) (reclaiming (segment_base_of w at))
+    else without_object w id
 
 -- a segment that a move takes; its rank is exact
 abbrev pub segment_of_move : (base grains pool generation : ℕ) → Segment
@@ -236,3 +253,32 @@ world_after_move w (moves.Free at) = where_one w (id_at w at.0) (λ id. after_fr
 abbrev pub world_after_moves : World → List Move → World
 world_after_moves w [] = w
 world_after_moves w (m ∷ ms) = world_after_moves (world_after_move w m) ms
+
+-- ---- vectors
+
+-- two objects of a reference with a tag and a number; the second is the dependent of the first
+abbrev two_cells : (target : Option ℕ) (tag : ℕ) → Object
+two_cells target tag =
+    record { pool = 0; body = Automatic 0x100000301 (HeadCell ∷ ReferenceCell target tag ∷ NumberCell 7 ∷ []) false }
+
+abbrev linked : (first second : Option ℕ) → (dependents : List (Id × Id)) → Graph
+linked first second dependents = record empty_graph {
+  objects = two_cells first 3 ∷ two_cells second 5 ∷ [];
+  dependents = dependents;
+}
+
+pub a_splat_clears_the_dependent_too : graph_splatted (linked (Some 0) (Some 1) ((0, 1) ∷ [])) 0 1 ≡ linked None None ((0, 1) ∷ [])
+a_splat_clears_the_dependent_too = refl
+
+pub a_number_of_the_dependent_stays : graph_splatted (linked (Some 0) (Some 1) ((0, 1) ∷ [])) 0 2 ≡ linked (Some 0) (Some 1) ((0, 1) ∷ [])
+a_number_of_the_dependent_stays = refl
+
+pub no_object_is_cleared_with_its_dependent :
+    graph_splatted (linked (Some 0) (Some 1) ((0, 1) ∷ [])) 1 1 ≡ linked (Some 0) None ((0, 1) ∷ [])
+no_object_is_cleared_with_its_dependent = refl
+
+pub no_value_is_left : targets (graph_splatted (linked (Some 0) (Some 1) ((0, 1) ∷ [])) 0 1) 1 ≡ 1 ∷ [] → ⊥
+no_value_is_left e = absurd cc
+
+pub no_pair_outlives_its_objects : without_named ((0, 1) ∷ (2, 0) ∷ (2, 1) ∷ []) 0 ≡ (2, 1) ∷ []
+no_pair_outlives_its_objects = refl

@@ -1,6 +1,6 @@
 -- The object graph: what a client sees of a heap in which nothing ever moves or is freed. An object is known by its id, its
 -- position in the list of objects. The graph has no address, segment, mark, forwarding word or generation.
-use Rattle.std.specs.Prelude.{ℕ, zero, suc, ◌+◌, ◌-◌, Bool, true, false, ◌&&◌, ◌==◌, if◌then◌else◌, Option, Some, None, option_and_then, option_map, is_some, List, [], ◌∷◌, ◌++◌, map, length, slice_get, slice_set}
+use Rattle.std.specs.Prelude.{ℕ, zero, suc, ◌+◌, ◌-◌, Bool, true, false, not, filter, ◌&&◌, ◌==◌, if◌then◌else◌, Option, Some, None, option_and_then, option_map, is_some, List, [], ◌∷◌, ◌++◌, map, length, slice_get, slice_set}
 use Rattle.std.specs.List.{list_any, flat_map}
 use Rattle.std.specs.Option.{option_map_or}
 use Rattle.mps_base.specs.Address.{Id}
@@ -321,6 +321,21 @@ ids_in_blocks g = flat_map entries g.blocks
 -- what the client holds: the ids in slots, holds, messages and live reservations. From here reachability begins
 abbrev pub ids_of_client : Graph → List ℕ
 ids_of_client g = ids_in_slots g ++ ids_in_holds g ++ g.messages ++ ids_in_reservations g
+
+-- ---- dependents
+
+-- the object whose references go with those of a holder
+abbrev pub dependent_in : List (Id × Id) → (holder : Id) → Option ℕ
+dependent_in [] holder = None
+dependent_in (p ∷ ps) holder = if p.0 == holder then Some p.1 else dependent_in ps holder
+
+-- the pairs without that of a holder
+abbrev pub without_holder : List (Id × Id) → (holder : Id) → List (Id × Id)
+without_holder ps holder = filter (λ p. not (p.0 == holder)) ps
+
+-- the pairs that don't name an object
+abbrev pub without_named : List (Id × Id) → (id : Id) → List (Id × Id)
+without_named ps id = filter (λ p. not (p.0 == id) && not (p.1 == id)) ps
 
 -- the graph before anything was made
 abbrev pub empty_graph : Graph

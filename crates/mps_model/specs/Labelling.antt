@@ -1,6 +1,5 @@
 -- The commands on labels of the log: names that are interned, and objects that are labelled by them.
-use Rattle.std.specs.Prelude.{ℕ, length}
-use Rattle.mps_base.specs.declared.address.Addr.{Addr}
+use Rattle.std.specs.Prelude.{length}
 use Rattle.mps_base.specs.declared.names.Name.{Name}
 use Rattle.mps_base.specs.declared.names.Slot.{Slot}
 use Rattle.mps_model.specs.declared.reply.Reply.TheVariants as reply

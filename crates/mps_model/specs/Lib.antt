@@ -16,6 +16,7 @@ pub mod Allocating
 pub mod Accessing
 pub mod Tagging
 pub mod Labelling
+pub mod Dependents
 pub mod Dependency
 pub mod Collecting
 pub mod Reply

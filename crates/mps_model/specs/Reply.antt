@@ -16,6 +16,7 @@ use Rattle.mps_model.specs.Allocating.{act_reserve, act_init_number, act_init_re
 use Rattle.mps_model.specs.Accessing.{act_get, act_put, act_number, act_set_number, act_copy, act_clear, act_same, act_null, act_head, act_address, act_poke, act_peek, act_pin, act_take}
 use Rattle.mps_model.specs.Tagging.{act_set_tag, act_tag}
 use Rattle.mps_model.specs.Labelling.{act_intern, act_label}
+use Rattle.mps_model.specs.Dependents.{act_depend, act_undepend}
 use Rattle.mps_model.specs.Dependency.{act_dependency, act_dependency_reset, act_dependency_add, act_dependency_merge, act_dependency_stale}
 use Rattle.mps_model.specs.Collecting.{act_start, act_start_chain, act_step, act_collect, act_clamp, act_park, act_release, act_finalize, act_definalize, act_message, act_live, act_dump}
 
@@ -56,6 +57,8 @@ act_in w (call.SetTag slot cell tag) = act_set_tag w slot cell tag
 act_in w (call.Tag slot cell) = act_tag w slot cell
 act_in w (call.Intern label) = act_intern w label
 act_in w (call.Label slot label) = act_label w slot label
+act_in w (call.Depend holder dependent) = act_depend w holder dependent
+act_in w (call.Undepend holder) = act_undepend w holder
 act_in w (call.Peek word) = act_peek w word
 act_in w (call.Pin word slot) = act_pin w word slot
 act_in w (call.Take slot word) = act_take w slot word

@@ -1,5 +1,5 @@
 -- The commands on the tags of references. No target is looked at: a tag is set and read without a read barrier.
-use Rattle.std.specs.Prelude.{◌≡◌, ℕ, ◌%◌, Option, Some, None, List, [], ◌∷◌, Err, refl}
+use Rattle.std.specs.Prelude.{◌≡◌, ℕ, ◌%◌, Some, None, List, [], ◌∷◌, Err, refl}
 use Rattle.mps_base.specs.declared.names.Slot.{Slot}
 use Rattle.mps_base.specs.declared.refusal.Refusal.TheVariants as refusal
 use Rattle.mps_model.specs.declared.reply.Reply.TheVariants as reply

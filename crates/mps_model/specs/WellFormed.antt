@@ -12,6 +12,7 @@ use Rattle.mps_base.specs.declared.names.Rank.TheVariants as rank
 use Rattle.mps_model.specs.Graph.{Graph, Thing, TableThing, LabelThing, NamedThing, thing_named, Cell, HeadCell, NumberCell, ReferenceCell, Body, Automatic, Manual, Object, Reservation, Point, AreaWord, PlainWord, Hold, is_automatic, is_weak_object, new_cells, targets_of_cells, with_target_cell, graph_with_cells, empty_graph, ids_in_slots, ids_in_blocks}
 use Rattle.mps_model.specs.World.{World, Pool, PointMemory, Tail, is_automatic_kind, is_weak_kind, pool_is, pool_at, is_live, is_live_and, live_ids, object_is, pool_of, words_of, extent, covered, shown_word, lies_in, Collected, empty_run, empty_world}
 use Rattle.mps_model.specs.Making.{is_weak_rank, is_block_size}
+use Rattle.mps_model.specs.Dependents.{may_depend}
 
 -- ---- runs of words
 
@@ -122,6 +123,12 @@ abbrev pub are_labels : Graph → (number : ℕ) → List Name → Bool
 are_labels g number [] = true
 are_labels g number (name ∷ names) = is_label number (thing_named g name) && are_labels g (number + 1) names
 
+-- ---- dependents
+
+-- whether a pair is of two live objects, the second of which may be the dependent of the first
+abbrev pub is_right_pair : World → Id × Id → Bool
+is_right_pair w p = is_live w p.0 && (is_live w p.1 && object_is (λ holder. object_is (may_depend w holder) w p.1) w p.0)
+
 abbrev pub is_live_automatic : World → (id : Id) → Bool
 is_live_automatic w id = is_live w id && object_is is_automatic w id
 
@@ -148,6 +155,8 @@ pub record IsWellFormed (w : World) : Type 0 where
   pub messages : IsTrue (list_all (is_live_automatic w) w.graph.messages)
   -- each label is a name, which represents it by its number: so no name is a label twice
   pub labels : IsTrue (are_labels w.graph 0 w.graph.labels)
+  -- each object with a dependent is weak, its dependent isn't, and both are live
+  pub dependents : IsTrue (list_all (is_right_pair w) w.graph.dependents)
 
 -- the name of a label
 abbrev ring : Name
@@ -171,6 +180,7 @@ small_world = record empty_world {
     registered = 0 ∷ [];
     names = record { name = ring; thing = LabelThing 0 } ∷ [];
     labels = ring ∷ [];
+    dependents = (1, 0) ∷ [];
   };
   grains = 4;
   limit = 4;
@@ -197,6 +207,7 @@ small_world_is_well_formed = record {
   registered = refl;
   messages = refl;
   labels = refl;
+  dependents = refl;
 }
 
 -- what breaks it, a fact at a time
@@ -234,6 +245,19 @@ a_label_twice w = let h : false ≡ true = w.labels in absurd cc
 
 pub a_label_by_the_name_of_a_table : IsWellFormed (with_labels (record { name = ring; thing = TableThing 0 } ∷ []) (ring ∷ [])) → ⊥
 a_label_by_the_name_of_a_table w = let h : false ≡ true = w.labels in absurd cc
+
+-- the small world with these pairs
+abbrev with_pairs : List (Id × Id) → World
+with_pairs ps = record small_world { graph = record small_world.graph { dependents = ps } }
+
+pub a_dependent_of_an_exact_object : IsWellFormed (with_pairs ((0, 1) ∷ [])) → ⊥
+a_dependent_of_an_exact_object w = let h : false ≡ true = w.dependents in absurd cc
+
+pub a_weak_dependent : IsWellFormed (with_pairs ((1, 1) ∷ [])) → ⊥
+a_weak_dependent w = let h : false ≡ true = w.dependents in absurd cc
+
+pub a_pair_of_a_freed_holder : IsWellFormed (record small_world { addresses = Some 0x1000 ∷ None ∷ [] }) → ⊥
+a_pair_of_a_freed_holder w = let h : false ≡ true = w.dependents in absurd cc
 
 pub a_reference_to_nothing : IsWellFormed (record small_world {
   graph = graph_with_cells small_world.graph 1

@@ -1,5 +1,9 @@
 // The client's calls, one for each command of a script.
 use mps_base::{Kind, Name, Rank, Slot};
+use std::mem::size_of;
+
+// A run writes one for each line.
+const _: () = prove!(size_of::<Call>() <= 88);
 
 /// A command of a script. Numbers stand as the script gives them. A head is the word that its text represents, 0 if
 /// its numbers break the rules of its format. A format is its number: 1 front, 2 mapped, 3 leaf.
@@ -195,6 +199,17 @@ pub enum Call {
     Label {
         slot: Slot,
         label: Name,
+    },
+
+    // Dependents.
+    /// `depend S T`: an object becomes the dependent of a weak one: its references go with those of the weak one.
+    Depend {
+        holder: Slot,
+        dependent: Slot,
+    },
+    /// `undepend S`: takes the dependent of an object away.
+    Undepend {
+        holder: Slot,
     },
 
     // Areas.

@@ -1,11 +1,11 @@
-use Rattle.std.proofs.Common.{◌≡◌, ℕ, refl, ap, arith, [], ◌∷◌, ◌++◌}
+use Rattle.std.proofs.Common.{◌≡◌, ℕ, refl, ap, arith, ◌++◌}
 use Rattle.mps_model.specs.Answer.{Answer, Replied}
 use Rattle.mps_model.specs.declared.reply.Reply.TheVariants as reply
-use Rattle.mps_model.specs.World.{World, empty_world}
+use Rattle.mps_model.specs.World.{empty_world}
 use Rattle.mps_model.specs.History.{IsLegalFrom, IsLegalHistory, world_after_history}
 use Rattle.mps_model.proofs.Appending.{IsLegalFrom-then}
 use Rattle.mps_model_examples.specs.Script.{address}
-use Rattle.mps_model_examples.specs.Labelled.{one_pair, pair_tagged, before_labels, interned, pair_labelled, wrong_intern, other_label, other_place, tag_splatted, tag_lost, LabelledIsLegal, LabelledIsReplayed, OthersAreNoLabels, NoTagIsLost}
+use Rattle.mps_model_examples.specs.Labelled.{before_labels, interned, pair_labelled, wrong_intern, other_label, other_place, tag_splatted, tag_lost, LabelledIsLegal, LabelledIsReplayed, OthersAreNoLabels, NoTagIsLost}
 use Rattle.mps_model_examples.proofs.Refusing.{cannot_follow}
 use Rattle.mps_model_examples.proofs.Steps.{answered}
 

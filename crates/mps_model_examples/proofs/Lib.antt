@@ -26,6 +26,7 @@ pub mod OtherCommands
 pub mod Refusing
 pub mod WrongAnswers
 pub mod Labelled
+pub mod Dependent
 pub mod WrongMoves
 pub mod ThreeToReclaim
 pub mod WrongUnits

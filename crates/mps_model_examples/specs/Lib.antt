@@ -24,6 +24,7 @@ pub mod Stepping
 pub mod OtherCommands
 pub mod WrongAnswers
 pub mod Labelled
+pub mod Dependent
 pub mod WrongMoves
 pub mod WrongUnits
 pub mod KeptReferences

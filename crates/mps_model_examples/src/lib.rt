@@ -26,6 +26,7 @@ ghost use Rattle.mps_model_examples.specs.ReadingOn.{ReadingOnIsLegal};
 ghost use Rattle.mps_model_examples.specs.Stepping.{SteppingIsLegal};
 ghost use Rattle.mps_model_examples.specs.OtherCommands.{OtherCommandsIsLegal};
 ghost use Rattle.mps_model_examples.specs.Labelled.{LabelledIsLegal, LabelledIsReplayed, OthersAreNoLabels, NoTagIsLost};
+ghost use Rattle.mps_model_examples.specs.Dependent.{DependentIsLegal, NoValueIsLeft, NoPairOutlivesItsHolder};
 ghost use Rattle.mps_model_examples.specs.WrongAnswers.{FlippedWithoutFlip, CommitAcrossFlip, LimitBesideGap, LimitBesideRun, StaleWithoutFlip, FreshAfterMove, GetOfOldPlace};
 ghost use Rattle.mps_model_examples.specs.WrongMoves.{SplatOfReachable, TwoPostsForOne, MoveOfPinned, FreeOfWaiting, StayBesideRoom, MarkedInPlace, UnknownFree, MoveAfterSplat};
 ghost use Rattle.mps_model_examples.specs.WrongUnits.{CollectWithoutMoves, StartDoesAll, TwoUnitsForOne, ReclaimedDownwards, WeakScannedAsExact, PollWhereClamped};
@@ -393,4 +394,21 @@ pub fn others_are_no_labels()
 /// A reference that is splatted keeps its tag.
 pub fn no_tag_is_lost()
     ensures { NoTagIsLost }
+{}
+
+/// A history in which a splat clears the reference of a dependent too is legal. The script: `arena 8 8; table t 3; pool w awl front; ap x w
+/// exact; ap y w weak; reserve x f:2:0; commit x t.0; reserve x f:2:1; commit x t.2; put t.2 1 t.2; reserve y f:2:1; init y 1 t.0; commit y
+/// t.1; depend t.1 t.2; clear t.0; collect; get t.0 t.2 1; null t.0; undepend t.1; undepend t.1; depend t.2 t.1`.
+pub fn dependent_is_legal()
+    ensures { DependentIsLegal }
+{}
+
+/// The splat doesn't leave the reference of the dependent.
+pub fn no_value_is_left()
+    ensures { NoValueIsLeft }
+{}
+
+/// A new object at the address of a freed one doesn't have its dependent.
+pub fn no_pair_outlives_its_holder()
+    ensures { NoPairOutlivesItsHolder }
 {}

@@ -5,4 +5,5 @@ pub mod Allocating
 pub mod Accessing
 pub mod Collecting
 pub mod Labelling
+pub mod Dependents
 pub mod Placing

@@ -6,6 +6,7 @@ ghost use Rattle.mps_refusal_examples.specs.Making.{ArenaAnswers, PoolsAnswer, R
 ghost use Rattle.mps_refusal_examples.specs.Allocating.{ReservationsAnswer, InitStores, ManualBlocksAnswer};
 ghost use Rattle.mps_refusal_examples.specs.Accessing.{CellsAnswer, SlotsAnswer, AreasAnswer};
 ghost use Rattle.mps_refusal_examples.specs.Labelling.{TagsAnswer, LabelsAnswer};
+ghost use Rattle.mps_refusal_examples.specs.Dependents.{DependentsAnswer};
 ghost use Rattle.mps_refusal_examples.specs.Collecting.{CollectionsAnswer, FinalizationAnswers, DependenciesAnswer};
 ghost use Rattle.mps_refusal_examples.specs.Placing.{AreGapsByRank, AreBuffersByPoint};
 
@@ -92,4 +93,9 @@ pub fn tags_answer()
 /// `intern`, if no label is left and if one is, and `label`.
 pub fn labels_answer()
     ensures { LabelsAnswer }
+{}
+
+/// `depend`, if no pair is left and if the holder has one already, and `undepend`.
+pub fn dependents_answer()
+    ensures { DependentsAnswer }
 {}

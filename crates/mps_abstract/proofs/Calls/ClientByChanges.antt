@@ -7,7 +7,7 @@ use Rattle.mps_base.specs.Address.{Id}
 use Rattle.mps_model.specs.declared.call.Call.{Call}
 use Rattle.mps_model.specs.declared.call.Call.TheVariants as call
 use Rattle.mps_model.specs.Answer.{Answer, is_block}
-use Rattle.mps_model.specs.Graph.{Cell, NumberCell, AreaWord, PlainWord, Hold, contains, entry_at, with_last, held_by_word, ids_in_blocks, targets_of_cells, without_name}
+use Rattle.mps_model.specs.Graph.{Cell, NumberCell, AreaWord, PlainWord, contains, entry_at, with_last, held_by_word, targets_of_cells, without_name}
 use Rattle.mps_model.specs.World.{World, lies_in, live_ids}
 use Rattle.mps_model.specs.WellFormed.{IsWellFormed}
 use Rattle.mps_model.specs.Checked.{Act, Checked, Found, Numbered, slot_in}

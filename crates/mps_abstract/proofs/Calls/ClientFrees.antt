@@ -13,7 +13,7 @@ use Rattle.mps_model.specs.Answer.{Answer, is_refused}
 use Rattle.mps_model.specs.Graph.{Object, Body, Automatic, Manual, Cell, Point, Reservation, contains, entries, entry_at, object_at, targets, targets_of, targets_of_body, targets_of_cells, targets_of_point, targets_of_reservation, is_automatic, size_of, ids_in_slots, ids_in_holds, ids_in_reservations, ids_in_blocks, new_cells, without_first}
 use Rattle.mps_model.specs.World.{World, Pool, PoolKind, Collected, OneSize, AnySize, PointMemory, extent, is_live, is_live_and, object_is, words_of, pool_at, pool_is, is_automatic_kind, is_any_size_kind, segment_at, segment_of, begins_in, lies_in, is_empty_segment, shown_words, is_copying_object, is_weak_kind, is_word_in}
 use Rattle.mps_model.specs.Accessing.{address_or_null}
-use Rattle.mps_model.specs.Effect.{after_free, after_unseg, giving_back, with_address, where_one, world_after_moves, reclaiming, segment_base_of, with_collection}
+use Rattle.mps_model.specs.Effect.{after_free, after_unseg, giving_back, with_address, where_one, world_after_moves, reclaiming, segment_base_of, with_collection, without_object}
 use Rattle.mps_model.specs.Flip.{at_address}
 use Rattle.mps_model.specs.Checked.{Checked, Found, block_place_in, number_named, as_blocks}
 use Rattle.mps_model.specs.History.{free_at, free_of, give_back_empty, moves_of_free, unless_refused}
@@ -32,7 +32,7 @@ use Rattle.mps_abstract.proofs.FlipActs.FlipLists.{holds_show}
 use Rattle.mps_abstract.proofs.Calls.ClientLists.{among_all, among_entries}
 use Rattle.mps_abstract.proofs.Calls.ClientBeside.{IsHeldIn, in_slots, in_holds, in_messages, in_reservations, held_where, found}
 use Rattle.mps_abstract.proofs.Calls.ClientChange.{IsUsed, held_by_client, referred_to, is_registered, is_to_be_scanned}
-use Rattle.mps_abstract.proofs.Calls.ClientThings.{list_all-at}
+use Rattle.mps_abstract.proofs.Calls.ClientThings.{list_all-at, aside_keeps}
 use Rattle.mps_abstract.proofs.Calls.ClientMaking.{freed_keeps, segments_keep, among_without, find_among}
 
 -- ---- what is used is automatic
@@ -243,19 +243,21 @@ module _ (x : Collecting) (run : Running x) (formed : IsWellFormed x.world) wher
   free_of_keeps id live manual fine =
       subst (λ (v : World). AreApartFrom 1 (world_after_moves v (give_back_empty v (segment_of x.world at))).segments
       → Running (record x { world = world_after_moves v (give_back_empty v (segment_of x.world at)) })) (sym leads)
-      (λ ordered. give_back_keeps (record x { world = with_address x.world id None }) (manual_freed_keeps x run formed id manual)
+      (λ ordered. give_back_keeps (record x { world = without_object x.world id })
+      (aside_keeps (record x { world = with_address x.world id None }) (manual_freed_keeps x run formed id manual)
+      (without_object x.world id) x.world.graph.blocks)
       (segments_ordered x.world formed) (segment_of x.world at)
       (λ s e. (find_among (λ t. is_in_segment t at) x.world.segments s e).0) ordered) fine
     where
       at : Address
       at = address_or_null x.world id
 
-      leads : world_after_moves x.world (free_at (address_or_null x.world id)) ≡ with_address x.world id None
+      leads : world_after_moves x.world (free_at (address_or_null x.world id)) ≡ without_object x.world id
       leads = ap (λ found. where_one x.world found (λ n. after_free x.world n (address_or_null x.world id)))
           (id_at-live x.world id run.different live)
-          ∙ ap (λ b. if b then with_collection (with_address x.world id None)
+          ∙ ap (λ b. if b then with_collection (without_object x.world id)
           (reclaiming (segment_base_of x.world (address_or_null x.world id)))
-          else with_address x.world id None) manual
+          else without_object x.world id) manual
 
   -- the moves of a free
   free_moves_keeps : (m : Checked (Found (Option ℕ))) (refused : Bool)

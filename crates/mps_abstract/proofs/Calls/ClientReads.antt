@@ -11,7 +11,7 @@ use Rattle.mps_base.specs.declared.refusal.Refusal.TheVariants as refusal
 use Rattle.mps_model.specs.Graph.{Cell, HeadCell, NumberCell, ReferenceCell, Body, Automatic, Manual, Object, NamedThing, Slots, contains, entry_at, thing_in, object_at, targets, targets_of, targets_of_body, targets_of_cells, target_of_cell, is_automatic}
 use Rattle.mps_model.specs.World.{World, is_copying_pool, with_tail, id_at, object_is, is_live}
 use Rattle.mps_model.specs.Checked.{Checked, Found, Numbered, ◌>>=◌, required, slot_in, numbered, entry_in, as_table, object_in, cells_of_body, reference_at, reference_in}
-use Rattle.mps_model.specs.Effect.{holding, segment_of_move, with_collection, with_address, reclaiming, segment_base_of, where_one, after_moved, after_splat, after_post, after_free, placing, world_after_move, world_after_moves}
+use Rattle.mps_model.specs.Effect.{holding, segment_of_move, with_collection, reclaiming, segment_base_of, where_one, after_moved, after_splat, after_post, after_free, placing, world_after_move, world_after_moves, without_object}
 use Rattle.mps_abstract.specs.Collecting.{Collecting, Running, is_white_in}
 use Rattle.mps_abstract.proofs.Calls.ClientLists.{among_entries, map-slice_get}
 use Rattle.mps_abstract.proofs.Calls.ClientBeside.{same_Ok, not_Ok, slot_found, slot_held}
@@ -37,7 +37,7 @@ tables_of_segment w s true = record { tables = refl; names = refl }
 tables_of_segment w s false = record { tables = refl; names = refl }
 
 tables_of_free : (w : World) (id at : ℕ) (b : Bool)
-    → HasTables w (if b then with_collection (with_address w id None) (reclaiming (segment_base_of w at)) else with_address w id None)
+    → HasTables w (if b then with_collection (without_object w id) (reclaiming (segment_base_of w at)) else without_object w id)
 tables_of_free w id at true = record { tables = refl; names = refl }
 tables_of_free w id at false = record { tables = refl; names = refl }
 

@@ -16,7 +16,7 @@ use Rattle.mps_model.specs.WellFormed.{is_right_object, is_live_automatic}
 use Rattle.mps_model.specs.Effect.{Everything, condemned_by, lies_in_one}
 use Rattle.mps_model.specs.Flip.{is_nothing}
 use Rattle.mps_model.proofs.Reaching.{list_all-contains}
-use Rattle.mps_abstract.specs.Collecting.{Collecting, Running}
+use Rattle.mps_abstract.specs.Collecting.{Collecting, Running, is_tracing_band}
 use Rattle.mps_abstract.specs.Fixing.{Fixes, fixes_no_more, passes, keeps}
 use Rattle.mps_abstract.specs.FlipLaws.{IsAtRest, collecting_after_flip, AreRemembered, FixesHeld}
 use Rattle.mps_abstract.specs.WholeLaws.{roots_of, IsWholeSoFar}
@@ -105,6 +105,11 @@ fixed_next fixes_no_more = refl
 fixed_next (passes black rest) = fixed_next rest
 fixed_next (keeps white keep rest) = fixed_next rest
 
+fixed_band : {x y : Collecting} {ids : List Id} {ms : List Move} → Fixes x ids ms y → y.band ≡ x.band
+fixed_band fixes_no_more = refl
+fixed_band (passes black rest) = fixed_band rest
+fixed_band (keeps white keep rest) = fixed_band rest
+
 module _ (w : World) (first : List Move) (y : Collecting) (rest : IsAtRest w) (some : is_nothing (condemned_by w Everything) ≡ false)
     (fixed : FixesHeld w (collecting_after_flip w Everything []) first y) where
   abbrev begun : Collecting
@@ -145,7 +150,8 @@ module _ (w : World) (first : List Move) (y : Collecting) (rest : IsAtRest w) (s
           is_listed_automatic w id there.0 there.1);
     };
     so_far = λ later exact. exact;
-    alike = λ id. ap (λ (g : Graph). strong_targets g id) after.graph;
+    alike = λ tracing id. ap (λ (g : Graph). strong_targets g id) after.graph;
+    led = λ later. absurd (true≢false (sym (ap is_tracing_band (fixed_band fixed)) ∙ later));
     reached = record {
       kept = λ id h. elim (fixed_kept fixed id h) [
         | inl pinned ↦ begins (contains_right (ids_of_client begun.world.graph) (ids_of_area_words begun.world ++ []) id

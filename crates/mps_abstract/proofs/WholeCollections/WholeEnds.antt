@@ -28,7 +28,7 @@ use Rattle.mps_abstract.proofs.Reclaimed.{final_world, black_left}
 use Rattle.mps_abstract.proofs.Reclaiming.{all_black, last_leads}
 use Rattle.mps_abstract.proofs.Rows.{units_shown, last_unit_shown, last_units_done}
 use Rattle.mps_abstract.proofs.FlipActs.FlipBegins.{all, flip_legal, flip_done, flip_ended, none_condemned}
-use Rattle.mps_abstract.proofs.WholeCollections.WholePaths.{reached_more, reached_is_kept, kept_reached}
+use Rattle.mps_abstract.proofs.WholeCollections.WholePaths.{reached_more, led_to_kept, reached_is_kept, kept_reached}
 use Rattle.mps_abstract.proofs.WholeCollections.WholeUnits.{units_whole}
 use Rattle.mps_abstract.proofs.WholeCollections.WholeBegins.{everything, nothing_remembered, begun_running, whole_begun}
 
@@ -71,7 +71,7 @@ module _ (before flipped_world : World) (sent : flipped_world.graph.messages ≡
       (kept_reached flipped_world p.posted x id p.reached (p.condemned id h)
       (all_black x run s freed next last id (sym (live_then id) ∙ live))))
       (λ dead path.
-      let kept = reached_is_kept flipped_world p.posted x run p.alike p.roots drained
+      let kept = reached_is_kept flipped_world p.posted x (led_to_kept flipped_world x run p.alike p.led drained) p.roots
       (reached_more flipped_world p.posts p.posted (λ n e. p.same n ∙ e) path) in
       false≢true (sym dead ∙ (live_then id ∙ black_left x run s freed next id kept.1 kept.0)))
 

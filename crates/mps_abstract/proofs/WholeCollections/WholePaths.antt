@@ -1,6 +1,6 @@
 -- Paths in whole collections: what is kept is reached, and once drained what is reached is kept.
 use Rattle.std.proofs.Common.{◌≡◌, ◌∙◌, ◌⊎◌, true, false, refl, sym, ap, List, [], ◌∷◌, ◌++◌, Option, Some, None, subst, inl, inr}
-use Rattle.std.proofs.lemmas.Bool.{false≢true}
+use Rattle.std.proofs.lemmas.Bool.{false≢true, cases_Bool}
 use Rattle.std.specs.Prelude.{if◌then◌else◌}
 use Rattle.std.specs.Option.{option_map_or}
 use Rattle.mps_base.specs.Address.{Id}
@@ -11,9 +11,9 @@ use Rattle.mps_model.specs.Collection.{Collection, is_condemned}
 use Rattle.mps_model.specs.World.{World, is_live, object_is, ids_of_area_words}
 use Rattle.mps_model.specs.Posts.{IsWidelyReachableWith}
 use Rattle.mps_abstract.specs.Colours.{is_grey}
-use Rattle.mps_abstract.specs.Collecting.{Collecting, Running, IsDrainedIn, is_white_in}
+use Rattle.mps_abstract.specs.Collecting.{Collecting, Running, IsDrainedIn, is_white_in, is_tracing_band}
 use Rattle.mps_abstract.specs.Fixing.{Keeps, marks, moves_to_place, moves_to_segment, stays, Fixes, fixes_no_more, passes, keeps}
-use Rattle.mps_abstract.specs.WholeLaws.{roots_of, IsAlike, AreReached, AreRootsKept}
+use Rattle.mps_abstract.specs.WholeLaws.{roots_of, IsAlike, AreReached, AreRootsKept, AreLedToKept}
 use Rattle.mps_abstract.proofs.Lists.{contains_here, contains_later, contains_cases, contains_append, contains_left, contains_right}
 use Rattle.mps_abstract.proofs.Posting.{leads_more}
 use Rattle.mps_abstract.proofs.Reach.{strong_is_target, not_grey}
@@ -117,17 +117,26 @@ target_reached flipped posted x id alike r grey strong t h =
 
 -- ---- once drained
 
-module _ (flipped : World) (posted : List Id) (x : Collecting) (run : Running x) (alike : IsAlike flipped.graph x.world.graph)
-    (roots : AreRootsKept flipped posted x) (drained : IsDrainedIn x) where
+-- what a kept object referred to strongly at the flip is kept
+pub led_to_kept : (flipped : World) (x : Collecting) → Running x
+    → (is_tracing_band x.band ≡ true → IsAlike flipped.graph x.world.graph)
+    → (is_tracing_band x.band ≡ false → AreLedToKept flipped.graph x) → IsDrainedIn x → AreLedToKept flipped.graph x
+led_to_kept flipped x run alike led drained from to live black h = elim (cases_Bool (is_tracing_band x.band)) [
+  | inl tracing ↦
+      let strong = strong_is_target x.world.graph from to
+      (subst (λ (ids : List Id). contains ids to ≡ true) (sym (alike tracing from)) h) in (
+        run.coloured.referred_live from to live black strong.0,
+        run.coloured.referred from to live black (not_grey (object_is is_weak_object x.world) x.colours from drained strong.1) strong.0,
+      )
+  | inr later ↦ led later from to live black h
+]
+
+module _ (flipped : World) (posted : List Id) (x : Collecting) (kept : AreLedToKept flipped.graph x)
+    (roots : AreRootsKept flipped posted x) where
   pub reached_is_kept : {id : Id} → IsWidelyReachableWith flipped posted id → (is_live x.world id ≡ true) × (is_white_in x id ≡ false)
   reached_is_kept (begins {id} h) = (roots.live id h, roots.kept id h)
   reached_is_kept (goes_on {from} {to} path h) =
-      let before = reached_is_kept path in
-      let strong = strong_is_target x.world.graph from to (subst (λ (ids : List Id). contains ids to ≡ true) (sym (alike from)) h) in (
-        run.coloured.referred_live from to before.0 before.1 strong.0,
-        run.coloured.referred from to before.0 before.1
-            (not_grey (object_is is_weak_object x.world) x.colours from drained strong.1) strong.0,
-      )
+      let before = reached_is_kept path in kept from to before.0 before.1 h
 
   -- a white object isn't reached
   pub white_unreached : (id : Id) → is_white_in x id ≡ true → ¬ IsWidelyReachableWith flipped posted id

@@ -1,14 +1,13 @@
 -- Each unit of a whole collection keeps what is known of it.
-use Rattle.std.proofs.Common.{◌≡◌, ◌∙◌, ℕ, suc, ◌+◌, ◌<◌, Bool, true, false, refl, sym, ap, List, [], ◌∷◌, ◌++◌, length, Option, Some, None, subst, inl, inr, arith, append_assoc}
+use Rattle.std.proofs.Common.{◌≡◌, ◌∙◌, ℕ, suc, ◌+◌, ◌<◌, Bool, true, false, refl, sym, ap, List, [], ◌∷◌, ◌++◌, length, Some, None, subst, inl, inr, arith, append_assoc}
 use Rattle.std.proofs.lemmas.Bool.{false≢true, true≢false, eq-eqb, cases_Bool, or_parts}
 use Rattle.std.proofs.lemmas.List.Folds.{list_any-append}
 use Rattle.std.proofs.lemmas.Option.{none-some, same_Some}
-use Rattle.std.specs.Prelude.{◌||◌, ◌==◌, if◌then◌else◌, slice_get, slice_set}
-use Rattle.std.specs.Option.{option_map_or}
+use Rattle.std.specs.Prelude.{◌||◌, ◌==◌, if◌then◌else◌, slice_get}
 use Rattle.mps_base.specs.Address.{Id, Address}
 use Rattle.mps_base.specs.Segment.{Segment}
 use Rattle.mps_base.specs.declared.moves.Move.{Move}
-use Rattle.mps_model.specs.Graph.{Graph, Cell, Object, Body, Automatic, Manual, contains, without_first, targets, targets_of, strong_targets, strong_targets_of, is_weak_object, is_weak_body, object_at, body_with_cells, object_with_cells, graph_with_cells, with_target_cell, ids_of_client}
+use Rattle.mps_model.specs.Graph.{Graph, contains, without_first, targets, strong_targets, is_weak_object, ids_of_client}
 use Rattle.mps_model.specs.Reachable.{begins}
 use Rattle.mps_model.specs.Collection.{Collection}
 use Rattle.mps_model.specs.World.{World, is_live, object_is, ids_of_area_words}
@@ -16,7 +15,7 @@ use Rattle.mps_model.specs.Effect.{world_after_moves}
 use Rattle.mps_model.specs.Posts.{IsWidelyReachableWith, ArePostsExact}
 use Rattle.mps_model.specs.Units.{is_last_condemned}
 use Rattle.mps_abstract.specs.Colours.{is_white, is_grey, keeping}
-use Rattle.mps_abstract.specs.Collecting.{Final, Weak, Collecting, Running, is_white_in}
+use Rattle.mps_abstract.specs.Collecting.{Final, Weak, Collecting, IsDrainedIn, Running, is_tracing_band, is_white_in}
 use Rattle.mps_abstract.specs.Fixing.{Keeps, Fixes, kept_by}
 use Rattle.mps_abstract.specs.Units.{collecting_after_scan, collecting_after_splat, Splats, splats_no_more, splats_cell, IsExaminedNext, collecting_after_post, IsReclaimedNext, reclaim_by, collecting_after_reclaim, IsUnit, scans, examines, posts, splats, reclaims, GoesOn, begun, by_one_more}
 use Rattle.mps_abstract.specs.WholeLaws.{AreInTurn, IsWholeSoFar}
@@ -26,11 +25,9 @@ use Rattle.mps_abstract.proofs.Keeping.{it_is_kept, still_kept, grey_still}
 use Rattle.mps_abstract.proofs.Registrations.{contains-without_first}
 use Rattle.mps_abstract.proofs.UnitScans.{scanned_rightly, strong_is_tracing}
 use Rattle.mps_abstract.proofs.Reclaiming.{goes_on_leads}
-use Rattle.mps_abstract.proofs.Reclaimed.{final_collection, black_left}
+use Rattle.mps_abstract.proofs.Reclaimed.{final_collection, black_left, live_before}
 use Rattle.mps_abstract.proofs.Rows.{units_shown}
-use Rattle.mps_abstract.proofs.Calls.ClientObjects.{written_passes}
-use Rattle.mps_abstract.proofs.WholeCollections.WholePaths.{root_cases, reached_more, fixed_kept, fixed_grey, fixed_same, keep_same, target_reached, white_unreached, kept_reached}
-use Rattle.mps_abstract.proofs.Cells.{for_object-with_cells}
+use Rattle.mps_abstract.proofs.WholeCollections.WholePaths.{root_cases, led_to_kept, reached_more, fixed_kept, fixed_grey, fixed_same, keep_same, target_reached, white_unreached, kept_reached}
 
 -- ---- lists
 
@@ -71,27 +68,6 @@ one_more_same these those p n same =
     turn false true = refl
     turn false false = refl
 
--- ---- strong references after a weak object was written
-
-weak_alike : (g : Graph) (holder n : Id) (change : List Cell → List Cell) → option_map_or is_weak_object (object_at g holder) false ≡ true
-    → strong_targets (graph_with_cells g holder change) n ≡ strong_targets g n
-weak_alike g holder n change weak = of_object (object_at g holder) refl weak
-  where
-    weak_body : (b : Body) → is_weak_body (body_with_cells b change) ≡ is_weak_body b
-    weak_body (Automatic head cells is_weak) = refl
-    weak_body (Manual words) = refl
-
-    none_strong : (o : Object) → is_weak_object o ≡ true → strong_targets_of o ≡ []
-    none_strong o h = ap (λ b. if b then [] else targets_of o) h
-
-    of_object : (o : Option Object) → object_at g holder ≡ o → option_map_or is_weak_object o false ≡ true
-        → option_map_or strong_targets_of (slice_get
-        (option_map_or (λ p. slice_set g.objects holder (object_with_cells p change)) o g.objects) n) []
-        ≡ strong_targets g n
-    of_object None e h = refl
-    of_object (Some o) e h = written_passes strong_targets_of [] g.objects holder n o (object_with_cells o change) e
-        (none_strong (object_with_cells o change) (weak_body o.body ∙ h) ∙ sym (none_strong o h))
-
 module _ (flipped : World) where
   -- ---- a scan
 
@@ -116,11 +92,13 @@ module _ (flipped : World) where
               ∙ p.in_turn.condemned n (subst (λ (g : Graph). contains g.registered n ≡ true) f.graph h);
         };
         so_far = p.so_far;
-        alike = λ n. ap (λ (g : Graph). strong_targets g n) f.graph ∙ p.alike n;
+        alike = λ tracing n. ap (λ (g : Graph). strong_targets g n) f.graph ∙ p.alike (strong_is_tracing x id run grey strong) n;
+        led = λ later. absurd (true≢false (sym (ap is_tracing_band f.band ∙ strong_is_tracing x id run grey strong) ∙ later));
         reached = record {
           kept = λ n h. elim (fixed_kept fixes n h) [
             | inl old ↦ p.reached.kept n old
-            | inr target ↦ target_reached flipped p.posted x id p.alike p.reached grey strong n target
+            | inr target ↦
+                target_reached flipped p.posted x id (p.alike (strong_is_tracing x id run grey strong)) p.reached grey strong n target
           ];
           grey = λ n h. fixed_grey fixes p.reached.grey n (grey_still x.running.condemned y.colours id n h);
         };
@@ -160,6 +138,13 @@ module _ (flipped : World) where
                 → ArePostsExact flipped [] flipped.graph.registered (p.posts ++ later)) same so;
           }
 
+  -- a registration is examined before any reference is splatted
+  due_is_tracing : (x : Collecting) (id : Id) → Running x → IsExaminedNext x id → is_tracing_band x.band ≡ true
+  due_is_tracing x id run due = elim (cases_Bool (is_tracing_band x.band)) [
+    | inl tracing ↦ tracing
+    | inr later ↦ let all = run.band.examined later in let below = due.before_flip in absurd (omega (arith, all, below))
+  ]
+
   pub examined_whole : (x : Collecting) (id : Id) → Running x → IsWholeSoFar flipped x → IsExaminedNext x id → is_white_in x id ≡ false
       → IsWholeSoFar flipped (record x { band = Final; next = suc x.next })
   examined_whole x id run p due black =
@@ -184,7 +169,8 @@ module _ (flipped : World) where
               (t.condemned id (contains_at x.world.graph.registered x.next id due.registered)) black,
           exact,
         ));
-        alike = p.alike;
+        alike = λ tracing. p.alike (due_is_tracing x id run due);
+        led = λ later. absurd (true≢false later);
         reached = p.reached;
         roots = record { live = p.roots.live; kept = p.roots.kept };
         condemned = p.condemned;
@@ -233,8 +219,12 @@ module _ (flipped : World) where
         };
         so_far = λ later exact. subst (λ ids. ArePostsExact flipped [] flipped.graph.registered ids)
             (sym (append_assoc p.posts (id ∷ []) later))
-            (f.so_far (id ∷ later) (inl (white_unreached flipped p.posted x run p.alike p.roots due.drained id white, (refl, exact))));
-        alike = λ n. ap (λ (g : Graph). strong_targets g n) graph ∙ p.alike n;
+            (f.so_far (id ∷ later) (inl (
+              white_unreached flipped p.posted x (led_to_kept flipped x run p.alike p.led due.drained) p.roots id white,
+              (refl, exact),
+            )));
+        alike = λ tracing n. ap (λ (g : Graph). strong_targets g n) graph ∙ p.alike (due_is_tracing x id run due) n;
+        led = λ later. absurd (true≢false later);
         reached = record {
           kept = λ n h. elim (contains_cases id x.colours.kept n h) [
             | inl it ↦ subst (λ m. IsWidelyReachableWith flipped (id ∷ p.posted) m) it
@@ -263,9 +253,9 @@ module _ (flipped : World) where
 
   -- ---- splats
 
-  one_splatted : (x : Collecting) (holder cell : ℕ) → object_is is_weak_object x.world holder ≡ true → IsWholeSoFar flipped x
+  one_splatted : (x : Collecting) (holder cell : ℕ) → is_tracing_band x.band ≡ false → IsWholeSoFar flipped x
       → IsWholeSoFar flipped (collecting_after_splat x holder cell)
-  one_splatted x holder cell weak p = record {
+  one_splatted x holder cell later p = record {
     posted = p.posted;
     posts = p.posts;
     same = p.same;
@@ -274,28 +264,18 @@ module _ (flipped : World) where
     remaining = p.remaining;
     in_turn = record { cut = p.in_turn.cut; next = p.in_turn.next; before = p.in_turn.before; condemned = p.in_turn.condemned };
     so_far = p.so_far;
-    alike = λ n. weak_alike x.world.graph holder n (λ cells. with_target_cell cells cell None) weak ∙ p.alike n;
+    alike = λ tracing. absurd (true≢false (sym tracing ∙ later));
+    led = p.led;
     reached = p.reached;
     roots = record { live = p.roots.live; kept = p.roots.kept };
     condemned = p.condemned;
   }
 
-  weak_still : (x : Collecting) (holder cell : ℕ) → object_is is_weak_object x.world holder ≡ true
-      → object_is is_weak_object (collecting_after_splat x holder cell).world holder ≡ true
-  weak_still x holder cell weak =
-      for_object-with_cells x.world.graph holder holder (λ cells. with_target_cell cells cell None) is_weak_object false
-      (λ o. of_body o.body) ∙ weak
-    where
-      of_body : (b : Body) → is_weak_body (body_with_cells b (λ cells. with_target_cell cells cell None)) ≡ is_weak_body b
-      of_body (Automatic head cells is_weak) = refl
-      of_body (Manual words) = refl
-
   all_splatted : {holder : Id} {x y : Collecting} {cells : List ℕ} → Splats holder x cells y
-      → object_is is_weak_object x.world holder ≡ true
-      → IsWholeSoFar flipped x → IsWholeSoFar flipped y
-  all_splatted (splats_no_more kept) weak p = p
-  all_splatted {holder} {x} (splats_cell {cell = cell} is white rest) weak p =
-      all_splatted rest (weak_still x holder cell weak) (one_splatted x holder cell weak p)
+      → is_tracing_band x.band ≡ false → IsWholeSoFar flipped x → IsWholeSoFar flipped y
+  all_splatted (splats_no_more kept) later p = p
+  all_splatted {holder} {x} (splats_cell {cell = cell} is white rest) later p =
+      all_splatted rest later (one_splatted x holder cell later p)
 
   scanned_whole : (y : Collecting) (id : Id) → IsWholeSoFar flipped y → IsWholeSoFar flipped (collecting_after_scan y id)
   scanned_whole y id p = record {
@@ -308,13 +288,14 @@ module _ (flipped : World) where
     in_turn = record { cut = p.in_turn.cut; next = p.in_turn.next; before = p.in_turn.before; condemned = p.in_turn.condemned };
     so_far = p.so_far;
     alike = p.alike;
+    led = p.led;
     reached = record { kept = p.reached.kept; grey = λ n h. p.reached.grey n (grey_still y.running.condemned y.colours id n h) };
     roots = record { live = p.roots.live; kept = p.roots.kept };
     condemned = p.condemned;
   }
 
-  in_weak : (x : Collecting) → IsWholeSoFar flipped x → IsWholeSoFar flipped (record x { band = Weak })
-  in_weak x p = record {
+  in_weak : (x : Collecting) → Running x → IsDrainedIn x → IsWholeSoFar flipped x → IsWholeSoFar flipped (record x { band = Weak })
+  in_weak x run drained p = record {
     posted = p.posted;
     posts = p.posts;
     same = p.same;
@@ -323,7 +304,8 @@ module _ (flipped : World) where
     remaining = p.remaining;
     in_turn = record { cut = p.in_turn.cut; next = p.in_turn.next; before = p.in_turn.before; condemned = p.in_turn.condemned };
     so_far = p.so_far;
-    alike = p.alike;
+    alike = λ tracing. absurd (false≢true tracing);
+    led = λ later. led_to_kept flipped x run p.alike p.led drained;
     reached = p.reached;
     roots = record { live = p.roots.live; kept = p.roots.kept };
     condemned = p.condemned;
@@ -354,7 +336,15 @@ module _ (flipped : World) where
           condemned = λ n h. condemned n ∙ p.in_turn.condemned n (subst (λ (v : World). contains v.graph.registered n ≡ true) leads h);
         };
         so_far = p.so_far;
-        alike = λ n. ap (λ (v : World). strong_targets v.graph n) leads ∙ p.alike n;
+        alike = λ tracing. absurd (false≢true tracing);
+        led = λ later from to live black h.
+            let was = ap (λ (d : Collection). is_white d.condemned x.colours from) same ∙ black in
+            let before = live_before x run s freed next from (sym (ap (λ (v : World). is_live v from) leads) ∙ live) in
+            let drained : IsDrainedIn x = λ n grey. absurd (true≢false (sym grey ∙ next.scanned n)) in
+            let there = led_to_kept flipped x run p.alike p.led drained from to before was h in (
+              ap (λ (v : World). is_live v to) leads ∙ black_left x run s freed next to there.1 there.0,
+              ap (λ (d : Collection). is_white d.condemned x.colours to) (sym same) ∙ there.1,
+            );
         reached = p.reached;
         roots = record {
           live = λ n h. ap (λ (v : World). is_live v n) leads ∙ black_left x run s freed next n (p.roots.kept n h) (p.roots.live n h);
@@ -370,7 +360,7 @@ module _ (flipped : World) where
   unit_whole {x} run p (examines id due black) = examined_whole x id run p due black
   unit_whole {x} run p (posts id {ms} {c} due white keep) = posted_whole x id ms c run p due white keep
   unit_whole {x} run p (splats id {y} {cells} drained examined grey done) =
-      scanned_whole y id (all_splatted done (drained id grey) (in_weak x p))
+      scanned_whole y id (all_splatted done refl (in_weak x run drained p))
   unit_whole {x} run p (reclaims {s = s} {freed} {c} next not_last runs) = reclaimed_whole x s freed c run p next not_last runs
 
   -- and a row of units

@@ -11,17 +11,18 @@ use Rattle.mps_base.specs.Run.{Run, gaps, lowest_fitting, total}
 use Rattle.mps_base.specs.Segment.{Segment, words_of_segment}
 use Rattle.mps_model.specs.Graph.{Graph, Object, Cell, Body, Automatic, Manual, contains, without_first, entry_at, object_at, size_of_body, body_with_cells, object_with_cells, graph_with_cells, with_target_cell, retargeted, is_automatic}
 use Rattle.mps_model.specs.Collection.{Collection}
-use Rattle.mps_model.specs.World.{World, id_at, segment_at, object_is, pool_of, words_of, tail_of, is_copying_pool, is_copying_object, is_copying_kind, target_generation_for, held_grains, covered, begins_in, with_tail}
-use Rattle.mps_model.specs.Effect.{world_after_move, world_after_moves, after_segment, after_moved, after_splat, after_post, after_free, with_collection, with_address, giving_back, reclaiming, placing, splatting, posting, registration_of, segment_base_of, segment_of_move, words_after, condemned_by, condemnation_of, is_condemned_by, world_flipped, doomed_graph, without_buffer}
+use Rattle.mps_model.specs.World.{World, object_is, is_copying_pool, held_grains, with_tail}
+use Rattle.mps_model.specs.Effect.{after_segment, after_splat, after_post, after_free, with_collection, giving_back, reclaiming, splatting, posting, registration_of, segment_base_of, segment_of_move, graph_nulled, graph_splatted, without_object}
 use Rattle.mps_model.specs.Placement.{placement_at_front, new_segment_for}
 use Rattle.mps_model.specs.LegalMove.{IsPlaceAt, IsNewSegmentAt}
 use Rattle.mps_model.specs.Replay.{Store}
 use Rattle.mps_laws.proofs.Lookups.{length-slice_set, map-slice_set, slice_set-same, there_is, entry_within}
 use Rattle.mps_laws.proofs.Positions.Occupancy.{Occupancy, Occupant, OfBlock, Shape, shape_of, occupancy_of, condemned_in, run_of, run_of_block}
-use Rattle.mps_laws.proofs.Positions.LaidOut.{IsLaidOut, is_at_hand, kind_in}
+use Rattle.mps_laws.proofs.Positions.LaidOut.{IsLaidOut}
 use Rattle.mps_laws.proofs.Replays.Blocks.{stored, blocks_in, AreDifferent, IsPlaced}
 use Rattle.mps_laws.proofs.Positions.Holding.{IsFresh, fresh_of_placement, held_laid_out, tailed_laid_out}
 use Rattle.mps_laws.proofs.Positions.Condemning.{without_first-none}
+use Rattle.mps_model.proofs.Nulled.{splatted_holds}
 
 -- the arena of a world is laid out
 abbrev pub HasLayout : (limit : ℕ) → World → Type 0
@@ -111,11 +112,19 @@ length-retargeted cells k target (Some c) = length-slice_set cells k (retargeted
 pub length-with_target_cell : (cells : List Cell) (k : ℕ) (target : Option ℕ) → length (with_target_cell cells k target) ≡ length cells
 length-with_target_cell cells k target = length-retargeted cells k target (slice_get cells k)
 
+nulled_kept : (g : Graph) (id cell : ℕ) → map shape_of (graph_nulled g id cell).objects ≡ map shape_of g.objects
+nulled_kept g id cell =
+    cells_kept g id (λ cells. with_target_cell cells cell None) (λ cells. length-with_target_cell cells cell None)
+
+pub splatted_kept : (g : Graph) (id cell : ℕ) → map shape_of (graph_splatted g id cell).objects ≡ map shape_of g.objects
+splatted_kept g id cell =
+    splatted_holds (λ left. map shape_of left.objects ≡ map shape_of g.objects) g id cell (nulled_kept g id cell) (λ dependent.
+    nulled_kept (graph_nulled g id cell) dependent cell ∙ nulled_kept g id cell)
+
 pub splat_kept : (w : World) (id cell : ℕ) → occupancy_of (after_splat w id cell) ≡ occupancy_of w
 splat_kept w id cell =
-    collection_kept (record w { graph = graph_with_cells w.graph id (λ cells. with_target_cell cells cell None) }) splatting (λ c. refl)
-    ∙ ap (λ ss. record (occupancy_of w) { shapes = ss })
-    (cells_kept w.graph id (λ cells. with_target_cell cells cell None) (λ cells. length-with_target_cell cells cell None))
+    collection_kept (record w { graph = graph_splatted w.graph id cell }) splatting (λ c. refl)
+    ∙ ap (λ ss. record (occupancy_of w) { shapes = ss }) (splatted_kept w.graph id cell)
 
 pub post_kept : (w : World) (id : ℕ) → occupancy_of (after_post w id) ≡ occupancy_of w
 post_kept w id =
@@ -125,10 +134,10 @@ post_kept w id =
 pub free_is : (w : World) (id at : ℕ)
     → occupancy_of (after_free w id at) ≡ record (occupancy_of w) { addresses = slice_set w.addresses id None }
 free_is w id at =
-    elim (object_is is_automatic w id) as (λ b. occupancy_of (if b then with_collection (with_address w id None)
+    elim (object_is is_automatic w id) as (λ b. occupancy_of (if b then with_collection (without_object w id)
     (reclaiming (segment_base_of w at))
-    else with_address w id None) ≡ record (occupancy_of w) { addresses = slice_set w.addresses id None }) [
-      | true ↦ collection_kept (with_address w id None) (reclaiming (segment_base_of w at)) (λ c. refl)
+    else without_object w id) ≡ record (occupancy_of w) { addresses = slice_set w.addresses id None }) [
+      | true ↦ collection_kept (without_object w id) (reclaiming (segment_base_of w at)) (λ c. refl)
       | false ↦ refl
     ]
 

@@ -12,14 +12,14 @@ use Rattle.mps_base.specs.declared.moves.Move.TheVariants as moves
 use Rattle.mps_model.specs.declared.call.Call.{Call}
 use Rattle.mps_model.specs.declared.call.Call.TheVariants as call
 use Rattle.mps_model.specs.Answer.{Answer, is_accepted, is_block, is_refused}
-use Rattle.mps_model.specs.Graph.{Point, Reservation, contains, without_first, graph_with_cells, with_target_cell, Object, entry_at, is_automatic, ids_of_client}
+use Rattle.mps_model.specs.Graph.{Point, Reservation, contains, without_first, Object, entry_at, is_automatic, ids_of_client}
 use Rattle.mps_model.specs.Collection.{Collection, is_condemned, is_settled}
 use Rattle.mps_model.specs.World.{World, Pool, id_at, is_copying_kind, is_copying_object, is_copying_pool, object_is, with_tail, segment_of, pool_is, is_any_size_kind, is_empty_segment}
 use Rattle.mps_model.specs.Checked.{Act, Checked, Found, Numbered, point_named, pool_named, block_place_in, number_named, as_point}
 use Rattle.mps_model.specs.Placement.{placement_of, ForAlloc}
 use Rattle.mps_model.specs.Accessing.{address_or_null}
 use Rattle.mps_model.specs.Collecting.{without_registration}
-use Rattle.mps_model.specs.Effect.{where_one, world_after_move, world_after_moves, after_moved, holding, segment_of_move, with_address, with_collection, placing, after_splat, graph_posted, splatting, reclaiming, giving_back, posting, registration_of, segment_base_of}
+use Rattle.mps_model.specs.Effect.{where_one, world_after_move, world_after_moves, after_moved, holding, segment_of_move, with_address, with_collection, placing, after_splat, graph_posted, splatting, reclaiming, giving_back, posting, registration_of, segment_base_of, graph_splatted, without_object}
 use Rattle.mps_model.specs.LegalMove.{ForOne, ForObjectAt, IsLegalMove, IsLegalMoved, AreLegalMoves, first_move}
 use Rattle.mps_model.specs.Flip.{at_address}
 use Rattle.mps_model.specs.Policy.{units_asked}
@@ -30,7 +30,7 @@ use Rattle.mps_laws.specs.Staying.{is_flip}
 use Rattle.mps_laws.proofs.Lookups.{entry_at-set_other, length-slice_set}
 use Rattle.mps_laws.proofs.Entries.{GoesOn, slice_get-there, entry_at-append}
 use Rattle.mps_laws.proofs.Acts.{ForAct, accepted, refused}
-use Rattle.mps_laws.proofs.LeftByActs.{Leaves, IsCollectionLeft, owners, owners-graph_with_cells, act_leaves}
+use Rattle.mps_laws.proofs.LeftByActs.{Leaves, IsCollectionLeft, owners, owners-splatted, act_leaves}
 use Rattle.mps_laws.proofs.LegalHistories.{IsAnswered}
 
 -- ---- what keeps a running collection from moving an object
@@ -279,19 +279,18 @@ module _ (id at : ℕ) where
   segment_put w s false p = p
 
   free_put : (w : World) (other from : ℕ) (b : Bool) → IsPutIn id at w
-      → IsPutIn id at (if b then with_collection (with_address w other None) (reclaiming
-      (segment_base_of w from)) else with_address w other None)
+      → IsPutIn id at (if b then with_collection (without_object w other) (reclaiming
+      (segment_base_of w from)) else without_object w other)
   free_put w other from true p =
-      passing_put (with_address w other None) (reclaiming (segment_base_of w from)) (record { settles = λ c e. e; condemned = λ c. refl })
+      passing_put (without_object w other) (reclaiming (segment_base_of w from)) (record { settles = λ c e. e; condemned = λ c. refl })
       (put-gone id at (owners w.graph) w.pools other w.addresses w.collection p)
   free_put w other from false p = put-gone id at (owners w.graph) w.pools other w.addresses w.collection p
 
   splat_put : (w : World) (holder cell : ℕ) → IsPutIn id at w → IsPutIn id at (after_splat w holder cell)
   splat_put w holder cell p =
-      passing_put (record w { graph = graph_with_cells w.graph holder (λ cells. with_target_cell cells cell None) }) splatting
+      passing_put (record w { graph = graph_splatted w.graph holder cell }) splatting
       (record { settles = λ c e. e; condemned = λ c. refl })
-      (subst (λ (owned : List ℕ). IsPut id at owned w.pools w.addresses w.collection)
-      (sym (owners-graph_with_cells w.graph holder (λ cells. with_target_cell cells cell None))) p)
+      (subst (λ (owned : List ℕ). IsPut id at owned w.pools w.addresses w.collection) (sym (owners-splatted w.graph holder cell)) p)
 
   -- a move that is no flip leaves an object that may not be moved where it is, or frees it
   pub move_put : (w : World) (m : Move) → is_flip m ≡ false → IsMovedLegally w m → IsPutIn id at w → IsPutIn id at (world_after_move w m)

@@ -1,5 +1,5 @@
 -- The log of version 2 of a legal history replays to its live blocks, and to as many names as it has labels.
-use Rattle.std.proofs.Common.{◌≡◌, ◌∙◌, ◌⊎◌, ℕ, ◌+◌, ◌<◌, Bool, true, false, refl, sym, ap, subst, List, [], ◌∷◌, ◌++◌, length, Option, Some, None, Ok, Err, inl, inr}
+use Rattle.std.proofs.Common.{◌≡◌, ◌∙◌, ◌⊎◌, ℕ, ◌+◌, Bool, true, false, refl, sym, ap, subst, List, [], ◌∷◌, ◌++◌, length, Option, Some, None, Ok, Err, inl, inr}
 use Rattle.std.proofs.lemmas.Option.{same_Some, slice_get_within}
 use Rattle.std.proofs.lemmas.Bool.{and_from, and_parts, eq-eqb, false≢true, lt-ltb, true≢false}
 use Rattle.std.specs.Prelude.{◌==◌, ◌&&◌, if◌then◌else◌, not, option_and_then, option_map, slice_get}
@@ -13,28 +13,27 @@ use Rattle.mps_base.specs.declared.refusal.Refusal.TheVariants as refusal
 use Rattle.mps_model.specs.declared.call.Call.{Call}
 use Rattle.mps_model.specs.declared.call.Call.TheVariants as call
 use Rattle.mps_model.specs.declared.reply.Reply.TheVariants as reply
-use Rattle.mps_model.specs.Layout.{Layout}
 use Rattle.mps_model.specs.Answer.{Answer, Replied, is_accepted, is_block, is_unsupported}
 use Rattle.mps_model.specs.Step.{Step, History}
-use Rattle.mps_model.specs.Graph.{Object, with_last}
+use Rattle.mps_model.specs.Graph.{Object}
 use Rattle.mps_model.specs.World.{World, empty_world_of}
 use Rattle.mps_model.specs.Checked.{Act, Checked, Found, Numbered, ◌>>=◌, ◌>>◌, as_label, label_named, number_named, object_in, says, slot_in, with_graph}
 use Rattle.mps_model.specs.Accessing.{address_or_null}
 use Rattle.mps_model.specs.Making.{refuse_at_limit, refuse_taken, most_labels}
 use Rattle.mps_model.specs.Labelling.{act_intern, act_label, graph_with_label}
 use Rattle.mps_model.specs.Reply.{act, answer_from, world_from}
-use Rattle.mps_model.specs.Log.{labelled_log_from, log_in_version, pools_made_by, record_of, records_of, records_of_accepted, records_of_command, records_of_label, records_of_step, records_with_label}
-use Rattle.mps_model.specs.Replay.{Store, after_touching, is_live, replay_from, store_after}
-use Rattle.mps_model.specs.Replayed.{State, after_interning, after_labelling, replayed, replayed_after, replayed_from}
-use Rattle.mps_model.specs.History.{HeldAreLive, IsAnsweredStep, IsLegalFrom, IsLegalStep, judged_world, moved_world, live_blocks, with_client_remembered, world_after, world_after_call, world_after_steps}
-use Rattle.mps_changes.specs.Change.{AsideIs, LabelMade, StateIs, Change, Aside, Unchanged}
+use Rattle.mps_model.specs.Log.{labelled_log_from, pools_made_by, record_of, records_of, records_of_accepted, records_of_command, records_of_label, records_of_step, records_with_label}
+use Rattle.mps_model.specs.Replay.{Store, is_live, replay_from, store_after}
+use Rattle.mps_model.specs.Replayed.{State, after_interning, after_labelling, replayed_after, replayed_from}
+use Rattle.mps_model.specs.History.{HeldAreLive, IsAnsweredStep, IsLegalFrom, IsLegalStep, judged_world, moved_world, world_after, world_after_call, world_after_steps}
+use Rattle.mps_changes.specs.Change.{AsideIs, LabelMade, Change, Aside}
 use Rattle.mps_changes.proofs.ActChanges.{but, of_changes}
 use Rattle.mps_laws.specs.Held.{target_found, target_of_slot}
 use Rattle.mps_laws.specs.Replay.{LabelledLogReplays}
 use Rattle.mps_laws.proofs.Acts.{for_world, named_by}
 use Rattle.mps_laws.proofs.FoundBy.{object_found}
 use Rattle.mps_laws.proofs.Held.{held_at_first}
-use Rattle.mps_laws.proofs.LegalHistories.{IsAnswered, legal_step}
+use Rattle.mps_laws.proofs.LegalHistories.{legal_step}
 use Rattle.mps_laws.proofs.Lookups.{length-with_last}
 use Rattle.mps_laws.proofs.Positions.LegalMoves.{HasLayout, blocks_of, is_placed, live_at}
 use Rattle.mps_laws.proofs.Positions.Occupancy.{occupancy_of, shape_of}
@@ -351,7 +350,8 @@ module _ (limit pools line : ℕ) (w : World) (laid : HasLayout limit w) (live :
 
   -- the records of a step
   pub step_labelled : (c : Call) (ms : List Move) (answer : Answer) → IsLegalStep w (the_step c ms answer)
-      → replayed_from (state_of w) (records_with_label pools (the_step c ms answer)) ≡ Some (state_of (world_after w (the_step c ms answer)))
+      → replayed_from (state_of w) (records_with_label pools (the_step c ms answer))
+      ≡ Some (state_of (world_after w (the_step c ms answer)))
   step_labelled c ms answer legal =
       let s = the_step c ms answer in
       let labelled = records_of_label c answer line in

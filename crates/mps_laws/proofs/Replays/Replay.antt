@@ -4,7 +4,6 @@ use Rattle.std.proofs.lemmas.Bool.{false≢true}
 use Rattle.std.proofs.lemmas.Option.{none-some}
 use Rattle.std.proofs.lemmas.List.{length-map}
 use Rattle.std.specs.Prelude.{MatchBool, option_and_then}
-use Rattle.std.specs.List.{list_all}
 use Rattle.mps_model.specs.Layout.{Layout}
 use Rattle.mps_base.specs.declared.moves.Move.{Move}
 use Rattle.mps_model.specs.declared.call.Call.{Call}
@@ -16,7 +15,7 @@ use Rattle.mps_model.specs.LegalMove.{AreLegalMoves}
 use Rattle.mps_model.specs.Log.{records_of, records_of_step, log_from, pools_made_by}
 use Rattle.mps_model.specs.Replay.{replay_from}
 use Rattle.mps_model.specs.Step.{Step, History}
-use Rattle.mps_model.specs.History.{IsLegalStep, IsAnsweredStep, IsLegalFrom, moves_of_collector, world_after, world_after_steps, live_blocks}
+use Rattle.mps_model.specs.History.{IsLegalStep, IsAnsweredStep, IsLegalFrom, world_after, world_after_steps, live_blocks}
 use Rattle.mps_model.proofs.Appending.{replay_from-append}
 use Rattle.mps_laws.specs.Replay.{StepReplaysToLiveBlocks, LogReplaysToLiveBlocks}
 use Rattle.mps_laws.proofs.Positions.Occupancy.{Occupant, OfBlock, OfReservation, OfBuffer, OfTail, occupancy_of, shape_of, run_of}

@@ -17,7 +17,7 @@ use Rattle.mps_model.specs.Graph.{is_automatic}
 use Rattle.mps_model.specs.Checked.{Act, Checked, Numbered, ◌>>=◌, ◌>>◌, required, refuse_when, done, as_point, number_named, point_named}
 use Rattle.mps_model.specs.Allocating.{Reserving, check_reserve, refuse_without_place, address_of_placement, with_reserved, takes_head, layout_of}
 use Rattle.mps_model.specs.Placement.{ForReserve, placement_of}
-use Rattle.mps_model.specs.Effect.{world_after_move, world_after_moves, after_segment, after_moved, after_splat, after_post, after_free, where_one, with_collection, with_address, placing, reclaiming, segment_base_of, segment_of_move, holding}
+use Rattle.mps_model.specs.Effect.{world_after_move, world_after_moves, after_segment, after_moved, after_splat, after_post, after_free, where_one, with_collection, placing, reclaiming, segment_base_of, segment_of_move, holding, without_object}
 use Rattle.mps_model.specs.LegalMove.{AreLegalMoves}
 use Rattle.mps_model.specs.Reply.{world_from}
 use Rattle.mps_model.specs.Log.{records_of, record_of, records_of_step}
@@ -42,8 +42,8 @@ one_names w (Some id) change each = each id
 
 free_names : (w : World) (id at : ℕ) → (after_free w id at).graph.names ≡ w.graph.names
 free_names w id at =
-    elim (object_is is_automatic w id) as (λ b. (if b then with_collection (with_address w id None) (reclaiming (segment_base_of w at))
-    else with_address w id None).graph.names ≡ w.graph.names) [
+    elim (object_is is_automatic w id) as (λ b. (if b then with_collection (without_object w id) (reclaiming (segment_base_of w at))
+    else without_object w id).graph.names ≡ w.graph.names) [
       | true ↦ refl
       | false ↦ refl
     ]

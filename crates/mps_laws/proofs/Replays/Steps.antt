@@ -31,7 +31,7 @@ use Rattle.mps_laws.proofs.Positions.Occupancy.{PointShape, shape_of, shape_of_p
 use Rattle.mps_laws.proofs.Positions.LaidOut.{IsLaidOut}
 use Rattle.mps_laws.proofs.Replays.Blocks.{replay-made}
 use Rattle.mps_laws.proofs.Positions.LegalMoves.{HasLayout, IsReplayed, blocks_of, collection_kept}
-use Rattle.mps_laws.proofs.Acts.{IsChange, Changes, ForAct, is_placing, act_changes, change_laid_out, change_blocks, for_world, nothing, required-is, point_named-is}
+use Rattle.mps_laws.proofs.Acts.{IsChange, Changes, is_placing, act_changes, change_laid_out, change_blocks, for_world, nothing, point_named-is}
 use Rattle.mps_laws.proofs.Positions.Reserving.{committed_laid_out, committed_free}
 
 abbrev pub is_reserve : Call → Bool

@@ -12,11 +12,11 @@ use Rattle.mps_model.specs.declared.call.Call.{Call}
 use Rattle.mps_model.specs.declared.call.Call.TheVariants as call
 use Rattle.mps_model.specs.Answer.{is_block}
 use Rattle.mps_model.specs.Step.{Step}
-use Rattle.mps_model.specs.Graph.{Object, Manual, Point, entry_at, is_automatic, with_last, with_target_cell}
+use Rattle.mps_model.specs.Graph.{Object, Manual, Point, entry_at, is_automatic, with_last}
 use Rattle.mps_model.specs.World.{World, Pool, id_at, is_copying_pool, object_is, with_tail}
 use Rattle.mps_model.specs.Checked.{Act, Checked, Numbered, number_named, as_point, pool_named, point_named}
 use Rattle.mps_model.specs.Allocating.{committed_object, with_object}
-use Rattle.mps_model.specs.Effect.{where_one, world_after_move, world_after_moves, after_splat, doomed, holding, segment_of_move, with_address, with_collection, reclaiming, segment_base_of}
+use Rattle.mps_model.specs.Effect.{where_one, world_after_move, world_after_moves, after_splat, doomed, holding, segment_of_move, with_collection, reclaiming, segment_base_of, without_object}
 use Rattle.mps_model.specs.Reply.{act, world_from}
 use Rattle.mps_model.specs.History.{after_its_moves, after_own_segment, asking, judged_world, moved_world, moves_of_poll, own_segment, with_client_remembered, world_after}
 use Rattle.mps_model.specs.Policy.{units_asked}
@@ -24,7 +24,7 @@ use Rattle.mps_laws.proofs.Entries.{GoesOn}
 use Rattle.mps_changes.specs.Change.{Change, Unchanged, CellsAre, BlockWordIs, Allocated, PoolMade, PointMade, PointDropped, Opened, Written, Closed, Committed}
 use Rattle.mps_changes.proofs.ActChanges.{of_changes}
 use Rattle.mps_laws.proofs.Acts.{pool_named-is, point_named-is, ForAct, accepted, refused}
-use Rattle.mps_laws.proofs.LeftByActs.{owners, owners-graph_with_cells, owners-graph_with_word}
+use Rattle.mps_laws.proofs.LeftByActs.{owners, owners-graph_with_cells, owners-graph_with_word, owners-splatted}
 use Rattle.mps_laws.proofs.LegalHistories.{IsAnswered}
 use Rattle.mps_laws.proofs.OwnSegments.{own_segment_taken}
 
@@ -115,7 +115,7 @@ segment_leaves w s true = record { pools = refl; there = λ h. h }
 segment_leaves w s false = record { pools = refl; there = λ h. h }
 
 free_leaves : (w : World) (id at : ℕ) (b : Bool)
-    → LeavesPools w (if b then with_collection (with_address w id None) (reclaiming (segment_base_of w at)) else with_address w id None)
+    → LeavesPools w (if b then with_collection (without_object w id) (reclaiming (segment_base_of w at)) else without_object w id)
 free_leaves w id at true = record { pools = refl; there = λ h. h }
 free_leaves w id at false = record { pools = refl; there = λ h. h }
 
@@ -124,7 +124,7 @@ splat_leaves w holder cell = record {
   pools = refl;
   there = λ h. record {
     of_objects = subst (AllByRecursion (IsPoolThere w.pools))
-        (sym (owners-graph_with_cells w.graph holder (λ cells. with_target_cell cells cell None))) h.of_objects;
+        (sym (owners-splatted w.graph holder cell)) h.of_objects;
     of_points = h.of_points;
   };
 }

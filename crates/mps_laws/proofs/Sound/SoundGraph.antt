@@ -6,7 +6,7 @@ use Rattle.std.proofs.lemmas.Option.{none-some, same_Some, slice_get-map}
 use Rattle.std.specs.Prelude.{map, slice_get, slice_set, not, ◌&&◌, ◌||◌, ◌==◌, nat_lt, if◌then◌else◌, is_some, option_map, replicate}
 use Rattle.std.specs.Option.{option_map_or}
 use Rattle.std.specs.List.{list_all, flat_map}
-use Rattle.mps_model.specs.Graph.{Graph, Object, Body, Automatic, Manual, Cell, HeadCell, NumberCell, ReferenceCell, Point, Reservation, AreaWord, PlainWord, Hold, Slots, contains, entries, entry_at, object_at, size_of, is_automatic, target_of_cell, targets_of_cells, slots_of, ids_in_slots, ids_in_blocks, with_last, without_first, retargeted, tagged, with_tag_cell, with_target_cell}
+use Rattle.mps_model.specs.Graph.{Graph, Object, Body, Automatic, Manual, Cell, HeadCell, NumberCell, ReferenceCell, Point, Reservation, AreaWord, PlainWord, Hold, contains, entries, entry_at, object_at, size_of, is_automatic, target_of_cell, targets_of_cells, slots_of, ids_in_slots, ids_in_blocks, with_last, without_first, retargeted, tagged, with_tag_cell, with_target_cell}
 use Rattle.mps_model.specs.World.{World, Pool, object_is, is_live, words_of, is_copying_object, is_copying_pool, pool_at, is_automatic_kind, is_weak_kind}
 use Rattle.mps_model.specs.Making.{is_weak_rank}
 use Rattle.mps_model.specs.WellFormed.{is_shaped, are_shaped, are_right_cells, is_right_body, is_right_object, is_live_automatic}

@@ -9,17 +9,18 @@ use Rattle.mps_base.specs.Address.{Address}
 use Rattle.mps_base.specs.Segment.{Segment}
 use Rattle.mps_base.specs.declared.moves.Move.{Move}
 use Rattle.mps_base.specs.declared.moves.Move.TheVariants as moves
-use Rattle.mps_model.specs.Graph.{Graph, Object, Point, Reservation, contains, position_of_first, entry_at, object_at, is_automatic, with_last, without_first, with_target_cell, graph_with_cells, object_with_cells}
-use Rattle.mps_model.specs.World.{World, Pool, id_at, is_live, object_is, is_copying_pool}
+use Rattle.mps_model.specs.Graph.{Graph, Object, Point, Reservation, contains, position_of_first, entry_at, object_at, is_automatic, with_target_cell, object_with_cells, without_named}
+use Rattle.mps_model.specs.World.{World, id_at, is_live, object_is, is_copying_pool}
 use Rattle.mps_model.specs.WellFormed.{is_live_automatic}
-use Rattle.mps_model.specs.Effect.{world_after_move, world_after_moves, after_segment, after_moved, after_splat, after_post, after_free, after_unseg, after_flip, where_one, with_collection, with_address, graph_posted, reclaiming, segment_base_of, segment_of_move, placing, doomed, condemnation_of, holding, splatting, posting, registration_of}
+use Rattle.mps_model.specs.Effect.{world_after_move, world_after_moves, after_segment, after_moved, after_splat, after_post, after_free, after_unseg, after_flip, where_one, with_collection, graph_posted, reclaiming, segment_base_of, segment_of_move, placing, doomed, condemnation_of, holding, splatting, posting, registration_of, graph_nulled, graph_splatted, without_object}
 use Rattle.mps_model.specs.LegalMove.{IsLegalMove, IsLegalMoved, IsLegalStay, IsLegalSplat, IsLegalPost, IsLegalSweep, AreLegalMoves, first_move}
 use Rattle.mps_model.specs.Checked.{with_graph}
 use Rattle.mps_laws.proofs.Lookups.{entry_at-set_same, entry_at-set_other, entry_within, opened}
 use Rattle.mps_laws.proofs.Finding.{for_both, for_one, id_at-found}
 use Rattle.mps_laws.proofs.Positions.LegalMoves.{length-with_target_cell}
-use Rattle.mps_laws.proofs.Sound.SoundGraph.{All, IsSoundGraph, IsRightPoint, IsAlike, Grows, IsEdited, auto, manual, is_sound_reservation, all-contains, all-without, all-ended, all-weaker, edited, grows_alike, untouched, right_target_cell, all-both}
+use Rattle.mps_laws.proofs.Sound.SoundGraph.{All, IsSoundGraph, IsRightPoint, Grows, auto, manual, is_sound_reservation, all-contains, all-without, all-ended, all-weaker, edited, grows_alike, untouched, right_target_cell, all-both}
 use Rattle.mps_laws.proofs.Sound.SoundActs.{held_written, cells_changed}
+use Rattle.mps_model.proofs.Nulled.{splatted_holds}
 
 pub grows_on : (u v w : World) → Grows u v → Grows v w → Grows u w
 grows_on u v w g h = record {
@@ -120,12 +121,22 @@ moved_well w id at to s e =
 pub freed_well : (w : World) (id at : ℕ) → IsSoundGraph w → contains w.graph.registered id ≡ false → IsMovedWell w (after_free w id at)
 freed_well w id at s none =
     elim (object_is is_automatic w id) as (λ b. IsMovedWell w
-    (if b then with_collection (with_address w id None) (reclaiming (segment_base_of w at))
-    else with_address w id None)) [
-      | true ↦ with_live w (with_collection (with_address w id None) (reclaiming (segment_base_of w at))) s refl refl refl still
-      | false ↦ with_live w (with_address w id None) s refl refl refl still
+    (if b then with_collection (without_object w id) (reclaiming (segment_base_of w at)) else without_object w id)) [
+      | true ↦
+          since (with_collection (without_object w id) (reclaiming (segment_base_of w at)))
+          (with_live unlinked (with_collection (without_object w id) (reclaiming (segment_base_of w at))) sound refl refl refl still)
+      | false ↦ since (without_object w id) (with_live unlinked (without_object w id) sound refl refl refl still)
     ]
   where
+    unlinked : World
+    unlinked = with_graph w (record w.graph { dependents = without_named w.graph.dependents id })
+
+    sound : IsSoundGraph unlinked
+    sound = untouched w unlinked s refl (λ n p e. e) refl refl refl refl refl refl refl refl
+
+    since : (u : World) → IsMovedWell unlinked u → IsMovedWell w u
+    since u m = record { sound = m.sound; grown = grows_on w unlinked u (grows_same w unlinked refl refl refl) m.grown }
+
     still : All (λ j. is_some (entry_at (slice_set w.addresses id None) j)) w.graph.registered
     still =
         all-but (is_live w) (λ j. is_some (entry_at (slice_set w.addresses id None) j)) id w.graph.registered
@@ -195,36 +206,43 @@ flipped_well w zones chain generation s =
         (same_Some (record q { reservation = option_map (λ (x : Reservation). record x { is_doomed = true }) q.reservation }) p h)
         (s.points n q (ap opened e))
 
-splatted_well : (w : World) (id cell : ℕ) → IsSoundGraph w → IsMovedWell w (after_splat w id cell)
-splatted_well w id cell s = of_object (object_at w.graph id) refl
+-- a reference becomes null
+nulled_well : (w : World) (id cell : ℕ) → IsSoundGraph w → IsMovedWell w (with_graph w (graph_nulled w.graph id cell))
+nulled_well w id cell s = of_object (object_at w.graph id) refl
   where
-    after : (u : World) → IsMovedWell w u → IsMovedWell w (with_collection u splatting)
-    after u m =
-        let q = quiet u (with_collection u splatting) m.sound refl refl refl refl in
-        record { sound = q.sound; grown = grows_on w u (with_collection u splatting) m.grown q.grown }
-
-    of_object : (x : Option Object) → object_at w.graph id ≡ x → IsMovedWell w (after_splat w id cell)
+    of_object : (x : Option Object) → object_at w.graph id ≡ x → IsMovedWell w (with_graph w (graph_nulled w.graph id cell))
     of_object None e =
-        after (with_graph w (graph_with_cells w.graph id (λ cells. with_target_cell cells cell None)))
-        (quiet w (with_graph w (graph_with_cells w.graph id (λ cells. with_target_cell cells cell None))) s refl refl
+        quiet w (with_graph w (graph_nulled w.graph id cell)) s refl refl
         (ap (λ x. record w.graph {
           objects = option_map_or (λ o.
               slice_set w.graph.objects id (object_with_cells o (λ cells. with_target_cell cells cell None))) x w.graph.objects;
-        }) e) refl)
-    of_object (Some o) e =
-        after (with_graph w (graph_with_cells w.graph id (λ cells. with_target_cell cells cell None)))
-        (record {
-          sound =
-              cells_changed w s id o (λ cells. with_target_cell cells cell None) e
-              (length-with_target_cell (Rattle.mps_model.specs.Checked.cells_of_body o.body) cell None)
-              (λ likes h. right_target_cell (auto w) likes (Rattle.mps_model.specs.Checked.cells_of_body o.body) cell None tt h);
-          grown = record {
-            formats = refl;
-            pools = λ n p h. h;
-            objects = Rattle.mps_laws.proofs.Sound.SoundActs.cells_alike w id (λ cells. with_target_cell cells cell None)
-                (λ cells. length-with_target_cell cells cell None);
-          };
-        })
+        }) e) refl
+    of_object (Some o) e = record {
+      sound =
+          cells_changed w s id o (λ cells. with_target_cell cells cell None) e
+          (length-with_target_cell (Rattle.mps_model.specs.Checked.cells_of_body o.body) cell None)
+          (λ likes h. right_target_cell (auto w) likes (Rattle.mps_model.specs.Checked.cells_of_body o.body) cell None tt h);
+      grown = record {
+        formats = refl;
+        pools = λ n p h. h;
+        objects = Rattle.mps_laws.proofs.Sound.SoundActs.cells_alike w id (λ cells. with_target_cell cells cell None)
+            (λ cells. length-with_target_cell cells cell None);
+      };
+    }
+
+splatted_well : (w : World) (id cell : ℕ) → IsSoundGraph w → IsMovedWell w (after_splat w id cell)
+splatted_well w id cell s =
+    let first = nulled_well w id cell s in
+    let both = splatted_holds (λ g. IsMovedWell w (with_graph w g)) w.graph id cell first (λ dependent.
+    let second = nulled_well (with_graph w (graph_nulled w.graph id cell)) dependent cell first.sound in
+    record {
+      sound = second.sound;
+      grown = grows_on w (with_graph w (graph_nulled w.graph id cell))
+          (with_graph w (graph_nulled (graph_nulled w.graph id cell) dependent cell)) first.grown second.grown;
+    }) in
+    let u = with_graph w (graph_splatted w.graph id cell) in
+    let q = quiet u (with_collection u splatting) both.sound refl refl refl refl in
+    record { sound = q.sound; grown = grows_on w u (with_collection u splatting) both.grown q.grown }
 
 before_it : (o : Option ℕ) (position : ℕ) → option_map (λ n. n + 1) o ≡ Some position → (n : ℕ) × (o ≡ Some n)
 before_it None position e = absurd (none-some position e)

@@ -13,7 +13,7 @@ use Rattle.mps_model.specs.declared.call.Call.{Call}
 use Rattle.mps_model.specs.declared.call.Call.TheVariants as call
 use Rattle.mps_model.specs.Graph.{Object, Automatic, Manual, Point, Reservation, AreaWord, entries, entry_at, is_automatic, ids_in_slots, slots_of, Cell, without_name, with_last, without_first}
 use Rattle.mps_model.specs.World.{World, Pool, PoolKind, Collected, OneSize, AnySize, is_live, is_automatic_kind, is_weak_kind, pool_at}
-use Rattle.mps_model.specs.WellFormed.{is_shaped, are_shaped, are_right_cells, is_right_object, is_live_automatic}
+use Rattle.mps_model.specs.WellFormed.{are_right_cells, is_right_object, is_live_automatic}
 use Rattle.mps_model.specs.Checked.{Found, Numbered, point_named, slot_in, block_place_in, object_in, cells_of_body, number_named, as_blocks, with_graph}
 use Rattle.mps_model.specs.Making.{with_pool, is_block_size, is_weak_rank, may_have_point}
 use Rattle.mps_model.specs.Allocating.{with_slot, allows_size, committed_object, graph_allocated, reserved_address, with_reservation, world_committed}
@@ -23,7 +23,7 @@ use Rattle.mps_laws.proofs.Lookups.{slice_get-kept, entry_within_set, slice_get-
 use Rattle.mps_laws.proofs.Positions.LaidOut.{kind_in}
 use Rattle.mps_laws.proofs.Sound.PoolKinds.{kind_of_pool}
 use Rattle.mps_laws.proofs.Acts.{ForAct, point_named-is, pool_named-is}
-use Rattle.mps_laws.proofs.Sound.SoundGraph.{All, PassesOrNull, AreRight, IsSoundGraph, IsRightPoint, Grows, IsEdited, auto, manual, is_sound_word, is_sound_reservation, all-weaker, all-append, all-at, all-written, all-last, all-without, all-ended, entries-written, entry-passes, entries-none, each-written, each-at, each-replicated, each-weaker, edited, grows_alike, untouched, auto_kept, manual_kept, right_target_cell, right_tag_cell, right_number_cell, reservation_kept}
+use Rattle.mps_laws.proofs.Sound.SoundGraph.{All, PassesOrNull, AreRight, IsSoundGraph, Grows, auto, manual, is_sound_word, is_sound_reservation, all-weaker, all-at, all-written, all-without, all-ended, entries-written, each-at, grows_alike, untouched, auto_kept, manual_kept, right_target_cell, right_tag_cell, right_number_cell}
 use Rattle.mps_laws.proofs.Sound.SoundActs.{table_passes, slot_passes, object_cells, reference_passes, held_written, slot_written, word_written, cells_changed, reservation_written, object_added, place_written, block_word_written, pin_is_sound, block_lies, hold_is_sound}
 use Rattle.mps_changes.specs.Change.{IsFoundBy, Now, Before, IsGot, GotNull, FromSlot, FromCell, FromWord, FromMessage, IsShown, ShownPlain, ShownPinned, ShownPoked, IsWritten, WritesTag, WritesReference, WritesNumber, Change, Unchanged, Aside, SlotIs, WordIs, MessageTaken, TableMade, AreaMade, BlocksMade, TableDropped, AreaDropped, CellsAre, BlockWordIs, PlaceEmptied, Allocated, PoolMade, PointMade, PointDropped, Opened, Written, Closed, Committed, Registered, Unregistered}
 use Rattle.mps_changes.proofs.ActChanges.{but, of_changes}

@@ -24,7 +24,7 @@ use Rattle.mps_model.specs.World.{World, is_any_size_kind, is_empty_segment, poo
 use Rattle.mps_model.specs.Checked.{Found, ◌>>=◌, ◌>>◌, block_place_in, done, with_graph, required}
 use Rattle.mps_model.specs.Allocating.{act_free, block_in, with_block_place}
 use Rattle.mps_model.specs.Accessing.{address_or_null}
-use Rattle.mps_model.specs.Effect.{after_free, after_unseg, giving_back, reclaiming, segment_base_of, where_one, with_address, with_collection, world_after_move, world_after_moves}
+use Rattle.mps_model.specs.Effect.{after_free, after_unseg, giving_back, reclaiming, segment_base_of, where_one, with_address, with_collection, world_after_move, world_after_moves, without_object}
 use Rattle.mps_model.specs.Flip.{at_address}
 use Rattle.mps_model.specs.History.{free_of, give_back_empty, moves_of_free, unless_refused}
 use Rattle.mps_refinement.proofs.Worlds.PlacedOnce.{ArePlacedOnce, IsIn, written_cases}
@@ -78,42 +78,41 @@ module _ (w : World) (outside : (c : Collection) → w.collection ≡ Some c →
 
   -- the world after them
   abbrev pub world_moved : World
-  world_moved = record w { addresses = slice_set w.addresses id None; segments = segments_after }
+  world_moved = record (without_object w id) { segments = segments_after }
 
   -- and after the call
   abbrev pub world_freed : World
-  world_freed = with_graph world_moved (with_block_place w.graph found None)
+  world_freed = with_graph world_moved (with_block_place world_moved.graph found None)
 
-  block_freed : world_after_move w (moves.Free (at_address at)) ≡ with_address w id None
+  block_freed : world_after_move w (moves.Free (at_address at)) ≡ without_object w id
   block_freed =
       ap (λ o. where_one w o (λ n. after_free w n at)) (id_at-there w at id different there)
-      ∙ ap (λ b. if b then with_collection (with_address w id None) (reclaiming (segment_base_of w at)) else with_address w id None) manual
+      ∙ ap (λ b. if b then with_collection (without_object w id) (reclaiming (segment_base_of w at)) else without_object w id) manual
 
   pub moved_is : world_after_moves w moves_freed ≡ world_moved
   moved_is =
-      elim given as (λ b. (pool_is is_any_size_kind w t.pool && is_empty_segment (with_address w id None) t) ≡ b
+      elim given as (λ b. (pool_is is_any_size_kind w t.pool && is_empty_segment (without_object w id) t) ≡ b
       → world_after_moves w (moves.Free (at_address at) ∷ (if b then moves.Unseg (at_address t.base) ∷ [] else []))
-      ≡ record w { addresses = slice_set w.addresses id None; segments = if b then without_segment w.segments t.base else w.segments }) [
+      ≡ record (without_object w id) { segments = if b then without_segment w.segments t.base else w.segments }) [
         | true ↦ λ is.
             ap (λ v. after_unseg v t.base) block_freed
-            ∙ of_collection (and_parts (pool_is is_any_size_kind w t.pool) (is_empty_segment (with_address w id None) t) is).0
+            ∙ of_collection (and_parts (pool_is is_any_size_kind w t.pool) (is_empty_segment (without_object w id) t) is).0
             w.collection refl
         | false ↦ λ isnt. block_freed
       ] is_given
     where
       of_collection : pool_is is_any_size_kind w t.pool ≡ true → (o : Option Collection) → w.collection ≡ o
-          → after_unseg (with_address w id None) t.base
-          ≡ record w { addresses = slice_set w.addresses id None; segments = without_segment w.segments t.base }
+          → after_unseg (without_object w id) t.base
+          ≡ record (without_object w id) { segments = without_segment w.segments t.base }
       of_collection any None e =
-          with_collection-none (record (with_address w id None) { segments = without_segment w.segments t.base }) (giving_back t.base) e
+          with_collection-none (record (without_object w id) { segments = without_segment w.segments t.base }) (giving_back t.base) e
       of_collection any (Some c) e =
           let kept : option_map (giving_back t.base) w.collection ≡ w.collection =
           ap (option_map (giving_back t.base)) e
           ∙ ap (λ b. Some (if b then reclaiming t.base (record c { condemned_segments = without_first c.condemned_segments t.base }) else
           c))
           (outside c e t (found_among (λ s. is_in_segment s at) w.segments t over).0 any) ∙ sym e in
-          ap (λ x. record w {
-            addresses = slice_set w.addresses id None;
+          ap (λ x. record (without_object w id) {
             segments = without_segment w.segments t.base;
             collection = x;
           }) kept
@@ -122,13 +121,14 @@ module _ (w : World) (outside : (c : Collection) → w.collection ≡ Some c →
   due = sym (ap (moves_of_free w) place_is ∙ ap (λ o. option_map_or (λ n. free_of w (address_or_null w n)) o []) value
       ∙ ap (λ o. free_of w (option_map_or (λ a. a) o 0)) there
       ∙ ap (λ v. moves.Free (at_address at) ∷ give_back_empty v (segment_of w at)) block_freed
-      ∙ ap (λ o. moves.Free (at_address at) ∷ give_back_empty (with_address w id None) o) over
+      ∙ ap (λ o. moves.Free (at_address at) ∷ give_back_empty (without_object w id) o) over
       ∙ ap (λ b. moves.Free (at_address at) ∷ (if b then moves.Unseg (at_address t.base) ∷ [] else [])) is_given)
 
   pub comes : act_free (world_after_moves w moves_freed) place ≡ done world_freed
   comes =
       ap (λ v. act_free v place) moved_is
-      ∙ ap (λ x. x >>= (λ (p : Found (Option ℕ)). block_in p >> done (with_graph world_moved (with_block_place w.graph p None)))) place_is
+      ∙ ap (λ x. x >>= (λ (p : Found (Option ℕ)). block_in p
+      >> done (with_graph world_moved (with_block_place world_moved.graph p None)))) place_is
       ∙ ap (λ o. required o refusal.NotABlock >> done world_freed) value
 
   -- no other place has the block
@@ -151,7 +151,13 @@ module _ (w : World) (outside : (c : Collection) → w.collection ≡ Some c →
       let gone = gone_sound placed id emptied
       (held_again (λ j. not (id == j)) w.graph placed.graph refl refl refl refl (held_others w graph id manual)) place_others
       (λ r j live. target_others w graph id manual j) in
-      sound_again (with_address placed id None) world_freed refl refl refl refl gone
+      let unlinked = record (with_address placed id None) { graph = world_freed.graph } in
+      let kept : IsSound unlinked = record {
+        live = record { client = gone.live.client; blocks = gone.live.blocks; referred = gone.live.referred };
+        kept = gone.kept;
+        units = gone.units;
+      } in
+      sound_again unlinked world_freed refl refl refl refl kept
 
   -- blocks in places are live
   pub blocks_freed : list_all (is_live world_freed) (ids_in_blocks world_freed.graph) ≡ true

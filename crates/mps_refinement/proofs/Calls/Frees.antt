@@ -66,6 +66,7 @@ use Rattle.mps_refinement.proofs.Parts.PointWritten.{none_set}
 use Rattle.mps_refinement.proofs.Parts.SegmentsTaken.{condemned_held, contained_among}
 use Rattle.mps_refinement.proofs.Worlds.RestingActs.{resting_sound}
 use Rattle.mps_refinement.proofs.Calls.RightOwn.{IsOwn, IsRightOutcome, done_is_right, outcome_is_right, refusal_is_right}
+use Rattle.mps_refinement.proofs.Parts.BlockParts.{parts_with_pairs, world_with_blocks}
 
 -- the moves of a free, where the trail had none
 moves_are : (size : ℕ) (s : SegsState) (trail : Moves) (at : Address) (t : Segment) → trail.moves ≡ []
@@ -289,8 +290,10 @@ module _ {F : Type 0} (layout : F → Layout) (h : HeapState F) (trail : Moves) 
               has = record {
                 past = past;
                 timed = refl;
-                parts = parts_freed layout past h w parts own graph at id b time place.index entry found is value once t given among
-                    not_copying own.laid layout_freed;
+                parts = parts_with_pairs layout past (with_block_place (record h { segs = segments_freed h.segs at t given }) entry 0)
+                    (world_with_blocks w w.graph.objects v.addresses v.graph.blocks v.segments) v.graph.dependents
+                    (parts_freed layout past h w parts own graph at id b time place.index entry found is value once t given among
+                    not_copying own.laid layout_freed);
               };
               keeps = record {
                 rest = λ rest. rest;
@@ -300,7 +303,9 @@ module _ {F : Type 0} (layout : F → Layout) (h : HeapState F) (trail : Moves) 
                 not_kept = λ none unmarked n. ap (λ bits. bit bits n)
                     (segs_kept layout past h w parts own graph at id b time t given)
                     ∙ none_set h.segs.marks.kept (word_of at) n (unmarked n);
-                flip = flip_after layout past h w parts own graph at id b time v.graph.blocks v.segments;
+                flip = λ of_flip.
+                    let after = flip_after layout past h w parts own graph at id b time v.graph.blocks v.segments of_flip in
+                    record { made = after.made; still = after.still };
                 condemned = λ y same run marked u there.
                     ap (λ bits. bit bits (grain_of u.base)) (segs_condemned layout past h w parts own graph at id b time t given)
                     ∙ marked u (still_held given u there);

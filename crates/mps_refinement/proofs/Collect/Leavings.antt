@@ -59,6 +59,7 @@ module _ (w : World) (first : List Move) (y : Collecting) (rest : IsAtRest w) (s
     objects = w.graph.objects;
     registered = w.graph.registered;
     messages = w.graph.messages;
+    dependents = w.graph.dependents;
     addresses = w.addresses;
     segments = w.segments;
     tails = [];
@@ -139,6 +140,7 @@ nothing_collected w rest nothing =
         objects = w.graph.objects;
         registered = w.graph.registered;
         messages = w.graph.messages;
+        dependents = w.graph.dependents;
         addresses = w.addresses;
         segments = w.segments;
         tails = [];

@@ -19,6 +19,7 @@ use Rattle.mps_refinement.specs.StandsFor.{AreParts, IsReached, Past}
 use Rattle.mps_refinement.proofs.Lookups.PoolKinds.{kind_of, kinds_alike}
 use Rattle.mps_refinement.proofs.Worlds.ReachedGraph.{reached_graph}
 use Rattle.mps_refinement.proofs.Collect.CollectIsRight.{something}
+use Rattle.mps_refinement.proofs.Worlds.Reached.{reached_well_formed}
 
 none_mapped : {A B : Type 0} (f : A → B) (xs : List A) → [] ≡ map f xs → xs ≡ []
 none_mapped f [] e = refl
@@ -75,3 +76,6 @@ module _ {F : Type 0} (layout : F → Layout) where
         of_object : (id : Id) (o : Option Object) → object_at w.graph id ≡ o → object_is is_weak_object w id ≡ false
         of_object id None e = ap (λ x. option_map_or is_weak_object x false) e
         of_object id (Some o) e = ap (λ x. option_map_or is_weak_object x false) e ∙ strong_object id o e
+
+        each_strong : (id : Id) → object_is is_weak_object w id ≡ false
+        each_strong id = of_object id (object_at w.graph id) refl

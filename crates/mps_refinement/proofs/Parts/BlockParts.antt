@@ -2,7 +2,7 @@
 -- where they lie, and the places of tables of blocks.
 use Rattle.std.proofs.Common.{◌≡◌, ◌∙◌, ℕ, ◌+◌, refl, sym, ap, List, map, length, Option, arith}
 use Rattle.std.specs.Prelude.{sum_by, count_by, is_some}
-use Rattle.mps_base.specs.Address.{Address}
+use Rattle.mps_base.specs.Address.{Address, Id}
 use Rattle.mps_base.specs.Segment.{Segment}
 use Rattle.mps_format.specs.Layout.{Layout}
 use Rattle.mps_model.specs.Graph.{Object, Slots}
@@ -66,3 +66,36 @@ blocks_changed layout past h w segs blocks objects addresses places segments par
       dependencies = λ n low. low;
     }))
     (states_of parts)
+
+-- a world with other pairs of dependents: a heap has none of them
+abbrev pub world_with_pairs : World → List (Id × Id) → World
+world_with_pairs w pairs = record w { graph = record w.graph { dependents = pairs } }
+
+pub parts_with_pairs : {F : Type 0} (layout : F → Layout) (past : Past) (h : HeapState F) (w : World) (pairs : List (Id × Id))
+    → AreParts layout past h w → AreParts layout past h (world_with_pairs w pairs)
+parts_with_pairs layout past h w pairs p = record {
+  grains = p.grains;
+  limit = p.limit;
+  segments = p.segments;
+  image = p.image;
+  arena = p.arena;
+  tables = p.tables;
+  ordered = p.ordered;
+  areas = p.areas;
+  blocks = p.blocks;
+  roots_counted = p.roots_counted;
+  slots_counted = p.slots_counted;
+  points = p.points;
+  points_counted = p.points_counted;
+  registered = p.registered;
+  messages = p.messages;
+  flips = p.flips;
+  point_flips = p.point_flips;
+  dependencies = p.dependencies;
+  lawful = p.lawful;
+  pools = p.pools;
+  sizes = p.sizes;
+  chains = p.chains;
+  names = p.names;
+  state = p.state;
+}

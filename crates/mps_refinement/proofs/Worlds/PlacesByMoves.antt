@@ -10,10 +10,11 @@ use Rattle.mps_model.specs.declared.call.Call.TheVariants as call
 use Rattle.mps_model.specs.Graph.{Graph, Object, Cell, Slots, object_at, object_with_cells, graph_with_cells, is_automatic, with_target_cell}
 use Rattle.mps_model.specs.World.{World, Pool, id_at, is_copying_pool, object_is, with_tail}
 use Rattle.mps_model.specs.Checked.{as_point, number_named}
-use Rattle.mps_model.specs.Effect.{world_after_move, world_after_moves, after_segment, after_free, after_moved, after_post, after_splat, holding, where_one, with_address, with_collection, reclaiming, segment_base_of, segment_of_move, placing}
+use Rattle.mps_model.specs.Effect.{world_after_move, world_after_moves, after_segment, after_free, after_moved, after_post, after_splat, holding, where_one, with_collection, reclaiming, segment_base_of, segment_of_move, placing, graph_nulled, without_object}
 use Rattle.mps_model.specs.Policy.{units_asked}
 use Rattle.mps_model.specs.History.{after_own_segment, asking, judged_world, moved_world, moves_of_poll, own_segment, rank_of_point, with_buffer}
 use Rattle.mps_laws.proofs.Lookups.{length-slice_set}
+use Rattle.mps_model.proofs.Nulled.{splatted_holds}
 
 -- the places of tables of blocks, how many objects were made, and the pools
 pub record Places : Type 0 where
@@ -33,9 +34,9 @@ one_kept w (Some id) change each = each id
 
 free_kept : (w : World) (id at : ℕ) → places_of (after_free w id at) ≡ places_of w
 free_kept w id at =
-    elim (object_is is_automatic w id) as (λ b. places_of (if b then with_collection (with_address w id None) (reclaiming
+    elim (object_is is_automatic w id) as (λ b. places_of (if b then with_collection (without_object w id) (reclaiming
     (segment_base_of w at))
-    else with_address w id None) ≡ places_of w) [
+    else without_object w id) ≡ places_of w) [
       | true ↦ refl
       | false ↦ refl
     ]
@@ -59,7 +60,10 @@ cells_made g id change = of_one (object_at g id)
 
 splat_kept : (w : World) (id cell : ℕ) → places_of (after_splat w id cell) ≡ places_of w
 splat_kept w id cell =
-    ap (λ n. record (places_of w) { made = n }) (cells_made w.graph id (λ cells. with_target_cell cells cell None))
+    let first = cells_made w.graph id (λ cells. with_target_cell cells cell None) in
+    ap (λ n. record (places_of w) { made = n })
+    (splatted_holds (λ g. length g.objects ≡ length w.graph.objects) w.graph id cell first (λ dependent.
+    cells_made (graph_nulled w.graph id cell) dependent (λ cells. with_target_cell cells cell None) ∙ first))
 
 move_kept : (w : World) (m : Move) → places_of (world_after_move w m) ≡ places_of w
 move_kept w (moves.Seg base grains pool generation) = segment_kept w (segment_of_move base.0 grains pool generation)

@@ -9,7 +9,7 @@ use Rattle.mps_base.specs.declared.names.Slot.{Slot}
 use Rattle.mps_format.specs.Layout.{Layout}
 use Rattle.mps_model.specs.declared.call.Call.{Call}
 use Rattle.mps_model.specs.declared.call.Call.TheVariants as call
-use Rattle.mps_model.specs.Graph.{Graph, Object, Body, Automatic, Manual, Cell, NumberCell, AreaWord, PlainWord, Hold, Point, Reservation, Thing, entry_at, graph_with_cells, held_by_word, holds_of, is_automatic, object_with_cells, with_last, without_first, target_of_cell, targets, targets_of, targets_of_body, targets_of_cells, targets_of_point, targets_of_reservation, thing_named, with_target_cell}
+use Rattle.mps_model.specs.Graph.{Graph, Object, Body, Automatic, Manual, Cell, NumberCell, AreaWord, PlainWord, Hold, entry_at, held_by_word, holds_of, is_automatic, object_with_cells, with_last, without_first, target_of_cell, targets, targets_of, targets_of_body, targets_of_cells, targets_of_point, targets_of_reservation}
 use Rattle.mps_model.specs.Collection.{Collection}
 use Rattle.mps_model.specs.World.{World, block_of_word, is_copying_object, is_live, is_live_and, is_running, is_word_in, lies_in, live_ids, object_is, words_of}
 use Rattle.mps_model.specs.Checked.{Found, Numbered, cells_of_body, slot_in, with_graph, word_in}
@@ -80,10 +80,10 @@ module _ (w : World) (rest : w.collection ≡ None) (sound : IsSound w) where
   left s same = record { sound = s; formats_kept = same }
 
   -- names, pools and numbers of the world change
-  renamed : {u : World} → u.graph ≡ record w.graph { names = u.graph.names; labels = u.graph.labels } → u.addresses ≡ w.addresses → u.collection ≡ w.collection
-      → u.formats ≡ w.formats → LeavesSound w.formats u
+  renamed : {u : World} → u.graph ≡ record w.graph { names = u.graph.names; labels = u.graph.labels; dependents = u.graph.dependents }
+      → u.addresses ≡ w.addresses → u.collection ≡ w.collection → u.formats ≡ w.formats → LeavesSound w.formats u
   renamed {u} graph addresses collection formats =
-      let v = record w { graph = record w.graph { names = u.graph.names; labels = u.graph.labels } } in
+      let v = record w { graph = record w.graph { names = u.graph.names; labels = u.graph.labels; dependents = u.graph.dependents } } in
       let named : IsSound v = resting_sound v rest (record {
         client = sound.live.client;
         blocks = sound.live.blocks;

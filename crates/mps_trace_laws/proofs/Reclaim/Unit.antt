@@ -31,7 +31,7 @@ use Rattle.mps_abstract.specs.Collecting.{Collecting, Running, AreAllExamined}
 use Rattle.mps_abstract.specs.Units.{IsReclaimedNext, reclaims, reclaims_last, reclaim_by}
 use Rattle.mps_abstract.proofs.GivingBack.{contains-without, contains-without_other}
 use Rattle.mps_abstract.proofs.Reclaimed.{frees, white_elsewhere}
-use Rattle.mps_abstract.proofs.Sweeping.{AreFreed, sweeping_on}
+use Rattle.mps_abstract.proofs.Sweeping.{AreFreed, sweeping_on, with_freed}
 use Rattle.mps_trace_laws.specs.Image.Memory.{memory_in, pool_layout, setting_at_rest}
 use Rattle.mps_trace_laws.specs.Image.Image.{Stands, no_colours, black_cells}
 use Rattle.mps_trace_laws.specs.Image.AtRest.{StandsAtRest}
@@ -75,7 +75,7 @@ module _ (x : Collecting) (g : SegsState) (layout : ℕ → Layout) (base : Addr
   gone = frees x run t freed is_next
 
   abbrev swept : World
-  swept = record w { addresses = gone.addresses; collection = Some (sweeping_on x.running gone.phase gone.reclaimed_to) }
+  swept = with_freed w gone.addresses gone.dependents (Some (sweeping_on x.running gone.phase gone.reclaimed_to))
 
   gone_addresses : gone.addresses ≡ left
   gone_addresses =

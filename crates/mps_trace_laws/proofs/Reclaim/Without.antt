@@ -12,7 +12,7 @@ use Rattle.mps_seg.specs.Segs.{at_word}
 use Rattle.mps_amc.specs.Reclaiming.{moves_freed}
 use Rattle.mps_model.specs.Graph.{contains, entry_at, is_automatic}
 use Rattle.mps_model.specs.World.{World, object_is}
-use Rattle.mps_model.specs.Effect.{after_free, where_one, with_address, with_collection, reclaiming, segment_base_of, world_after_move, world_after_moves}
+use Rattle.mps_model.specs.Effect.{after_free, where_one, without_object, with_collection, reclaiming, segment_base_of, world_after_move, world_after_moves}
 use Rattle.mps_model.specs.Flip.{at_address}
 use Rattle.mps_model.specs.Units.{frees_at, is_ascending}
 use Rattle.mps_abstract.specs.Colours.{AreDifferent}
@@ -118,8 +118,8 @@ lies_still ps id at b there up x = record {
 free_addresses : (w : World) (id : Id) (at : Address) → (after_free w id at).addresses ≡ slice_set w.addresses id None
 free_addresses w id at =
     elim (object_is is_automatic w id)
-    as (λ t. (if t then with_collection (with_address w id None) (reclaiming (segment_base_of w at))
-    else with_address w id None).addresses ≡ slice_set w.addresses id None) [ true ↦ refl | false ↦ refl ]
+    as (λ t. (if t then with_collection (without_object w id) (reclaiming (segment_base_of w at))
+    else without_object w id).addresses ≡ slice_set w.addresses id None) [ true ↦ refl | false ↦ refl ]
 
 freed_addresses : (w : World) (id : Id) (at : Address) → AreDifferent w.addresses → entry_at w.addresses id ≡ Some at
     → (world_after_move w (moves.Free (at_address at))).addresses ≡ slice_set w.addresses id None
