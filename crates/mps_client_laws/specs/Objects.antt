@@ -1,0 +1,174 @@
+-- No object is lost: what every step leaves of every object, and what alone may write its cells and words.
+use Rattle.std.specs.Prelude.{◌≡◌, ℕ, Bool, true, false, not, ◌&&◌, ◌==◌, IsTrue, Option, Some, None, option_map, option_and_then, List, [], ◌∷◌, slice_get, refl}
+use Rattle.std.specs.List.{list_any}
+use Rattle.std.specs.Option.{option_map_or}
+use Rattle.mps_base.specs.Address.{Id}
+use Rattle.mps_base.specs.declared.names.Slot.{Slot}
+use Rattle.mps_base.specs.declared.moves.Move.{Move}
+use Rattle.mps_base.specs.declared.moves.Move.TheVariants as moves
+use Rattle.mps_model.specs.declared.call.Call.{Call}
+use Rattle.mps_model.specs.declared.call.Call.TheVariants as call
+use Rattle.mps_model.specs.declared.reply.Reply.TheVariants as reply
+use Rattle.mps_model.specs.Answer.{Replied}
+use Rattle.mps_model.specs.Step.{Step, History}
+use Rattle.mps_model.specs.Graph.{Graph, Object, Automatic, Manual, Cell, HeadCell, NumberCell, ReferenceCell, TableThing, BlocksThing, object_at, size_of, is_automatic, is_weak_object, empty_graph}
+use Rattle.mps_model.specs.World.{World, id_at, empty_world}
+use Rattle.mps_model.specs.Checked.{block_place_in, cells_of_body, head_of_body, words_of_body}
+use Rattle.mps_model.specs.Effect.{world_after_move}
+use Rattle.mps_model.specs.History.{world_after, world_after_steps}
+use Rattle.mps_laws.specs.Held.{target_found, target_of_slot, letter, slot_of_t}
+
+-- ---- what never changes
+
+-- what of an object never changes: its pool, whether it is automatic, how many cells or words it has, and if it is automatic its
+-- head and whether its references are weak
+pub record Identity : Type 0 where
+  pub pool : ℕ
+  pub is_automatic : Bool
+  pub size : ℕ
+  pub head : ℕ
+  pub is_weak : Bool
+
+abbrev pub identity_of : Object → Identity
+identity_of o = record {
+  pool = o.pool;
+  is_automatic = is_automatic o;
+  size = size_of o;
+  head = head_of_body o.body;
+  is_weak = is_weak_object o;
+}
+
+-- the identity of an object, if there is one with this id
+abbrev pub identity_at : Graph → (id : Id) → Option Identity
+identity_at g id = option_map identity_of (object_at g id)
+
+-- Whatever steps come, an object keeps its identity. This is true from any world on, and of steps that aren't legal too.
+abbrev pub ObjectsKeepTheirIdentity : Type 0
+ObjectsKeepTheirIdentity =
+    (w : World) (steps : History) (id : Id) (is : Identity) → identity_at w.graph id ≡ Some is
+    → identity_at (world_after_steps w steps).graph id ≡ Some is
+
+-- ---- cells and words
+
+-- cell k of an automatic object
+abbrev pub cell_at : Graph → (id : Id) → (k : ℕ) → Option Cell
+cell_at g id k = option_and_then (λ o. slice_get (cells_of_body o.body) k) (object_at g id)
+
+-- word k of a manual block
+abbrev pub word_at : Graph → (id : Id) → (k : ℕ) → Option ℕ
+word_at g id k = option_and_then (λ o. slice_get (words_of_body o.body) k) (object_at g id)
+
+-- the block in a place of a table of blocks. There is none if the place is empty, and if there is no such place
+abbrev pub block_of_place : World → Slot → Option ℕ
+block_of_place w place = target_found (block_place_in w place)
+
+abbrev pub is_this : (id : Id) → Option ℕ → Bool
+is_this id target = option_map_or (λ other. other == id) target false
+
+-- whether a call is one that writes cell k of this object, if it is accepted
+abbrev pub writes_cell : World → Call → (id : Id) → (k : ℕ) → Bool
+writes_cell w (call.Put target cell source) id k = is_this id (target_of_slot w target) && cell == k
+writes_cell w (call.SetNumber slot cell value) id k = is_this id (target_of_slot w slot) && cell == k
+writes_cell w (call.SetTag slot cell tag) id k = is_this id (target_of_slot w slot) && cell == k
+writes_cell w _ id k = false
+
+-- whether a call is one that writes word k of this block, if it is accepted
+abbrev pub writes_word : World → Call → (id : Id) → (k : ℕ) → Bool
+writes_word w (call.Store place word value) id k = is_this id (block_of_place w place) && word == k
+writes_word w _ id k = false
+
+-- the cells that a move makes null, each with its object: that of a splat
+abbrev pub cells_nulled : World → Move → List (Id × ℕ)
+cells_nulled w (moves.Splat holder cell) = option_map_or (λ id. (id, cell) ∷ []) (id_at w holder.0) []
+cells_nulled w _ = []
+
+abbrev pub is_cell : (id : Id) → (k : ℕ) → Id × ℕ → Bool
+is_cell id k cell = cell.0 == id && cell.1 == k
+
+-- no move makes this cell null
+abbrev pub moves_leave_cell : World → List Move → (id : Id) → (k : ℕ) → Bool
+moves_leave_cell w [] id k = true
+moves_leave_cell w (m ∷ ms) id k = not (list_any (is_cell id k) (cells_nulled w m)) && moves_leave_cell (world_after_move w m) ms id k
+
+-- neither the call nor a move of a step writes this cell
+abbrev pub leaves_cell : World → Step → (id : Id) → (k : ℕ) → Bool
+leaves_cell w s id k = not (writes_cell w s.call id k) && moves_leave_cell w s.moves id k
+
+-- none of these steps writes this cell
+abbrev pub leave_cell : World → History → (id : Id) → (k : ℕ) → Bool
+leave_cell w [] id k = true
+leave_cell w (s ∷ ss) id k = leaves_cell w s id k && leave_cell (world_after w s) ss id k
+
+-- none of these steps writes this word
+abbrev pub leave_word : World → History → (id : Id) → (k : ℕ) → Bool
+leave_word w [] id k = true
+leave_word w (s ∷ ss) id k = not (writes_word w s.call id k) && leave_word (world_after w s) ss id k
+
+-- A cell that no step writes stays what it is, whatever is collected, moved or freed meanwhile.
+abbrev pub CellsStay : Type 0
+CellsStay =
+    (w : World) (steps : History) (id k : ℕ) (cell : Cell) → IsTrue (leave_cell w steps id k) → cell_at w.graph id k ≡ Some cell
+    → cell_at (world_after_steps w steps).graph id k ≡ Some cell
+
+-- A word of a manual block that no step writes stays what it is.
+abbrev pub WordsStay : Type 0
+WordsStay =
+    (w : World) (steps : History) (id k word : ℕ) → IsTrue (leave_word w steps id k) → word_at w.graph id k ≡ Some word
+    → word_at (world_after_steps w steps).graph id k ≡ Some word
+
+-- ---- vectors
+
+-- slot 0 of the table t refers to the object 0, which has a reference and a number. The object 1 is weak, and lies at 0x2000. Place 0
+-- of b has the block 2
+abbrev pub two_objects : World
+two_objects = record empty_world {
+  graph = record empty_graph {
+    objects =
+        record { pool = 0; body = Automatic 7 (HeadCell ∷ ReferenceCell (Some 1) 0 ∷ NumberCell 5 ∷ []) false }
+        ∷ record { pool = 1; body = Automatic 7 (HeadCell ∷ ReferenceCell (Some 0) 3 ∷ NumberCell 6 ∷ []) true }
+        ∷ record { pool = 2; body = Manual (8 ∷ 9 ∷ []) }
+        ∷ [];
+    tables = Some (Some 0 ∷ None ∷ []) ∷ [];
+    blocks = (Some 2 ∷ []) ∷ [];
+    names = record { name = letter 116; thing = TableThing 0 } ∷ record { name = letter 98; thing = BlocksThing 0 } ∷ [];
+  };
+  addresses = Some 0x1000 ∷ Some 0x2000 ∷ Some 0x3000 ∷ [];
+}
+
+abbrev place_of_b : Slot
+place_of_b = record { name = letter 98; index = 0 }
+
+abbrev pub stepping : Call → List Move → Step
+stepping call moves = record { line = 1; call = call; moves = moves; answer = Replied reply.Ok }
+
+abbrev splat_of_one : List Move
+splat_of_one = moves.Splat (record { 0 = 0x2000 }) 1 ∷ []
+
+pub put_writes_its_cell : leave_cell two_objects (stepping (call.Put (slot_of_t 0) 1 (slot_of_t 1)) [] ∷ []) 0 1 ≡ false
+put_writes_its_cell = refl
+
+pub put_leaves_another_cell : leave_cell two_objects (stepping (call.Put (slot_of_t 0) 1 (slot_of_t 1)) [] ∷ []) 0 2 ≡ true
+put_leaves_another_cell = refl
+
+pub put_leaves_another_object : leave_cell two_objects (stepping (call.Put (slot_of_t 0) 1 (slot_of_t 1)) [] ∷ []) 1 1 ≡ true
+put_leaves_another_object = refl
+
+pub a_splat_writes_its_cell : leave_cell two_objects (stepping (call.Step 1) splat_of_one ∷ []) 1 1 ≡ false
+a_splat_writes_its_cell = refl
+
+pub a_splat_leaves_another_object : leave_cell two_objects (stepping (call.Step 1) splat_of_one ∷ []) 0 1 ≡ true
+a_splat_leaves_another_object = refl
+
+pub a_splat_keeps_the_identity :
+    identity_at (world_after two_objects (stepping (call.Step 1) splat_of_one)).graph 1
+    ≡ Some (record { pool = 1; is_automatic = true; size = 3; head = 7; is_weak = true })
+a_splat_keeps_the_identity = refl
+
+pub store_writes_its_word : leave_word two_objects (stepping (call.Store place_of_b 1 4) [] ∷ []) 2 1 ≡ false
+store_writes_its_word = refl
+
+pub store_leaves_another_word : leave_word two_objects (stepping (call.Store place_of_b 1 4) [] ∷ []) 2 0 ≡ true
+store_leaves_another_word = refl
+
+pub a_stored_word : word_at (world_after two_objects (stepping (call.Store place_of_b 1 4) [])).graph 2 1 ≡ Some 4
+a_stored_word = refl

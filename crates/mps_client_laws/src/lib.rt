@@ -1,0 +1,32 @@
+//! Laws that a runtime's author cites: what may be concluded from a few of a client's calls, whatever other steps come between them.
+//! Each function is a theorem: its contract is the statement.
+#![tactic(auto)]
+
+ghost use Rattle.mps_client_laws.specs.Objects.{ObjectsKeepTheirIdentity, CellsStay, WordsStay};
+ghost use Rattle.mps_client_laws.specs.Addresses.{ObjectsLiveOn, AddressesStay, NoTwoHaveOneAddress};
+ghost use Rattle.mps_client_laws.specs.ReadingBack.{GetGivesWhatWasPut, NumAnswersWhatWasSet, LoadAnswersWhatWasStored};
+
+/// No object is lost. Over any steps an object keeps its pool, its kind, its size, its head and its weakness. A cell is
+/// what it was, unless a `put`, `setnum` or `settag` of this cell or a splat of it writes it; a word of a manual block, unless
+/// a `store` of this word does.
+pub fn no_object_is_lost()
+    ensures identity { ObjectsKeepTheirIdentity }
+    ensures cells { CellsStay }
+    ensures words { WordsStay }
+{}
+
+/// An object lives on unless a move frees it, and stays at its address unless a move moves it: both name its address, so
+/// no move of another object counts. No two live objects have one address.
+pub fn addresses_change_by_moves()
+    ensures live { ObjectsLiveOn }
+    ensures address { AddressesStay }
+    ensures different { NoTwoHaveOneAddress }
+{}
+
+/// A read gives what was written: `get` after `put`, `num` after `setnum`, `load` after `store`. Any steps may come between them
+/// that don't write the same cell or word, so a collection may begin, move the object and end meanwhile.
+pub fn a_read_gives_what_was_written()
+    ensures get { GetGivesWhatWasPut }
+    ensures num { NumAnswersWhatWasSet }
+    ensures load { LoadAnswersWhatWasStored }
+{}
