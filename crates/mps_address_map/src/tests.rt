@@ -19,55 +19,61 @@ const STEPS: [u64; 10] = [
 /// An address for each number below 1,024: these fall into a few places of 4,096.
 fn colliding(number: u64) -> u64 {
     let mut sum: u64 = 0;
-    for (bit, step) in STEPS.iter().enumerate() {
-        if number >> bit & 1 == 1 {
-            sum = sum.wrapping_add(*step);
+    let mut left = number;
+    for step in STEPS {
+        if left & 1 == 1 {
+            sum = sum.wrapping_add(step);
         }
+        left >>= 1;
     }
     0x243f_6a88_85a3_08d3 ^ sum
 }
 
-/// All addresses are put in, and every third is taken out; whether each call answers as it should, and what is listed.
-fn fill_and_empty(
-    alloc: Global,
-    address: fn(u64) -> u64,
-) -> Result<(bool, Vec<(u64, u64)>), AllocError> {
+/// All addresses are put in, each with its number, and every third is taken out; whether each call answers as it should, and
+/// what is listed.
+fn fill_and_empty(alloc: Global, addresses: &[u64]) -> Result<(bool, Vec<(u64, u64)>), AllocError> {
     let mut map: AddressMap<u64> = AddressMap::new(alloc);
     let mut right = true;
-    for number in 0..1024u64 {
-        right &= map.get(address(number)).is_none();
-        right &= map.insert(address(number), number)?.is_none();
+    for (number, at) in addresses.iter().enumerate() {
+        right &= map.get(*at).is_none();
+        right &= map.insert(*at, number as u64)?.is_none();
+        right &= map.insert(*at, number as u64)? == Some(number as u64);
     }
-    right &= map.insert(address(1000), 7)? == Some(1000);
-    for number in 0..1024u64 {
+    for (number, at) in addresses.iter().enumerate() {
         if number % 3 == 0 {
-            right &= map.remove(address(number)) == Some(number);
-            right &= map.remove(address(number)).is_none();
+            right &= map.remove(*at) == Some(number as u64);
+            right &= map.remove(*at).is_none();
         }
+        right &= map.get(*at).is_some() == (number % 3 != 0);
     }
-    right &= map.get(address(1000)) == Some(7) && map.get(address(1023)).is_none();
     Ok((right, map.into_sorted()?))
 }
 
 #[test]
 fn addresses_of_an_arena(rt: HostRuntime) -> Result<(), AllocError> {
-    let (right, entries) = fill_and_empty(
-        rt.alloc(),
-        |number| 0x1000u64.wrapping_add(number << 3),
-    )?;
+    let mut addresses: Vec<u64> = Vec::new(rt.alloc());
+    for number in 0..1024u64 {
+        addresses.push(0x1000 + 8 * number)?;
+    }
+    let (right, entries) = fill_and_empty(rt.alloc(), &addresses)?;
     assert!(rt; right);
     assert_eq!(rt; entries.len(), 682);
-    assert!(rt; entries[0] == (0x1008, 1) && entries[681] == (0x2ff0, 1022));
+    assert_eq!(rt; entries.first().copied(), Some((0x1008, 1)));
+    assert_eq!(rt; entries.last().copied(), Some((0x2ff0, 1022)));
     Ok(())
 }
 
 #[test]
 fn addresses_that_collide(rt: HostRuntime) -> Result<(), AllocError> {
-    let (right, entries) = fill_and_empty(rt.alloc(), colliding)?;
+    let mut addresses: Vec<u64> = Vec::new(rt.alloc());
+    for number in 0..1024u64 {
+        addresses.push(colliding(number))?;
+    }
+    let (right, entries) = fill_and_empty(rt.alloc(), &addresses)?;
     assert!(rt; right);
     assert_eq!(rt; entries.len(), 682);
     for entry in &entries {
-        assert!(rt; entry.1 == 7 || entry.0 == colliding(entry.1));
+        assert_eq!(rt; addresses.get(entry.1 as usize).copied(), Some(entry.0));
     }
     Ok(())
 }
