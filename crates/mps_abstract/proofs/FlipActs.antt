@@ -3,3 +3,4 @@ pub mod FlipLists
 pub mod Flipped
 pub mod Flipping
 pub mod FlipBegins
+pub mod FewUnits

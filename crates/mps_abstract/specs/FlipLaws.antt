@@ -1,5 +1,5 @@
 -- What is shown of the act of a flip: it begins a collection in which the invariant holds.
-use Rattle.std.specs.Prelude.{◌≡◌, ℕ, false, IsTrue, None, List, [], ◌∷◌, ◌++◌, refl}
+use Rattle.std.specs.Prelude.{◌≡◌, ◌+◌, ◌≤◌, ℕ, false, IsTrue, None, List, [], ◌∷◌, ◌++◌, length, refl}
 use Rattle.mps_base.specs.Address.{Id}
 use Rattle.mps_base.specs.declared.moves.Move.{Move}
 use Rattle.mps_base.specs.declared.moves.Move.TheVariants as moves
@@ -10,7 +10,7 @@ use Rattle.mps_model.specs.Effect.{Condemnation, Everything, Generations, condem
 use Rattle.mps_model.specs.LegalMove.{AreLegalMoves}
 use Rattle.mps_model.specs.Flip.{flip_of, flip_act, is_nothing}
 use Rattle.mps_abstract.specs.Colours.{is_white, AllReferredLive}
-use Rattle.mps_abstract.specs.Collecting.{Exact, Collecting, Running}
+use Rattle.mps_abstract.specs.Collecting.{Exact, Collecting, Running, units_left}
 use Rattle.mps_abstract.specs.Fixing.{Fixes}
 
 -- a world in which a collection may begin
@@ -76,6 +76,16 @@ AFlipBeginsRunning =
     → is_nothing (condemned_by w what) ≡ false → AreRemembered (collecting_after_flip w what others) others
     → FixesHeld w (collecting_after_flip w what others) ms y → IsFlipDone w what ms y)
     × ((w : World) (what : Condemnation) → IsAtRest w → IsNumbered what → IsTrue (is_nothing (condemned_by w what)) → IsFlipEnded w what)
+
+-- after the act of a flip that condemns something, at most one unit is left for each object that it condemned or has still to scan, for
+-- each registration, and for each condemned segment
+abbrev pub AFlipLeavesFewUnits : Type 0
+AFlipLeavesFewUnits =
+    (w : World) (what : Condemnation) (others : List Id) (ms : List Move) (y : Collecting) → IsAtRest w → IsNumbered what
+    → is_nothing (condemned_by w what) ≡ false → AreRemembered (collecting_after_flip w what others) others
+    → FixesHeld w (collecting_after_flip w what others) ms y
+    → units_left y ≤ length (collecting_after_flip w what others).running.condemned + length others + length w.graph.registered
+    + length (condemned_by w what)
 
 -- ---- vectors
 

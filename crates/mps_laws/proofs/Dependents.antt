@@ -195,7 +195,7 @@ move_paired w (moves.Commit at words pool) h = h
 move_paired w (moves.Alloc at words pool) h = h
 move_paired w (moves.Free at) h = one_paired w (id_at w at.0) (λ id. after_free w id at.0) (λ id. free_paired w id at.0 h) h
 
-moves_paired : (w : World) (ms : List Move) → ArePaired w → ArePaired (world_after_moves w ms)
+pub moves_paired : (w : World) (ms : List Move) → ArePaired w → ArePaired (world_after_moves w ms)
 moves_paired w [] h = h
 moves_paired w (m ∷ ms) h = moves_paired (world_after_move w m) ms (move_paired w m h)
 

@@ -1,6 +1,5 @@
 -- Moves and units that go on: what holds of a whole by its two parts.
 use Rattle.std.proofs.Common.{Option, Some, None}
-use Rattle.mps_base.specs.declared.moves.Move.TheVariants as moves
 use Rattle.mps_model.specs.LegalMove.{ForOne}
 
 -- ---- legal moves

@@ -1,5 +1,5 @@
 -- Each legal step keeps the arena's grains, but for the one that makes the arena; so the worlds of a legal history are well-formed.
-use Rattle.std.proofs.Common.{◌≡◌, ◌∙◌, ◌⊎◌, ℕ, ◌+◌, Bool, true, false, refl, sym, ap, List, [], ◌∷◌, subst, inl, inr, arith, max}
+use Rattle.std.proofs.Common.{None, ◌≡◌, ◌∙◌, ◌⊎◌, ℕ, ◌+◌, Bool, true, false, refl, sym, ap, List, [], ◌∷◌, subst, inl, inr, arith, max}
 use Rattle.std.proofs.lemmas.Bool.{false≢true, true≢false}
 use Rattle.std.specs.Prelude.{MatchBool, not, if◌then◌else◌}
 use Rattle.std.specs.List.{list_any}
@@ -11,12 +11,20 @@ use Rattle.mps_model.specs.Answer.{Answer, is_block, is_unsupported}
 use Rattle.mps_model.specs.World.{World, empty_world_of}
 use Rattle.mps_model.specs.Reply.{act, world_from}
 use Rattle.mps_model.specs.Step.{Step, History}
-use Rattle.mps_model.specs.History.{IsLegalStep, IsLegalFrom, judged_world, moved_world, world_after, world_after_call, world_after_steps}
+use Rattle.mps_model.specs.History.{IsLegalHistoryOf, IsLegalStep, IsLegalFrom, judged_world, moved_world, world_after, world_after_call, world_after_steps}
 use Rattle.mps_changes.specs.Change.{makes_arena}
-use Rattle.mps_laws.specs.WellFormed.{ReachedWorldsAreWellFormed}
+use Rattle.mps_laws.specs.Replay.{reached}
+use Rattle.mps_laws.proofs.Replays.ReplayOfMoves.{moves_replayed}
+use Rattle.mps_laws.proofs.Sound.SoundMoves.{moves_well}
+use Rattle.mps_model.specs.LegalMove.{AreLegalMoves}
+use Rattle.mps_model.specs.Effect.{world_after_moves}
+use Rattle.mps_laws.specs.WellFormed.{is_arena_made_once, ReachedWorldsAreWellFormed, WorldsInStepsAreWellFormed}
 use Rattle.mps_laws.proofs.Positions.LegalMoves.{HasLayout}
 use Rattle.mps_model.specs.Graph.{empty_graph}
-use Rattle.mps_laws.proofs.Dependents.{ArePaired, pairs_after}
+use Rattle.mps_laws.proofs.Dependents.{ArePaired, moves_paired, pairs_after}
+use Rattle.mps_laws.proofs.SameArena.{moved_alone}
+use Rattle.mps_model.specs.Graph.{thing_in}
+use Rattle.std.specs.Prelude.{slice_get}
 use Rattle.mps_laws.proofs.Labels.{AreNamed, labels_after}
 use Rattle.mps_laws.proofs.Acts.{for_world}
 use Rattle.mps_laws.proofs.Replays.FreeSteps.{BlocksAreLive}
@@ -180,10 +188,32 @@ not_true : (b : Bool) → not b ≡ true → b ≡ false
 not_true true e = absurd (false≢true e)
 not_true false e = refl
 
+reached_kept : (formats : ℕ → Layout) (history : History) → is_arena_made_once history ≡ true → IsLegalHistoryOf formats history
+    → IsKeptWell (reached formats history)
+reached_kept formats [] once legal = empty_kept formats
+reached_kept formats (s ∷ ss) once legal =
+    steps_kept (world_after (empty_world_of formats) s) ss (not_true (list_any (λ (later : Step). makes_arena later.call) ss) once)
+    (first_kept formats s legal.0) legal.1
+
 pub reached_are_well_formed : ReachedWorldsAreWellFormed
-reached_are_well_formed formats [] once legal =
-    let k = empty_kept formats in well_formed (empty_world_of formats) k.layout k.sound k.named k.paired k.client
-reached_are_well_formed formats (s ∷ ss) once legal =
-    let k = steps_kept (world_after (empty_world_of formats) s) ss (not_true (list_any (λ (later : Step). makes_arena later.call) ss) once)
-    (first_kept formats s legal.0) legal.1 in
-    well_formed (world_after_steps (world_after (empty_world_of formats) s) ss) k.layout k.sound k.named k.paired k.client
+reached_are_well_formed formats history once legal =
+    let k = reached_kept formats history once legal in well_formed (reached formats history) k.layout k.sound k.named k.paired k.client
+
+-- ---- in the middle of a step
+
+-- moves of a collector change no grains
+in_layout : (w : World) (ms : List Move) → HasLayout (w.grains + 1) w → AreLegalMoves w None ms
+    → HasLayout ((world_after_moves w ms).grains + 1) (world_after_moves w ms)
+in_layout w ms laid legal =
+    subst (λ (n : ℕ). HasLayout (n + 1) (world_after_moves w ms)) (sym (moved_same w call.Park ms).grains)
+    (moves_replayed (w.grains + 1) w None ms 0 laid legal).layout
+
+pub worlds_in_steps_are_well_formed : WorldsInStepsAreWellFormed
+worlds_in_steps_are_well_formed formats history ms once legal moves live =
+    let w = reached formats history in
+    let k = reached_kept formats history once legal in
+    let alone = moved_alone w call.Park ms in
+    let named : AreNamed (world_after_moves w ms).graph = (λ number label e.
+    ap (λ ns. thing_in ns label) alone.names ∙ k.named number label (sym (ap (λ ls. slice_get ls number) alone.labels) ∙ e)) in
+    well_formed (world_after_moves w ms) (in_layout w ms k.layout moves) (moves_well w None ms k.sound moves).sound named
+    (moves_paired w ms k.paired) live

@@ -1,6 +1,6 @@
 -- Worlds that legal histories reach are well-formed, if the arena is made once.
-use Rattle.std.specs.Prelude.{◌≡◌, ℕ, Bool, true, false, not, IsTrue, List, [], ◌∷◌, replicate, refl}
-use Rattle.std.specs.List.{list_any}
+use Rattle.std.specs.Prelude.{◌≡◌, ℕ, Bool, true, false, not, IsTrue, None, List, [], ◌∷◌, replicate, refl}
+use Rattle.std.specs.List.{list_all, list_any}
 use Rattle.mps_base.specs.declared.address.Addr.{Addr}
 use Rattle.mps_base.specs.declared.moves.Move.{Move}
 use Rattle.mps_base.specs.declared.moves.Move.TheVariants as moves
@@ -12,8 +12,12 @@ use Rattle.mps_model.specs.declared.call.Call.TheVariants as call
 use Rattle.mps_model.specs.declared.reply.Reply.TheVariants as reply
 use Rattle.mps_model.specs.Answer.{Replied}
 use Rattle.mps_model.specs.Step.{Step, History}
+use Rattle.mps_model.specs.Effect.{world_after_moves}
+use Rattle.mps_model.specs.Graph.{ids_of_client}
 use Rattle.mps_model.specs.History.{IsLegalHistoryOf}
+use Rattle.mps_model.specs.LegalMove.{AreLegalMoves}
 use Rattle.mps_model.specs.WellFormed.{IsWellFormed}
+use Rattle.mps_model.specs.World.{is_live}
 use Rattle.mps_laws.specs.Replay.{reached}
 use Rattle.mps_changes.specs.Change.{makes_arena}
 
@@ -27,6 +31,15 @@ abbrev pub ReachedWorldsAreWellFormed : Type 0
 ReachedWorldsAreWellFormed =
     (formats : ℕ → Layout) (history : History) → IsTrue (is_arena_made_once history) → IsLegalHistoryOf formats history
     → IsWellFormed (reached formats history)
+
+-- and so is each world that legal moves of a collector lead to from there, in the middle of a step, if what the client holds is live in it
+abbrev pub WorldsInStepsAreWellFormed : Type 0
+WorldsInStepsAreWellFormed =
+    (formats : ℕ → Layout) (history : History) (ms : List Move) → IsTrue (is_arena_made_once history)
+    → IsLegalHistoryOf formats history → AreLegalMoves (reached formats history) None ms
+    → IsTrue (list_all (is_live (world_after_moves (reached formats history) ms))
+    (ids_of_client (world_after_moves (reached formats history) ms).graph))
+    → IsWellFormed (world_after_moves (reached formats history) ms)
 
 -- ---- an arena that is made again
 

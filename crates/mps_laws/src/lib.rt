@@ -8,7 +8,7 @@ ghost use Rattle.mps_laws.specs.Staying.{HeldBlocksStay, HeldThroughoutStays, Ad
 ghost use Rattle.mps_laws.specs.Depending.{FreshDependenciesHold};
 ghost use Rattle.mps_laws.specs.Replay.{StepReplaysToLiveBlocks, LogReplaysToLiveBlocks, LabelledLogReplays};
 ghost use Rattle.mps_laws.specs.Flipping.{StepFlipsOnceAtMost, FlipsAreNoMoreThanSteps};
-ghost use Rattle.mps_laws.specs.WellFormed.{ReachedWorldsAreWellFormed, ArenaMadeAgainLeavesSegments};
+ghost use Rattle.mps_laws.specs.WellFormed.{ReachedWorldsAreWellFormed, WorldsInStepsAreWellFormed, ArenaMadeAgainLeavesSegments};
 
 /// Commands with their lines, their answers and the log determine the history: no two histories have one log.
 pub fn a_log_tells_one_history()
@@ -69,9 +69,11 @@ pub fn a_step_flips_once_at_most()
 
 /// Each world that a legal history reaches is well-formed, if no command but the first makes an arena, as in any script:
 /// objects have the cells of their formats, whatever lies in the arena lies apart in held segments of its pool, and what the
-/// client holds is of the right kind. The premise is needed: in a legal history that makes the arena again, a segment lies
-/// outside the arena that it leaves.
+/// client holds is of the right kind. So is each world that legal moves of a collector lead to from there, in the middle of a
+/// step, if what the client holds is live in it. The premise is needed: in a legal history that makes the arena again, a
+/// segment lies outside the arena that it leaves.
 pub fn reached_worlds_are_well_formed()
     ensures well_formed { ReachedWorldsAreWellFormed }
+    ensures in_steps { WorldsInStepsAreWellFormed }
     ensures premise { ArenaMadeAgainLeavesSegments }
 {}

@@ -1,5 +1,5 @@
 -- The act of a flip: what slots and messages hold is fixed by the moves that the model computes, and then the invariant holds.
-use Rattle.std.proofs.Common.{◌≡◌, ◌∙◌, Bool, true, false, refl, sym, ap, List, [], ◌∷◌, ◌++◌, Some, subst, inl, inr}
+use Rattle.std.proofs.Common.{◌≡◌, ◌∙◌, ◌≤◌, arith, Bool, true, false, refl, sym, ap, List, [], ◌∷◌, ◌++◌, Some, subst, inl, inr}
 use Rattle.std.proofs.lemmas.Bool.{false≢true, true≢false, eqb-true, cases_Bool}
 use Rattle.std.specs.Prelude.{◌==◌, ◌&&◌, ◌||◌, not, if◌then◌else◌}
 use Rattle.std.specs.Option.{option_map_or}
@@ -17,12 +17,12 @@ use Rattle.mps_model.specs.LegalMove.{has_no_room}
 use Rattle.mps_model.specs.Flip.{must_be_fixed, moves_to, fix, fix_all}
 use Rattle.mps_model.proofs.Cutting.{world_after_moves-append}
 use Rattle.mps_abstract.specs.Colours.{Colours, is_white, keeping}
-use Rattle.mps_abstract.specs.Collecting.{Collecting, Running, is_tracing_band, is_white_in}
+use Rattle.mps_abstract.specs.Collecting.{Collecting, Running, is_tracing_band, is_white_in, units_left}
 use Rattle.mps_abstract.specs.Fixing.{Keeps, marks, moves_to_place, moves_to_segment, stays, kept_by, stays_at, Fixes, fixes_no_more, passes, keeps}
 use Rattle.mps_abstract.proofs.Lists.{contains_here, contains_later, contains_cases}
 use Rattle.mps_abstract.proofs.Kept.{IsKept, keeps_leaves}
 use Rattle.mps_abstract.proofs.Keeping.{it_is_kept, still_kept}
-use Rattle.mps_abstract.proofs.KeptRunning.{kept_running, same_state}
+use Rattle.mps_abstract.proofs.KeptRunning.{kept_running, same_state, no_more}
 use Rattle.mps_abstract.proofs.KeepsLegal.{keeps_legal}
 use Rattle.mps_abstract.proofs.Joining.{AreLegalAnywhere, no_moves_legal, legal_append}
 use Rattle.mps_abstract.proofs.FlipActs.Flipped.{bare, bare_state}
@@ -163,6 +163,8 @@ pub record AreFixed (x : Collecting) (ids : List Id) (ms : List Move) (y : Colle
   pub live : (id : Id) → is_live y.world id ≡ is_live x.world id
   pub black : (id : Id) → is_white_in x id ≡ false → is_white_in y id ≡ false
   pub fixed : (id : Id) → contains ids id ≡ true → is_white_in y id ≡ false
+  -- and no more units are left
+  pub left : units_left y ≤ units_left x
 
 -- what is shown of one that is kept
 record IsOneKept (x : Collecting) (id : Id) (ms : List Move) (c' : Collection) : Type 0 where
@@ -172,6 +174,7 @@ record IsOneKept (x : Collecting) (id : Id) (ms : List Move) (c' : Collection) :
   live : (n : Id) → is_live (world_after_moves x.world ms) n ≡ is_live x.world n
   condemned : c'.condemned ≡ x.running.condemned
   origins : c'.origins ≡ x.running.origins
+  left : units_left (kept_by x id ms c') ≤ units_left x
 
 one_kept : (x : Collecting) (id : Id) (ms : List Move) (c' : Collection) → IsFlipping x → is_white_in x id ≡ true
     → is_live x.world id ≡ true
@@ -191,6 +194,9 @@ one_kept x id ms c' f white live root ks = record {
   live = λ n. ap (λ (w : World). is_live w n) r.world ∙ r.live n;
   condemned = ap (λ (c : Collection). c.condemned) r.running;
   origins = ap (λ (c : Collection). c.origins) r.running;
+  left = subst (λ (y : Collecting). units_left y ≤ units_left (bare_state x))
+      (sym (same_state (bare_state x) f.running f.tracing id live white (bare (world_after_moves x.world ms)) c' (bare_kept r)))
+      (no_more (bare_state x) f.running f.tracing id live white (bare (world_after_moves x.world ms)) c' (bare_kept r));
 }
   where
     r : IsKept x.world x.running id (world_after_moves x.world ms) c'
@@ -207,6 +213,7 @@ flip_fixes (fixes_no_more {x}) f roots = record {
   live = λ id. refl;
   black = λ id h. h;
   fixed = λ id h. absurd (false≢true h);
+  left = omega arith;
 }
 flip_fixes (passes {x} {y} {id} {ids} {ms} black rest) f roots =
     let r = flip_fixes rest f (λ n h. roots n (contains_later id ids n h)) in
@@ -222,6 +229,7 @@ flip_fixes (passes {x} {y} {id} {ids} {ms} black rest) f roots =
         | inl same ↦ r.black n (subst (λ m. is_white_in x m ≡ false) same black)
         | inr later ↦ r.fixed n later
       ];
+      left = r.left;
     }
 flip_fixes (keeps {x} {y} {id} {ids} {these} {those} {c} white ks rest) f roots =
     let root = roots id (contains_here id ids) in
@@ -244,4 +252,5 @@ flip_fixes (keeps {x} {y} {id} {ids} {these} {those} {c} white ks rest) f roots 
             ∙ subst (λ m. is_white x.running.condemned (keeping x.colours id) m ≡ false) same (it_is_kept x.running.condemned x.colours id))
         | inr later ↦ r.fixed n later
       ];
+      left = let some = r.left in let fewer = one.left in omega (arith, some, fewer);
     }
