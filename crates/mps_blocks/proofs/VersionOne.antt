@@ -19,7 +19,7 @@ no_label : (code : ℕ) (fields : List ℕ) (b : Bool) → eqb code label_code �
 no_label code fields false e h = refl
 no_label code fields true e h = absurd (subst (λ (c : ℕ). AreFields One c fields) (eqb-true code label_code e) h)
 
-abbrev blocks_of : Option State → Option Store
+abbrev pub blocks_of : Option State → Option Store
 blocks_of o = option_map (λ (s : State). s.blocks) o
 
 blocks_kept : (s : State) (o : Option Store) → blocks_of (option_map (λ blocks. record s { blocks = blocks }) o) ≡ o

@@ -12,7 +12,7 @@ use Rattle.mps_run.specs.Ending.{NoFaultRose}
 use Rattle.mps_cli.specs.Asked.{ConvertsLog, ReadsText, ListsBlocks}
 
 module _ (status : ℕ) (old new : Outside) (none : NoFaultRose old new) (memory : status ≢ 8) where
-  verdict : StatusIsJustified old new status → is_input_verdict status ≡ true
+  pub verdict : StatusIsJustified old new status → is_input_verdict status ≡ true
   verdict j = by_status j.known
     where
       this : (n : ℕ) → status ≡ n → is_input_verdict n ≡ true → is_input_verdict status ≡ true

@@ -5,3 +5,4 @@ pub mod Standing
 pub mod Keeping
 pub mod Generated
 pub mod GoodInput
+pub mod ReadBack

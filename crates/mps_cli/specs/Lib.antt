@@ -4,4 +4,5 @@ pub mod Groups
 pub mod Session
 pub mod Standing
 pub mod Asked
+pub mod ReadBack
 pub mod Over

@@ -10,11 +10,13 @@ ghost use Rattle.mps_tools.specs.Text.{TextEndsWith};
 ghost use Rattle.mps_cli.specs.Built.{session_built};
 ghost use Rattle.mps_run.specs.LogReaderEnding.{is_input_verdict};
 ghost use Rattle.mps_run.specs.Ending.{NoFaultRose};
-ghost use Rattle.mps_run.specs.Script.{max_lines};
 ghost use Rattle.mps_run.specs.Line.{lines_of};
 ghost use Rattle.mps_run.specs.ScriptScript.{is_grammatical};
 ghost use Rattle.mps_run.specs.Following.{Answered, RanWhole, HoldsLog};
+ghost use Rattle.mps_model.specs.Step.{History};
+ghost use Rattle.mps_run.specs.Script.{HasRun, Line, max_lines};
 ghost use Rattle.mps_cli.specs.Asked.{DoesAsAsked};
+ghost use Rattle.mps_cli.specs.ReadBack.{IsReadBack};
 
 /// What follows where the words ask for a run: the answers that stand printed are whole, unless a call that was to print failed; a
 /// good script ends with status 0, without a fault and with memory; a run to its end, or to a line that ends it, leaves one history;
@@ -46,4 +48,15 @@ pub fn a_good_input_is_read_to_its_end()
     ensures listed { (log : List ℕ) (status : ℕ) (old new : Outside) → DoesAsAsked (Some (Lists log)) status old new
         → NoFaultRose old new → status ≢ 8 → (bytes : List ℕ) → old.text log ≡ Some bytes
         → (lines : List ℕ) → ListsAll bytes (Ok tt) lines → status ≡ 0 }
+{}
+
+/// A run's log can be read: after a run that ended with its script, or with a line of it, the file of the log's name holds the log of
+/// a history (`HoldsLog`). On any desk that has those bytes, `blocks` ends with status 0 and prints exactly the blocks that live in
+/// the last world, and `cnv` ends with 0 and prints the history's records; without a fault and with memory.
+pub fn a_runs_log_can_be_read()
+    ensures run { (log script : List ℕ) (status : ℕ) (old new : Outside) → DoesAsAsked (Some (Runs log script)) status old new
+        → is_input_verdict status ≡ true → (files : Files) → old.files ≡ Some files → (before : List ℕ) → old.logged ≡ Some before
+        → (bytes : List ℕ) → old.text script ≡ Some bytes
+        → (holds : HoldsLog session_built log bytes files new) × IsReadBack holds.history }
+    ensures history { (ran : List Line) (history : History) → HasRun session_built ran history → IsReadBack history }
 {}

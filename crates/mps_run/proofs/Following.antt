@@ -20,6 +20,7 @@ use Rattle.mps_run.specs.Leaving.{Part, Nothing, SomeRecords, SomeAnswer, IsPart
 use Rattle.mps_run.specs.LogFile.{with_log}
 use Rattle.mps_run.specs.Run.{RunsScript}
 use Rattle.mps_run.specs.Script.{answers_of}
+use Rattle.mps_run.proofs.SoFar.{nothing_run}
 
 -- ---- what was printed
 
@@ -58,7 +59,7 @@ answered_nothing built script old new same = record {
   later = lines_of script;
   lines = refl;
   history = [];
-  run = record { bounded = omega arith; grammatical = refl; commands = refl; legal = tt; unsupported = tt; replayed = refl };
+  run = nothing_run built;
   printed = same ∙ appended_empty old.printed;
 }
 

@@ -5,6 +5,7 @@ pub mod Leaving
 pub mod LineByLine
 pub mod LogFile
 pub mod Batches
+pub mod OneOutput
 pub mod Pieces
 pub mod RecordBytes
 pub mod Records

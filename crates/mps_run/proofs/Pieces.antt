@@ -2,7 +2,11 @@
 use Rattle.std.proofs.Common.{◌≡◌, ℕ, ◌+◌, ◌<◌, List, [], ◌∷◌, ◌++◌, length, get_or, take, drop, refl, sym, ◌∙◌, ap, subst, append_assoc, append-nil}
 use Rattle.std.specs.List.{flat_map}
 use Rattle.std.proofs.Math.Seq.{take-append-add, take-append_seam}
-use Rattle.std.proofs.lemmas.List.{take_more, take-append-drop}
+use Rattle.std.specs.Prelude.{All}
+use Rattle.std.proofs.lemmas.List.{take_more, take-append-drop, map-append}
+use Rattle.std.proofs.lemmas.List.Elements.{All-push}
+use Rattle.mps_event.specs.declared.version.Version.TheVariants.{One}
+use Rattle.mps_event.specs.Grammar.{IsRecord}
 use Rattle.std.proofs.lemmas.Grind.{flat_map-append}
 use Rattle.mps_desk.specs.Desk.{Outside}
 use Rattle.mps_base.specs.declared.moves.Move.{Move}
@@ -42,6 +46,15 @@ move_bytes line move = record_bytes (record_of move line)
 pub moves_bytes : (line : ℕ) (moves : List Move) → flat_map (move_bytes line) moves ≡ records_bytes (records_of moves line)
 moves_bytes line [] = refl
 moves_bytes line (m ∷ ms) = ap (λ (p : List ℕ). move_bytes line m ++ p) (moves_bytes line ms)
+
+-- one record more, such as a log may hold
+pub records_more : (line : ℕ) (moves : List Move) (i : ℕ) (d : Move) → i < length moves
+    → All (IsRecord One) (records_of (take i moves) line) → IsRecord One (record_of (get_or moves i d) line)
+    → All (IsRecord One) (records_of (take (i + 1) moves) line)
+records_more line moves i d h before next =
+    subst (All (IsRecord One))
+    (sym (ap (λ ms. records_of ms line) (take_more moves i d h) ∙ map-append (λ (m : Move). record_of m line) (take i moves) (get_or moves i d ∷ [])))
+    (All-push (IsRecord One) (records_of (take i moves) line) (record_of (get_or moves i d) line) before next)
 
 -- ---- records of a command
 

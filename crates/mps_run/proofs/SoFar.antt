@@ -1,6 +1,10 @@
 -- What a run has done so far, and what is left to do.
 use Rattle.std.proofs.Common.{◌≡◌, ℕ, ◌+◌, ◌≤◌, Bool, Option, Some, None, List, [], ◌∷◌, ◌++◌, length, drop, refl, sym, ◌∙◌, ap, arith, append_assoc, length-append, subst, zero-add, add-one}
+use Rattle.std.specs.Prelude.{All}
 use Rattle.std.proofs.lemmas.Grind.{flat_map-append}
+use Rattle.std.proofs.lemmas.List.Elements.{All-append, All-from_recursion}
+use Rattle.mps_event.specs.declared.version.Version.TheVariants.{One}
+use Rattle.mps_event.specs.Grammar.{IsRecord}
 use Rattle.mps_desk.specs.Desk.{Outside}
 use Rattle.mps_base.specs.Record.{record_bytes, records_bytes}
 use Rattle.mps_model.specs.Step.{Step, History}
@@ -44,10 +48,21 @@ pub record SoFar (built : Built) (stands : World → Type 0) (p : Progress) (old
   pub printed : now.printed ≡ appended old.printed (answers_of history)
   pub logged : now.logged ≡ appended old.logged (records_bytes (log_of history))
 
-nothing_run : (built : Built) (stands : World → Type 0) → stands empty_world → HasCome built stands not_begun [] []
-nothing_run built stands h = record {
+pub nothing_run : (built : Built) → HasRun built [] []
+nothing_run built = record {
+  bounded = omega arith;
+  grammatical = refl;
+  commands = refl;
+  legal = tt;
+  unsupported = tt;
+  replayed = refl;
+  recorded = All-from_recursion (IsRecord One) [] tt;
+}
+
+nothing_come : (built : Built) (stands : World → Type 0) → stands empty_world → HasCome built stands not_begun [] []
+nothing_come built stands h = record {
   counted = refl;
-  run = record { bounded = omega arith; grammatical = refl; commands = refl; legal = tt; unsupported = tt; replayed = refl };
+  run = nothing_run built;
   stands_for = h;
   pools = refl;
   few = omega arith;
@@ -56,7 +71,7 @@ nothing_run built stands h = record {
 
 pub come_at_start : (built : Built) (stands : World → Type 0) (p : Progress) → p ≡ not_begun → stands empty_world
     → HasCome built stands p [] []
-come_at_start built stands p is h = subst (λ (p : Progress). HasCome built stands p [] []) (sym is) (nothing_run built stands h)
+come_at_start built stands p is h = subst (λ (p : Progress). HasCome built stands p [] []) (sym is) (nothing_come built stands h)
 
 -- before the first line
 abbrev pub at_start : (built : Built) (stands : World → Type 0) (p : Progress) (o : Outside) → p ≡ not_begun → stands empty_world
@@ -88,6 +103,11 @@ pools_made-append : (h steps : History) → pools_made (h ++ steps) ≡ pools_ma
 pools_made-append [] steps = sym (zero-add (pools_made steps))
 pools_made-append (s ∷ ss) steps = let e = pools_made-append ss steps in omega (arith, e)
 
+-- the records of a history with more steps, where n pools were made before these
+log_more : (h steps : History) (pools : ℕ) → pools ≡ pools_made h → log_of (h ++ steps) ≡ log_of h ++ log_from pools steps
+log_more h steps pools count =
+    log_from-append 0 h steps ∙ sym (ap (λ n. log_of h ++ log_from n steps) (count ∙ sym (zero-add (pools_made h))))
+
 -- the history with the steps of a line that was run
 module _ (built : Built) (stood stands_now : World → Type 0) (p q : Progress) (ran : List Line) (history : History) (line : Line)
     (old new : Outside) (c : HasCome built stood p ran history) (l : LineRan built stood stands_now p q line old new)
@@ -99,6 +119,7 @@ module _ (built : Built) (stood stands_now : World → Type 0) (p q : Progress) 
   run_more =
       let legal = IsLegalFrom-append empty_world history l.ran.steps c.run.legal
       (l.ran.answered.legal (world_after_history history) c.stands_for) in
+      let logs : log_of (history ++ l.ran.steps) ≡ log_of history ++ log_from p.pools l.ran.steps = log_more history l.ran.steps p.pools c.pools in
       record {
         bounded = let size = length-append ran (line ∷ []) in omega (arith, size, c.counted, l.lines, bounded);
         grammatical = grammar_more history ran line c.run.grammatical c.run.commands
@@ -108,6 +129,8 @@ module _ (built : Built) (stood stands_now : World → Type 0) (p q : Progress) 
         unsupported = unsupported-append built empty_world history l.ran.steps c.run.unsupported
             (l.ran.answered.unsupported (world_after_history history) c.stands_for (few_flips built stood p ran history c));
         replayed = log_replays numbered_layout (history ++ l.ran.steps) legal;
+        recorded = subst (All (IsRecord One)) (sym logs)
+            (All-append (IsRecord One) (log_of history) (log_from p.pools l.ran.steps) c.run.recorded l.ran.recorded);
       }
 
   pub come_more : HasCome built stands_now q (ran ++ line ∷ []) (history ++ l.ran.steps)
@@ -138,7 +161,7 @@ logged_more before now new h steps pools count first more =
     more ∙ (ap (λ known. appended known (records_bytes (log_from pools steps))) first
     ∙ (appended_twice before (records_bytes (log_of h)) (records_bytes (log_from pools steps))
     ∙ ap (appended before) (sym (flat_map-append record_bytes (log_of h) (log_from pools steps))
-    ∙ ap records_bytes (ap (λ n. log_of h ++ log_from n steps) (count ∙ sym (zero-add (pools_made h))) ∙ sym (log_from-append 0 h steps)))))
+    ∙ ap records_bytes (sym (log_more h steps pools count)))))
 
 -- the line after those that were run was run too. Meanwhile nothing was printed or logged but of it
 abbrev pub one_line_more : {built : Built} {stood stands_now : World → Type 0} {p q : Progress} {line : Line} {old now mid new : Outside}

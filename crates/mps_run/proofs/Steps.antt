@@ -1,6 +1,9 @@
 -- The step of a command that was answered, from what was logged and printed of it, and of the line in which it stands.
 use Rattle.std.proofs.Common.{◌≡◌, ℕ, ◌+◌, ◌≤◌, Bool, true, None, Some, Ok, Err, OnOk, IfErr, [], ◌∷◌, ◌++◌, List, take, refl, sym, ◌∙◌, ap, subst, arith, append-nil, inl, inr, ◌⊎◌}
-use Rattle.std.specs.Prelude.{◌↔◌, IsTrue, if◌then◌else◌, is_ok}
+use Rattle.std.specs.Prelude.{◌↔◌, IsTrue, if◌then◌else◌, is_ok, All}
+use Rattle.std.proofs.lemmas.List.Elements.{All-from_recursion}
+use Rattle.mps_event.specs.declared.version.Version.TheVariants.{One}
+use Rattle.mps_event.specs.Grammar.{IsRecord}
 use Rattle.mps_desk.specs.Desk.{Outside}
 use Rattle.mps_base.specs.declared.moves.Move.{Move}
 use Rattle.mps_base.specs.Record.{Record, records_bytes}
@@ -76,9 +79,10 @@ module _ (built : Built) (stood stands_now : World → Type 0) (line : ℕ) (cal
   module _ (pools pools_after : ℕ) (old new : Outside) where
     pub steps_of : (ends : Ending) → pools_after ≡ pools + pools_made_by call (Replied given) → pools_made_by call (Replied given) ≤ 1
         → LogsThenPrints (records_bytes (the_records pools)) (line_of_answer (answer_of words given)) ends old new
+        → OnOk ends (All (IsRecord One) (the_records pools))
         → OnOk ends (StepsRan built stood stands_now (record { line = line; call = call } ∷ []) pools pools_after old new)
     unfolding begun
-    steps_of (Ok value) made at_most l = record {
+    steps_of (Ok value) made at_most l recorded = record {
       steps = the_step ∷ [];
       answered = record {
         answers = refl;
@@ -91,8 +95,9 @@ module _ (built : Built) (stood stands_now : World → Type 0) (line : ℕ) (cal
       logged = l.0
           ∙ ap (λ rs. appended old.logged (records_bytes rs)) (same_records pools ∙ sym (append-nil (records_of_step pools the_step)));
       printed = l.1 ∙ ap (appended old.printed) (sym (append-nil (line_of_answer (answer_of words given))));
+      recorded = subst (All (IsRecord One)) (same_records pools ∙ sym (append-nil (records_of_step pools the_step))) recorded;
     }
-    steps_of (Err why) made at_most l = tt
+    steps_of (Err why) made at_most l recorded = tt
 
     some_records : LogsSomeRecords (records_bytes (the_records pools)) old new
         → StopsWithin built stop.LogFailed stood (record { line = line; call = call } ∷ []) pools old new
@@ -154,6 +159,7 @@ module _ (built : Built) (stood stands_now : World → Type 0) (p : Progress) (l
           at_most = omega arith;
           logged = appended_empty old.logged;
           printed = appended_empty old.printed;
+          recorded = All-from_recursion (IsRecord One) [] tt;
         };
       }
 

@@ -1,7 +1,9 @@
 -- One line of a run: what a machine does of it, and what stops the run there.
-use Rattle.std.specs.Prelude.{ℕ, ◌≡◌, ◌+◌, ◌≤◌, ◌⊎◌, IsTrue, true, false, Ok, Err, List, [], ◌∷◌, take}
+use Rattle.std.specs.Prelude.{ℕ, ◌≡◌, ◌+◌, ◌≤◌, ◌⊎◌, IsTrue, true, false, All, Ok, Err, List, [], ◌∷◌, take}
 use Rattle.mps_desk.specs.Desk.{Outside, HasRisen}
 use Rattle.mps_base.specs.Record.{records_bytes}
+use Rattle.mps_event.specs.declared.version.Version.TheVariants.{One}
+use Rattle.mps_event.specs.Grammar.{IsRecord}
 use Rattle.mps_model.specs.declared.call.Call.{Call}
 use Rattle.mps_model.specs.Step.{Step, History}
 use Rattle.mps_model.specs.Log.{log_from, pools_made}
@@ -42,6 +44,8 @@ pub record StepsRan (built : Built) (stood stands_now : World → Type 0) (comma
   pub at_most : after ≤ before + 1
   pub logged : new.logged ≡ appended old.logged (records_bytes (log_from before steps))
   pub printed : new.printed ≡ appended old.printed (answers_of steps)
+  -- these records are such as a log may hold
+  pub recorded : All (IsRecord One) (log_from before steps)
 
 -- the line after those that were run is good, and its command was answered, where it has one
 pub record LineRan (built : Built) (stood stands_now : World → Type 0) (before after : Progress) (line : Line) (old new : Outside)

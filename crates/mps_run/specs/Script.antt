@@ -1,7 +1,9 @@
 -- The commands of a script, each with its line, and the history that answers them.
-use Rattle.std.specs.Prelude.{ℕ, ◌≡◌, ◌↔◌, ◌+◌, ◌≤◌, IsTrue, true, Option, Some, None, Result, Ok, Err, List, [], ◌∷◌, ◌++◌, map, length, codes, refl}
+use Rattle.std.specs.Prelude.{ℕ, ◌≡◌, ◌↔◌, ◌+◌, ◌≤◌, IsTrue, true, All, Option, Some, None, Result, Ok, Err, List, [], ◌∷◌, ◌++◌, map, length, codes, refl}
 use Rattle.std.specs.List.{flat_map}
 use Rattle.mps_base.specs.Address.{last_u32}
+use Rattle.mps_event.specs.declared.version.Version.TheVariants.{One}
+use Rattle.mps_event.specs.Grammar.{IsRecord}
 use Rattle.mps_model.specs.declared.call.Call.{Call}
 use Rattle.mps_model.specs.declared.call.Call.TheVariants as call
 use Rattle.mps_model.specs.declared.reply.Reply.TheVariants as reply
@@ -75,6 +77,8 @@ pub record HasRun (built : Built) (ran : List Line) (history : History) : Type 0
   pub unsupported : AreUnsupportedWhereDue built empty_world history
   -- the blocks that replaying its log gives are those that are live in the world after it
   pub replayed : replay (log_of history) ≡ Some (live_blocks (world_after_history history))
+  -- its records are such as a log may hold
+  pub recorded : All (IsRecord One) (log_of history)
 
 pub a_comment_has_no_command : commands_from 1 (codes "# x" ∷ codes "live" ∷ []) ≡ record { line = 2; call = call.Live } ∷ []
 a_comment_has_no_command = refl

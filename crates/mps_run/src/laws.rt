@@ -4,7 +4,9 @@ ghost use Rattle.mps_desk.specs.Desk.{Outside, Files, HasRisen};
 ghost use Rattle.mps_commands.specs.Built.{Built};
 ghost use Rattle.mps_log_reader.specs.Ending.{is_input_verdict};
 ghost use Rattle.mps_run.specs.Ending.{NoFaultRose};
-ghost use Rattle.mps_run.specs.Script.{max_lines};
+ghost use Rattle.mps_model.specs.Log.{log_bytes};
+ghost use Rattle.mps_model.specs.Step.{History};
+ghost use Rattle.mps_run.specs.Script.{HasRun, Line, answers_of, max_lines};
 ghost use Rattle.mps_script.specs.Line.{lines_of};
 ghost use Rattle.mps_script.specs.Script.{is_grammatical};
 ghost use Rattle.mps_run.specs.Following.{Answered, RanWhole, HoldsLog};
@@ -40,4 +42,11 @@ pub fn a_good_script_ends_well()
     ensures { (built : Built) (log script : List ℕ) (status : ℕ) (old new : Outside) → RunsScript built log script status old new
         → (bytes : List ℕ) → old.text script ≡ Some bytes → is_grammatical (lines_of bytes) ≡ true
         → length (lines_of bytes) ≤ max_lines → NoFaultRose old new → status ≢ 8 → status ≡ 0 }
+{}
+
+/// A run is its output: two histories that were run over the same lines, with the same bytes printed and the same bytes logged,
+/// are the same.
+pub fn a_run_is_its_output()
+    ensures { (built : Built) (ran : List Line) (these those : History) → HasRun built ran these → HasRun built ran those
+        → answers_of these ≡ answers_of those → log_bytes these ≡ log_bytes those → these ≡ those }
 {}

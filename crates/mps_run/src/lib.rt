@@ -13,6 +13,7 @@ mod step;
 
 pub use bad_script_line::BadScriptLine;
 pub use laws::{
-    a_good_script_ends_well, a_whole_run_leaves_one_history, answers_are_whole, the_file_of_the_log,
+    a_good_script_ends_well, a_run_is_its_output, a_whole_run_leaves_one_history,
+    answers_are_whole, the_file_of_the_log,
 };
 pub use run::run_script;

@@ -1,7 +1,7 @@
 // The records of a command.
-ghost use Rattle.std.specs.Prelude.{◌≡◌, ◌≤◌, ◌∷◌, ◌++◌, [], length, take, OnOk, OnErr};
+ghost use Rattle.std.specs.Prelude.{◌≡◌, ◌≤◌, ◌∷◌, ◌++◌, [], length, take, All, OnOk, OnErr};
 ghost use Rattle.mps_base.specs.Record.{record_bytes, records_bytes};
-ghost use Rattle.mps_event.specs.Grammar.{AreFields};
+ghost use Rattle.mps_event.specs.Grammar.{AreFields, IsRecord};
 ghost use Rattle.mps_event.specs.Event.{code_of};
 ghost use Rattle.mps_event.specs.declared.version.Version.TheVariants.{One};
 ghost use Rattle.mps_model.specs.Log.{records_of, records_of_accepted, records_of_command};
@@ -41,6 +41,7 @@ pub fn log_records<D: Desk>(
         (records_bytes (records_of moves.now line ++ records_of_command pools call.now (Replied reply.now) line))) }
     ensures failed { OnErr result (LogsPart (D.outside desk.old) (D.outside desk.new)
         (records_bytes (records_of moves.now line ++ records_of_command pools call.now (Replied reply.now) line))) }
+    ensures recorded { OnOk result (All (IsRecord One) (records_of moves.now line ++ records_of_command pools call.now (Replied reply.now) line)) }
 {
     log_moves(desk, line, moves)?;
     log_command(desk, line, pools as u64, call, reply)
@@ -59,6 +60,7 @@ fn log_command<D: Desk>(
         (records_bytes (records_of_command pools call.now (Replied reply.now) line))) }
     ensures failed { OnErr result (LogsPart (D.outside desk.old) (D.outside desk.new)
         (records_bytes (records_of_command pools call.now (Replied reply.now) line))) }
+    ensures recorded { All (IsRecord One) (records_of_command pools call.now (Replied reply.now) line) }
 {
     match *reply {
         Reply::Ok => log_accepted(desk, line, pools, call),
@@ -74,6 +76,7 @@ fn log_accepted<D: Desk>(desk: &mut D, line: u32, pools: u64, call: &Call) -> Re
         (records_bytes (records_of_accepted pools call.now line))) }
     ensures failed { OnErr result (LogsPart (D.outside desk.old) (D.outside desk.new)
         (records_bytes (records_of_accepted pools call.now line))) }
+    ensures recorded { All (IsRecord One) (records_of_accepted pools call.now line) }
 {
     match *call {
         Call::Arena { .. }
@@ -95,6 +98,7 @@ fn log_made<D: Desk>(desk: &mut D, line: u32, pools: u64, call: &Call) -> Result
         (records_bytes (records_of_accepted pools call.now line))) }
     ensures failed { OnErr result (LogsPart (D.outside desk.old) (D.outside desk.new)
         (records_bytes (records_of_accepted pools call.now line))) }
+    ensures recorded { All (IsRecord One) (records_of_accepted pools call.now line) }
 {
     match *call {
         Call::Arena { grains, limit } => log_record(
@@ -145,6 +149,7 @@ fn log_record<D: Desk>(desk: &mut D, line: u32, event: Event, fields: &[u64]) ->
         (record_bytes (record { line = line; code = code_of event; fields = fields.now }))) }
     ensures failed { OnErr result (LogsPart (D.outside desk.old) (D.outside desk.new)
         (record_bytes (record { line = line; code = code_of event; fields = fields.now }))) }
+    ensures recorded { IsRecord One (record { line = line; code = code_of event; fields = fields.now }) }
 {
     let mut bytes = [0u8; MAX_RECORD_BYTES];
     let length = put_record(&mut bytes, line, event, fields);
@@ -174,6 +179,7 @@ pub(crate) fn put_record(bytes: &mut [u8], line: u32, event: Event, fields: &[u6
     requires fits { 64 ≤ length bytes.old }
     ensures written { take result bytes.new ≡ record_bytes (record { line = line; code = code_of event; fields = fields.now }) }
     ensures at_most { result ≤ 64 }
+    ensures recorded { IsRecord One (record { line = line; code = code_of event; fields = fields.now }) }
 {
     put(bytes, line, event.code(), fields, Version::One)
 }

@@ -1,13 +1,19 @@
-use Rattle.std.proofs.Common.{List, [], ◌++◌, rules, sym, ◌∙◌, ap, append_assoc}
+use Rattle.std.proofs.Common.{◌≡◌, List, [], ◌++◌, rules, sym, ◌∙◌, ap, subst, append_assoc, append-nil}
+use Rattle.std.specs.Prelude.{All}
+use Rattle.std.proofs.lemmas.List.{nil_from_length}
+use Rattle.mps_model.specs.Log.{records_of}
 use Rattle.mps_base.specs.declared.moves.Move.{Move}
 use Rattle.std.specs.Slice.Iter.{chunks_rest}
 use Rattle.mps_report.proofs.Logging.{logs_none}
-use Rattle.mps_run.proofs.Batches.{logs_batch, logs_part_of_batch}
+use Rattle.std.proofs.lemmas.List.Elements.{All-from_recursion}
+use Rattle.mps_event.specs.declared.version.Version.TheVariants.{One}
+use Rattle.mps_event.specs.Grammar.{IsRecord}
+use Rattle.mps_run.proofs.Batches.{records_append_all, logs_batch, logs_part_of_batch}
 use Rattle.mps_run.proofs.Records.{at_error}
 use Rattle.mps_run.proofs.log_moves.log_batches.Goals as goal
 
 pub loop-batch-init : goal.loop-batch-init
-loop-batch-init g c = (search rules, tt, search rules, ([], search rules, logs_none (g.D.Desk.outside c.args.desk.now)))
+loop-batch-init g c = (search rules, tt, search rules, ([], search rules, logs_none (g.D.Desk.outside c.args.desk.now), All-from_recursion (IsRecord One) [] tt))
 
 pub loop-batch-preserved : goal.loop-batch-preserved
 loop-batch-preserved g c =
@@ -23,6 +29,7 @@ loop-batch-preserved g c =
         so_far.0 ++ batch,
         append_assoc so_far.0 batch rest ∙ whole,
         logs_batch c.args.line so_far.0 batch rest c.args.moves.now _ _ _ whole so_far.2 c.in_ok-log_batch.ensures.logged,
+        records_append_all c.args.line so_far.0 batch so_far.3 c.log_batch.ensures.recorded,
       ),
     )
 
@@ -34,3 +41,11 @@ returns-in_err-log_batch-clause-failed g c =
     at_error c.from_residual.result
     (logs_part_of_batch c.args.line so_far.0 c.in-Some.batch.now (chunks_rest c.next.new.self) c.args.moves.now _ _ _ whole so_far.2
     c.in_err-log_batch.ensures.failed)
+
+pub returns-clause-recorded : goal.returns-clause-recorded
+returns-clause-recorded g c =
+    let so_far = c.loop-batch.invariant.3 in
+    let none = nil_from_length (chunks_rest c.loop-batch.batch-iterator) c.in-None.ensures.steps.1.0 in
+    let whole : so_far.0 ≡ c.args.moves.now =
+    sym (append-nil so_far.0) ∙ (ap (λ (ms : List Move). so_far.0 ++ ms) (sym none) ∙ so_far.1) in
+    subst (λ (ms : List Move). All (IsRecord One) (records_of ms c.args.line)) whole so_far.3

@@ -1,5 +1,8 @@
 use Rattle.std.proofs.Common.{◌≡◌, List, ◌++◌}
 use Rattle.std.specs.Slice.Iter.{chunks_rest, chunks_size}
+use Rattle.std.specs.Prelude.{All}
+use Rattle.mps_event.specs.declared.version.Version.TheVariants.{One}
+use Rattle.mps_event.specs.Grammar.{IsRecord}
 use Rattle.mps_base.specs.declared.moves.Move.{Move}
 use Rattle.mps_base.specs.Record.{records_bytes}
 use Rattle.mps_model.specs.Log.{records_of}
@@ -13,4 +16,5 @@ invariant-loop-batch g l =
     × (goal.iterator-loop-batch g).is_finite l.batch-iterator
     × (chunks_size l.batch-iterator ≡ 64)
     × ((done : List Move) × (done ++ chunks_rest l.batch-iterator ≡ l.moves)
-    × Logs (g.D.Desk.outside l.initial.desk) (g.D.Desk.outside l.desk) (records_bytes (records_of done l.line)))
+    × Logs (g.D.Desk.outside l.initial.desk) (g.D.Desk.outside l.desk) (records_bytes (records_of done l.line))
+    × All (IsRecord One) (records_of done l.line))

@@ -16,7 +16,7 @@ returns-clause-ran g c =
     (g.D.Desk.outside c.log_then_print.new.desk)
     c.log_then_print.result (ap (λ n. c.args.pools.now + n) c.pools_made.ensures.count)
     (omega (arith, c.pools_made.ensures.count, c.pools_made.ensures.at_most))
-    c.log_then_print.ensures.does
+    c.log_then_print.ensures.does c.log_then_print.ensures.recorded
 
 pub returns-clause-stops : goal.returns-clause-stops
 returns-clause-stops g c =

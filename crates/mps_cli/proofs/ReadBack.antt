@@ -1,0 +1,80 @@
+-- The log of a run is read to its end by the readers.
+use Rattle.std.proofs.Common.{◌≡◌, ◌≢◌, ◌≤◌, ℕ, List, [], ◌++◌, length, Option, Some, None, Ok, refl, sym, ap, ◌∙◌, append-nil}
+use Rattle.std.specs.Prelude.{All}
+use Rattle.mps_base.specs.Record.{Record, header_bytes, records_bytes}
+use Rattle.mps_desk.specs.Desk.{Outside}
+use Rattle.mps_event.specs.declared.version.Version.TheVariants.{One}
+use Rattle.mps_event.specs.Grammar.{IsRecord}
+use Rattle.mps_model.specs.Step.{History}
+use Rattle.mps_model.specs.Replay.{Store, replay}
+use Rattle.mps_model.specs.Log.{log_bytes, log_of}
+use Rattle.mps_model.specs.History.{live_blocks, world_after_history}
+use Rattle.mps_report.specs.Streams.{appended}
+use Rattle.mps_run.specs.Ending.{NoFaultRose}
+use Rattle.mps_run.specs.LogReaderEnding.{max_records}
+use Rattle.mps_run.specs.LogPrefix.{LogPrefix}
+use Rattle.mps_run.specs.Script.{Line, HasRun}
+use Rattle.mps_tools.specs.Listing.{listing}
+use Rattle.mps_tools.specs.ReplayEnding.{Replays}
+use Rattle.mps_tools.specs.Replayed.{State, replayed}
+use Rattle.mps_blocks.proofs.VersionOne.{blocks_of, version_one}
+use Rattle.mps_cli.specs.Asked.{ConvertsLog, ListsBlocks}
+use Rattle.mps_cli.specs.Built.{session_built}
+use Rattle.mps_cli.specs.ReadBack.{ListsLiveBlocks, ConvertsRecords, IsReadBack}
+use Rattle.mps_cli.proofs.GoodInput.{verdict}
+
+-- a state of which these are the blocks
+record HasBlocks (o : Option State) (store : Store) : Type 0 where
+  pub state : State
+  pub is : o ≡ Some state
+  pub blocks : state.blocks ≡ store
+
+has_blocks : (o : Option State) (store : Store) → blocks_of o ≡ Some store → HasBlocks o store
+has_blocks None store e = absurd cc
+has_blocks (Some s) store e = record { state = s; is = refl; blocks = (let same : Some s.blocks ≡ Some store = e in cc) }
+
+module _ (ran : List Line) (history : History) (runs : HasRun session_built ran history) (few : length (log_of history) ≤ max_records) where
+  -- the whole log is records
+  all_of_it : LogPrefix (log_bytes history)
+  all_of_it = record {
+    version = One;
+    records = log_of history;
+    rest = [];
+    each = runs.recorded;
+    at_most = few;
+    spelled = sym (append-nil (log_bytes history));
+  }
+
+  -- which are replayed to the blocks that live
+  live : HasBlocks (replayed (log_of history)) (live_blocks (world_after_history history))
+  live = has_blocks (replayed (log_of history)) (live_blocks (world_after_history history))
+      (version_one (log_of history) runs.recorded ∙ runs.replayed)
+
+  replays : Replays (log_bytes history) (Ok tt)
+  unfolding all_of_it
+  replays = record { prefix = all_of_it; state = live.state; replay = live.is; ends_at = refl }
+
+  module _ (status : ℕ) (old new : Outside) (none : NoFaultRose old new) (memory : status ≢ 8) (log : List ℕ)
+      (known : old.text log ≡ Some (log_bytes history)) where
+    listed : ListsBlocks log status old new → ListsLiveBlocks history status old new
+    unfolding replays
+    listed does =
+        let ends = does.unique (verdict status old new none memory does.justified) (log_bytes history) known (Ok tt)
+        (listing live.state.blocks) (replays, refl) in
+        record {
+          status_is = ends.status_is;
+          printed = ends.printed ∙ ap (λ (blocks : Store). appended old.printed (listing blocks)) live.blocks;
+        }
+
+    converted : (kinds : ℕ) → ConvertsLog log kinds status old new → ConvertsRecords kinds history status old new
+    unfolding all_of_it
+    converted kinds does =
+        let ends = (does.unique (verdict status old new none memory does.justified) (log_bytes history) known).with_header all_of_it (Ok tt)
+        refl in
+        record { status_is = ends.status_is; printed = ends.printed }
+
+pub read_back : (ran : List Line) (history : History) → HasRun session_built ran history → IsReadBack history
+read_back ran history runs few log status old new known none memory = (
+  λ does. listed ran history runs few status old new none memory log known does,
+  λ kinds does. converted ran history runs few status old new none memory log known kinds does,
+)
