@@ -39,7 +39,7 @@ use Rattle.mps_heap_spec.specs.Objects.{with_slot}
 use Rattle.mps_heap_spec.specs.State.{HeapState}
 use Rattle.mps_refinement.specs.Answering.{answer_to, says_committed}
 use Rattle.mps_refinement.specs.RightStep.{IsRight, IsRightIn, step_of}
-use Rattle.mps_refinement.specs.StandsFor.{AreParts, IsHeld, IsReached, Past, AreOfFlip, IsInTime, StandsFor, rests, runs}
+use Rattle.mps_refinement.specs.StandsFor.{AreParts, IsHeld, IsReached, Past, AreOfFlip, IsInTime, StandsFor, Rests}
 use Rattle.mps_refinement.proofs.Calls.Committing.{at, block_parts, block_sound, closed_parts, blocks_live}
 use Rattle.mps_refinement.proofs.Lookups.Found.{same_found}
 use Rattle.mps_refinement.proofs.Lookups.HeldCells.{held_same}
@@ -61,7 +61,7 @@ use Rattle.mps_laws.proofs.Acts.{for_world}
 use Rattle.mps_seg.specs.Collecting.{first_grain_over, is_white_at}
 use Rattle.mps_refinement.proofs.Worlds.RestingActs.{resting_sound}
 use Rattle.mps_refinement.proofs.Calls.CommitKept.{after_commit_kept, kept_at_rest}
-use Rattle.mps_refinement.proofs.Parts.Resting.{none_over}
+use Rattle.mps_refinement.proofs.Parts.Resting.{at_rest, none_over}
 
 module _ {F : Type 0} (layout : F → Layout) (past : Past) (h : HeapState F) (w : World) (parts : AreParts layout past h w)
     (knows : IsKnown past.time w) (reach : IsReached w) (now : IsInTime past.time h.segs w)
@@ -313,15 +313,14 @@ commit_is_right layout h trail name target result after trail_after none comes =
     (subst (λ (t : Moves). IsRightIn layout w (step_of line (call.Commit name target) t.moves
     (answer_to says_committed (answer_moved (after_commit h trail name target))))
     (state_moved h (after_commit h trail name target))) (sym comes.moves)
-    (of_time w line st st.time)))
+    (none_condemned w line st (at_rest st.time))))
   where
-    of_time : (w : World) (line : ℕ) (st : StandsFor layout h w) → IsInTime st.past.time h.segs w
+    none_condemned : (w : World) (line : ℕ) (st : StandsFor layout h w) → Rests st.past.time h.segs w
         → IsRightIn layout w (step_of line (call.Commit name target) (trail_moved trail (after_commit h trail name target)).moves
         (answer_to says_committed (answer_moved (after_commit h trail name target)))) (state_moved h (after_commit h trail name target))
-    of_time w line st (rests rest) =
+    none_condemned w line st rest =
         subst (λ o. IsRightIn layout w (step_of line (call.Commit name target) (trail_moved trail o).moves
         (answer_to says_committed (answer_moved o))) (state_moved h o)) (kept_at_rest h rest.not_condemned trail name target)
         (committed_outcome layout st.past h w st.parts (known_now st) st.reached st.time
         (λ at white. absurd (false≢true (sym (ap (λ b. b && not (bit h.segs.marks.kept (word_of at)))
         (none_over h.segs rest.not_condemned (first_grain_over h.segs at))) ∙ white))) trail none line name target)
-    of_time w line st (runs x r may) = absurd may

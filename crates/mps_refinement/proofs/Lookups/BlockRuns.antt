@@ -1,6 +1,6 @@
 -- The runs of blocks against live objects: the run that begins at an object's address has its words, and where no collection runs these
 -- are its image. So borrowed words are those of the model.
-use Rattle.std.proofs.Common.{◌≡◌, ◌∙◌, ℕ, ◌+◌, Bool, true, refl, sym, ap, subst, List, [], length, map, Option, Some, None, Contains, inl, inr, is_some}
+use Rattle.std.proofs.Common.{◌≡◌, ◌∙◌, ℕ, ◌+◌, Bool, true, refl, sym, ap, subst, List, [], map, Option, Some, None, Contains, inl, inr, is_some}
 use Rattle.std.proofs.lemmas.Bool.{cases_eq}
 use Rattle.std.proofs.lemmas.Option.{none-some, same_Some, slice_get-map}
 use Rattle.std.specs.Prelude.{slice_get, slice_range, option_map}
@@ -21,8 +21,8 @@ use Rattle.mps_laws.proofs.QuietSteps.{IsSound}
 use Rattle.mps_laws.proofs.Sound.Referred.{sound_parts}
 use Rattle.mps_laws.proofs.Sound.SoundGraph.{PassesOrNull, entry-passes}
 use Rattle.mps_model.proofs.AtRest.{is_running-none}
-use Rattle.mps_model.specs.Graph.{Cell, NumberCell, Body, Automatic, Manual, Object, entry_at, size_of, size_of_body, target_of_cell, targets_of, targets_of_body}
-use Rattle.mps_model.specs.Image.{image_of_body, image_of_cell}
+use Rattle.mps_model.specs.Graph.{Cell, NumberCell, Body, Automatic, Manual, Object, entry_at, size_of, target_of_cell, targets_of, targets_of_body}
+use Rattle.mps_model.specs.Image.{image_of_body}
 use Rattle.mps_model.specs.World.{World, extent, extents_of, is_live, words_of}
 use Rattle.mps_seg.specs.Segs.{SegsState}
 use Rattle.mps_refinement.proofs.Lookups.Found.{mapped_some, some_there}
@@ -85,16 +85,3 @@ module _ (g : SegsState) (w : World) (stands : StandsAtRest g w) (rest : w.colle
       words_are =
           ap (λ n. slice_range g.words (word_of at) (word_of at + n)) (sym size_is) ∙ holds_images id at there
           ∙ ap (λ found. option_map_or (λ (q : Object). image_of_body w q.body) found []) object
-
-      -- of a manual block, its words
-      pub manual_words : (words : List ℕ) → o.body ≡ Manual words
-          → slice_range g.words (word_of at) (word_of at + length words) ≡ words
-      manual_words words body = subst (λ b. slice_range g.words (word_of at) (word_of at + size_of_body b)
-          ≡ image_of_body w b) body words_are
-
-      -- of an automatic object, a word for each cell
-      pub automatic_words : (head : ℕ) (cells : List Cell) (is_weak : Bool) → o.body ≡ Automatic head cells is_weak
-          → slice_range g.words (word_of at) (word_of at + length cells) ≡ map (image_of_cell w head) cells
-      automatic_words head cells is_weak body =
-          subst (λ b. slice_range g.words (word_of at) (word_of at + size_of_body b) ≡ image_of_body w b) body
-          words_are

@@ -1,11 +1,11 @@
 -- Words that are borrowed: those of the manual block in a place, and the cells of an object in a slot. The run of blocks that begins at its
 -- address has the words of the model's block, and they are the arena's words there.
 use Rattle.mps_refinement.proofs.Worlds.Known.{IsKnown}
-use Rattle.mps_refinement.proofs.Worlds.RestingActs.{resting_sound}
-use Rattle.mps_refinement.proofs.Parts.Resting.{at_rest, image_at_rest}
-use Rattle.std.proofs.Common.{◌≡◌, ◌∙◌, ℕ, ◌+◌, ◌-◌, ◌<◌, ◌≤◌, refl, ap, subst, length, map, Option, Some, Ok, Contains, inl, inr, arith}
+use Rattle.std.proofs.Common.{◌≡◌, ◌∙◌, sym, ℕ, ◌+◌, ◌-◌, ◌<◌, ◌≤◌, refl, ap, subst, length, Option, Some, Ok, Contains, inl, inr, arith}
 use Rattle.std.proofs.lemmas.Bool.{and_parts, cases_lt, leb-true}
-use Rattle.std.specs.Prelude.{nat_le, slice_get, slice_range}
+use Rattle.std.proofs.lemmas.Option.{get_or_from_slice_get}
+use Rattle.std.proofs.lemmas.List.{ext_get_or, get_or-drop, get_or-take, length-drop, length-take}
+use Rattle.std.specs.Prelude.{drop, get_or, nat_le, slice_get, slice_range}
 use Rattle.mps_base.specs.Address.{Address, Id, word_of}
 use Rattle.mps_base.specs.declared.names.Slot.{Slot}
 use Rattle.mps_base.specs.declared.refusal.Refusal.TheVariants as refusal
@@ -13,22 +13,19 @@ use Rattle.mps_format.specs.Layout.{Layout}
 use Rattle.mps_laws.proofs.Acts.{required-is}
 use Rattle.mps_laws.proofs.Same as same
 use Rattle.mps_laws.proofs.Lookups.{there_is}
-use Rattle.mps_laws.proofs.Same.{Same, fits, same_ok}
+use Rattle.mps_laws.proofs.Same.{HasFit, Same, fits, same_ok}
 use Rattle.mps_model.specs.Allocating as allocating
 use Rattle.mps_model.specs.Allocating.{words_at}
 use Rattle.mps_model.specs.Checked as model
 use Rattle.mps_model.specs.Checked.{Checked, Found, Numbered}
-use Rattle.mps_model.specs.Graph.{Object, size_of, size_of_body}
-use Rattle.mps_model.specs.Image.{image_of_cell}
+use Rattle.mps_model.specs.Graph.{size_of, size_of_body}
 use Rattle.mps_model.specs.World.{World}
 use Rattle.mps_heap_spec.specs.Finding.{block_place_in}
-use Rattle.mps_heap_spec.specs.declared.found.Block.{Block}
 use Rattle.mps_heap_spec.specs.declared.found.Entry.{Entry}
 use Rattle.mps_heap_spec.specs.Manual.{block_in, word_in_block}
 use Rattle.mps_heap_spec.specs.State.{HeapState}
 use Rattle.mps_refinement.specs.StandsFor.{AreParts, Past}
-use Rattle.mps_refinement.proofs.Lookups.BlockRuns.{manual_words, run_is, run_there}
-use Rattle.mps_refinement.proofs.Lookups.LiveObjects.{IsObject}
+use Rattle.mps_refinement.proofs.Lookups.BlockRuns.{run_is, run_there}
 use Rattle.mps_refinement.proofs.Lookups.Lookups.{IsPlaceFound, place_same}
 use Rattle.mps_refinement.proofs.Lookups.ManualBlocks.{IsBlock, IsWordOf, block_same, block_words, lies, setting, word_same}
 
@@ -82,24 +79,24 @@ module _ {F : Type 0} (layout : F → Layout) (h : HeapState F) (w : World) (pas
         one = λ n there.
             run_is s w.addresses parts.image.placed h.segs parts.image.runs.blocks b.value at b.fit.object b.fit.address b.fit.there n there
             ∙ size;
-        words = manual_words h.segs w (image_at_rest layout past h w parts (at_rest own.now).time) (at_rest own.now).none
-            (resting_sound w (at_rest own.now).none own.live) b.value at b.fit.object b.fit.address
-            b.fit.there b.fit.right.words b.fit.right.body;
-        each = λ k low. word_there at b.value b.fit k low;
+        words = words_are at b.value b.fit;
+        each = λ k low. let word = word_there at b.value b.fit k low in word.1.comes ∙ ap Ok word.1.fit.is;
         within = all_within at b.value b.fit;
       }
     where
+      -- word k of the block in the arena
       word_there : (a : Address) (id : Id) (x : IsBlock w a id) (k : ℕ) → k < length x.right.words
-          → word_in_block h a k ≡ Ok (word_of a + k)
+          → (value : ℕ) × HasFit (IsWordOf h.segs.words x.right.words a k) (word_in_block h a k) value
       word_there a id x k low =
           let value = there_is x.right.words k low in
           let model_is : model.required (slice_get (words_at w.graph id) k) refusal.BadIndex ≡ Ok value.0 =
           ap (λ ws. model.required (slice_get ws k) refusal.BadIndex) (block_words layout past h w parts own a id x)
-          ∙ ap (λ o. model.required o refusal.BadIndex) value.1 in
-          let word = same_ok (IsWordOf h.segs.words x.right.words a k) (word_in_block h a k)
-          (model.required (slice_get (words_at w.graph id) k) refusal.BadIndex) value.0
-          (word_same layout past h w parts own a id x k) model_is in
-          word.comes ∙ ap Ok word.fit.is
+          ∙ ap (λ o. model.required o refusal.BadIndex) value.1 in (
+            value.0,
+            same_ok (IsWordOf h.segs.words x.right.words a k) (word_in_block h a k)
+                (model.required (slice_get (words_at w.graph id) k) refusal.BadIndex) value.0
+                (word_same layout past h w parts own a id x k) model_is,
+          )
 
       all_within : (a : Address) (id : Id) (x : IsBlock w a id) → word_of a + length x.right.words ≤ length h.segs.words
       all_within a id x =
@@ -116,12 +113,21 @@ module _ {F : Type 0} (layout : F → Layout) (h : HeapState F) (w : World) (pas
                 absurd (omega (arith, none, some))
           ]
 
-  -- ---- the cells of an object
-
-  pub record IsObjectBorrowed (slot : Slot) (b : Block F) : Type 0 where
-    pub object : Numbered Object
-    pub is : IsObject layout past h w b object
-    pub run : Contains h.segs.blocks (record { from = word_of b.at; count = length is.cells })
-    pub one : (n : ℕ) → Contains h.segs.blocks (record { from = word_of b.at; count = n }) → n ≡ length is.cells
-    -- the arena's words are those of its cells
-    pub words : slice_range h.segs.words (word_of b.at) (word_of b.at + length is.cells) ≡ map (image_of_cell w b.head) is.cells
+      -- and all of them
+      words_are : (a : Address) (id : Id) (x : IsBlock w a id)
+          → slice_range h.segs.words (word_of a) (word_of a + length x.right.words) ≡ x.right.words
+      words_are a id x =
+          let count = length x.right.words in
+          let within = all_within a id x in
+          let long : length (slice_range h.segs.words (word_of a) (word_of a + count)) ≡ count =
+          length-take (word_of a + count - word_of a) (drop (word_of a) h.segs.words)
+          ∙ omega (arith, within, length-drop (word_of a) h.segs.words) in
+          ext_get_or 0 (slice_range h.segs.words (word_of a) (word_of a + count)) x.right.words long (λ i lt.
+          let low : i < count = omega (arith, lt, long) in
+          let word = word_there a id x i low in
+          let fit = word.1.fit in
+          get_or-take (word_of a + count - word_of a) (drop (word_of a) h.segs.words) i 0 (omega (arith, low))
+          ∙ get_or-drop (word_of a) h.segs.words i 0
+          ∙ ap (λ n. get_or h.segs.words n 0) (sym fit.is)
+          ∙ get_or_from_slice_get h.segs.words word.1.value word.0 0 fit.stored
+          ∙ sym (get_or_from_slice_get x.right.words i word.0 0 fit.has))
