@@ -31,8 +31,8 @@ abbrev pub running_after_post : Running → Running
 running_after_post run = record run { band = band.Final; registered_before = run.registered_before - 1 }
 
 -- the block of a registration can be fixed, and isn't at null before or after. After it is kept there is room for the post
-pub record CanExamine {F : Type 0} (layout : F → Layout) (formats : List (Option (Policy F))) (chains : ChainsState) (x : Traced) (at : Addr)
-    : Type 0 where
+pub record CanExamine {F : Type 0} (layout : F → Layout) (formats : List (Option (Policy F))) (chains : ChainsState) (x : Traced)
+    (at : Addr) : Type 0 where
   pub fix : CanFixAt layout formats chains x at
   pub leads : (y : Traced) (to : Addr) → FixesTo layout formats chains x at y to → 0 < to.0
   pub room : (y : Traced) (to : Addr) → KeepsTo layout formats chains x at y to → 0 < y.moves.spare

@@ -11,3 +11,4 @@ pub mod RootsReady
 pub mod FinalsThen
 pub mod Acted
 pub mod OverAtOnce
+pub mod MovesOfObjects

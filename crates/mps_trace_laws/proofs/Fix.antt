@@ -23,3 +23,4 @@ pub mod Scanned
 pub mod CanScan
 pub mod Housed
 pub mod Ranks
+pub mod RankedMarks

@@ -6,3 +6,4 @@ pub mod Reclaim
 pub mod Roots
 pub mod Fix
 pub mod Units
+pub mod Splats

@@ -2,6 +2,7 @@
 pub mod Counting
 pub mod TwoLists
 pub mod Finals
+pub mod Examining
 pub mod Entering
 pub mod RoomLeft
 pub mod Reclaiming

@@ -6,3 +6,4 @@ pub mod Steps
 pub mod Cells
 pub mod Scanning
 pub mod Housed
+pub mod Ranks

@@ -7,6 +7,9 @@ ghost use Rattle.mps_trace_laws.specs.Fix.Steps.{AFixIsAStep};
 ghost use Rattle.mps_trace_laws.specs.Fix.Scanning.{AScanIsAScan};
 ghost use Rattle.mps_trace_laws.specs.Reclaim.Laws.{AReclaimIsAUnit};
 ghost use Rattle.mps_trace_laws.specs.Begin.Begun.{ACollectionBegins};
+ghost use Rattle.mps_trace_laws.specs.Begin.MovesOfObjects.{RoomIsEnough};
+ghost use Rattle.mps_trace_laws.specs.Splats.Laws.{ASplatScanIsAScan};
+ghost use Rattle.mps_trace_laws.specs.Units.Examining.{ExaminationsAreUnits, PostsAreUnits};
 
 /// What is found at an address that means an object is where it lies now, and nothing is found exactly if it is white.
 pub fn an_object_is_found<F>()
@@ -32,4 +35,25 @@ pub fn a_reclaim_is_a_unit()
 /// A collection that begins is the act of the model's flip, and the state stands for the abstract collector before its first unit.
 pub fn a_collection_begins<F>()
     ensures { ACollectionBegins F }
+{}
+
+/// The examination of a registration whose block is found is a unit of the abstract collector.
+pub fn examinations_are_units<F>()
+    ensures { ExaminationsAreUnits F }
+{}
+
+/// The examination of a registration whose block is white is one too: its object is kept and posted, by the moves of the trail.
+pub fn posts_are_units<F>()
+    ensures { PostsAreUnits F }
+{}
+
+/// The scan of a weak block is a row of splats of the abstract collector, by the moves of the trail, and its object is black then.
+pub fn a_splat_scan_is_a_scan<F>()
+    ensures { ASplatScanIsAScan F }
+{}
+
+/// Two moves for each word of an arena are enough for each live object: to be kept, to be posted, and to have its references
+/// splatted.
+pub fn room_is_enough()
+    ensures { RoomIsEnough }
 {}

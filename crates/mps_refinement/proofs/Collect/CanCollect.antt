@@ -73,8 +73,8 @@ module _ {F : Type 0} (layout : F → Layout) (begins : ACollectionBegins F) (ca
               run act.after (most_moves h.segs.grains) those act.stands;
           ends = λ last finals'' run' units.
               let less =
-              units_run_out layout t.formats t.chains w.addresses z last finals' finals'' run run' act.after (most_moves h.segs.grains) those
-              act.stands units
+              units_run_out layout t.formats t.chains w.addresses z last finals' finals'' run run' act.after (most_moves h.segs.grains)
+              those act.stands units
               in
               let most = few w act.first act.after act.fixes before.plain.none_registered in
               let enough_for = (bounded t of).room in

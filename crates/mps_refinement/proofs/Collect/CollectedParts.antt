@@ -39,8 +39,8 @@ use Rattle.mps_refinement.proofs.Collect.FlippedPoints.{points_counted, points_f
 
 module _ {F : Type 0} (layout : F → Layout) (past : Past) (h after : HeapState F) (w : World) (parts : AreParts layout past h w)
     (timed : past.time ≡ time_at_rest) (formed : IsWellFormed w) (made : WereMadeBefore (length w.flips) h.points)
-    (acted : Collecting) (objects : List Object) (registered messages : List Id) (dependents : List (Id × Id)) (addresses : List (Option Address)) (segments : List Segment)
-    (tails : List world.Tail) where
+    (acted : Collecting) (objects : List Object) (registered messages : List Id) (dependents : List (Id × Id))
+    (addresses : List (Option Address)) (segments : List Segment) (tails : List world.Tail) where
   -- the world after it
   abbrev pub v : World
   v = record (world_flipped w (condemned_zones w Everything)) {

@@ -171,7 +171,9 @@ module _ {F : Type 0} (flip_stands : AFlipStands F) (layout : F → Layout) (t :
   finals_then = record {
     registrations =
         finals_after.registered ∙ held.registered
-        ∙ ap₂ (λ (n : ℕ) (ids : List Id). map (address_of_id after.world.addresses) (take n ids) ++ map (address_of_id w.addresses) (drop n ids))
+        ∙ ap₂
+        (λ (n : ℕ) (ids : List Id). map (address_of_id after.world.addresses) (take n ids)
+        ++ map (address_of_id w.addresses) (drop n ids))
         (sym nothing_examined) (sym registered_same);
     waiting =
         messages_are after finals'.messages w.graph.messages (finals_after.as_many ∙ held.waiting) all.messages

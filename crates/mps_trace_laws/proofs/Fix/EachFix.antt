@@ -195,7 +195,8 @@ module _ (F : Type 0) (layout : F → Layout) (formats : List (Option (Policy F)
             keeps_step target.object target.automatic lies_there s over pool condemned white copying z.amc z.segs z.moves answer mine
 
         -- or marks it
-        marked_step : format.moves ≡ false → IsFixStep layout formats of at_flip done x (record x { segs = kept_in_place x.segs at.0 }) y t at.0
+        marked_step : format.moves ≡ false
+            → IsFixStep layout formats of at_flip done x (record x { segs = kept_in_place x.segs at.0 }) y t at.0
         marked_step stays =
             let isnt : is_copying_pool y.world o.pool ≡ false = sym (stands.state.pools.moves_is o.pool format listed_there) ∙ stays in
             mark_step layout formats of at_flip done x y stands t at.0 o target.object lies_there white
@@ -227,8 +228,8 @@ module _ (F : Type 0) (layout : F → Layout) (formats : List (Option (Policy F)
       each_step (finds to found_there) =
           nothing_kept to (object_found F layout formats of at_flip done x y shaped stands at t now o target (Some to) found_there)
       each_step (keeps answer nowhere kept) =
-          of_found (object_found F layout formats of at_flip done x y shaped stands at t now o target None nowhere) (white_is_condemned nowhere)
-          kept
+          of_found (object_found F layout formats of at_flip done x y shaped stands at t now o target None nowhere)
+          (white_is_condemned nowhere) kept
 
 pub fix_is_a_step : {F : Type 0} → AFixIsAStep F
 fix_is_a_step {F} layout formats of at_flip done x z y at answer t now o shaped stands target fixed =

@@ -119,7 +119,9 @@ module _ {F : Type 0} (layout : F → Layout) (formats : List (Option (Policy F)
               | inr isnt ↦ isnt
               | inl is ↦
                   let marks = st.frees.stands.image.marks in
-                  let set : (bit x.segs.marks.exact n || bit x.segs.marks.weak n) ≡ true = or_right (bit x.segs.marks.exact n) (bit x.segs.marks.weak n) is in
+                  let set : (bit x.segs.marks.exact n || bit x.segs.marks.weak n) ≡ true =
+                  or_right (bit x.segs.marks.exact n) (bit x.segs.marks.weak n) is
+                  in
                   let b = marks.marked n (or_right (bit x.segs.marks.kept n) (bit x.segs.marks.exact n || bit x.segs.marks.weak n) set) in
                   absurd (true≢false (sym set ∙ ap (λ w. bit x.segs.marks.exact w || bit x.segs.marks.weak w) b.is
                   ∙ sym (marks.grey_there b.id b.at b.address) ∙ st.scanned b.id))

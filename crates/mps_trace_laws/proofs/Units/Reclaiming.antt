@@ -292,7 +292,10 @@ the_last_unit_is_done layout formats of at_flip x z f run y stands unit =
             same_segments = sym end.segments;
           });
       finals =
-          subst (λ (w : World). HasFinalsOf f (record w { addresses = (world_after_moves y.world (reclaim_by y low.segment.base freed)).addresses }))
+          subst
+          (λ (w : World). HasFinalsOf f (record w {
+            addresses = (world_after_moves y.world (reclaim_by y low.segment.base freed)).addresses;
+          }))
           (sym (last_leads y stands.running low.segment freed next_is last))
           (finals_at_end at_flip (world_after_moves y.world (reclaim_by y low.segment.base freed)).addresses y.world.graph.registered
           y.world.graph.messages y.next f (stands.examined ∙ stands.all)

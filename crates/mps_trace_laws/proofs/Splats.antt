@@ -1,0 +1,7 @@
+-- Scans of weak blocks: sequences of splats of the abstract collector.
+pub mod Shapes
+pub mod Standing
+pub mod OneCell
+pub mod Cells
+pub mod Run
+pub mod Scanned
