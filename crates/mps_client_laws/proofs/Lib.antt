@@ -5,3 +5,6 @@ pub mod Objects
 pub mod QuietCalls
 pub mod ReadingBack
 pub mod Addresses
+pub mod Slots
+pub mod SlotsOfCalls
+pub mod SlotsStay

@@ -233,7 +233,7 @@ module _ (formats : ℕ → Layout) (steps between later : History) (write read 
   at_read = sym (world_after_steps-append first steps (write ∷ between))
 
 -- the graph of the world after an accepted quiet call
-quiet_graph : (c : Call) → IsQuiet c → (w : World) (s : Step) → IsAnswered w s → s.call ≡ c → is_accepted s.answer ≡ true
+pub quiet_graph : (c : Call) → IsQuiet c → (w : World) (s : Step) → IsAnswered w s → s.call ≡ c → is_accepted s.answer ≡ true
     → (a : Act) × (act_in w c ≡ Ok a) × ((world_after w s).graph ≡ a.world.graph)
 quiet_graph c quiet w s answered is accepted =
     let a = accepted_act (act_in w c) s.answer (quiet_answer c quiet w s answered is) accepted in

@@ -1,3 +1,4 @@
 pub mod Objects
 pub mod ReadingBack
 pub mod Addresses
+pub mod Slots

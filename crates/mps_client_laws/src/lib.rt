@@ -5,6 +5,7 @@
 ghost use Rattle.mps_client_laws.specs.Objects.{ObjectsKeepTheirIdentity, CellsStay, WordsStay};
 ghost use Rattle.mps_client_laws.specs.Addresses.{ObjectsLiveOn, AddressesStay, NoTwoHaveOneAddress};
 ghost use Rattle.mps_client_laws.specs.ReadingBack.{GetGivesWhatWasPut, NumAnswersWhatWasSet, LoadAnswersWhatWasStored};
+ghost use Rattle.mps_client_laws.specs.Slots.{SlotsStay, CopyGivesTheSameObject, ClearLeavesNull, YesIsTheSameObject, NoIsAnotherObject, YesIsNoObject, NoIsAnObject};
 
 /// No object is lost. Over any steps an object keeps its pool, its kind, its size, its head and its weakness. A cell is
 /// what it was, unless a `put`, `setnum` or `settag` of this cell or a splat of it writes it; a word of a manual block, unless
@@ -29,4 +30,22 @@ pub fn a_read_gives_what_was_written()
     ensures get { GetGivesWhatWasPut }
     ensures num { NumAnswersWhatWasSet }
     ensures load { LoadAnswersWhatWasStored }
+{}
+
+/// A slot has what it had, null or the same object, over any steps that don't write this slot or drop its table: wherever the
+/// object is moved meanwhile.
+pub fn slots_stay()
+    ensures { SlotsStay }
+{}
+
+/// `copy`, `clear`, `same` and `null` are about the objects in slots. After a `copy` the target refers to the source's object, and
+/// after a `clear` to none. `same` answers yes exactly if both slots refer to one object or both are null, and `null` exactly if
+/// the slot refers to none: wherever the objects lie, and while a collection moves them.
+pub fn slots_are_equal_by_object()
+    ensures copy { CopyGivesTheSameObject }
+    ensures clear { ClearLeavesNull }
+    ensures same { YesIsTheSameObject }
+    ensures not_same { NoIsAnotherObject }
+    ensures null { YesIsNoObject }
+    ensures not_null { NoIsAnObject }
 {}
