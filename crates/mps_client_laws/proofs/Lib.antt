@@ -8,3 +8,4 @@ pub mod Addresses
 pub mod Slots
 pub mod SlotsOfCalls
 pub mod SlotsStay
+pub mod Collecting

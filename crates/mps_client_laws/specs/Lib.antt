@@ -2,3 +2,4 @@ pub mod Objects
 pub mod ReadingBack
 pub mod Addresses
 pub mod Slots
+pub mod Collecting

@@ -4,6 +4,7 @@
 
 ghost use Rattle.mps_client_laws.specs.Objects.{ObjectsKeepTheirIdentity, CellsStay, WordsStay};
 ghost use Rattle.mps_client_laws.specs.Addresses.{ObjectsLiveOn, AddressesStay, NoTwoHaveOneAddress};
+ghost use Rattle.mps_client_laws.specs.Collecting.{CollectLeavesWhatIsReached};
 ghost use Rattle.mps_client_laws.specs.ReadingBack.{GetGivesWhatWasPut, NumAnswersWhatWasSet, LoadAnswersWhatWasStored};
 ghost use Rattle.mps_client_laws.specs.Slots.{SlotsStay, CopyGivesTheSameObject, ClearLeavesNull, YesIsTheSameObject, NoIsAnotherObject, YesIsNoObject, NoIsAnObject};
 
@@ -48,4 +49,10 @@ pub fn slots_are_equal_by_object()
     ensures not_same { NoIsAnotherObject }
     ensures null { YesIsNoObject }
     ensures not_null { NoIsAnObject }
+{}
+
+/// What can be reached before a `collect` is live after it: by a path from slots, area words and messages, through reference cells of
+/// objects that aren't weak. Each object that isn't weak has the cells that it had.
+pub fn what_is_reached_stays()
+    ensures { CollectLeavesWhatIsReached }
 {}

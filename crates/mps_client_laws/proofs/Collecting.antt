@@ -1,0 +1,328 @@
+-- What can be reached before a `collect` is live after it, with its cells.
+use Rattle.std.proofs.Common.{◌≡◌, ◌⊎◌, inl, inr, ℕ, zero, suc, Bool, true, false, refl, sym, ◌∙◌, ap, subst, List, [], ◌∷◌, ◌++◌, map, Option, Some, None}
+use Rattle.std.proofs.lemmas.Bool.{true≢false, and_from, eq-eqb, eqb-true, or_left, or_right}
+use Rattle.std.proofs.lemmas.Option.{none-some, same_Some, slice_get-map}
+use Rattle.std.specs.Prelude.{IsTrue, MatchBool, not, ◌&&◌, ◌||◌, ◌==◌, if◌then◌else◌, is_some, option_and_then, option_map, slice_get}
+use Rattle.std.specs.Option.{option_map_or}
+use Rattle.std.specs.List.{list_all, list_any, flat_map}
+use Rattle.mps_base.specs.Segment.{Segment, words_of_segment}
+use Rattle.mps_base.specs.declared.moves.Move.{Move}
+use Rattle.mps_base.specs.declared.moves.Move.TheVariants as moves
+use Rattle.mps_model.proofs.Appending.{IsLegalFrom-later}
+use Rattle.mps_model.proofs.Cutting.{world_after_moves-append}
+use Rattle.mps_model.proofs.Reaching.{PathLeads-holds, list_all-contains}
+use Rattle.mps_model.specs.declared.call.Call.TheVariants as call
+use Rattle.mps_model.specs.Step.{Step}
+use Rattle.mps_model.specs.Graph.{Graph, Object, Body, Automatic, Manual, Cell, contains, entries, object_at, is_automatic, is_weak_object, target_of_cell, targets, targets_of, targets_of_body, targets_of_cells, strong_targets, strong_targets_of, ids_in_slots, ids_in_holds, ids_in_reservations, ids_of_client}
+use Rattle.mps_model.specs.Collection.{Collection}
+use Rattle.mps_model.specs.World.{World, Parked, empty_world_of, id_at, is_copying_pool, is_live, is_running, live_ids, object_is, with_tail}
+use Rattle.mps_model.specs.Checked.{cells_of_body}
+use Rattle.mps_model.specs.Collecting.{with_state}
+use Rattle.mps_model.specs.Effect.{Everything, where_one, world_after_move, world_after_moves, holding, segment_of_move, with_address, with_collection, reclaiming, segment_base_of}
+use Rattle.mps_model.specs.LegalMove.{AreLegalMoves, ForOne, IsLegalMove, IsLegalSplat, first_move}
+use Rattle.mps_model.specs.Flip.{flip_act}
+use Rattle.mps_model.specs.Units.{AreUnitsToEnd}
+use Rattle.mps_model.specs.History.{AreMovesOf, AreMovesOfCollect, FinishesCollection, HeldAreLive, moves_of_collector, remembering, with_client_remembered, world_after, world_after_call}
+use Rattle.mps_laws.specs.Replay.{reached}
+use Rattle.mps_laws.proofs.LegalHistories.{IsAnswered}
+use Rattle.mps_laws.proofs.Reading.{contains-append_left, contains-append_right, held_is_live}
+use Rattle.mps_laws.proofs.Sound.Referred.{of_live}
+use Rattle.mps_client_laws.specs.Objects.{Identity, identity_of, identity_at, cell_at, cells_nulled, is_cell, moves_leave_cell}
+use Rattle.mps_client_laws.specs.Collecting.{held_ids, CollectLeavesWhatIsReached}
+use Rattle.mps_client_laws.proofs.WritesOfMoves.{move_leaves_objects, moves_leave_objects}
+use Rattle.mps_client_laws.proofs.ReadingBack.{accepted_is_answered}
+
+-- ---- what moves leave of roots
+
+-- slots and areas are as before, and no message is taken
+record LeavesRoots (before after : Graph) : Type 0 where
+  tables : after.tables ≡ before.tables
+  areas : after.areas ≡ before.areas
+  messages : (id : ℕ) → contains before.messages id ≡ true → contains after.messages id ≡ true
+
+roots_left : (before after : Graph) → after.tables ≡ before.tables → after.areas ≡ before.areas → after.messages ≡ before.messages
+    → LeavesRoots before after
+roots_left before after tables areas messages =
+    record { tables = tables; areas = areas; messages = λ id h. subst (λ ms. contains ms id ≡ true) (sym messages) h }
+
+module _ (w : World) where
+  where_one_roots : (found : Option ℕ) (change : ℕ → World) → ((id : ℕ) → LeavesRoots w.graph (change id).graph)
+      → LeavesRoots w.graph (where_one w found change).graph
+  where_one_roots None change leaves = roots_left w.graph w.graph refl refl refl
+  where_one_roots (Some id) change leaves = leaves id
+
+  same_roots : LeavesRoots w.graph w.graph
+  same_roots = roots_left w.graph w.graph refl refl refl
+
+  segment_roots : (s : Segment) (b : Bool)
+      → LeavesRoots w.graph (if b then with_tail (holding w s) s.pool s.generation (words_of_segment s) else holding w s).graph
+  segment_roots s true = same_roots
+  segment_roots s false = same_roots
+
+  free_roots : (id at : ℕ) (b : Bool)
+      → LeavesRoots w.graph (if b then with_collection (with_address w id None) (reclaiming
+      (segment_base_of w at)) else with_address w id None).graph
+  free_roots id at true = same_roots
+  free_roots id at false = same_roots
+
+  move_roots : (m : Move) → LeavesRoots w.graph (world_after_move w m).graph
+  move_roots (moves.Seg base grains pool generation) =
+      let s = segment_of_move base.0 grains pool generation in segment_roots s (is_copying_pool w s.pool)
+  move_roots (moves.Unseg base) = same_roots
+  move_roots (moves.Flip zones chain generation) = roots_left w.graph _ refl refl refl
+  move_roots moves.End = same_roots
+  move_roots (moves.Moved from to) = where_one_roots (id_at w from.0) _ (λ id. same_roots)
+  move_roots (moves.Stay at) = where_one_roots (id_at w at.0) _ (λ id. same_roots)
+  move_roots (moves.Splat holder cell) = where_one_roots (id_at w holder.0) _ (λ id. roots_left w.graph _ refl refl refl)
+  move_roots (moves.Post at) =
+      where_one_roots (id_at w at.0) _ (λ id. record {
+        tables = refl;
+        areas = refl;
+        messages = λ other h. contains-append_left w.graph.messages (id ∷ []) other h;
+      })
+  move_roots (moves.Commit at words pool) = same_roots
+  move_roots (moves.Alloc at words pool) = same_roots
+  move_roots (moves.Free at) = where_one_roots (id_at w at.0) _ (λ id. free_roots id at.0 (object_is is_automatic w id))
+
+moves_roots : (w : World) (ms : List Move) → LeavesRoots w.graph (world_after_moves w ms).graph
+moves_roots w [] = roots_left w.graph w.graph refl refl refl
+moves_roots w (m ∷ ms) =
+    let first = move_roots w m in
+    let rest = moves_roots (world_after_move w m) ms in
+    record {
+      tables = rest.tables ∙ first.tables;
+      areas = rest.areas ∙ first.areas;
+      messages = λ id h. rest.messages id (first.messages id h);
+    }
+
+either_or : (xs ys : List ℕ) (id : ℕ) → contains (xs ++ ys) id ≡ true → (contains xs id ≡ true) ⊎ (contains ys id ≡ true)
+either_or [] ys id h = inr h
+either_or (x ∷ xs) ys id h = by_case (either_or xs ys id) (x == id) refl h
+  where
+    by_rest : (contains xs id ≡ true) ⊎ (contains ys id ≡ true) → (x == id) ≡ false
+        → (((x == id) || contains xs id) ≡ true) ⊎ (contains ys id ≡ true)
+    by_rest (inl e) differs = inl (or_right (x == id) (contains xs id) e)
+    by_rest (inr e) differs = inr e
+
+    by_case : (contains (xs ++ ys) id ≡ true → (contains xs id ≡ true) ⊎ (contains ys id ≡ true)) → (b : Bool) → (x == id) ≡ b
+        → (b || contains (xs ++ ys) id) ≡ true → (((x == id) || contains xs id) ≡ true) ⊎ (contains ys id ≡ true)
+    by_case later true e h = inl (or_left (x == id) (contains xs id) e)
+    by_case later false e h = by_rest (later h) e
+
+-- what is in slots, area words and messages is held by the client afterwards
+still_held : (before after : Graph) → LeavesRoots before after → (id : ℕ) → contains (held_ids before) id ≡ true
+    → contains (ids_of_client after) id ≡ true
+still_held before after left id h =
+    contains-append_left (held_ids after) (ids_in_reservations after) id
+    (elim (either_or (ids_in_slots before ++ ids_in_holds before) before.messages id h) [
+      | inl roots ↦ contains-append_left (ids_in_slots after ++ ids_in_holds after) after.messages id
+          (subst (λ ids. contains ids id ≡ true) (sym same) roots)
+      | inr message ↦ contains-append_right (ids_in_slots after ++ ids_in_holds after) after.messages id (left.messages id message)
+    ])
+  where
+    same : ids_in_slots after ++ ids_in_holds after ≡ ids_in_slots before ++ ids_in_holds before
+    same =
+        ap (λ ts. ids_in_slots (record after { tables = ts }) ++ ids_in_holds after) left.tables
+        ∙ ap (λ areas. ids_in_slots before ++ ids_in_holds (record after { areas = areas })) left.areas
+
+-- ---- objects that aren't weak
+
+abbrev weak_in : Option Identity → Bool
+weak_in is = option_map_or (λ (i : Identity). i.is_weak) is false
+
+weak_by_identity : (o : Option Object) → option_map_or is_weak_object o false ≡ weak_in (option_map identity_of o)
+weak_by_identity None = refl
+weak_by_identity (Some o) = refl
+
+-- a splat is of a weak object, so it makes no cell of another null
+splat_leaves_strong : (w : World) (id k cell : ℕ) (c : Option Collection) (found : Option ℕ) → object_is is_weak_object w id ≡ false
+    → ForOne c (λ c. ForOne found (λ holder. IsLegalSplat w c holder cell))
+    → not (list_any (is_cell id k) (option_map_or (λ holder. (holder, cell) ∷ []) found [])) ≡ true
+splat_leaves_strong w id k cell None found strong legal = absurd legal
+splat_leaves_strong w id k cell (Some c) None strong legal = absurd legal
+splat_leaves_strong w id k cell (Some c) (Some holder) strong legal = by_holder (holder == id) refl
+  where
+    by_holder : (b : Bool) → (holder == id) ≡ b → not (((holder == id) && (cell == k)) || false) ≡ true
+    by_holder true e =
+        absurd (true≢false (sym legal.weak ∙ ap (object_is is_weak_object w) (eqb-true holder id e) ∙ strong))
+    by_holder false e = ap (λ b. not ((b && (cell == k)) || false)) e
+
+legal_move_leaves_strong : (w : World) (before : Option Move) (m : Move) (next : Option Move) (id k : ℕ)
+    → object_is is_weak_object w id ≡ false → IsLegalMove w before m next → not (list_any (is_cell id k) (cells_nulled w m)) ≡ true
+legal_move_leaves_strong w before (moves.Splat holder cell) next id k strong legal =
+    splat_leaves_strong w id k cell w.collection (id_at w holder.0) strong legal
+legal_move_leaves_strong w before _ next id k strong legal = refl
+
+legal_moves_leave_strong : (w : World) (before : Option Move) (ms : List Move) (id k : ℕ) → object_is is_weak_object w id ≡ false
+    → AreLegalMoves w before ms → moves_leave_cell w ms id k ≡ true
+legal_moves_leave_strong w before [] id k strong legal = refl
+legal_moves_leave_strong w before (m ∷ ms) id k strong legal =
+    and_from (not (list_any (is_cell id k) (cells_nulled w m))) (moves_leave_cell (world_after_move w m) ms id k)
+    (legal_move_leaves_strong w before m (first_move ms) id k strong legal.0)
+    (legal_moves_leave_strong (world_after_move w m) (Some m) ms id k still legal.1)
+  where
+    same_identity : identity_at (world_after_move w m).graph id ≡ identity_at w.graph id
+    same_identity =
+        sym (slice_get-map identity_of (world_after_move w m).graph.objects id)
+        ∙ ap (λ is. slice_get is id) (move_leaves_objects w m).identities
+        ∙ slice_get-map identity_of w.graph.objects id
+
+    still : object_is is_weak_object (world_after_move w m) id ≡ false
+    still =
+        weak_by_identity (object_at (world_after_move w m).graph id) ∙ ap weak_in same_identity
+        ∙ sym (weak_by_identity (object_at w.graph id)) ∙ strong
+
+-- ---- targets
+
+-- the cell of a target
+found_target : (cells : List Cell) (to : ℕ) → contains (targets_of_cells cells) to ≡ true
+    → (k : ℕ) × (c : Cell) × (slice_get cells k ≡ Some c) × (target_of_cell c ≡ Some to)
+found_target [] to h = absurd (true≢false (sym h))
+found_target (c ∷ cs) to h = by_target (found_target cs to) (target_of_cell c) refl h
+  where
+    later : (k : ℕ) × (d : Cell) × (slice_get cs k ≡ Some d) × (target_of_cell d ≡ Some to)
+        → (k : ℕ) × (d : Cell) × (slice_get (c ∷ cs) k ≡ Some d) × (target_of_cell d ≡ Some to)
+    later found = (suc found.0, found.1, found.2, found.3)
+
+    by_equal : (contains (targets_of_cells cs) to ≡ true → (k : ℕ) × (d : Cell) × (slice_get cs k ≡ Some d) × (target_of_cell d ≡ Some to))
+        → (n : ℕ) → target_of_cell c ≡ Some n → (b : Bool) → (n == to) ≡ b → (b || contains (targets_of_cells cs) to) ≡ true
+        → (k : ℕ) × (d : Cell) × (slice_get (c ∷ cs) k ≡ Some d) × (target_of_cell d ≡ Some to)
+    by_equal rest n e true same h = (zero, c, refl, e ∙ ap Some (eqb-true n to same))
+    by_equal rest n e false same h = later (rest h)
+
+    by_target : (contains (targets_of_cells cs) to ≡ true → (k : ℕ) × (d : Cell) × (slice_get cs k ≡ Some d) × (target_of_cell d ≡ Some to))
+        → (t : Option ℕ) → target_of_cell c ≡ t → contains (entries (t ∷ map target_of_cell cs)) to ≡ true
+        → (k : ℕ) × (d : Cell) × (slice_get (c ∷ cs) k ≡ Some d) × (target_of_cell d ≡ Some to)
+    by_target rest None e h = later (rest h)
+    by_target rest (Some n) e h = by_equal rest n e (n == to) refl h
+
+target_is_among : (cells : List Cell) (k : ℕ) (c : Cell) (to : ℕ) → slice_get cells k ≡ Some c → target_of_cell c ≡ Some to
+    → contains (targets_of_cells cells) to ≡ true
+target_is_among [] k c to there e = absurd (none-some c there)
+target_is_among (d ∷ ds) zero c to there e =
+    subst (λ t. contains (entries (t ∷ map target_of_cell ds)) to ≡ true) (sym (ap target_of_cell (same_Some d c there) ∙ e))
+    (or_left (to == to) (contains (targets_of_cells ds) to) (eq-eqb to to refl))
+target_is_among (d ∷ ds) (suc k) c to there e = by_first (target_of_cell d) (target_is_among ds k c to there e)
+  where
+    by_first : (t : Option ℕ) → contains (targets_of_cells ds) to ≡ true → contains (entries (t ∷ map target_of_cell ds)) to ≡ true
+    by_first None h = h
+    by_first (Some n) h = or_right (n == to) (contains (targets_of_cells ds) to) h
+
+-- a target of an object that isn't weak is one afterwards, if the cells of such objects are as before
+targets_kept : (before after : Graph) (from to : ℕ)
+    → ((k : ℕ) (c : Cell) → option_map_or is_weak_object (object_at before from) false ≡ false → cell_at before from k ≡ Some c
+    → cell_at after from k ≡ Some c)
+    → contains (strong_targets before from) to ≡ true → contains (targets after from) to ≡ true
+targets_kept before after from to keeps h = by_object (object_at before from) refl h
+  where
+    afterwards : (k : ℕ) (c : Cell) → target_of_cell c ≡ Some to → (o : Option Object)
+        → option_and_then (λ (x : Object). slice_get (cells_of_body x.body) k) o ≡ Some c
+        → contains (option_map_or targets_of o []) to ≡ true
+    afterwards k c e None there = absurd (none-some c there)
+    afterwards k c e (Some x) there = in_body x.body there
+      where
+        in_body : (b : Body) → slice_get (cells_of_body b) k ≡ Some c
+            → contains (targets_of_body b) to ≡ true
+        in_body (Automatic head cells is_weak) there = target_is_among cells k c to there e
+        in_body (Manual words) there = absurd (none-some c there)
+
+    by_weak : (x : Object) → object_at before from ≡ Some x → (b : Bool) → is_weak_object x ≡ b
+        → contains (if b then [] else targets_of x) to ≡ true → contains (targets after from) to ≡ true
+    by_weak x there true weak h = absurd (true≢false (sym h))
+    by_weak x there false weak h = in_body x.body refl h
+      where
+        in_body : (b : Body) → x.body ≡ b → contains (targets_of_body b) to ≡ true
+            → contains (targets after from) to ≡ true
+        in_body (Automatic head cells is_weak) e h =
+            let found = found_target cells to h in
+            afterwards found.0 found.1 found.3 (object_at after from)
+            (keeps found.0 found.1 (ap (λ o. option_map_or is_weak_object o false) there ∙ weak)
+            (ap (option_and_then (λ (o : Object). slice_get (cells_of_body o.body) found.0)) there
+            ∙ ap (λ b. slice_get (cells_of_body b) found.0) e ∙ found.2))
+        in_body (Manual words) e h = absurd (true≢false (sym h))
+
+    by_object : (o : Option Object) → object_at before from ≡ o → contains (option_map_or strong_targets_of o []) to ≡ true
+        → contains (targets after from) to ≡ true
+    by_object None there h = absurd (true≢false (sym h))
+    by_object (Some x) there h = by_weak x there (is_weak_object x) refl h
+
+-- ---- the end of a `collect`
+
+not_false : (b : Bool) → not b ≡ true → b ≡ false
+not_false true h = absurd (true≢false (sym h))
+not_false false h = refl
+
+finished : (w : World) (ms : List Move) → FinishesCollection w ms → is_running (world_after_moves w ms) ≡ false
+finished w ms ends = by_case (is_running w) refl ends
+  where
+    by_case : (b : Bool) → is_running w ≡ b
+        → MatchBool b (AreUnitsToEnd w ms) (ms ≡ []) → is_running (world_after_moves w ms) ≡ false
+    by_case true e ends = not_false (is_running (world_after_moves w ms)) ends.1
+    by_case false e none = ap (λ ms. is_running (world_after_moves w ms)) none ∙ e
+
+collect_ends : (w : World) (ms : List Move) → AreMovesOfCollect w ms → is_running (world_after_moves w ms) ≡ false
+collect_ends w ms due =
+    let v = world_after_moves w due.earlier in
+    ap (λ ms. is_running (world_after_moves w ms)) due.both
+    ∙ ap is_running (world_after_moves-append w due.earlier due.full)
+    ∙ ap (λ ms. is_running (world_after_moves v ms)) due.is_full.whole
+    ∙ ap is_running (world_after_moves-append v (flip_act v Everything) due.is_full.later)
+    ∙ finished (world_after_moves v (flip_act v Everything)) due.is_full.later due.is_full.later_ends
+
+remembered_runs : (held : List ℕ) (c : Option Collection) → is_some (option_map (remembering held) c) ≡ is_some c
+remembered_runs held None = refl
+remembered_runs held (Some c) = refl
+
+module _ (w : World) (s : Step) (answered : IsAnswered w s) (is : s.call ≡ call.Collect) where
+  abbrev moved : World
+  moved = world_after_moves w s.moves
+
+  after_is : world_after w s ≡ with_client_remembered (with_state moved Parked)
+  after_is = answered.after ∙ ap (λ c. world_after_call w c s.moves s.answer) is
+
+  after_graph : (world_after w s).graph ≡ moved.graph
+  after_graph = ap (λ (u : World). u.graph) after_is
+
+  at_rest : is_running (world_after w s) ≡ false
+  at_rest =
+      ap is_running after_is ∙ remembered_runs (ids_of_client moved.graph) moved.collection
+      ∙ collect_ends w s.moves (subst (λ c. AreMovesOf w c s.answer s.moves) is answered.answered.moves_are_due)
+
+  held : HeldAreLive (world_after w s)
+  held = answered.answered.held_are_live
+
+  strong_cells : (id k : ℕ) (cell : Cell) → object_is is_weak_object w id ≡ false → cell_at w.graph id k ≡ Some cell
+      → cell_at (world_after w s).graph id k ≡ Some cell
+  strong_cells id k cell strong there =
+      ap (λ g. cell_at g id k) after_graph
+      ∙ (moves_leave_objects w s.moves).cells id k cell
+      (legal_moves_leave_strong w None s.moves id k strong
+      (subst (λ c. AreLegalMoves w None (moves_of_collector c s.moves)) is answered.answered.moves_are_legal))
+      there
+
+  all_referred : list_all (is_live (world_after w s)) (flat_map (targets (world_after w s).graph) (live_ids (world_after w s))) ≡ true
+  all_referred =
+      subst (λ b. (b || list_all (is_live (world_after w s)) (flat_map (targets (world_after w s).graph) (live_ids (world_after w s))))
+      ≡ true) at_rest held.referred
+
+  first_live : (id : ℕ) → IsTrue (contains (held_ids w.graph) id) → is_live (world_after w s) id ≡ true
+  first_live id h =
+      held_is_live (world_after w s) id held
+      (subst (λ g. contains (ids_of_client g) id ≡ true) (sym after_graph) (still_held w.graph moved.graph (moves_roots w s.moves) id h))
+
+  next_live : (from to : ℕ) → is_live (world_after w s) from ≡ true → IsTrue (contains (strong_targets w.graph from) to)
+      → is_live (world_after w s) to ≡ true
+  next_live from to live h =
+      list_all-contains (is_live (world_after w s)) (targets (world_after w s).graph from) to
+      (of_live (world_after w s) (is_live (world_after w s)) all_referred from live)
+      (targets_kept w.graph (world_after w s).graph from to (λ k c strong there. strong_cells from k c strong there) h)
+
+pub collect_leaves_what_is_reached : CollectLeavesWhatIsReached
+collect_leaves_what_is_reached formats steps later s id legal is accepted path =
+    let w = reached formats steps in
+    let answered = accepted_is_answered w s (IsLegalFrom-later (empty_world_of formats) steps (s ∷ later) legal).0 accepted in
+    record {
+      live = PathLeads-holds (strong_targets w.graph) (held_ids w.graph) (λ n. is_live (world_after w s) n ≡ true)
+          (first_live w s answered is) (next_live w s answered is) path;
+      cells = λ k cell strong there. strong_cells w s answered is id k cell strong there;
+    }
