@@ -8,7 +8,7 @@ ghost use Rattle.mps_seg.specs.Buffer.{IsAtHand};
 ghost use Rattle.mps_amc.specs.Moving.{BlockStands, IsBlockOf, IsForwarded, IsUnforwarded, size_at, nailed};
 ghost use Rattle.mps_amc.specs.Amc.{no_pools, with_pool, row_after_flip, tails_after_flip, HasTail, tail_of, with_tail, IsFixed};
 
-use crate::moving::{keep_in_place, move_block};
+use crate::moving::move_block;
 use mps_base::{Addr, Move, Rank, Trail};
 use mps_format::Format;
 use mps_seg::{Buffer, Segs};
@@ -63,9 +63,7 @@ impl Amc {
         requires { word_of at.0 < words_of_grain * (segs.old.grains + 1) }
         ensures { segs.new ≡ nailed segs.old at.0 }
     {
-        if !segs.is_kept(at) {
-            keep_in_place(segs, at);
-        }
+        segs.nail(at);
     }
 
     /// The tail of a generation of a pool.
@@ -143,7 +141,7 @@ impl Amc {
                 placed.at
             }
             Err(_) => {
-                keep_in_place(segs, at);
+                segs.keep_in_place(at);
                 trail.push(Move::Stay { at });
                 at
             }

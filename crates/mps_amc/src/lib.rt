@@ -6,4 +6,3 @@ mod moving;
 mod reclaiming;
 
 pub use amc::{Amc, forwarded_from};
-pub use moving::keep_in_place;

@@ -1,11 +1,11 @@
 // A block moves.
 #![tactic(auto)]
 
-ghost use Rattle.std.specs.Prelude.{◌≡◌, ℕ, ◌+◌, ◌*◌, ◌%◌, ◌<◌, ◌≤◌, ◌⊎◌, length, take, slice_index, slice_range};
-ghost use Rattle.mps_base.specs.Address.{word_of, bytes_of_word, words_of_grain};
+ghost use Rattle.std.specs.Prelude.{◌≡◌, ℕ, ◌+◌, ◌%◌, ◌<◌, ◌≤◌, ◌⊎◌, length, take, slice_index, slice_range};
+ghost use Rattle.mps_base.specs.Address.{word_of, bytes_of_word};
 ghost use Rattle.mps_format.specs.Blocks.{IsBlock, BeginsForwarded};
 ghost use Rattle.mps_seg.specs.Segs.{CanCover, LiesIn, held_runs};
-ghost use Rattle.mps_amc.specs.Moving.{AreCopied, BlockStands, IsBlockOf, run_at, moved_to, kept_in_place};
+ghost use Rattle.mps_amc.specs.Moving.{AreCopied, BlockStands, IsBlockOf, run_at, moved_to};
 
 use mps_base::Addr;
 use mps_format::Format;
@@ -23,33 +23,7 @@ pub(crate) fn move_block<F: Format>(segs: &mut Segs, format: &F, at: Addr, to: A
         → CanCover segs.new (record { from = word_of to.0 + words; count = rest }) }
 {
     let _ = segs.grains();
-    segs.drop_block(at, words);
-    segs.commit_block(to, words);
-    copy_block(segs, format, at, to, words);
-    let _ = segs.grains();
-    segs.set_grey(to);
-}
-
-/// Keeps the block at `at` where it lies. It is grey.
-pub fn keep_in_place(segs: &mut Segs, at: Addr)
-    requires { word_of at.0 < words_of_grain * (segs.old.grains + 1) }
-    ensures { segs.new ≡ kept_in_place segs.old at.0 }
-{
-    segs.keep(at);
-    segs.set_grey(at);
-}
-
-/// Copies the block of `words` words at `at` to words apart from it, and leaves a forwarded block.
-fn copy_block<F: Format>(segs: &mut Segs, format: &F, at: Addr, to: Addr, words: u32)
-    requires aligned { at.0 % bytes_of_word ≡ 0 }
-    requires held { LiesIn (held_runs segs.old) (run_at at.0 1) }
-    requires stands { BlockStands (F.layout format.now) segs.old.words at.0 words }
-    requires in_arena { word_of to.0 + words ≤ length segs.old.words }
-    requires apart { (word_of at.0 + words ≤ word_of to.0) ⊎ (word_of to.0 + words ≤ word_of at.0) }
-    ensures state { segs.new ≡ record segs.old { words = segs.new.words } }
-    ensures words { AreCopied (F.layout format.now) segs.old.words segs.new.words at.0 to.0 words }
-{
-    segs.copy(at, to, words);
+    segs.move_block(at, to, words);
     forward_block(segs, format, at, words, to);
 }
 

@@ -288,6 +288,13 @@ state_set size stored i x within =
     (let e : length (set stored i x) ≡ max (length stored) (i + 1) = omega (arith, length-set stored i x, within) in e)
     ∙ ap (λ (ws : List ℕ). seen ws (max (length stored) (i + 1))) (sym (padded_set size stored i x within))
 
+-- a word that is stored already
+pub state_set_stored : (size : ℕ) (stored : List ℕ) (i x : ℕ) → i < length stored
+    → memory_with size (set stored i x) ≡ seen (set (padded_words size stored) i x) (length stored)
+state_set_stored size stored i x within =
+    ap (λ (n : ℕ). seen (padded_words size (set stored i x)) n) (length-set stored i x)
+    ∙ ap (λ (ws : List ℕ). seen ws (length stored)) (sym (padded_set size stored i x within))
+
 pub state_copied : (size : ℕ) (stored : List ℕ) (from to n : ℕ) → from + n ≤ length stored → to + n ≤ length stored
     → memory_with size (copied_words stored from to n) ≡ with_copy (memory_with size stored) from to n
 state_copied size stored from to n from_in to_in =

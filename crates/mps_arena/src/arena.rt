@@ -187,6 +187,24 @@ impl Arena {
         self.memory.set_word(at.word(), word);
     }
 
+    /// The word at an address in a held grain. It costs no test, as `word` does.
+    #[inline(always)]
+    pub fn held_word(&self, at: Addr) -> u64
+        requires { AreHeldWords self.now.held (word_of at.0) 1 }
+        ensures { result ≡ slice_index self.now.words (word_of at.0) }
+    {
+        self.memory.stored_word(at.word())
+    }
+
+    /// Writes the word at an address in a held grain.
+    #[inline(always)]
+    pub fn set_held_word(&mut self, at: Addr, word: u64)
+        requires { AreHeldWords self.old.held (word_of at.0) 1 }
+        ensures { self.new ≡ record self.old { words = slice_set self.old.words (word_of at.0) word } }
+    {
+        self.memory.set_stored_word(at.word(), word);
+    }
+
     /// Writes 0 in the `words` words from `at` on.
     pub fn clear(&mut self, at: Addr, words: u32)
         requires { word_of at.0 + words ≤ length self.old.words }

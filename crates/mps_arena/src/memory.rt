@@ -1,7 +1,7 @@
 // The words of an arena in memory.
 #![tactic(auto)]
 
-ghost use Rattle.std.specs.Prelude.{◌≡◌, ℕ, ◌+◌, ◌<◌, ◌≤◌, length, take, drop, replicate, min, max, IfOk, slice_get, slice_index, slice_range};
+ghost use Rattle.std.specs.Prelude.{◌≡◌, ℕ, ◌+◌, ◌<◌, ◌≤◌, length, take, drop, replicate, min, max, IfOk, slice_get, slice_index, slice_range, slice_set};
 ghost use Rattle.std.specs.Borrow.{sem};
 ghost use Rattle.mps_base.specs.Address.{max_block_words};
 ghost use Rattle.mps_arena.specs.Arena.{cleared_words};
@@ -103,6 +103,24 @@ impl Memory {
         } else {
             self.store_word(word, value);
         }
+    }
+
+    /// A word that is stored.
+    #[inline(always)]
+    pub(crate) fn stored_word(&self, word: usize) -> u64
+        requires { word < self.now.stored }
+        ensures { result ≡ slice_index self.now.words word }
+    {
+        self.stored[word]
+    }
+
+    /// Writes a word that is stored.
+    #[inline(always)]
+    pub(crate) fn set_stored_word(&mut self, word: usize, value: u64)
+        requires { word < self.old.stored }
+        ensures { self.new ≡ record self.old { words = slice_set self.old.words word value } }
+    {
+        self.stored[word] = value;
     }
 
     /// Writes a word after those that are stored.

@@ -53,7 +53,7 @@ impl Trail {
         requires { 0 < self.old.spare }
         ensures { self.new ≡ with_move self.old m }
     {
-        self.moves.push(m).unwrap();
+        self.moves.push_reserved(m);
     }
 
     /// Empties the trail; its whole room is spare again.

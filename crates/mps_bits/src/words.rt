@@ -45,8 +45,22 @@ pub(crate) fn write_bit(words: &mut [u64], at: usize, value: bool)
     words[at / 64] = with_bits(words[at / 64], at % 64, 1, value);
 }
 
-/// Writes `value` into the bits from `from` up to `to`.
+/// Writes `value` into the bits from `from` up to `to`. Bits of one word are written in one step.
+#[inline(always)]
 pub(crate) fn write_range(words: &mut [u64], from: usize, to: usize, value: bool)
+    requires { to ≤ 64 * length words.old }
+    ensures inside { (i : ℕ) → from ≤ i → i < to → bit_in words.new i ≡ (if value then 1 else 0) }
+    ensures unchanged { (i : ℕ) → (i < from) ⊎ (to ≤ i) → bit_in words.new i ≡ bit_in words.old i }
+{
+    if from < to && from % 64 + (to - from) <= 64 {
+        words[from / 64] = with_bits(words[from / 64], from % 64, to - from, value);
+    } else {
+        write_words(words, from, to, value);
+    }
+}
+
+/// The same, 64 bits a step.
+fn write_words(words: &mut [u64], from: usize, to: usize, value: bool)
     requires { to ≤ 64 * length words.old }
     ensures inside { (i : ℕ) → from ≤ i → i < to → bit_in words.new i ≡ (if value then 1 else 0) }
     ensures unchanged { (i : ℕ) → (i < from) ⊎ (to ≤ i) → bit_in words.new i ≡ bit_in words.old i }

@@ -77,6 +77,7 @@ impl Extents {
     }
 
     /// Covers `words` words from `at` on by a block.
+    #[inline(always)]
     pub fn commit_block(&mut self, at: usize, words: usize)
         requires nonzero { 0 < words }
         requires free { IsAscending 0 self.old.size (with_run (record { from = at; count = words }) self.old.covered) }
@@ -108,6 +109,7 @@ impl Extents {
     }
 
     /// Removes the block of `words` words that begins at `at`.
+    #[inline(always)]
     pub fn drop_block(&mut self, at: usize, words: usize)
         requires { Contains self.old.blocks (record { from = at; count = words }) }
         ensures state { self.new ≡ record self.old {

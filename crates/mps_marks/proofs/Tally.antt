@@ -284,6 +284,10 @@ pub none_from : (bits : List Bool) (from to : ℕ) → to ≤ from → next_set_
 unfolding next_set_below
 none_from bits from to past = lowest_from_none (bit bits) from (to - from) (λ i above below. absurd (omega arith))
 
+pub none_of_none : (bits : List Bool) (from to : ℕ) → count_by (λ b. b) bits ≡ 0 → next_set_below bits from to ≡ None
+unfolding next_set_below
+none_of_none bits from to none = lowest_from_none (bit bits) from (to - from) (λ i above below. clear_where_none bits i none)
+
 pub search_sound : (blocks : List Bool) (from to word : ℕ) → next_set_below blocks from to ≡ Some word → bit blocks word ≡ true
 search_sound blocks from to word is_some = let lowest = found_bit blocks from to word is_some in lowest.passes
 

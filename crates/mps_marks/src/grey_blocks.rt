@@ -69,13 +69,14 @@ impl GreyBlocks {
     }
 
     /// The block that begins at a word becomes grey.
+    #[inline(always)]
     pub(crate) fn set(&mut self, word: usize)
         requires { word < length self.old }
         ensures { self.new ≡ slice_set self.old word true }
     {
         self.mark(word);
         if self.hints.len() < MAX_HINTS {
-            self.hints.push(word as u32).unwrap();
+            self.hints.push_reserved(word as u32);
         }
     }
 
@@ -154,6 +155,9 @@ impl GreyBlocks {
         requires { to ≤ length self.now }
         ensures { result ≡ next_set_below self.now from to }
     {
+        if self.count == 0 {
+            return None;
+        }
         let end = to.div_ceil(WORDS_OF_GRAIN);
         let mut at = from;
         while at < to {

@@ -75,6 +75,7 @@ impl Marks {
     }
 
     /// The block that begins at a word becomes grey, as one of a rank.
+    #[inline(always)]
     pub fn set_grey(&mut self, word: usize, rank: Rank)
         requires { word < length self.old.kept }
         ensures { self.new ≡ with_grey rank word self.old }

@@ -45,7 +45,7 @@ segment_of_entry at (First a b c d ∷ entries) (suc i) n p g r is =
     let later = subst P shifted (segment_of_entry (suc at) entries i n p g r is) in
     (suc later.0, omega (arith, later.1), later.2)
 
-listed : (table : List Entry) (grain n p g : ℕ) (r : Rank) → get_or table grain Free ≡ First n p g r
+pub listed : (table : List Entry) (grain n p g : ℕ) (r : Rank) → get_or table grain Free ≡ First n p g r
     → Contains (segments_in table) (record { base = address_of_grain grain; grains = n; pool = p; generation = g; rank = r })
 unfolding segments_in
 listed table grain n p g r is =

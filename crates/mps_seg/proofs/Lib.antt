@@ -1,5 +1,7 @@
 pub mod BlockOver
 pub mod BoundedGaps
+pub mod CondemnedGrains
+pub mod CondemnedOver
 pub mod Covering
 pub mod EmptySegments
 pub mod Entries

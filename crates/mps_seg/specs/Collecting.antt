@@ -1,5 +1,5 @@
 -- What a collection knows of blocks and segments: which are condemned, kept and grey, and where the references of a segment may lead.
-use Rattle.std.specs.Prelude.{◌≡◌, ℕ, Bool, true, false, not, ◌&&◌, ◌||◌, Option, Some, None, option_map, List, [], ◌∷◌, length, replicate, slice_index, slice_set, bit_or, refl}
+use Rattle.std.specs.Prelude.{◌≡◌, ℕ, Bool, true, false, not, ◌&&◌, ◌||◌, if◌then◌else◌, Option, Some, None, option_map, List, [], ◌∷◌, length, replicate, slice_index, slice_set, bit_or, refl}
 use Rattle.mps_base.specs.Address.{Address, Grain, grain_of, word_of}
 use Rattle.mps_base.specs.Segment.{Segment, segment_over, end_of_segment}
 use Rattle.mps_base.specs.Run.{Run, runs_within}
@@ -11,6 +11,7 @@ use Rattle.mps_bits.specs.Table.{bit, next_set_below, lowest_from}
 use Rattle.mps_marks.specs.Marks.{MarkTables, no_marks, grey_of, with_grey, after_blacken}
 use Rattle.mps_seg.specs.Segs.{SegsState, new_segments, at_word}
 use Rattle.mps_seg.specs.declared.segment_info.SegmentInfo.{SegmentInfo}
+use Rattle.mps_seg.specs.declared.segment_info.Owner.{Owner}
 
 -- the first grain of the segment in which an address lies
 abbrev pub first_grain_over : SegsState → Address → Option Grain
@@ -59,6 +60,19 @@ info_of s t = record {
   rank = t.rank;
   is_condemned = bit s.condemned (grain_of t.base);
 }
+
+-- the pool and the generation of a segment
+abbrev pub owner_of : Segment → Owner
+owner_of t = record { pool = t.pool; generation = t.generation }
+
+-- the same of a segment that is condemned
+abbrev pub owner_if_condemned : SegsState → Option Segment → Option Owner
+owner_if_condemned s None = None
+owner_if_condemned s (Some t) = if bit s.condemned (grain_of t.base) then Some (owner_of t) else None
+
+-- the pool and the generation of the condemned segment in which an address lies
+abbrev pub condemned_owner_at : SegsState → Address → Option Owner
+condemned_owner_at s at = owner_if_condemned s (segment_over s.segments at)
 
 -- the lowest grey block of a segment
 abbrev pub lowest_grey_in : SegsState → Segment → Option Addr
@@ -171,6 +185,14 @@ a_zone_is_noted = refl
 
 pub a_holder_in_no_segment : noting example 0x3000 0x43008 ≡ example
 a_holder_in_no_segment = refl
+
+pub a_condemned_segment_has_its_owner : condemned_owner_at example 0x1ff8 ≡ Some (record { pool = 0; generation = 0 })
+unfolding bit
+a_condemned_segment_has_its_owner = refl
+
+pub none_in_the_next_grain : condemned_owner_at example 0x2000 ≡ None
+unfolding bit
+none_in_the_next_grain = refl
 
 pub what_is_known_of_a_segment :
     info_of example exact_segment ≡ record { grains = 1; pool = 0; generation = 0; rank = Exact; is_condemned = true }

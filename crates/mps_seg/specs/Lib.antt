@@ -1,5 +1,6 @@
 pub mod Buffer
 pub mod Collecting
+pub mod Condemned
 pub mod Lending
 pub mod Moving
 pub mod Placing

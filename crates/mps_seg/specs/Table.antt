@@ -1,12 +1,14 @@
 -- How the tables by grain represent the segments.
-use Rattle.std.specs.Prelude.{ℕ, suc, ◌==◌, ◌&&◌, if◌then◌else◌, ◌+◌, ◌-◌, ◌*◌, ◌^◌, ◌≤◌, ◌<◌, ◌≡◌, ◌⊎◌, Bool, false, Option, Some, None, List, [], ◌∷◌, length, get_or, slice_set, map, Contains}
+use Rattle.std.specs.Prelude.{ℕ, suc, ◌==◌, ◌&&◌, if◌then◌else◌, ◌+◌, ◌-◌, ◌*◌, ◌^◌, ◌≤◌, ◌<◌, ◌≡◌, ◌≢◌, ◌⊎◌, Bool, true, false, Option, Some, None, List, [], ◌∷◌, length, get_or, slice_set, map, Contains}
 use Rattle.mps_base.specs.declared.names.Rank.{Rank}
 use Rattle.mps_base.specs.Run.{Run, end_of, gaps, IsAscending, runs_within}
 use Rattle.mps_base.specs.Address.{Address, Grain, words_of_grain, grain_of, address_of_grain, max_grains}
 use Rattle.mps_base.specs.Segment.{Segment, grains_of_segment, same_rank}
+use Rattle.mps_bits.specs.Table.{bit}
 use Rattle.mps_arena.specs.Arena.{ArenaMemory}
 use Rattle.mps_marks.specs.Marks.{MarkTables}
 use Rattle.mps_seg.specs.declared.entry.Entry.{Entry}
+use Rattle.mps_seg.specs.declared.segment_info.Owner.{Owner}
 use Rattle.mps_seg.specs.declared.entry.Entry.TheVariants.{Free, First}
 use Rattle.mps_seg.specs.Segs.{SegsState, LiesIn}
 use Rattle.mps_extents.specs.Extents.{ExtentLists, run_over, AreWhole}
@@ -123,3 +125,21 @@ any_gap = 2 ^ 32 - 1
 -- words of that segment are free again, and may be a part of a longer gap
 abbrev pub with_any_gap : (firsts bounds : List ℕ) → Address → List ℕ
 with_any_gap firsts bounds at = slice_set bounds (first_at firsts at) any_gap
+
+-- the pool and the generation that an entry has
+abbrev pub owner_of_entry : Entry → Option Owner
+owner_of_entry Free = None
+owner_of_entry (First grains pool generation rank) = Some (record { pool = pool; generation = generation })
+
+-- of the grains from one on and below another none is the first of a condemned segment
+abbrev pub NoneCondemnedFirst : List Entry → (condemned : List Bool) → (from to : Grain) → Type 0
+NoneCondemnedFirst table condemned from to =
+    (grain : Grain) → from ≤ grain → grain < to → bit condemned grain ≡ true → get_or table grain Free ≡ Free
+
+-- the lowest grain from one on that is the first of a condemned segment
+pub record IsCondemnedFirst (table : List Entry) (condemned : List Bool) (from grain : Grain) : Type 0 where
+  pub above : from ≤ grain
+  pub within : grain < length table
+  pub condemned_there : bit condemned grain ≡ true
+  pub begins : get_or table grain Free ≢ Free
+  pub first : NoneCondemnedFirst table condemned from grain

@@ -1,10 +1,12 @@
 // The entries of the table of segments.
 #![tactic(auto)]
 
-ghost use Rattle.std.specs.Prelude.{◌≡◌, ◌<◌, length, drop, IfSome};
-ghost use Rattle.mps_seg.specs.Table.{first_entry};
+ghost use Rattle.std.specs.Prelude.{◌≡◌, ◌≢◌, ◌^◌, ◌<◌, ◌≤◌, true, false, length, drop, IfSome, IfNone};
+ghost use Rattle.mps_seg.specs.declared.entry.Entry.TheVariants.{Free};
+ghost use Rattle.mps_seg.specs.Table.{first_entry, IsCondemnedFirst, NoneCondemnedFirst};
 
 use mps_base::Rank;
+use mps_bits::Bits;
 
 /// What the table of segments has for a grain.
 #[derive(Clone, Copy)]
@@ -31,4 +33,32 @@ pub(crate) fn first_entry_from(table: &[Entry], start: usize) -> Option<usize>
         }
     }
     None
+}
+
+/// The lowest grain from `start` on at which a condemned segment begins. Bits of other grains are passed over.
+pub(crate) fn condemned_entry_from(table: &[Entry], condemned: &Bits, start: usize) -> Option<usize>
+    requires at_most { length table.now < 2 ^ 32 }
+    requires in_bits { length table.now ≤ length condemned.now }
+    ensures sound { IfSome result (λ grain. IsCondemnedFirst table.now condemned.now start grain) }
+    ensures none { IfNone result (NoneCondemnedFirst table.now condemned.now start (length table.now)) }
+{
+    let mut from = start;
+    while let Some(grain) = condemned.next_set_below(from, table.len()) {
+        if is_first(table[grain]) {
+            return Some(grain);
+        }
+        from = grain + 1;
+    }
+    None
+}
+
+/// Whether a segment begins at the grain with this entry.
+fn is_first(entry: Entry) -> bool
+    ensures sound { result ≡ true → entry ≢ Free }
+    ensures complete { result ≡ false → entry ≡ Free }
+{
+    match entry {
+        Entry::First { .. } => true,
+        Entry::Free => false,
+    }
 }

@@ -9,7 +9,7 @@ mod segment_info;
 mod segs;
 
 pub use buffer::{Buffer, Placed};
-pub use segment_info::SegmentInfo;
+pub use segment_info::{Owner, SegmentInfo};
 pub use segs::{Block, Segs};
 
 #[cfg(test)]

@@ -10,3 +10,10 @@ pub struct SegmentInfo {
     pub rank: Rank,
     pub is_condemned: bool,
 }
+
+/// The pool to which a segment belongs, and the generation of its blocks.
+#[derive(Clone, Copy, Debug, PartialEq, Eq)]
+pub struct Owner {
+    pub pool: u32,
+    pub generation: u32,
+}

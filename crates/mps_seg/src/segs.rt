@@ -2,7 +2,7 @@
 #![tactic(auto)]
 
 ghost use Rattle.std.specs.Prelude.{◌≡◌, ℕ, true, false, ◌+◌, ◌*◌, ◌<◌, ◌≤◌, IfOk, IfErr, OnOk, MatchResult, Contains, option_map, length};
-ghost use Rattle.mps_base.specs.Run.{IsAscending, with_run, without_run, total};
+ghost use Rattle.mps_base.specs.Run.{Run, IsAscending, with_run, without_run, total};
 ghost use Rattle.mps_base.specs.Address.{words_of_grain, word_of, grains_needed, max_grains, max_block_words};
 ghost use Rattle.mps_base.specs.Segment.{Segment, end_of_segment, segment_over, without_segment};
 ghost use Rattle.mps_base.specs.Trail.{with_move};
@@ -15,6 +15,7 @@ ghost use Rattle.mps_seg.specs.Table.{IsMarked};
 mod collecting;
 mod freeing;
 mod gaps;
+mod moving;
 mod words;
 
 use crate::SegmentInfo;
@@ -224,6 +225,7 @@ impl Segs {
     }
 
     /// Covers `words` words from `at` on, which no block and no reservation covers, by a block.
+    #[inline(always)]
     pub fn commit_block(&mut self, at: Addr, words: u32)
         requires nonzero { 0 < words }
         requires free { CanCover self.old (record { from = word_of at.0; count = words }) }
@@ -249,6 +251,7 @@ impl Segs {
     }
 
     /// Removes the block of `words` words that begins at `at`, with its marks. Its words stay as they are, and may be covered again.
+    #[inline(always)]
     pub fn drop_block(&mut self, at: Addr, words: u32)
         requires { Contains self.old.blocks (record { from = word_of at.0; count = words }) }
         ensures state { self.new ≡ record self.old {
@@ -310,6 +313,13 @@ impl Segs {
             → LiesIn (held_runs self.now) (record { from = word_of t.base; count = words_of_grain * t.grains }) }
     {
         let _ = &self.arena;
+    }
+
+    /// Does nothing: a caller knows that a block is among the runs that blocks and reservations cover.
+    pub fn blocks_are_covered(&self)
+        ensures { (r : Run) → Contains self.now.blocks r → Contains self.now.covered r }
+    {
+        self.extents.blocks_are_covered();
     }
 
     /// Does nothing: a caller knows that the blocks are in ascending order, and that each segment lies in the arena.

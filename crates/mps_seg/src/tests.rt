@@ -5,7 +5,7 @@ mod steps;
 
 use self::plain::first_disagreement_with_plain_tables;
 use self::steps::{Marking, Placing, Step, Writing, first_wrong};
-use crate::Segs;
+use crate::{Owner, Segs};
 use mps_base::{Addr, Rank, Refusal, ZoneSet};
 use std::alloc::{AllocError, Global};
 use std::process::Abort;
@@ -50,6 +50,19 @@ const PLACES: [Step; 20] = [
     Step::Place(Placing::Limit(4, Ok(()))),
 ];
 
+/// A block moves after another, and its old words are free again.
+const MOVED: [Step; 9] = [
+    Step::Place(Placing::Fill(0, 4, Ok(Addr(0x1000)))),
+    Step::Place(Placing::Fill(0, 3, Ok(Addr(0x1020)))),
+    Step::Write(Writing::Word(0x1008, 7)),
+    Step::Place(Placing::Move(0x1018, Some(Addr(0x1038)))),
+    Step::Mark(Marking::Marks(0x1000, [false, false, false])),
+    Step::Mark(Marking::Marks(0x1038, [false, false, true])),
+    Step::Write(Writing::Words(0x1038, [0, 7, 0, 0])),
+    Step::Place(Placing::Block(0x1000, None)),
+    Step::Place(Placing::Gap(Rank::Exact, 4, Some(Addr(0x1000)))),
+];
+
 /// A reservation becomes a block, the block is freed, and its segment given back.
 const RESERVATION: [Step; 9] = [
     Step::Place(Placing::Reserve(Ok(Addr(0x1000)))),
@@ -64,25 +77,37 @@ const RESERVATION: [Step; 9] = [
 ];
 
 /// The words of a block are borrowed and written, cleared, written and copied over themselves.
-const WORDS: [Step; 11] = [
+const WORDS: [Step; 13] = [
     Step::Write(Writing::Size(4)),
     Step::Place(Placing::Fill(0, 4, Ok(Addr(0x1000)))),
     Step::Write(Writing::Two(0x1008, 7)),
     Step::Write(Writing::Words(0x1000, [0, 7, 7, 0])),
     Step::Write(Writing::Clear(0x1000, 4)),
     Step::Write(Writing::Word(0x1000, 5)),
+    Step::Write(Writing::Held(0x1018, 9)),
+    Step::Write(Writing::Words(0x1000, [5, 0, 0, 9])),
     Step::Write(Writing::Word(0x1008, 6)),
     Step::Write(Writing::CopyUp(0x1000, 2)),
-    Step::Write(Writing::Words(0x1000, [5, 5, 6, 0])),
+    Step::Write(Writing::Words(0x1000, [5, 5, 6, 9])),
     Step::Write(Writing::Clear(0x1008, 1)),
-    Step::Write(Writing::Words(0x1000, [5, 0, 6, 0])),
+    Step::Write(Writing::Words(0x1000, [5, 0, 6, 9])),
 ];
 
+const IN_POOL_0: Owner = Owner {
+    pool: 0,
+    generation: 0,
+};
+
 /// The marks of a block in its life.
-const MARKS: [Step; 22] = [
+const MARKS: [Step; 28] = [
     Step::Place(Placing::Fill(0, 600, Ok(Addr(0x1000)))),
     Step::Mark(Marking::Marks(0x1000, [false, false, false])),
+    Step::Mark(Marking::Policy(0x2ff8, None)),
     Step::Mark(Marking::Condemn(0x2ff8, true)),
+    Step::Mark(Marking::Policy(0x2ff8, Some(IN_POOL_0))),
+    Step::Mark(Marking::Policy(0x3000, None)),
+    Step::Mark(Marking::NextCondemned(0x1000, Some(Addr(0x1000)))),
+    Step::Mark(Marking::NextCondemned(0x1001, None)),
     Step::Mark(Marking::Marks(0x1000, [true, false, false])),
     Step::Mark(Marking::Keep(0x1000)),
     Step::Mark(Marking::Grey(0x1000)),
@@ -100,6 +125,7 @@ const MARKS: [Step; 22] = [
     Step::Mark(Marking::Live(0, 0)),
     Step::Mark(Marking::Marks(0x1000, [true, false, false])),
     Step::Mark(Marking::End),
+    Step::Mark(Marking::NextCondemned(0, None)),
     Step::Mark(Marking::Marks(0x1000, [false, false, false])),
     Step::Mark(Marking::Grains(0x1000, 2)),
 ];
@@ -134,6 +160,7 @@ fn compare(rt: &impl Abort, alloc: Global, limit: u32, steps: &[Step]) -> Result
 fn steps_answer_as_tables_say(rt: HostRuntime) -> Result<(), AllocError> {
     compare(&rt, rt.alloc(), 3, &PLACES)?;
     compare(&rt, rt.alloc(), 4, &RESERVATION)?;
+    compare(&rt, rt.alloc(), 4, &MOVED)?;
     compare(&rt, rt.alloc(), 4, &WORDS)?;
     compare(&rt, rt.alloc(), 4, &MARKS)?;
     compare(&rt, rt.alloc(), 4, &SUMMARIES)

@@ -7,9 +7,9 @@ use Rattle.mps_base.specs.declared.address.Addr.{Addr}
 use Rattle.mps_format.specs.Layout.{Layout}
 use Rattle.mps_format.specs.declared.pool.Policy.{Policy}
 use Rattle.mps_seg.specs.Buffer.{IsAtHand}
-use Rattle.mps_seg.specs.Collecting.{info_of}
+use Rattle.mps_seg.specs.Collecting.{owner_of}
 use Rattle.mps_seg.specs.Segs.{SegsState}
-use Rattle.mps_seg.specs.declared.segment_info.SegmentInfo.{SegmentInfo}
+use Rattle.mps_seg.specs.declared.segment_info.Owner.{Owner}
 use Rattle.mps_amc.specs.Moving.{kept_in_place, size_at}
 use Rattle.mps_amc.specs.Amc.{HasTail, tail_of, IsFixed}
 use Rattle.mps_gen.specs.State.{generations_of}
@@ -35,16 +35,16 @@ module _ {F : Type 0} (layout : F → Layout) (t : TraceState F) (s : SegsState)
         marks can.segment can.format can.over can.listed (ap (λ (p : Policy F). p.moves) (sym got_is) ∙ stays)
         (ap (λ (u : SegsState). let w : Traced = record x { segs = u } in w) is)
 
-    module _ (moving : got.moves ≡ true) (info : SegmentInfo)
-        (found : (u : Segment) → segment_over s.segments at.0 ≡ Some u → Some info ≡ Some (info_of s u))
+    module _ (moving : got.moves ≡ true) (owner : Owner)
+        (owned : (u : Segment) → segment_over s.segments at.0 ≡ Some u → owner ≡ owner_of u)
       where
         moves_is : can.format.moves ≡ true
         moves_is = ap (λ (p : Policy F). p.moves) (sym got_is) ∙ moving
 
-        pool_there : info.pool ≡ can.segment.pool
-        pool_there = pool_is t.formats t.chains s at info can.segment can.format can.over can.listed found
+        pool_there : owner.pool ≡ can.segment.pool
+        pool_there = pool_is t.formats t.chains s at owner can.segment can.format can.over can.listed owned
 
-        pub pool_known : info.pool < length t.chains.of_pool
+        pub pool_known : owner.pool < length t.chains.of_pool
         pool_known = let P : ℕ → Type 0 = λ n. n < length t.chains.of_pool in subst P (sym pool_there) (can.moving moves_is).known
 
         -- its pool moves it
@@ -53,25 +53,25 @@ module _ {F : Type 0} (layout : F → Layout) (t : TraceState F) (s : SegsState)
             let P : Policy F → Type 0 = λ p. CanMove (layout p.format) t.chains x at.0 can.segment in
             subst P (sym got_is) (can.moving moves_is)
 
-        module _ (generation : ℕ) (target : generation ≡ target_generation (generations_of t.chains info.pool) info.generation) where
+        module _ (generation : ℕ) (target : generation ≡ target_generation (generations_of t.chains owner.pool) owner.generation) where
           generation_there : generation ≡ target_of t.chains can.segment
           generation_there =
-              target_is t.formats t.chains s at info can.segment can.format can.over can.listed found generation target
+              target_is t.formats t.chains s at owner can.segment can.format can.over can.listed owned generation target
 
-          pub has_tail : HasTail t.amc info.pool generation
+          pub has_tail : HasTail t.amc owner.pool generation
           has_tail =
               let P : ℕ → Type 0 = λ p. HasTail t.amc p generation in
               let Q : ℕ → Type 0 = λ g. HasTail t.amc can.segment.pool g in
               subst P (sym pool_there) (subst Q (sym generation_there) can_move.tail)
 
-          pub at_hand : IsAtHand s (tail_of t.amc info.pool generation)
+          pub at_hand : IsAtHand s (tail_of t.amc owner.pool generation)
           at_hand =
               let P : ℕ → Type 0 = λ p. IsAtHand s (tail_of t.amc p generation) in
               let Q : ℕ → Type 0 = λ g. IsAtHand s (tail_of t.amc can.segment.pool g) in
               subst P (sym pool_there) (subst Q (sym generation_there) can_move.at_hand)
 
           pub moved : (y : Traced) (answer : Addr)
-              → IsFixed (layout got.format) t.amc y.amc s y.segs m y.moves at info.pool generation
+              → IsFixed (layout got.format) t.amc y.amc s y.segs m y.moves at owner.pool generation
               (size_at (layout got.format) s.words at.0) answer
               → KeepsTo layout t.formats t.chains x at y answer
           moved y answer fixed =

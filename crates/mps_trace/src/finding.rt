@@ -30,14 +30,7 @@ pub(crate) fn next_condemned(segs: &Segs, from: Addr) -> Option<Addr>
     ensures sound { IfSome result (λ base. IsNextCondemned segs.now from.0 base.0) }
     ensures complete { IfNone result (NoneLeft segs.now from.0) }
 {
-    let mut at = from;
-    while let Some(base) = segs.next_segment(at) {
-        if segs.segment(base).is_condemned {
-            return Some(base);
-        }
-        at = Addr(base.0 + 1);
-    }
-    None
+    segs.next_condemned(from)
 }
 
 /// Where the block at `at` lies, which hasn't moved; None if it isn't kept.

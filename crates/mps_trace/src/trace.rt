@@ -4,7 +4,7 @@
 ghost use Rattle.std.specs.Prelude.{◌≡◌, ℕ, ◌+◌, ◌*◌, ◌%◌, ◌<◌, ◌≤◌, true, false, IsTrue, Some, length, slice_index, slice_get, MatchResult, IfSome};
 ghost use Rattle.mps_base.specs.Address.{word_of, bytes_of_word, words_of_grain};
 ghost use Rattle.mps_base.specs.Segment.{Segment, segment_over};
-ghost use Rattle.mps_seg.specs.Collecting.{is_condemned_at};
+ghost use Rattle.mps_seg.specs.Collecting.{is_condemned_at, owner_of};
 ghost use Rattle.mps_format.specs.declared.pool.Policy.{Policy};
 ghost use Rattle.mps_gen.specs.State.{max_pools};
 ghost use Rattle.mps_amc.specs.Amc.{tails_after_flip};
@@ -17,11 +17,11 @@ ghost use Rattle.mps_trace.specs.Reclaim.{CanReclaimAt, Reclaims};
 ghost use Rattle.mps_trace.specs.Scan.{FixesCell, CanFixCell, AreReadyIn, ScansAll, CanScan, Scanned, CanScanGrey, ScansOne, IsDrained};
 
 use crate::finding::{find_in, segment_at};
-use mps_amc::{Amc, keep_in_place};
+use mps_amc::Amc;
 use mps_base::{Addr, BYTES_OF_WORD, Rank, Trail};
 use mps_format::{Format, Policy};
 use mps_gen::Chains;
-use mps_seg::Segs;
+use mps_seg::{Owner, SegmentInfo, Segs};
 use std::alloc::{AllocError, Global};
 use std::marker::Model;
 
@@ -111,16 +111,13 @@ impl<F: Format> Trace<F> {
         ensures aligned { IfSome result (λ to. to.0 % bytes_of_word ≡ 0) }
     {
         let _ = segs.grains(); // its words are those of the marks
-        let Some(segment) = segment_at(segs, at) else {
+        let Some(owner) = segs.policy_at(at) else {
             return Some(at);
         };
-        if !segment.is_condemned {
-            return Some(at);
-        }
-        let Some(format) = self.formats[segment.pool as usize] else {
+        let Some(policy) = self.formats[owner.pool as usize] else {
             unreachable!()
         };
-        find_in(segs, format, at)
+        find_in(segs, policy, at)
     }
 
     /// Keeps the white block at `at` as its pool does: it moves, or it stays where it lies. Returns where it then lies. It is grey.
@@ -132,20 +129,49 @@ impl<F: Format> Trace<F> {
         ensures aligned { result.0 % bytes_of_word ≡ 0 }
         ensures size { length segs.new.words ≡ length segs.old.words }
     {
-        let Some(segment) = segment_at(segs, at) else {
+        let Some(
+            SegmentInfo {
+                pool,
+                generation,
+                ..
+            },
+        ) = segment_at(segs, at)
+        else {
             unreachable!()
         };
-        let Some(format) = self.formats[segment.pool as usize] else {
+        let Some(policy) = self.formats[pool as usize] else {
             unreachable!()
         };
-        if !format.moves {
+        self.keep_as(segs, trail, policy, Owner { pool, generation }, at)
+    }
+
+    /// Keeps the white block at `at` of a segment with this owner, as the policy of the pool says.
+    #[inline(always)]
+    fn keep_as(
+        &mut self,
+        segs: &mut Segs,
+        trail: &mut Trail,
+        policy: Policy<F>,
+        owner: Owner,
+        at: Addr,
+    ) -> Addr
+        requires can { CanKeep F.layout self.old.formats self.old.chains (traced self.old segs.old trail.old) at }
+        requires owned { (t : Segment) → segment_over segs.old.segments at.0 ≡ Some t → owner ≡ owner_of t }
+        requires known { slice_get self.old.formats owner.pool ≡ Some (Some policy) }
+        ensures kept { KeepsTo F.layout self.old.formats self.old.chains (traced self.old segs.old trail.old) at
+            (traced self.new segs.new trail.new) result }
+        ensures unchanged { self.new ≡ record self.old { amc = self.new.amc } }
+        ensures aligned { result.0 % bytes_of_word ≡ 0 }
+        ensures size { length segs.new.words ≡ length segs.old.words }
+    {
+        if !policy.moves {
             let _ = segs.grains(); // its words are those of the marks
-            keep_in_place(segs, at);
+            segs.keep_in_place(at);
             return at;
         }
-        let generation = self.chains.target(segment.pool, segment.generation);
+        let generation = self.chains.target(owner.pool, owner.generation);
         self.amc
-            .keep(segs, trail, &format.format, at, segment.pool, generation)
+            .keep(segs, trail, &policy.format, at, owner.pool, generation)
     }
 
     /// Fixes a reference: returns the new address of the block at `at`. A block in a segment that isn't condemned stays; any other
@@ -158,9 +184,16 @@ impl<F: Format> Trace<F> {
         ensures aligned { result.0 % bytes_of_word ≡ 0 }
         ensures size { length segs.new.words ≡ length segs.old.words }
     {
-        match self.find(segs, at) {
+        let _ = segs.grains(); // its words are those of the marks
+        let Some(owner) = segs.policy_at(at) else {
+            return at;
+        };
+        let Some(policy) = self.formats[owner.pool as usize] else {
+            unreachable!()
+        };
+        match find_in(segs, policy, at) {
             Some(to) => to,
-            None => self.keep(segs, trail, at),
+            None => self.keep_as(segs, trail, policy, owner, at),
         }
     }
 

@@ -1,25 +1,28 @@
 // What a collection asks of the segments: condemned segments, kept and grey blocks, and summaries.
 #![tactic(auto)]
 
-ghost use Rattle.std.specs.Prelude.{◌≡◌, ℕ, true, false, ◌+◌, ◌*◌, ◌^◌, ◌<◌, ◌≤◌, length, nat_lt, IfSome, IfNone, Contains, option_map};
+ghost use Rattle.std.specs.Prelude.{◌≡◌, ℕ, true, false, ◌+◌, ◌*◌, ◌^◌, ◌<◌, ◌≤◌, length, nat_lt, Some, IfSome, IfNone, Contains, option_map};
 ghost use Rattle.mps_base.specs.Address.{words_of_grain, word_of, grain_of, address_of_grain};
-ghost use Rattle.mps_base.specs.Segment.{Segment};
+ghost use Rattle.mps_base.specs.Segment.{Segment, segment_over};
 ghost use Rattle.mps_base.specs.Run.{runs_within};
 ghost use Rattle.mps_bits.specs.Table.{bit};
 ghost use Rattle.mps_marks.specs.Marks.{grey_of};
 ghost use Rattle.mps_seg.specs.Segs.{base_address, segment_from};
+ghost use Rattle.mps_seg.specs.Table.{owner_of_entry};
+ghost use Rattle.mps_seg.specs.Condemned.{IsNextCondemned, NoneLeft};
 ghost use Rattle.mps_seg.specs.Moving.{kept_in_place, nailed};
-ghost use Rattle.mps_seg.specs.Collecting.{info_of, lowest_grey_in, first_grain_over, is_white_at, is_kept_at, is_grey_at, rank_at, condemning, collected, keeping, greying, greying_all, all_grey, blackening, summary_at, summarizing, noting};
+ghost use Rattle.mps_seg.specs.Collecting.{info_of, owner_of, condemned_owner_at, is_condemned_at, lowest_grey_in, first_grain_over, is_white_at, is_kept_at, is_grey_at, rank_at, condemning, collected, keeping, greying, greying_all, all_grey, blackening, summary_at, summarizing, noting};
 
 use super::Segs;
-use crate::SegmentInfo;
-use crate::entry::{Entry, first_entry_from};
+use crate::entry::{Entry, condemned_entry_from, first_entry_from};
+use crate::{Owner, SegmentInfo};
 use mps_base::{Addr, BYTES_OF_GRAIN, BYTES_OF_WORD, Rank, WORDS_OF_GRAIN, ZoneSet};
 use mps_extents::Extents;
 use mps_marks::Marks;
 
 impl Segs {
     /// The first grain of the segment in which an address lies.
+    #[inline(always)]
     fn first_grain(&self, at: Addr) -> Option<usize>
         ensures value { result ≡ first_grain_over self.now at.0 }
         ensures in_arena { IfSome result (λ grain. grain ≤ self.now.grains) }
@@ -62,12 +65,36 @@ impl Segs {
         }
     }
 
+    /// The pool and the generation of the condemned segment in which an address lies; None if it lies in no condemned segment.
+    #[inline(always)]
+    pub fn policy_at(&self, at: Addr) -> Option<Owner>
+        ensures value { result ≡ condemned_owner_at self.now at.0 }
+        ensures over { IfSome result (λ owner. (t : Segment) × (segment_over self.now.segments at.0 ≡ Some t) × (owner ≡ owner_of t)) }
+        ensures condemned { IfSome result (λ owner. is_condemned_at self.now at.0 ≡ true) }
+        ensures none { IfNone result (is_condemned_at self.now at.0 ≡ false) }
+    {
+        let grain = self.first_grain(at)?;
+        if !self.condemned.test(grain) {
+            return None;
+        }
+        owner_in(self.table[grain])
+    }
+
     /// The base of the lowest segment that begins at `from` or above.
     pub fn next_segment(&self, from: Addr) -> Option<Addr>
         ensures { result ≡ option_map base_address (segment_from self.now.segments from.0) }
     {
         let start = grain_from(from);
         let next = first_entry_from(&self.table, start)?;
+        Some(Addr(BYTES_OF_GRAIN * next as u64))
+    }
+
+    /// The base of the lowest condemned segment that begins at `from` or above. Grains are passed over 64 a step.
+    pub fn next_condemned(&self, from: Addr) -> Option<Addr>
+        ensures sound { IfSome result (λ base. IsNextCondemned self.now from.0 base.0) }
+        ensures complete { IfNone result (NoneLeft self.now from.0) }
+    {
+        let next = condemned_entry_from(&self.table, &self.condemned, grain_from(from))?;
         Some(Addr(BYTES_OF_GRAIN * next as u64))
     }
 
@@ -143,6 +170,7 @@ impl Segs {
     }
 
     /// The rank of the segment in which an address lies, `Exact` if it lies in none.
+    #[inline(always)]
     fn rank_at(&self, at: Addr) -> Rank
         ensures { result ≡ rank_at self.now at.0 }
     {
@@ -156,6 +184,7 @@ impl Segs {
     }
 
     /// The block at `at` becomes grey.
+    #[inline(always)]
     pub fn set_grey(&mut self, at: Addr)
         requires { word_of at.0 < words_of_grain * (self.old.grains + 1) }
         ensures { self.new ≡ greying self.old at.0 }
@@ -235,6 +264,21 @@ impl Segs {
     {
         let word = self.marks.next_grey(rank)?;
         Some(Addr(BYTES_OF_WORD * word as u64))
+    }
+}
+
+/// The pool and the generation that an entry has; None if no segment begins there.
+#[inline(always)]
+fn owner_in(entry: Entry) -> Option<Owner>
+    ensures { result ≡ owner_of_entry entry }
+{
+    match entry {
+        Entry::First {
+            pool,
+            generation,
+            ..
+        } => Some(Owner { pool, generation }),
+        Entry::Free => None,
     }
 }
 

@@ -56,6 +56,24 @@ impl Segs {
         self.arena.set_word(at, word);
     }
 
+    /// The word at an address in a segment.
+    #[inline(always)]
+    pub fn held_word(&self, at: Addr) -> u64
+        requires { (t : Segment) × (segment_over self.now.segments at.0 ≡ Some t) }
+        ensures { result ≡ slice_index self.now.words (word_of at.0) }
+    {
+        self.arena.held_word(at)
+    }
+
+    /// Writes the word at an address in a segment.
+    #[inline(always)]
+    pub fn set_held_word(&mut self, at: Addr, word: u64)
+        requires { (t : Segment) × (segment_over self.old.segments at.0 ≡ Some t) }
+        ensures { self.new ≡ record self.old { words = slice_set self.old.words (word_of at.0) word } }
+    {
+        self.arena.set_held_word(at, word);
+    }
+
     /// Writes 0 in the `words` words from `at` on.
     pub fn clear(&mut self, at: Addr, words: u32)
         requires { word_of at.0 + words ≤ length self.old.words }

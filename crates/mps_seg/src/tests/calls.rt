@@ -42,6 +42,19 @@ pub(super) fn free_over(segs: &mut Segs, n: u64) -> Option<Addr> {
     Some(at)
 }
 
+/// Moves the block over a byte to the lowest gap of pool 0 that fits, and returns where it then lies.
+pub(super) fn move_over(segs: &mut Segs, n: u64) -> Option<Addr> {
+    let at = segs.block_at(n)?;
+    let words = segs.block_words(at);
+    if words == 0 {
+        return None;
+    }
+    let to = segs.lowest_gap(0, Rank::Exact, words)?;
+    segs.blocks_are_covered();
+    segs.move_block(at, to, words);
+    Some(to)
+}
+
 /// Gives back the segment at a base.
 fn give_with(segs: &mut Segs, trail: &mut Trail, at: Addr) -> bool
     requires { 0 < trail.old.spare }
@@ -194,6 +207,15 @@ pub(super) fn write_word(segs: &mut Segs, at: Addr, word: u64) -> bool {
     }
     segs.set_word(at, word);
     segs.word(at) == word && segs.item(at.word()) == Some(word)
+}
+
+/// Writes a word in a segment, and says whether it is read again; false if the address lies in none.
+pub(super) fn write_held(segs: &mut Segs, at: Addr, word: u64) -> bool {
+    let Some(_) = segs.segment_of(at) else {
+        return false;
+    };
+    segs.set_held_word(at, word);
+    segs.held_word(at) == word
 }
 
 /// Copies words to the word after the first one and the words after that; false if the arena has no such words.

@@ -1,10 +1,10 @@
 // One call each, and what it is to answer.
 use super::calls::{
     blacken_at, clear_at, condemn_over, copy_up, fill, free_over, gap, give_over, grains_over,
-    grey_all_over, grey_at, grey_over, has_words, keep_at, marks_at, reserve_and_commit,
-    set_summary_at, summary_at, walk_over, write_two, write_word,
+    grey_all_over, grey_at, grey_over, has_words, keep_at, marks_at, move_over, reserve_and_commit,
+    set_summary_at, summary_at, walk_over, write_held, write_two, write_word,
 };
-use crate::Segs;
+use crate::{Owner, Segs};
 use mps_base::{Addr, Rank, Refusal, ZoneSet};
 use std::alloc::Global;
 
@@ -33,6 +33,8 @@ pub(super) enum Placing {
     Next(u64, Option<Addr>),
     /// The lowest block from an address on in the segment over it.
     Walk(u64, Option<Addr>),
+    /// The block over a byte moves to the lowest gap of pool 0 that fits, and where it then lies.
+    Move(u64, Option<Addr>),
     /// The lowest gap for words in pool 0.
     Gap(Rank, u32, Option<Addr>),
     /// How many grains are held.
@@ -45,6 +47,10 @@ pub(super) enum Placing {
 pub(super) enum Marking {
     /// The segment over an address is condemned if there is one.
     Condemn(u64, bool),
+    /// The pool and the generation of the condemned segment over an address.
+    Policy(u64, Option<Owner>),
+    /// The lowest condemned segment from an address on.
+    NextCondemned(u64, Option<Addr>),
     /// A block is kept.
     Keep(u64),
     /// A block becomes grey.
@@ -75,6 +81,8 @@ pub(super) enum Writing {
     Two(u64, u64),
     /// The word at an address.
     Word(u64, u64),
+    /// The word at an address in a segment.
+    Held(u64, u64),
     /// Words are copied to the word after the first one and the words after that.
     CopyUp(u64, u32),
     /// Words are cleared.
@@ -99,6 +107,7 @@ fn places_well(alloc: Global, segs: &mut Segs, step: &Placing) -> bool {
         Placing::Segment(at, base) => segs.segment_of(Addr(*at)) == *base,
         Placing::Next(from, base) => segs.next_segment(Addr(*from)) == *base,
         Placing::Walk(from, began) => walk_over(segs, Addr(*from)) == *began,
+        Placing::Move(byte, to) => move_over(segs, *byte) == *to,
         Placing::Gap(rank, words, at) => gap(segs, 0, *rank, *words) == *at,
         Placing::Committed(grains) => segs.committed() == *grains,
         Placing::Limit(limit, set) => segs.set_limit(*limit) == *set,
@@ -108,6 +117,8 @@ fn places_well(alloc: Global, segs: &mut Segs, step: &Placing) -> bool {
 fn marks_well(segs: &mut Segs, step: &Marking) -> bool {
     match step {
         Marking::Condemn(at, there) => condemn_over(segs, Addr(*at)) == *there,
+        Marking::Policy(at, owner) => segs.policy_at(Addr(*at)) == *owner,
+        Marking::NextCondemned(from, base) => segs.next_condemned(Addr(*from)) == *base,
         Marking::Keep(at) => keep_at(segs, Addr(*at)),
         Marking::Grey(at) => grey_at(segs, Addr(*at)),
         Marking::GreyAll(at, there) => grey_all_over(segs, Addr(*at)) == *there,
@@ -131,6 +142,7 @@ fn writes_well(segs: &mut Segs, step: &Writing) -> bool {
         Writing::Size(grains) => segs.grains() == *grains,
         Writing::Two(at, word) => write_two(segs, Addr(*at), *word),
         Writing::Word(at, word) => write_word(segs, Addr(*at), *word),
+        Writing::Held(at, word) => write_held(segs, Addr(*at), *word),
         Writing::CopyUp(at, words) => copy_up(segs, Addr(*at), *words),
         Writing::Clear(at, words) => clear_at(segs, Addr(*at), *words),
         Writing::Words(at, words) => has_words(segs, Addr(*at), words),

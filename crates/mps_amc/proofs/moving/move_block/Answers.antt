@@ -1,67 +1,42 @@
-use Rattle.std.proofs.Common.{ℕ, ◌≡◌, ◌+◌, ◌-◌, sym, ap, subst, inl, inr, length, arith}
+use Rattle.std.proofs.Common.{ℕ, ◌+◌, ◌≤◌, ◌⊎◌, List, length, sym, ap, ◌∙◌, subst, inl, inr, arith}
+use Rattle.std.specs.Prelude.{slice_index, slice_range}
 use Rattle.mps_base.specs.Address.{word_of}
-use Rattle.mps_seg.specs.Segs.{SegsState, CanCover, IsOpenRun, held_runs}
 use Rattle.mps_extents.proofs.ApartRuns.{apart_from_put}
+use Rattle.mps_format.specs.Blocks.{IsBlock}
+use Rattle.mps_seg.specs.Segs.{SegsState, CanCover, held_runs}
 use Rattle.mps_seg.proofs.OpenWords.{open_bounds}
 use Rattle.mps_amc.specs.Moving.{run_at}
-use Rattle.mps_base.specs.Run.{with_run}
-use Rattle.mps_seg.proofs.PartCovered.{rest_is_open}
-use Rattle.mps_seg.proofs.Reopening.{open_after_without}
+use Rattle.mps_amc.proofs.Copying.{are_copied, block_stays}
 use Rattle.mps_amc.proofs.moving.move_block.Goals as goal
 
-pub commit_block-requires-clause-free : goal.commit_block-requires-clause-free
-commit_block-requires-clause-free g c =
+pub forward_block-requires-clause-block : goal.forward_block-requires-clause-block
+forward_block-requires-clause-block g c =
+    let f = g.F.Format.layout c.args.format.now in
     let s = c.args.segs.now in
-    let r = run_at c.args.to.0 c.args.words in
-    let P : SegsState → Type 0 = λ x. CanCover x r in
-    subst P (sym c.drop_block.ensures.state)
-    (open_after_without s.grains (held_runs s) s.covered r (word_of c.args.at.0) c.requires.free)
-
-pub copy_block-requires-clause-in_arena : goal.copy_block-requires-clause-in_arena
-copy_block-requires-clause-in_arena g c =
-    let s = c.args.segs.now in
-    let bounds = open_bounds s.grains (held_runs s) s.covered (run_at c.args.to.0 c.args.words) c.requires.free in
-    let same = ap (λ (x : SegsState). length x.words) c.commit_block.ensures in
-    let same' = ap (λ (x : SegsState). length x.words) c.drop_block.ensures.state in
-    omega (arith, bounds, same, same', c.grains.ensures.size)
-
-pub copy_block-requires-clause-apart : goal.copy_block-requires-clause-apart
-copy_block-requires-clause-apart g c =
-    let s = c.args.segs.now in
-    elim (apart_from_put 0 _ s.covered (run_at c.args.to.0 c.args.words) (run_at c.args.at.0 c.args.words) c.requires.free.free
-    c.requires.block.covered) [ inl before ↦ inr before | inr after ↦ inl after ]
-
-pub set_grey-requires : goal.set_grey-requires
-set_grey-requires g c =
-    let s = c.args.segs.now in
-    let bounds = open_bounds s.grains (held_runs s) s.covered (run_at c.args.to.0 c.args.words) c.requires.free in
-    let same = ap (λ (x : SegsState). x.grains) c.commit_block.ensures in
-    let same' = ap (λ (x : SegsState). x.grains) c.drop_block.ensures.state in
-    let same'' = ap (λ (x : SegsState). x.grains) c.copy_block.ensures.state in
-    let sizes = (g.met.F.Format.lawful c.args.format.now).sizes _ c.requires.stands.valid in
-    omega (arith, bounds, same, same', same'', sizes.0, c.requires.stands.whole)
-
-pub returns-clause-rest : goal.returns-clause-rest
-returns-clause-rest g c = λ rest some free.
-    let s = c.args.segs.now in
-    let dropped = c.drop_block.new.self in
     let n = c.args.words in
-    let whole = run_at c.args.to.0 (n + rest) in
     let sizes = (g.met.F.Format.lawful c.args.format.now).sizes _ c.requires.stands.valid in
-    let W : SegsState → Type 0 = λ x. CanCover x whole in
-    let open_whole : CanCover dropped whole =
-    subst W (sym c.drop_block.ensures.state)
-    (open_after_without s.grains (held_runs s) s.covered whole (word_of c.args.at.0) free)
+    let bounds = open_bounds s.grains (held_runs s) s.covered (run_at c.args.to.0 n) c.requires.free in
+    let apart : (word_of c.args.at.0 + n ≤ word_of c.args.to.0) ⊎ (word_of c.args.to.0 + n ≤ word_of c.args.at.0) =
+    elim (apart_from_put 0 _ s.covered (run_at c.args.to.0 n) (run_at c.args.at.0 n) c.requires.free.free c.requires.block.covered)
+    [ inl before ↦ inr before | inr after ↦ inl after ]
     in
-    let open_rest =
-    rest_is_open whole n (omega (arith, sizes.0, c.requires.stands.whole)) dropped.grains (held_runs dropped) dropped.covered open_whole
-    (omega (arith, some))
+    let at = word_of c.args.at.0 in
+    let P : SegsState → Type 0 = λ x. IsBlock f (slice_range x.words at (at + n)) in
+    subst P (sym c.move_block.ensures.state)
+    (block_stays f s.words c.args.at.0 c.args.to.0 n c.requires.stands (omega (arith, bounds, c.grains.ensures.size)) apart
+    (omega (arith, sizes, c.requires.stands.whole)))
+
+pub returns-clause-words : goal.returns-clause-words
+returns-clause-words g c =
+    let s = c.args.segs.now in
+    let n = c.args.words in
+    let same = ap (λ (x : SegsState). x.words) c.move_block.ensures.state in
+    let bounds = open_bounds s.grains (held_runs s) s.covered (run_at c.args.to.0 n) c.requires.free in
+    let apart : (word_of c.args.at.0 + n ≤ word_of c.args.to.0) ⊎ (word_of c.args.to.0 + n ≤ word_of c.args.at.0) =
+    elim (apart_from_put 0 _ s.covered (run_at c.args.to.0 n) (run_at c.args.at.0 n) c.requires.free.free c.requires.block.covered)
+    [ inl before ↦ inr before | inr after ↦ inl after ]
     in
-    let counted : n + rest - n ≡ rest = omega arith in
-    let Q : ℕ → Type 0 =
-    λ k. IsOpenRun dropped.grains (held_runs dropped) (with_run (run_at c.args.to.0 n) dropped.covered)
-    (record { from = word_of c.args.to.0 + n; count = k })
-    in
-    let R : SegsState → Type 0 = λ x. CanCover x (record { from = word_of c.args.to.0 + n; count = rest }) in
-    subst R (sym c.set_grey.ensures)
-    (subst R (sym c.copy_block.ensures.state) (subst R (sym c.commit_block.ensures) (subst Q counted open_rest)))
+    are_copied (g.F.Format.layout c.args.format.now) s.words c.forward_block.new.segs.words c.args.at.0 c.args.to.0 n
+    c.requires.stands.within (omega (arith, bounds, c.grains.ensures.size)) apart
+    (c.forward_block.ensures.size ∙ ap (λ (ws : List ℕ). length ws) same) c.forward_block.ensures.forwarded c.forward_block.ensures.leads
+    (λ i away. c.forward_block.ensures.others i away ∙ ap (λ (ws : List ℕ). slice_index ws i) same)

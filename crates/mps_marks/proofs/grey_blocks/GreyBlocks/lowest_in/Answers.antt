@@ -1,7 +1,13 @@
 use Rattle.std.proofs.Common.{ℕ, ◌*◌, ◌/◌, ◌≤◌, List, Bool, refl, sym, ◌∙◌, ap, arith}
 use Rattle.mps_bits.specs.Table.{next_set_below}
-use Rattle.mps_marks.proofs.Tally.{no_grain, later_search, found_in_grain, none_from, grain_from}
+use Rattle.mps_marks.proofs.Tally.{no_grain, later_search, found_in_grain, none_from, none_of_none, grain_from}
 use Rattle.mps_marks.proofs.grey_blocks.GreyBlocks.lowest_in.Goals as goal
+
+pub returns-then-self-eq0 : goal.returns-then-self-eq0
+returns-then-self-eq0 c =
+    let s = c.self.inside in
+    sym (none_of_none s.blocks c.args.from c.args.to (c.self.invariant.0.counted ∙ c.if-self-eq0.true))
+    ∙ ap (λ (bits : List Bool). next_set_below bits c.args.from c.args.to) c.self.view_is
 
 pub returns-in_err-grain : goal.returns-in_err-grain
 returns-in_err-grain c =

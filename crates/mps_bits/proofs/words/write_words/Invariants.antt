@@ -1,6 +1,6 @@
 use Rattle.std.proofs.Common.{ℕ, ◌≡◌, ◌-◌, ◌<◌, ◌≤◌, ◌⊎◌, if◌then◌else◌}
 use Rattle.mps_bits.specs.Row.{bit_in}
-use Rattle.mps_bits.proofs.words.write_range.Given as goal
+use Rattle.mps_bits.proofs.words.write_words.Given as goal
 
 abbrev pub invariant-loop-at : goal.invariant-loop-at
 invariant-loop-at l = record {

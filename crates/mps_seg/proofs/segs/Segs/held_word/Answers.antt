@@ -1,0 +1,6 @@
+use Rattle.mps_seg.proofs.HeldWords.{word_is_held}
+use Rattle.mps_seg.proofs.segs.Segs.held_word.Goals as goal
+
+pub held_word-requires : goal.held_word-requires
+held_word-requires c =
+    word_is_held c.self.inside c.args.self.now c.self.invariant c.self.view_is c.args.at.0 c.requires.0 c.requires.1

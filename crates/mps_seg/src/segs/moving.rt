@@ -1,0 +1,33 @@
+// A block moves.
+#![tactic(auto)]
+
+ghost use Rattle.std.specs.Prelude.{◌≡◌, ℕ, ◌+◌, ◌<◌};
+ghost use Rattle.mps_base.specs.Address.{word_of};
+ghost use Rattle.mps_arena.specs.Arena.{copied_words};
+ghost use Rattle.mps_seg.specs.Segs.{CanCover, LiesIn, held_runs};
+ghost use Rattle.mps_seg.specs.Moving.{IsBlockOf, run_at, moved_to};
+
+use super::Segs;
+use mps_base::Addr;
+
+impl Segs {
+    /// Moves the block of `words` words at `at` to words that no block and no reservation covers, where it is grey. No mark of it is
+    /// left at `at`, but its words are, until something covers them.
+    pub fn move_block(&mut self, at: Addr, to: Addr, words: u32)
+        requires nonzero { 0 < words }
+        requires block { IsBlockOf self.old at.0 words }
+        requires free { CanCover self.old (run_at to.0 words) }
+        ensures state { self.new ≡ record (moved_to self.old at.0 to.0 words) {
+          words = copied_words self.old.words (word_of at.0) (word_of to.0) words;
+        } }
+        ensures held { LiesIn (held_runs self.new) (run_at at.0 words) }
+        ensures rest { (rest : ℕ) → 0 < rest → CanCover self.old (run_at to.0 (words + rest))
+            → CanCover self.new (record { from = word_of to.0 + words; count = rest }) }
+    {
+        let _ = self.grains();
+        self.drop_block(at, words);
+        self.commit_block(to, words);
+        self.copy(at, to, words);
+        self.set_grey(to);
+    }
+}

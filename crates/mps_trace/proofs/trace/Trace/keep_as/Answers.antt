@@ -1,0 +1,145 @@
+use Rattle.std.proofs.Common.{◌≡◌, Some, sym, subst}
+use Rattle.std.specs.Prelude.{slice_get}
+use Rattle.mps_trace.specs.Trace.{TraceState, Traced, traced, KeepsTo}
+use Rattle.mps_trace.proofs.Fixed.{fixed_aligned, fixed_long}
+use Rattle.mps_trace.proofs.Keeping.{can_there, marked, pool_known, can_move, has_tail, at_hand, moved}
+use Rattle.mps_trace.proofs.Known.{policy_known}
+use Rattle.mps_trace.proofs.trace.Trace.keep_as.Goals as goal
+
+pub returns-then-not-policy-clause-kept : goal.returns-then-not-policy-clause-kept
+returns-then-not-policy-clause-kept g c =
+    let s = c.args.segs.now in
+    let t = c.args.self.now in
+    let can = c.requires.can in
+    let got_is =
+    policy_known t.formats t.chains s c.args.at c.args.owner can.segment can.format can.over can.listed c.requires.owned c.args.policy
+    c.requires.known
+    in
+    marked g.F.Format.layout t s c.args.trail.now c.args.at can c.args.policy got_is c.if-not-policy.true c.keep_in_place.new.self
+    c.keep_in_place.ensures
+
+pub target-generation-requires : goal.target-generation-requires
+target-generation-requires g c =
+    let s = c.args.segs.now in
+    let m = c.args.trail.now in
+    let t : TraceState g.row.F.Denot =
+    record { formats = c.self.inside.formats.items; amc = c.self.inside.amc; chains = c.self.inside.chains }
+    in
+    let can = can_there g.F.Format.layout c.args.self.now t s m c.args.at c.self.view_is c.requires.can in
+    let known = subst (λ (u : TraceState g.row.F.Denot). slice_get u.formats c.args.owner.pool ≡ Some (Some c.args.policy)) (sym c.self.view_is)
+    c.requires.known
+    in
+    let got_is =
+    policy_known t.formats t.chains s c.args.at c.args.owner can.segment can.format can.over can.listed c.requires.owned c.args.policy known
+    in
+    pool_known g.F.Format.layout t s m c.args.at can c.args.policy got_is c.if-not-policy.false c.args.owner c.requires.owned
+
+pub keep-requires-clause-stands : goal.keep-requires-clause-stands
+keep-requires-clause-stands g c =
+    let s = c.args.segs.now in
+    let m = c.args.trail.now in
+    let t : TraceState g.row.F.Denot =
+    record { formats = c.self.inside.formats.items; amc = c.self.inside.amc; chains = c.self.inside.chains }
+    in
+    let can = can_there g.F.Format.layout c.args.self.now t s m c.args.at c.self.view_is c.requires.can in
+    let known = subst (λ (u : TraceState g.row.F.Denot). slice_get u.formats c.args.owner.pool ≡ Some (Some c.args.policy)) (sym c.self.view_is)
+    c.requires.known
+    in
+    let got_is =
+    policy_known t.formats t.chains s c.args.at c.args.owner can.segment can.format can.over can.listed c.requires.owned c.args.policy known
+    in
+    (can_move g.F.Format.layout t s m c.args.at can c.args.policy got_is c.if-not-policy.false c.args.owner c.requires.owned).stands
+
+pub keep-requires-clause-block : goal.keep-requires-clause-block
+keep-requires-clause-block g c =
+    let s = c.args.segs.now in
+    let m = c.args.trail.now in
+    let t : TraceState g.row.F.Denot =
+    record { formats = c.self.inside.formats.items; amc = c.self.inside.amc; chains = c.self.inside.chains }
+    in
+    let can = can_there g.F.Format.layout c.args.self.now t s m c.args.at c.self.view_is c.requires.can in
+    let known = subst (λ (u : TraceState g.row.F.Denot). slice_get u.formats c.args.owner.pool ≡ Some (Some c.args.policy)) (sym c.self.view_is)
+    c.requires.known
+    in
+    let got_is =
+    policy_known t.formats t.chains s c.args.at c.args.owner can.segment can.format can.over can.listed c.requires.owned c.args.policy known
+    in
+    (can_move g.F.Format.layout t s m c.args.at can c.args.policy got_is c.if-not-policy.false c.args.owner c.requires.owned).block
+
+pub keep-requires-clause-fits : goal.keep-requires-clause-fits
+keep-requires-clause-fits g c =
+    let s = c.args.segs.now in
+    let m = c.args.trail.now in
+    let t : TraceState g.row.F.Denot =
+    record { formats = c.self.inside.formats.items; amc = c.self.inside.amc; chains = c.self.inside.chains }
+    in
+    let can = can_there g.F.Format.layout c.args.self.now t s m c.args.at c.self.view_is c.requires.can in
+    let known = subst (λ (u : TraceState g.row.F.Denot). slice_get u.formats c.args.owner.pool ≡ Some (Some c.args.policy)) (sym c.self.view_is)
+    c.requires.known
+    in
+    let got_is =
+    policy_known t.formats t.chains s c.args.at c.args.owner can.segment can.format can.over can.listed c.requires.owned c.args.policy known
+    in
+    (can_move g.F.Format.layout t s m c.args.at can c.args.policy got_is c.if-not-policy.false c.args.owner c.requires.owned).room
+
+pub keep-requires-clause-tail : goal.keep-requires-clause-tail
+keep-requires-clause-tail g c =
+    let s = c.args.segs.now in
+    let m = c.args.trail.now in
+    let t : TraceState g.row.F.Denot =
+    record { formats = c.self.inside.formats.items; amc = c.self.inside.amc; chains = c.self.inside.chains }
+    in
+    let can = can_there g.F.Format.layout c.args.self.now t s m c.args.at c.self.view_is c.requires.can in
+    let known = subst (λ (u : TraceState g.row.F.Denot). slice_get u.formats c.args.owner.pool ≡ Some (Some c.args.policy)) (sym c.self.view_is)
+    c.requires.known
+    in
+    let got_is =
+    policy_known t.formats t.chains s c.args.at c.args.owner can.segment can.format can.over can.listed c.requires.owned c.args.policy known
+    in
+    has_tail g.F.Format.layout t s m c.args.at can c.args.policy got_is c.if-not-policy.false c.args.owner c.requires.owned c.target-generation.result
+    c.target-generation.ensures
+
+pub keep-requires-clause-at_hand : goal.keep-requires-clause-at_hand
+keep-requires-clause-at_hand g c =
+    let s = c.args.segs.now in
+    let m = c.args.trail.now in
+    let t : TraceState g.row.F.Denot =
+    record { formats = c.self.inside.formats.items; amc = c.self.inside.amc; chains = c.self.inside.chains }
+    in
+    let can = can_there g.F.Format.layout c.args.self.now t s m c.args.at c.self.view_is c.requires.can in
+    let known = subst (λ (u : TraceState g.row.F.Denot). slice_get u.formats c.args.owner.pool ≡ Some (Some c.args.policy)) (sym c.self.view_is)
+    c.requires.known
+    in
+    let got_is =
+    policy_known t.formats t.chains s c.args.at c.args.owner can.segment can.format can.over can.listed c.requires.owned c.args.policy known
+    in
+    at_hand g.F.Format.layout t s m c.args.at can c.args.policy got_is c.if-not-policy.false c.args.owner c.requires.owned c.target-generation.result
+    c.target-generation.ensures
+
+pub returns-clause-kept : goal.returns-clause-kept
+returns-clause-kept g c =
+    let s = c.args.segs.now in
+    let m = c.args.trail.now in
+    let t : TraceState g.row.F.Denot =
+    record { formats = c.self.inside.formats.items; amc = c.self.inside.amc; chains = c.self.inside.chains }
+    in
+    let can = can_there g.F.Format.layout c.args.self.now t s m c.args.at c.self.view_is c.requires.can in
+    let known = subst (λ (u : TraceState g.row.F.Denot). slice_get u.formats c.args.owner.pool ≡ Some (Some c.args.policy)) (sym c.self.view_is)
+    c.requires.known
+    in
+    let got_is =
+    policy_known t.formats t.chains s c.args.at c.args.owner can.segment can.format can.over can.listed c.requires.owned c.args.policy known
+    in
+    let y : Traced = record { amc = c.keep.new.self; segs = c.keep.new.segs; moves = c.keep.new.trail } in
+    let P : TraceState g.row.F.Denot → Type 0 =
+    λ u. KeepsTo g.F.Format.layout u.formats u.chains (traced u s m) c.args.at y c.keep.result
+    in
+    subst P c.self.view_is
+    (moved g.F.Format.layout t s m c.args.at can c.args.policy got_is c.if-not-policy.false c.args.owner c.requires.owned c.target-generation.result
+    c.target-generation.ensures y c.keep.result c.keep.ensures.kept)
+
+pub returns-clause-aligned : goal.returns-clause-aligned
+returns-clause-aligned g c = fixed_aligned c.keep.ensures.kept c.requires.can.aligned
+
+pub returns-clause-size : goal.returns-clause-size
+returns-clause-size g c = fixed_long c.keep.ensures.kept
