@@ -24,6 +24,9 @@ use Rattle.mps_trace_laws.specs.Image.Image.{CellSet, with_cell, ImageStands, Ar
 use Rattle.mps_trace_laws.specs.Image.Fixing.{Target}
 use Rattle.mps_trace_laws.proofs.Image.References.{FoundTarget}
 use Rattle.mps_trace_laws.proofs.Image.Targets as targets
+use Rattle.mps_model.specs.Effect.{graph_nulled}
+use Rattle.mps_model.specs.Graph.{dependent_in}
+use Rattle.mps_trace_laws.specs.Image.Changes.{setting_with_objects, IsCellChanged}
 use Rattle.mps_trace_laws.proofs.Image.CellChanged.{graph_cell_changed, target_changed}
 use Rattle.mps_trace_laws.proofs.Image.Entries.{slice_get-set_same, slice_get-set_other}
 use Rattle.mps_trace.specs.Trace.{Traced}
@@ -43,7 +46,8 @@ use Rattle.mps_trace_laws.proofs.Splats.Cells.{now_done, in_range, below, IsTarg
 
 module _ (F : Type 0) (layout : F → Layout) (formats : List (Option (Policy F))) (of : ChainsState) (at_flip : List (Option Address))
     (done : CellSet) (x : Traced) (y : Collecting) (holder : Id) (at : Addr) (o : Object) (cells : List Cell) (is_weak : Bool)
-    (shaped : AreShaped y.world.graph.objects (pool_layout y.world)) (st : StateStands layout formats of at_flip done x.amc x.segs y)
+    (none_paired : y.world.graph.dependents ≡ []) (shaped : AreShaped y.world.graph.objects (pool_layout y.world))
+    (st : StateStands layout formats of at_flip done x.amc x.segs y)
     (scan : IsToBeScanned y holder at.0 o) (body : o.body ≡ Automatic (head_of_body o.body) cells is_weak) where
   abbrev head : ℕ
   head = head_of_body o.body
@@ -64,6 +68,7 @@ module _ (F : Type 0) (layout : F → Layout) (formats : List (Option (Policy F)
     colours : after.colours ≡ y.colours
     addresses : after.world.addresses ≡ y.world.addresses
     condemned : after.running.condemned ≡ y.running.condemned
+    unpaired : after.world.graph.dependents ≡ []
     pools : pool_layout after.world ≡ L
     object : Object
     there_now : slice_get after.world.graph.objects holder ≡ Some object
@@ -88,6 +93,7 @@ module _ (F : Type 0) (layout : F → Layout) (formats : List (Option (Policy F)
     colours = refl;
     addresses = refl;
     condemned = refl;
+    unpaired = none_paired;
     pools = refl;
     object = o;
     there_now = scan.object;
@@ -149,6 +155,7 @@ module _ (F : Type 0) (layout : F → Layout) (formats : List (Option (Policy F)
       colours = run.colours;
       addresses = run.addresses;
       condemned = run.condemned;
+      unpaired = run.unpaired;
       pools = run.pools;
       object = run.object;
       there_now = run.there_now;
@@ -272,11 +279,18 @@ module _ (F : Type 0) (layout : F → Layout) (formats : List (Option (Policy F)
         abbrev o'' : Object
         o'' = record run.object { body = Automatic head (slice_set run.left i new) is_weak }
 
+        -- the holder has no dependent, so its object alone is another
+        alone : u'.world.graph.objects ≡ (graph_nulled u.world.graph holder i).objects
+        alone =
+            ap (λ ps. option_map_or (λ dependent. (graph_nulled (graph_nulled u.world.graph holder i) dependent i).objects)
+            (dependent_in ps holder) (graph_nulled u.world.graph holder i).objects) run.unpaired
+
         objects_are : u'.world.graph.objects
             ≡ shape.objects' u.world.graph.objects (pool_layout u.world) run.shaped_now holder run.object head run.left is_weak
             run.there_now run.body_now i tag (Some t) here
         objects_are =
-            cell_of.objects_are set u m u.world.addresses u.colours run.done_after holder i at.0 run.object head run.left is_weak tag
+            alone
+            ∙ cell_of.objects_are set u m u.world.addresses u.colours run.done_after holder i at.0 run.object head run.left is_weak tag
             run.shaped_now (λ id. refl) holder_there run.there_now run.body_now inside run.state.image t now here (live_now t tag e).1 is_so
 
         automatic_was : (id : Id) (p : Object) → slice_get u'.world.graph.objects id ≡ Some p → IsTrue (is_automatic p)
@@ -312,6 +326,7 @@ module _ (F : Type 0) (layout : F → Layout) (formats : List (Option (Policy F)
           colours = run.colours;
           addresses = run.addresses;
           condemned = run.condemned;
+          unpaired = run.unpaired;
           pools = run.pools;
           object = o'';
           there_now =
@@ -331,13 +346,19 @@ module _ (F : Type 0) (layout : F → Layout) (formats : List (Option (Policy F)
           all = one_more;
           state =
               splatted_state layout formats of at_flip run.done_after done' z.amc z.segs u run.state holder i new
+              (subst (λ os. IsCellChanged u.world.graph.objects os holder i new) (sym alone)
               (graph_cell_changed u.world.graph holder run.object head run.left is_weak i new
               (λ cs. Rattle.mps_model.specs.Graph.with_target_cell cs i None) run.there_now run.body_now
-              (target_changed run.left i tag (Some t) None here)) automatic_was
+              (target_changed run.left i tag (Some t) None here))) automatic_was
               (slice_set z.segs.words (word_of at.0 + i) (g.retarget (word_at z at i) 0))
+              (subst (λ os. ImageStands (setting_with_objects (setting_of (record z.segs {
+                words = slice_set z.segs.words (word_of at.0 + i) (g.retarget (word_at z at i) 0);
+              }) at_flip u') os) (memory_in (record z.segs {
+                words = slice_set z.segs.words (word_of at.0 + i) (g.retarget (word_at z at i) 0);
+              })) u.world.addresses u.colours done') (sym alone)
               (cell_of.splatted_image set u m u.world.addresses u.colours run.done_after holder i at.0 run.object head run.left is_weak tag
               run.shaped_now (λ id. refl) holder_there run.there_now run.body_now inside run.state.image t now here
-              (live_now t tag e).1 is_so);
+              (live_now t tag e).1 is_so));
         }
           where
             splats_last : (cs : List ℕ) → splats_of at (cs ++ i ∷ []) ≡ splats_of at cs ++ Splat at i ∷ []
@@ -464,5 +485,5 @@ module _ (F : Type 0) (layout : F → Layout) (formats : List (Option (Policy F)
       finished z (to_cell z from (length cells) r.run r.few (λ k above below. none k above) (omega arith))
 
 pub run_is_splats : {F : Type 0} → ASplatRunIsSplats F
-run_is_splats {F} layout formats of at_flip done x z y holder at o cells is_weak from shaped st scan body run none =
-    run_done F layout formats of at_flip done x y holder at o cells is_weak shaped st scan body z from run none
+run_is_splats {F} layout formats of at_flip done x z y holder at o cells is_weak from none_paired shaped st scan body run none =
+    run_done F layout formats of at_flip done x y holder at o cells is_weak none_paired shaped st scan body z from run none

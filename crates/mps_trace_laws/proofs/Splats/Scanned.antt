@@ -1,5 +1,5 @@
 -- The scan of a weak block is a row of splats, and its object is black then.
-use Rattle.std.proofs.Common.{◌≡◌, ◌∙◌, ℕ, ◌<◌, Bool, true, false, refl, sym, ap, List, Option, Some, subst, inl, slice_index, arith}
+use Rattle.std.proofs.Common.{◌≡◌, ◌∙◌, ℕ, ◌<◌, Bool, true, false, refl, sym, ap, List, [], Option, Some, subst, inl, slice_index, arith}
 use Rattle.std.proofs.lemmas.Bool.{false≢true}
 use Rattle.std.proofs.lemmas.List.{length-set}
 use Rattle.std.proofs.lemmas.Option.{same_Some}
@@ -35,7 +35,7 @@ automatic_body (Automatic head cells is_weak) is = (cells, is_weak, refl)
 automatic_body (Manual words) is = absurd (false≢true is)
 
 module _ (F : Type 0) (layout : F → Layout) (formats : List (Option (Policy F))) (of : ChainsState) (at_flip : List (Option Address))
-    (x : Traced) (y : Collecting) (shaped : AreShaped y.world.graph.objects (pool_layout y.world))
+    (x : Traced) (y : Collecting) (none_paired : y.world.graph.dependents ≡ []) (shaped : AreShaped y.world.graph.objects (pool_layout y.world))
     (stands : TracingStands layout formats of at_flip (black_cells y.running.condemned y.colours) x y) (holder : Id) (at : Addr)
     (o : Object) (scan : IsToBeScanned y holder at.0 o) where
   abbrev done : CellSet
@@ -54,7 +54,7 @@ module _ (F : Type 0) (layout : F → Layout) (formats : List (Option (Policy F)
       → AreSplatsDone layout formats of at_flip done x z y holder at (size_of o)
   whole_run z all =
       let body = automatic_body o.body scan.automatic in
-      run_is_splats layout formats of at_flip done x z y holder at o body.0 body.1 all.from shaped stands.state scan body.2 all.run all.done
+      run_is_splats layout formats of at_flip done x z y holder at o body.0 body.1 all.from none_paired shaped stands.state scan body.2 all.run all.done
 
   -- the block is grey no longer
   ended : (z : Traced) → AreSplatsDone layout formats of at_flip done x z y holder at (size_of o)
@@ -115,5 +115,5 @@ module _ (F : Type 0) (layout : F → Layout) (formats : List (Option (Policy F)
       subst (λ w. IsSplatScan layout formats of at_flip x w y holder at) (sym is.black) (ended is.before (whole_run is.before all))
 
 pub a_splat_scan_is_a_scan : {F : Type 0} → ASplatScanIsAScan F
-a_splat_scan_is_a_scan {F} layout formats of at_flip x z y holder at o shaped stands scan is =
-    is_scan F layout formats of at_flip x y shaped stands holder at o scan is
+a_splat_scan_is_a_scan {F} layout formats of at_flip x z y holder at o none_paired shaped stands scan is =
+    is_scan F layout formats of at_flip x y none_paired shaped stands holder at o scan is

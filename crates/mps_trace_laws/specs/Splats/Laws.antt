@@ -1,5 +1,5 @@
 -- What the scan of a weak block is to the abstract collector.
-use Rattle.std.specs.Prelude.{◌≡◌, ℕ, ◌<◌, Bool, true, Option, Some, List, ◌++◌, slice_get}
+use Rattle.std.specs.Prelude.{◌≡◌, ℕ, ◌<◌, Bool, true, Option, Some, List, [], ◌++◌, slice_get}
 use Rattle.mps_base.specs.Address.{Address, Id}
 use Rattle.mps_base.specs.declared.address.Addr.{Addr}
 use Rattle.mps_format.specs.Layout.{Layout}
@@ -37,12 +37,13 @@ pub record AreSplatsDone {F : Type 0} (layout : F → Layout) (formats : List (O
     pub same_condemned : after.running.condemned ≡ y.running.condemned
     pub object : (o : Object) × (slice_get after.world.graph.objects holder ≡ Some o) × (size_of o ≡ size)
 
--- the references of a weak block up to its last one are splatted or brought up to date
+-- the references of a weak block up to its last one are splatted or brought up to date, if no object has a dependent
 abbrev pub ASplatRunIsSplats : (F : Type 0) → Type 0
 ASplatRunIsSplats F =
     (layout : F → Layout) (formats : List (Option (Policy F))) (of : ChainsState) (at_flip : List (Option Address)) (done : CellSet)
     (x z : Traced) (y : Collecting) (holder : Id) (at : Addr) (o : Object) (cells : List Cell) (is_weak : Bool) (from : ℕ)
-    → AreShaped y.world.graph.objects (pool_layout y.world) → StateStands layout formats of at_flip done x.amc x.segs y
+    → y.world.graph.dependents ≡ [] → AreShaped y.world.graph.objects (pool_layout y.world)
+    → StateStands layout formats of at_flip done x.amc x.segs y
     → IsToBeScanned y holder at.0 o → o.body ≡ Automatic (head_of_body o.body) cells is_weak
     → SplatsTo layout (pool_layout y.world o.pool) formats (head_of_body o.body) at x from z
     → HasNoReference (pool_layout y.world o.pool) (head_of_body o.body) from
@@ -61,6 +62,7 @@ pub record IsSplatScan {F : Type 0} (layout : F → Layout) (formats : List (Opt
 abbrev pub ASplatScanIsAScan : (F : Type 0) → Type 0
 ASplatScanIsAScan F =
     (layout : F → Layout) (formats : List (Option (Policy F))) (of : ChainsState) (at_flip : List (Option Address)) (x z : Traced)
-    (y : Collecting) (holder : Id) (at : Addr) (o : Object) → AreShaped y.world.graph.objects (pool_layout y.world)
+    (y : Collecting) (holder : Id) (at : Addr) (o : Object) → y.world.graph.dependents ≡ []
+    → AreShaped y.world.graph.objects (pool_layout y.world)
     → TracingStands layout formats of at_flip (black_cells y.running.condemned y.colours) x y → IsToBeScanned y holder at.0 o
     → Splatted layout formats x at z → IsSplatScan layout formats of at_flip x z y holder at
