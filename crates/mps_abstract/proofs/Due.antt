@@ -14,6 +14,7 @@ use Rattle.mps_abstract.specs.DueLaws.{AreDue}
 use Rattle.mps_abstract.proofs.Joining.{for_some}
 use Rattle.mps_abstract.proofs.Barrier.{barrier_is_done}
 use Rattle.mps_abstract.proofs.Rows.{units_done, last_units_done, still_runs}
+use Rattle.mps_abstract.proofs.OwnSegments.{last_units_end_so, units_end_so}
 
 when_true : (A B : Type 0) (b : Bool) → b ≡ true → A → MatchBool b A B
 when_true A B true e a = a
@@ -36,6 +37,8 @@ work_is_due x run =
       last_poll = λ {count} {ms} ends most.
           when_true (AreUnits x.world units_of_poll ms) (ms ≡ poll_at_rest x.world (due_in x.world)) (is_running x.world) runs
           ((last_units_done x count ms run ends).are_units units_of_poll most);
+      taken_by_none = units_end_so;
+      taken_by_no_last = last_units_end_so;
       finish = λ {count} {ms} ends.
           when_true (AreUnitsToEnd x.world ms) (ms ≡ []) (is_running x.world) runs (last_units_done x count ms run ends).are_to_end;
       get = λ {s} {y} {ms} source answer done found accepted.

@@ -29,6 +29,7 @@ pub mod Reclaimed
 pub mod Reclaiming
 pub mod Rows
 pub mod Barrier
+pub mod OwnSegments
 pub mod Due
 pub mod LeftRightly
 pub mod WholeCollections

@@ -1,7 +1,7 @@
 -- What a legal step asks of a collection that runs. The moves of units and of a read barrier are those that are due of a call:
 -- of `step`, of the poll of a `reserve`, of `park` and the first part of a `collect`, and of a `get`. And what the client holds is
 -- held rightly, with units left.
-use Rattle.std.specs.Prelude.{◌≡◌, ◌≤◌, ℕ, false, IsTrue, Some, List}
+use Rattle.std.specs.Prelude.{◌≡◌, ◌≤◌, ℕ, false, IsTrue, Some, List, []}
 use Rattle.std.specs.List.{list_all}
 use Rattle.mps_base.specs.Address.{Id}
 use Rattle.mps_base.specs.Segment.{Segment}
@@ -13,7 +13,7 @@ use Rattle.mps_model.specs.World.{is_unclamped, is_live, block_of_word}
 use Rattle.mps_model.specs.Answer.{Answer, is_refused, is_block}
 use Rattle.mps_model.specs.Checked.{slot_in}
 use Rattle.mps_model.specs.Policy.{units_of_poll}
-use Rattle.mps_model.specs.History.{AreMovesOfStep, IsPoll, FinishesCollection, AreMovesOfGet, segment_of_found, are_held_kept, has_units_left, IsPossiblyMarked}
+use Rattle.mps_model.specs.History.{own_segment, AreMovesOfStep, IsPoll, FinishesCollection, AreMovesOfGet, segment_of_found, are_held_kept, has_units_left, IsPossiblyMarked}
 use Rattle.mps_abstract.specs.Collecting.{Collecting, Running, is_white_in}
 use Rattle.mps_abstract.specs.Units.{GoesOn, Ends, BarrierDone}
 
@@ -27,6 +27,9 @@ pub record AreDue (x : Collecting) : Type 0 where
   -- the same of a poll
   pub poll : {y : Collecting} {ms : List Move} → GoesOn x units_of_poll ms y → IsPoll x.world ms
   pub last_poll : {count : ℕ} {ms : List Move} → Ends x count ms → count ≤ units_of_poll → IsPoll x.world ms
+  -- units never end with a segment that is taken: so the moves of a poll are told from the segment that its `reserve` takes
+  pub taken_by_none : {y : Collecting} {count : ℕ} {ms : List Move} → GoesOn x count ms y → own_segment ms ≡ []
+  pub taken_by_no_last : {count : ℕ} {ms : List Move} → Ends x count ms → own_segment ms ≡ []
   -- the collection goes on to its end
   pub finish : {count : ℕ} {ms : List Move} → Ends x count ms → FinishesCollection x.world ms
   -- an object of a segment is read
