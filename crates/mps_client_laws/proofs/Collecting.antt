@@ -277,10 +277,10 @@ module _ (w : World) (s : Step) (answered : IsAnswered w s) (is : s.call ≡ cal
   abbrev moved : World
   moved = world_after_moves w s.moves
 
-  after_is : world_after w s ≡ with_client_remembered (with_state moved Parked)
+  pub after_is : world_after w s ≡ with_client_remembered (with_state moved Parked)
   after_is = answered.after ∙ ap (λ c. world_after_call w c s.moves s.answer) is
 
-  after_graph : (world_after w s).graph ≡ moved.graph
+  pub after_graph : (world_after w s).graph ≡ moved.graph
   after_graph = ap (λ (u : World). u.graph) after_is
 
   at_rest : is_running (world_after w s) ≡ false

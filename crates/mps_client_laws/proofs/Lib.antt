@@ -9,3 +9,4 @@ pub mod Slots
 pub mod SlotsOfCalls
 pub mod SlotsStay
 pub mod Collecting
+pub mod Gone

@@ -7,7 +7,11 @@ use Rattle.mps_model.specs.Answer.{is_accepted}
 use Rattle.mps_model.specs.Step.{Step, History}
 use Rattle.mps_model.specs.Graph.{Graph, Cell, is_weak_object, ids_in_holds, ids_in_slots, strong_targets}
 use Rattle.mps_model.specs.Reachable.{PathLeads}
-use Rattle.mps_model.specs.World.{World, is_live, object_is}
+use Rattle.mps_model.specs.World.{World, is_live, is_running, object_is}
+use Rattle.mps_model.specs.WellFormed.{is_live_automatic}
+use Rattle.mps_model.specs.Effect.{Everything}
+use Rattle.mps_model.specs.Flip.{world_at_flip}
+use Rattle.mps_model.specs.Posts.{IsWidelyReachableWith}
 use Rattle.mps_model.specs.History.{IsLegalHistoryOf, world_after}
 use Rattle.mps_laws.specs.Replay.{reached}
 use Rattle.mps_client_laws.specs.Objects.{cell_at, two_objects}
@@ -33,6 +37,18 @@ CollectLeavesWhatIsReached =
     (formats : ℕ → Layout) (steps later : History) (s : Step) (id : Id) → IsLegalHistoryOf formats (steps ++ s ∷ later)
     → s.call ≡ call.Collect → IsTrue (is_accepted s.answer) → IsReached (reached formats steps).graph id
     → IsLeft (reached formats steps) (world_after (reached formats steps) s) id
+
+-- What can't be reached is gone. Take a live automatic object when no collection runs, and the messages that an accepted `collect`
+-- posts. If the object isn't reached in the world that the flip leaves, neither from what the client holds, nor from the objects in
+-- which area words lie, nor from those that are posted, it is live no more.
+abbrev pub WhatIsNotReachedIsGone : Type 0
+WhatIsNotReachedIsGone =
+    (formats : ℕ → Layout) (steps later : History) (s : Step) (id : Id) (posts : List Id) → IsLegalHistoryOf formats (steps ++ s ∷ later)
+    → s.call ≡ call.Collect → IsTrue (is_accepted s.answer) → is_running (reached formats steps) ≡ false
+    → IsTrue (is_live_automatic (reached formats steps) id)
+    → (world_after (reached formats steps) s).graph.messages ≡ (reached formats steps).graph.messages ++ posts
+    → ¬ IsWidelyReachableWith (world_at_flip (reached formats steps) Everything) posts id
+    → is_live (world_after (reached formats steps) s) id ≡ false
 
 -- ---- vectors
 

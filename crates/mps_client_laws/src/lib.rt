@@ -4,7 +4,7 @@
 
 ghost use Rattle.mps_client_laws.specs.Objects.{ObjectsKeepTheirIdentity, CellsStay, WordsStay};
 ghost use Rattle.mps_client_laws.specs.Addresses.{ObjectsLiveOn, AddressesStay, NoTwoHaveOneAddress};
-ghost use Rattle.mps_client_laws.specs.Collecting.{CollectLeavesWhatIsReached};
+ghost use Rattle.mps_client_laws.specs.Collecting.{CollectLeavesWhatIsReached, WhatIsNotReachedIsGone};
 ghost use Rattle.mps_client_laws.specs.ReadingBack.{GetGivesWhatWasPut, NumAnswersWhatWasSet, LoadAnswersWhatWasStored};
 ghost use Rattle.mps_client_laws.specs.Slots.{SlotsStay, CopyGivesTheSameObject, ClearLeavesNull, YesIsTheSameObject, NoIsAnotherObject, YesIsNoObject, NoIsAnObject};
 
@@ -52,7 +52,9 @@ pub fn slots_are_equal_by_object()
 {}
 
 /// What can be reached before a `collect` is live after it: by a path from slots, area words and messages, through reference cells of
-/// objects that aren't weak. Each object that isn't weak has the cells that it had.
+/// objects that aren't weak. Each object that isn't weak has the cells that it had. What isn't reached is gone, if no collection
+/// ran: also from objects in which area words lie, and from those that the `collect` posts.
 pub fn what_is_reached_stays()
-    ensures { CollectLeavesWhatIsReached }
+    ensures reached { CollectLeavesWhatIsReached }
+    ensures gone { WhatIsNotReachedIsGone }
 {}

@@ -1,0 +1,94 @@
+-- What can't be reached at a `collect` is gone after it.
+use Rattle.std.proofs.Common.{◌≡◌, ℕ, Bool, true, false, refl, sym, ◌∙◌, ap, subst, List, [], ◌∷◌, ◌++◌}
+use Rattle.std.proofs.lemmas.Bool.{true≢false, and_parts, eqb-true, or_left, or_right}
+use Rattle.std.proofs.lemmas.List.{append_cancel_left}
+use Rattle.std.specs.Prelude.{MatchBool, ◌||◌, ◌==◌, filter, if◌then◌else◌}
+use Rattle.std.specs.List.{AllByRecursion}
+use Rattle.mps_base.specs.declared.moves.Move.{Move}
+use Rattle.mps_model.proofs.Appending.{IsLegalFrom-later}
+use Rattle.mps_model.specs.declared.call.Call.TheVariants as call
+use Rattle.mps_model.specs.Step.{Step}
+use Rattle.mps_model.specs.Graph.{contains, is_automatic}
+use Rattle.mps_model.specs.World.{World, empty_world_of, is_live, is_running, live_automatic_ids, live_ids, object_is}
+use Rattle.mps_model.specs.WellFormed.{is_live_automatic}
+use Rattle.mps_model.specs.Effect.{Everything, world_after_moves}
+use Rattle.mps_model.specs.Flip.{world_at_flip}
+use Rattle.mps_model.specs.Posts.{IsDecided, IsWhole, IsWidelyReachableWith}
+use Rattle.mps_model.specs.Units.{AreUnitsToEnd}
+use Rattle.mps_model.specs.History.{AreMovesOf, AreMovesOfCollect, FinishesCollection, world_after}
+use Rattle.mps_laws.specs.Replay.{reached}
+use Rattle.mps_laws.proofs.LegalHistories.{IsAnswered}
+use Rattle.mps_laws.proofs.Sound.Referred.{live_is_among}
+use Rattle.mps_client_laws.specs.Collecting.{WhatIsNotReachedIsGone}
+use Rattle.mps_client_laws.proofs.Collecting.{after_is, after_graph}
+use Rattle.mps_client_laws.proofs.ReadingBack.{accepted_is_answered}
+
+-- ---- lists
+
+contains_filtered : (test : ℕ → Bool) (ids : List ℕ) (id : ℕ) → contains ids id ≡ true → test id ≡ true
+    → contains (filter test ids) id ≡ true
+contains_filtered test [] id h passes = h
+contains_filtered test (n ∷ ns) id h passes =
+    by_test (λ e. contains_filtered test ns id e passes) (test n) refl (n == id) refl h
+  where
+    by_test : (contains ns id ≡ true → contains (filter test ns) id ≡ true) → (b : Bool) → test n ≡ b → (e : Bool) → (n == id) ≡ e
+        → (e || contains ns id) ≡ true → contains (if b then n ∷ filter test ns else filter test ns) id ≡ true
+    by_test later true passed true same h = or_left (n == id) (contains (filter test ns) id) same
+    by_test later true passed false same h = or_right (n == id) (contains (filter test ns) id) (later h)
+    by_test later false passed true same h =
+        absurd (true≢false (sym passes ∙ ap test (sym (eqb-true n id same)) ∙ passed))
+    by_test later false passed false same h = later h
+
+all_contained : (P : ℕ → Type 0) (ids : List ℕ) (id : ℕ) → AllByRecursion P ids → contains ids id ≡ true → P id
+all_contained P [] id all h = absurd (true≢false (sym h))
+all_contained P (n ∷ ns) id all h = by_first (all_contained P ns id all.1) (n == id) refl h
+  where
+    by_first : (contains ns id ≡ true → P id) → (b : Bool) → (n == id) ≡ b → (b || contains ns id) ≡ true → P id
+    by_first later true same h = subst P (eqb-true n id same) all.0
+    by_first later false same h = later h
+
+-- ---- a whole collection
+
+none_to_finish : (w : World) (ms : List Move) → is_running w ≡ false → FinishesCollection w ms → ms ≡ []
+none_to_finish w ms rests ends = subst (λ (b : Bool). MatchBool b (AreUnitsToEnd w ms) (ms ≡ [])) rests ends
+
+whole : (w : World) (ms : List Move) → is_running w ≡ false → AreMovesOfCollect w ms
+    → IsWhole w (world_at_flip w Everything) (world_after_moves w ms)
+whole w ms rests due =
+    let none = none_to_finish w due.earlier rests due.earlier_ends in
+    let all : ms ≡ due.full = due.both ∙ ap (λ e. e ++ due.full) none in
+    subst (λ ms. IsWhole w (world_at_flip w Everything) (world_after_moves w ms)) (sym all)
+    (subst (λ e. IsWhole (world_after_moves w e) (world_at_flip (world_after_moves w e) Everything)
+    (world_after_moves (world_after_moves w e) due.full)) none due.is_full.exact)
+
+decided : (flipped after : World) (posts : List ℕ) (id : ℕ) → IsDecided flipped after posts id
+    → (IsWidelyReachableWith flipped posts id → ⊥) → is_live after id ≡ false
+decided flipped after posts id is lost = by_case (is_live after id) refl is
+  where
+    by_case : (b : Bool) → is_live after id ≡ b
+        → MatchBool b (IsWidelyReachableWith flipped posts id) (¬ IsWidelyReachableWith flipped posts id) → is_live after id ≡ false
+    by_case true e reachable = absurd (lost reachable)
+    by_case false e unreachable = e
+
+gone_after : (w : World) (s : Step) (id : ℕ) (posts : List ℕ) (answered : IsAnswered w s) (is : s.call ≡ call.Collect)
+    → is_running w ≡ false → is_live_automatic w id ≡ true → (world_after w s).graph.messages ≡ w.graph.messages ++ posts
+    → (IsWidelyReachableWith (world_at_flip w Everything) posts id → ⊥) → is_live (world_after w s) id ≡ false
+gone_after w s id posts answered is rests live posted lost =
+    let moved = world_after_moves w s.moves in
+    let all = whole w s.moves rests (subst (λ c. AreMovesOf w c s.answer s.moves) is answered.answered.moves_are_due) in
+    let same : all.posts ≡ posts = append_cancel_left w.graph.messages all.posts posts
+    (sym all.posted ∙ sym (ap (λ g. g.messages) (after_graph w s answered is)) ∙ posted) in
+    let parts = and_parts (is_live w id) (object_is is_automatic w id) live in
+    let among = contains_filtered (object_is is_automatic w) (live_ids w) id (live_is_among w id parts.0) parts.1 in
+    ap (λ (u : World). is_live u id) (after_is w s answered is)
+    ∙ decided (world_at_flip w Everything) moved posts id
+    (subst (λ ps. IsDecided (world_at_flip w Everything) moved ps id) same
+    (all_contained (IsDecided (world_at_flip w Everything) moved all.posts) (live_automatic_ids (world_at_flip w Everything)) id
+    all.survivors among))
+    lost
+
+pub what_is_not_reached_is_gone : WhatIsNotReachedIsGone
+what_is_not_reached_is_gone formats steps later s id posts legal is accepted rests live posted lost =
+    let w = reached formats steps in
+    gone_after w s id posts
+    (accepted_is_answered w s (IsLegalFrom-later (empty_world_of formats) steps (s ∷ later) legal).0 accepted) is rests live posted lost
