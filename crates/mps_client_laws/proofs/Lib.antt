@@ -10,3 +10,4 @@ pub mod SlotsOfCalls
 pub mod SlotsStay
 pub mod Collecting
 pub mod Gone
+pub mod Committing

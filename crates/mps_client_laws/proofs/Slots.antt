@@ -27,7 +27,7 @@ use Rattle.mps_client_laws.proofs.QuietCalls.{IsQuiet, quiet_answer, done_world}
 use Rattle.mps_client_laws.proofs.ReadingBack.{accepted_is_answered, quiet_graph}
 
 -- a slot that was written refers to what was written
-slot_written : (w : World) (slot : Slot) (into : Found (Option ℕ)) (x : Option ℕ) → slot_in w slot ≡ Ok into
+pub slot_written : (w : World) (slot : Slot) (into : Found (Option ℕ)) (x : Option ℕ) → slot_in w slot ≡ Ok into
     → target_of_slot (with_graph w (with_slot w.graph into x)) slot ≡ x
 slot_written w slot into x e =
     let is = slot_is w slot into e in

@@ -3,3 +3,4 @@ pub mod ReadingBack
 pub mod Addresses
 pub mod Slots
 pub mod Collecting
+pub mod Committing

@@ -5,6 +5,7 @@
 ghost use Rattle.mps_client_laws.specs.Objects.{ObjectsKeepTheirIdentity, CellsStay, WordsStay};
 ghost use Rattle.mps_client_laws.specs.Addresses.{ObjectsLiveOn, AddressesStay, NoTwoHaveOneAddress};
 ghost use Rattle.mps_client_laws.specs.Collecting.{CollectLeavesWhatIsReached, WhatIsNotReachedIsGone};
+ghost use Rattle.mps_client_laws.specs.Committing.{CommitMakesTheObject, FlippedMakesNone};
 ghost use Rattle.mps_client_laws.specs.ReadingBack.{GetGivesWhatWasPut, NumAnswersWhatWasSet, LoadAnswersWhatWasStored};
 ghost use Rattle.mps_client_laws.specs.Slots.{SlotsStay, CopyGivesTheSameObject, ClearLeavesNull, YesIsTheSameObject, NoIsAnotherObject, YesIsNoObject, NoIsAnObject};
 
@@ -57,4 +58,11 @@ pub fn slots_are_equal_by_object()
 pub fn what_is_reached_stays()
     ensures reached { CollectLeavesWhatIsReached }
     ensures gone { WhatIsNotReachedIsGone }
+{}
+
+/// An accepted `commit` makes one new object, with the head and just the cells of the reservation, and its slot refers to it. One that
+/// answers `flipped` makes none.
+pub fn a_commit_makes_the_object()
+    ensures made { CommitMakesTheObject }
+    ensures flipped { FlippedMakesNone }
 {}
