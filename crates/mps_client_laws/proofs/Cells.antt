@@ -192,7 +192,8 @@ other_words_stay g id k value this j n differs there =
           (others_stay g.objects id this (object_with_word k value) other) ∙ there
     ]
   where
-    of_body : (b : Body) → (k ≡ j → ⊥) → slice_get (words_of_body b) j ≡ Some n → slice_get (words_of_body (body_with_word b k value)) j ≡ Some n
+    of_body : (b : Body) → (k ≡ j → ⊥) → slice_get (words_of_body b) j ≡ Some n
+        → slice_get (words_of_body (body_with_word b k value)) j ≡ Some n
     of_body (Automatic head cells is_weak) other there = there
     of_body (Manual words) other there = slice_get-set_other words k j value other ∙ there
 

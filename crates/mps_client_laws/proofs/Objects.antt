@@ -27,7 +27,8 @@ abbrev with_objects : Graph → List Object → Graph
 with_objects g objects = record g { objects = objects }
 
 module _ (c : Call) (v : World) where
-  identity_kept : (id : ℕ) (is : Identity) → identity_at v.graph id ≡ Some is → (u : World) → Writes c v u → identity_at u.graph id ≡ Some is
+  identity_kept : (id : ℕ) (is : Identity) → identity_at v.graph id ≡ Some is → (u : World) → Writes c v u
+      → identity_at u.graph id ≡ Some is
   identity_kept id is there u (Nothing e) = ap (λ os. identity_at (with_objects u.graph os) id) e ∙ there
   identity_kept id is there u (OneMore o e) =
       ap (λ os. identity_at (with_objects u.graph os) id) e

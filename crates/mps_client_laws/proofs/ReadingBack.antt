@@ -184,7 +184,8 @@ module _ (w : World) (place : Slot) (id k : ℕ) (holds : block_of_place w place
       (words_are (object_at w.graph block.0) was.0 (required-is (slice_get (words_at w.graph block.0) k) refusal.BadIndex was.0 was.1)) in
       ap (λ (u : World). word_at u.graph id k) (done_world _ a was.2)
       ∙ ap (λ n. word_at (graph_with_word w.graph n k value) id k) same
-      ∙ ap (option_and_then (λ (x : Object). slice_get (words_of_body x.body) k)) (this_is_changed w.graph.objects id (object_with_word k value))
+      ∙ ap (option_and_then (λ (x : Object). slice_get (words_of_body x.body) k))
+      (this_is_changed w.graph.objects id (object_with_word k value))
       ∙ written_word (object_at w.graph id) was.0 value there
 
   pub word_is_answered : (value answered : ℕ) → word_at w.graph id k ≡ Some value
@@ -257,7 +258,8 @@ load_is_quiet source k = record { none = λ w a ms e. e; world = λ w a. refl; r
 -- ---- the laws
 
 pub get_gives_what_was_put : GetGivesWhatWasPut
-get_gives_what_was_put formats steps between later put get target source into from k id both is_put refers leave is_get accepted reads leaves =
+get_gives_what_was_put formats steps between later put get target source into from k id both is_put refers leave is_get accepted reads
+    leaves =
     let w = reached formats steps in
     let v = reached formats (steps ++ put ∷ between) in
     let a = quiet_graph (call.Put target k source) (put_is_quiet target source k) w put

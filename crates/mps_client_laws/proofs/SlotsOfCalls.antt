@@ -38,7 +38,8 @@ pub data Names (c : Call) (v u : World) : Type 0 where
 pub data Tables (c : Call) (judged v u : World) : Type 0 where
   AsBefore : u.graph.tables ≡ v.graph.tables → Tables c judged v u
   OneMore : (slots : Slots) → u.graph.tables ≡ with_last v.graph.tables (Some slots) → Tables c judged v u
-  ASlot : (slot : Slot) (into : Found (Option ℕ)) (x : Option ℕ) → slot_written_by c ≡ Some slot → (slot_in judged slot ≡ Ok into) ⊎ (slot_in v slot ≡ Ok into)
+  ASlot : (slot : Slot) (into : Found (Option ℕ)) (x : Option ℕ) → slot_written_by c ≡ Some slot
+      → (slot_in judged slot ≡ Ok into) ⊎ (slot_in v slot ≡ Ok into)
       → u.graph.tables ≡ slice_set v.graph.tables into.number (Some (slice_set into.list into.index x)) → Tables c judged v u
   ATable : (name : Name) (n : ℕ) → c ≡ call.DropRoot name → number_named v name as_table ≡ Some n
       → u.graph.tables ≡ slice_set v.graph.tables n None → Tables c judged v u
@@ -106,7 +107,8 @@ module _ (marked : Bool) (judged v : World) where
 
   drops : (name : Name) (g : Graph) → graph_without_root v.graph name (thing_named v.graph name) ≡ Some g
       → WritesSlots (call.DropRoot name) judged v (with_graph v g)
-  drops name g e = without_root (λ h. WritesSlots (call.DropRoot name) judged v (with_graph v h)) v.graph name (thing_named v.graph name) g e
+  drops name g e =
+      without_root (λ h. WritesSlots (call.DropRoot name) judged v (with_graph v h)) v.graph name (thing_named v.graph name) g e
       (λ n is. record {
         names = OneUnnamed name (inr refl) refl;
         tables = ATable name n refl (ap (option_and_then as_table) is) refl;
@@ -193,7 +195,8 @@ module _ (marked : Bool) (judged v : World) where
       andthen (object_in judged from.value) (λ (object : Numbered Object).
       after_check (reference_at (cells_of_body object.value.body) cell)
       (andthen (object_in v from.value) (λ (now : Numbered Object).
-      andthen (reference_at (cells_of_body now.value.body) cell) (λ (read : Option ℕ). accepted (slot_is target into read refl (inl e) refl refl)))))))
+      andthen (reference_at (cells_of_body now.value.body) cell) (λ (read : Option ℕ).
+      accepted (slot_is target into read refl (inl e) refl refl)))))))
   slots_of_act (call.Put target cell source) =
       andthen (slot_in v target) (λ (into : Found (Option ℕ)).
       andthen (slot_in v source) (λ (from : Found (Option ℕ)).

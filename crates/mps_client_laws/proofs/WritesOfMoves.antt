@@ -163,7 +163,8 @@ segment_for_point_graph w s point = by_case (is_copying_pool w s.pool)
     taken : World
     taken = holding w (record s { rank = rank_of_point w point })
 
-    by_case : (b : Bool) → (if b then record taken { point_memories = with_buffer w.point_memories point (words_of_segment s) } else taken).graph
+    by_case : (b : Bool)
+        → (if b then record taken { point_memories = with_buffer w.point_memories point (words_of_segment s) } else taken).graph
         ≡ w.graph
     by_case true = refl
     by_case false = refl
@@ -181,7 +182,8 @@ asking_graph (Some units) w = refl
 
 its_moves_leave : (w : World) (c : Call) (ms : List Move) → Left w.graph (after_its_moves w c ms).graph (moves_leave_cell w ms)
 its_moves_leave w (call.Reserve point head) ms =
-    subst (λ (g : Graph). Left w.graph g (moves_leave_cell w ms)) (sym (own_segment_graph (world_after_moves w (moves_of_poll ms)) (own_segment ms) _))
+    subst (λ (g : Graph). Left w.graph g (moves_leave_cell w ms))
+    (sym (own_segment_graph (world_after_moves w (moves_of_poll ms)) (own_segment ms) _))
     (let l = moves_leave_objects w (moves_of_poll ms) in
     record {
       names = l.names;
