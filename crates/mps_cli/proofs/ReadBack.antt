@@ -1,5 +1,5 @@
 -- The log of a run is read to its end by the readers.
-use Rattle.std.proofs.Common.{◌≡◌, ◌≢◌, ◌≤◌, ℕ, List, [], ◌++◌, length, Option, Some, None, Ok, refl, sym, ap, ◌∙◌, append-nil}
+use Rattle.std.proofs.Common.{◌≡◌, ◌≢◌, ◌<◌, ◌≤◌, ℕ, List, [], ◌++◌, length, Option, Some, None, Ok, refl, sym, ap, ◌∙◌, append-nil, arith}
 use Rattle.std.specs.Prelude.{All}
 use Rattle.mps_base.specs.Record.{Record, header_bytes, records_bytes}
 use Rattle.mps_desk.specs.Desk.{Outside}
@@ -17,10 +17,15 @@ use Rattle.mps_run.specs.Script.{Line, HasRun}
 use Rattle.mps_tools.specs.Listing.{listing}
 use Rattle.mps_tools.specs.ReplayEnding.{Replays}
 use Rattle.mps_tools.specs.Replayed.{State, replayed}
+use Rattle.mps_args.specs.Kinds.{all_kinds}
+use Rattle.mps_tools.specs.Portable.{portable}
+use Rattle.mps_tools.specs.Text.{portable_text, readable_text}
+use Rattle.mps_cnv.proofs.AllKinds.{text_of_all}
+use Rattle.mps_txt.proofs.OwnText.{reads_its_own}
 use Rattle.mps_blocks.proofs.VersionOne.{blocks_of, version_one}
-use Rattle.mps_cli.specs.Asked.{ConvertsLog, ListsBlocks}
+use Rattle.mps_cli.specs.Asked.{ConvertsLog, ListsBlocks, ReadsText}
 use Rattle.mps_cli.specs.Built.{session_built}
-use Rattle.mps_cli.specs.ReadBack.{ListsLiveBlocks, ConvertsRecords, IsReadBack}
+use Rattle.mps_cli.specs.ReadBack.{ListsLiveBlocks, ConvertsRecords, ReadsRecords, IsReadBack}
 use Rattle.mps_cli.proofs.GoodInput.{verdict}
 
 -- a state of which these are the blocks
@@ -54,11 +59,10 @@ module _ (ran : List Line) (history : History) (runs : HasRun session_built ran 
   unfolding all_of_it
   replays = record { prefix = all_of_it; state = live.state; replay = live.is; ends_at = refl }
 
-  module _ (status : ℕ) (old new : Outside) (none : NoFaultRose old new) (memory : status ≢ 8) (log : List ℕ)
-      (known : old.text log ≡ Some (log_bytes history)) where
-    listed : ListsBlocks log status old new → ListsLiveBlocks history status old new
+  module _ (status : ℕ) (old new : Outside) (none : NoFaultRose old new) (memory : status ≢ 8) where
+    listed : (log : List ℕ) → old.text log ≡ Some (log_bytes history) → ListsBlocks log status old new → ListsLiveBlocks history status old new
     unfolding replays
-    listed does =
+    listed log known does =
         let ends = does.unique (verdict status old new none memory does.justified) (log_bytes history) known (Ok tt)
         (listing live.state.blocks) (replays, refl) in
         record {
@@ -66,15 +70,28 @@ module _ (ran : List Line) (history : History) (runs : HasRun session_built ran 
           printed = ends.printed ∙ ap (λ (blocks : Store). appended old.printed (listing blocks)) live.blocks;
         }
 
-    converted : (kinds : ℕ) → ConvertsLog log kinds status old new → ConvertsRecords kinds history status old new
+    converted : (log : List ℕ) → old.text log ≡ Some (log_bytes history) → (kinds : ℕ) → ConvertsLog log kinds status old new → ConvertsRecords kinds history status old new
     unfolding all_of_it
-    converted kinds does =
+    converted log known kinds does =
         let ends = (does.unique (verdict status old new none memory does.justified) (log_bytes history) known).with_header all_of_it (Ok tt)
         refl in
         record { status_is = ends.status_is; printed = ends.printed }
 
+    read : length (log_of history) < max_records → (text : List ℕ) → old.text text ≡ Some (portable One all_kinds (log_of history))
+        → ReadsText text status old new → ReadsRecords history status old new
+    read fewer text there does =
+        let records = log_of history in
+        let bytes = portable_text One records in
+        let same : old.text text ≡ Some bytes = there ∙ ap Some (text_of_all records runs.recorded) in
+        let ends = (does.unique (verdict status old new none memory does.justified) bytes same).with_first_line One records (Ok tt)
+        (reads_its_own records runs.recorded fewer) in
+        record { status_is = ends.status_is; printed = ends.printed }
+
 pub read_back : (ran : List Line) (history : History) → HasRun session_built ran history → IsReadBack history
-read_back ran history runs few log status old new known none memory = (
-  λ does. listed ran history runs few status old new none memory log known does,
-  λ kinds does. converted ran history runs few status old new none memory log known kinds does,
-)
+read_back ran history runs = record {
+  listed = λ few log status old new known none memory does. listed ran history runs few status old new none memory log known does;
+  converted = λ few log kinds status old new known none memory does.
+      converted ran history runs few status old new none memory log known kinds does;
+  read = λ fewer text status old new there none memory does.
+      read ran history runs (omega arith) status old new none memory fewer text there does;
+}

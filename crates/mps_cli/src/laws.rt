@@ -51,8 +51,9 @@ pub fn a_good_input_is_read_to_its_end()
 {}
 
 /// A run's log can be read: after a run that ended with its script, or with a line of it, the file of the log's name holds the log of
-/// a history (`HoldsLog`). On any desk that has those bytes, `blocks` ends with status 0 and prints exactly the blocks that live in
-/// the last world, and `cnv` ends with 0 and prints the history's records; without a fault and with memory.
+/// a history (`HoldsLog`). On any desk that has those bytes, without a fault and with memory: `blocks` ends with status 0 and prints
+/// exactly the blocks that live in the last world; `cnv` ends with 0 and prints the history's records; and `txt` reads that text to
+/// its end.
 pub fn a_runs_log_can_be_read()
     ensures run { (log script : List ℕ) (status : ℕ) (old new : Outside) → DoesAsAsked (Some (Runs log script)) status old new
         → is_input_verdict status ≡ true → (files : Files) → old.files ≡ Some files → (before : List ℕ) → old.logged ≡ Some before

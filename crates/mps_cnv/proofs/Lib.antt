@@ -4,3 +4,4 @@ pub mod ReadFault
 pub mod WriteFault
 pub mod WholeReading
 pub mod Uniqueness
+pub mod AllKinds

@@ -17,3 +17,4 @@ pub mod FailedWrite
 pub mod UniqueReading
 mod AscendingLabels
 pub mod LabelEntries
+pub mod OwnText
