@@ -1,2 +1,7 @@
+pub mod Applying
+pub mod Blocking
 pub mod Inside
+pub mod Marks
+pub mod Passing
+pub mod Slots
 pub mod State

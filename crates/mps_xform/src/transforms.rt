@@ -5,6 +5,7 @@ ghost use Rattle.std.specs.Prelude.{◌≡◌, ◌<◌, ◌&&◌, ◌==◌, [], 
 ghost use Rattle.std.specs.List.{list_any, position};
 ghost use Rattle.mps_xform.specs.State.{TransformsState, no_transforms, max_pairs, is_live, free_number, is_of, pairs_of, has_old, with_transform, without_transform, emptied, with_pair, WhyRefused};
 
+use crate::replacements::Replacements;
 use mps_base::Addr;
 use std::alloc::{AllocError, Global};
 use std::marker::Model;
@@ -38,7 +39,9 @@ pub enum AddRefusal {
 #[derive(Drop)]
 pub struct Transforms {
     live: [bool; MAX_TRANSFORMS],
-    pairs: Vec<Pair>,
+    pub(crate) pairs: Vec<Pair>,
+    // Those of the transform that was applied last, by their old addresses.
+    pub(crate) replacements: Replacements,
 }
 
 impl Model for Transforms {
@@ -61,6 +64,7 @@ impl Transforms {
         Ok(Transforms {
             live: [false; MAX_TRANSFORMS],
             pairs: Vec::with_capacity(alloc, MAX_PAIRS)?,
+            replacements: Replacements::new(alloc)?,
         })
     }
 

@@ -1,0 +1,37 @@
+-- What the passes over segments, blocks and cells keep while a transform is applied.
+use Rattle.std.specs.Prelude.{ℕ, ◌≡◌, ◌+◌, ◌<◌, ◌≤◌, ◌%◌, true, Option, Some, List, option_map, slice_index, nat_eq, Contains}
+use Rattle.std.specs.Map.{lookup}
+use Rattle.mps_base.specs.Address.{Address, Word, bytes_of_word}
+use Rattle.mps_base.specs.Segment.{Segment, end_of_segment}
+use Rattle.mps_format.specs.Layout.{Layout}
+use Rattle.mps_seg.specs.Extents.{run_over}
+use Rattle.mps_seg.specs.Segs.{SegsState}
+use Rattle.mps_xform.specs.Applying.{CanApply, after_apply_below, is_in_pool}
+use Rattle.mps_xform.specs.declared.transforms.Pair.{Pair}
+
+-- the new address that a table of pairs has for an old one
+abbrev pub new_in : List (ℕ × Pair) → (old : Address) → Option Address
+new_in entries old = option_map (λ p. p.new.0) (lookup (nat_eq old) entries)
+
+-- each new address in a table of pairs is that of a word
+abbrev pub AreAligned : List (ℕ × Pair) → Type 0
+AreAligned entries = (old : Address) (p : Pair) → lookup (nat_eq old) entries ≡ Some p → p.new.0 % bytes_of_word ≡ 0
+
+-- the references of a pool below a word lead to their replacements; all else is as it was in `before`
+pub record IsAppliedBelow (f : Layout) (to : Address → Option Address) (pool : ℕ) (before now : SegsState) (word : Word) : Type 0 where
+  pub can : CanApply f before pool
+  pub state : now ≡ after_apply_below f to before pool word
+
+-- the addresses from one to another are those of a segment of this pool
+pub record IsSpanOf (segments : List Segment) (pool : ℕ) (base end : Address) : Type 0 where
+  pub segment : Segment
+  pub there : Contains segments segment
+  pub of_pool : segment.pool ≡ pool
+  pub begins : segment.base ≡ base
+  pub ends : end_of_segment segment ≡ end
+
+-- a block of this pool with this head begins at a word
+pub record IsBlockOf (f : Layout) (s : SegsState) (pool : ℕ) (at : Word) (head : ℕ) : Type 0 where
+  pub has_head : slice_index s.words at ≡ head
+  pub in_pool : (word : Word) → at ≤ word → word < at + f.size head → is_in_pool s pool word ≡ true
+  pub over : (word : Word) → at ≤ word → word < at + f.size head → run_over s.blocks word ≡ Some at
