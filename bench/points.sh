@@ -12,7 +12,7 @@ for crate in mps_base mps_bits mps_gaps mps_numerals mps_arena mps_extents mps_m
         [ -d "$home/crates/$crate/$part" ] && cp -r "$home/crates/$crate/$part" "crates/$crate/$part"
     done
 done
-grep -E '^mps_(base|bits|free|numerals|arena|extents|marks|seg|format|buffer|manual):' "$home/crates.txt" > crates.txt
+grep -E '^mps_(base|bits|gaps|numerals|arena|extents|marks|seg|format|buffer|manual):' "$home/crates.txt" > crates.txt
 echo 'point_times: mps_base mps_extents mps_seg mps_buffer mps_manual' >> crates.txt
 program=crates/point_times
 mkdir -p $program/src

@@ -12,7 +12,7 @@ for crate in mps_base mps_bits mps_gaps mps_arena mps_extents mps_marks mps_seg;
         [ -d "$home/crates/$crate/$part" ] && cp -r "$home/crates/$crate/$part" "crates/$crate/$part"
     done
 done
-grep -E '^mps_(base|bits|free|arena|extents|marks|seg):' "$home/crates.txt" > crates.txt
+grep -E '^mps_(base|bits|gaps|arena|extents|marks|seg):' "$home/crates.txt" > crates.txt
 echo 'segment_times: mps_base mps_seg' >> crates.txt
 program=crates/segment_times
 mkdir -p $program/src $program/proofs/free_over
