@@ -6,6 +6,5 @@ pub use Rattle.mps_txt.specs.Text
 pub use Rattle.mps_blocks.specs.BadReplay
 pub use Rattle.mps_blocks.specs.Listed
 pub use Rattle.mps_blocks.specs.Listing
-pub use Rattle.mps_blocks.specs.Replayed
 pub use Rattle.mps_blocks.specs.Ending as ReplayEnding
 pub use Rattle.mps_cnv.specs.Portable
