@@ -16,7 +16,7 @@ use Rattle.mps_run.specs.LogPrefix.{LogPrefix}
 use Rattle.mps_run.specs.Script.{Line, HasRun}
 use Rattle.mps_tools.specs.Listing.{listing}
 use Rattle.mps_tools.specs.ReplayEnding.{Replays}
-use Rattle.mps_tools.specs.Replayed.{State, replayed}
+use Rattle.mps_model.specs.Replayed.{State, replayed}
 use Rattle.mps_args.specs.Kinds.{all_kinds}
 use Rattle.mps_tools.specs.Portable.{portable}
 use Rattle.mps_tools.specs.Text.{portable_text, readable_text}
