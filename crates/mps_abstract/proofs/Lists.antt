@@ -1,23 +1,15 @@
 -- What lists contain, and what stands in them after a write.
 use Rattle.std.proofs.Common.{◌≡◌, ◌∙◌, ◌⊎◌, ℕ, zero, suc, ◌+◌, ◌<◌, ◌≤◌, Bool, true, false, cond, refl, sym, ap, List, [], ◌∷◌, ◌++◌, length, Option, Some, None, subst, inl, inr, arith}
-use Rattle.std.proofs.lemmas.Bool.{false≢true, and_from, or_cases, or_left, or_right, eqb-true, eq-eqb, cases_Bool, cases_eq}
+use Rattle.std.proofs.lemmas.Bool.{false≢true, and_from, or_cases, or_left, eqb-true, eq-eqb, cases_Bool, cases_eq}
 use Rattle.std.proofs.lemmas.List.Sums.{sum_by-cons}
 use Rattle.std.proofs.lemmas.Option.{none-some, same_Some}
 use Rattle.std.specs.Prelude.{◌==◌, not, if◌then◌else◌, filter, find, is_some, count_by, slice_get, slice_set}
 use Rattle.std.specs.List.{AllByRecursion, list_all}
 use Rattle.mps_model.specs.Graph.{contains, entry_at}
+pub use Rattle.mps_changes.proofs.Lookups.{slice_get-set_same, slice_get-set_other, entry_at-set_same, entry_at-set_other, entry_within}
+pub use Rattle.mps_changes.proofs.Entries.{contains_here, contains_later, contains_cases}
 
 -- ---- what a list contains
-
-pub contains_here : (x : ℕ) (xs : List ℕ) → contains (x ∷ xs) x ≡ true
-contains_here x xs = or_left (x == x) (contains xs x) (eq-eqb x x refl)
-
-pub contains_later : (x : ℕ) (xs : List ℕ) (n : ℕ) → contains xs n ≡ true → contains (x ∷ xs) n ≡ true
-contains_later x xs n h = or_right (x == n) (contains xs n) h
-
--- the first one, or a later one
-pub contains_cases : (x : ℕ) (xs : List ℕ) (n : ℕ) → contains (x ∷ xs) n ≡ true → (x ≡ n) ⊎ (contains xs n ≡ true)
-contains_cases x xs n h = elim (or_cases (x == n) (contains xs n) h) [ inl e ↦ inl (eqb-true x n e) | inr e ↦ inr e ]
 
 pub contains_append : (xs ys : List ℕ) (n : ℕ) → contains (xs ++ ys) n ≡ true → (contains xs n ≡ true) ⊎ (contains ys n ≡ true)
 contains_append [] ys n h = inr h
@@ -133,37 +125,6 @@ pub contains_at : (xs : List ℕ) (i n : ℕ) → slice_get xs i ≡ Some n → 
 contains_at [] i n e = absurd (none-some n e)
 contains_at (x ∷ xs) zero n e = or_left (x == n) (contains xs n) (eq-eqb x n (same_Some x n e))
 contains_at (x ∷ xs) (suc i) n e = contains_later x xs n (contains_at xs i n e)
-
-pub slice_get-set_same : {X : Type 0} (xs : List X) (i : ℕ) (x : X) → i < length xs → slice_get (slice_set xs i x) i ≡ Some x
-slice_get-set_same [] i x h = absurd (omega (arith, h))
-slice_get-set_same (y ∷ ys) zero x h = refl
-slice_get-set_same (y ∷ ys) (suc i) x h = slice_get-set_same ys i x (omega (arith, h))
-
-pub slice_get-set_other : {X : Type 0} (xs : List X) (i j : ℕ) (x : X) → (i ≡ j → ⊥) → slice_get (slice_set xs i x) j ≡ slice_get xs j
-slice_get-set_other [] i j x h = refl
-slice_get-set_other (y ∷ ys) zero zero x h = absurd (h refl)
-slice_get-set_other (y ∷ ys) zero (suc j) x h = refl
-slice_get-set_other (y ∷ ys) (suc i) zero x h = refl
-slice_get-set_other (y ∷ ys) (suc i) (suc j) x h = slice_get-set_other ys i j x (λ e. h (ap suc e))
-
--- an entry that there is has a number
-pub entry_below : {X : Type 0} (xs : List (Option X)) (i : ℕ) (x : X) → entry_at xs i ≡ Some x → i < length xs
-entry_below [] i x e = absurd (none-some x e)
-entry_below (y ∷ ys) zero x e = omega arith
-entry_below (y ∷ ys) (suc i) x e = let h = entry_below ys i x e in omega (arith, h)
-
-pub entry_at-set_same : {X : Type 0} (xs : List (Option X)) (i : ℕ) (x : Option X) → i < length xs → entry_at (slice_set xs i x) i ≡ x
-entry_at-set_same [] i x h = absurd (omega (arith, h))
-entry_at-set_same (y ∷ ys) zero x h = refl
-entry_at-set_same (y ∷ ys) (suc i) x h = entry_at-set_same ys i x (omega (arith, h))
-
-pub entry_at-set_other : {X : Type 0} (xs : List (Option X)) (i j : ℕ) (x : Option X) → (i ≡ j → ⊥)
-    → entry_at (slice_set xs i x) j ≡ entry_at xs j
-entry_at-set_other [] i j x h = refl
-entry_at-set_other (y ∷ ys) zero zero x h = absurd (h refl)
-entry_at-set_other (y ∷ ys) zero (suc j) x h = refl
-entry_at-set_other (y ∷ ys) (suc i) zero x h = refl
-entry_at-set_other (y ∷ ys) (suc i) (suc j) x h = entry_at-set_other ys i j x (λ e. h (ap suc e))
 
 -- what stands in a list after a write was written there, or stood there
 pub entry_at-set_cases : {X : Type 0} (xs : List (Option X)) (i j : ℕ) (x : Option X) (y : X) → entry_at (slice_set xs i x) j ≡ Some y

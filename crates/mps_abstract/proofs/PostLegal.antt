@@ -20,7 +20,7 @@ use Rattle.mps_abstract.specs.Colours.{AreDifferent}
 use Rattle.mps_abstract.specs.Collecting.{Collecting, is_tracing_band, is_white_in, Running}
 use Rattle.mps_abstract.specs.Fixing.{Keeps, marks, moves_to_place, moves_to_segment, stays, moved_to, stays_at, IsUnused, new_segment}
 use Rattle.mps_abstract.specs.Units.{IsExaminedNext}
-use Rattle.mps_abstract.proofs.Lists.{contains_at, entry_below, entry_at-set_same}
+use Rattle.mps_abstract.proofs.Lists.{contains_at, entry_within, entry_at-set_same}
 use Rattle.mps_abstract.proofs.Addresses.{id_at-live, address_of-live}
 use Rattle.mps_abstract.proofs.Joining.{AreLegalAnywhere, one_legal, two_legal, three_legal, for_some}
 use Rattle.mps_abstract.proofs.Registrations.{StandsFirst, position_first}
@@ -87,7 +87,7 @@ module _ (x : Collecting) (run : Running x) (id : Id) (due : IsExaminedNext x id
 
   there_after : (to : Address) → entry_at (slice_set x.world.addresses id (Some to)) id ≡ Some to
   there_after to = entry_at-set_same x.world.addresses id (Some to)
-      (entry_below x.world.addresses id (address_or_null x.world id) (address_of-live x.world id live))
+      (entry_within x.world.addresses id (address_or_null x.world id) (address_of-live x.world id live))
 
   -- what is shown of the moves
   pub record IsPostShown (ms : List Move) (a : Address) : Type 0 where

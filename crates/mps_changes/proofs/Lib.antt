@@ -1,3 +1,6 @@
 pub mod Checks
 pub mod ActChanges
 pub mod AsideFacts
+pub mod Lookups
+pub mod Entries
+pub mod Written

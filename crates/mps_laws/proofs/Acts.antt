@@ -1,14 +1,14 @@
 -- What the calls that neither reserve nor make a block change of what lies where.
-use Rattle.std.proofs.Common.{◌≡◌, ◌∙◌, ℕ, Bool, true, false, refl, sym, ap, List, length, Option, Some, None, subst}
+use Rattle.std.proofs.Common.{◌≡◌, ◌∙◌, ℕ, Bool, true, false, refl, sym, ap, Option, Some, None, subst}
 use Rattle.std.proofs.lemmas.Bool.{false≢true, true≢false}
 use Rattle.std.proofs.lemmas.Option.{none-some, slice_get-map}
-use Rattle.std.specs.Prelude.{map, slice_get, slice_set, option_map, not, ◌&&◌, ◌||◌, if◌then◌else◌}
+use Rattle.std.specs.Prelude.{map, slice_set, option_map, not, ◌&&◌, ◌||◌, if◌then◌else◌}
 use Rattle.std.specs.Option.{option_map_or}
 use Rattle.mps_base.specs.declared.names.Rank.{Rank}
 use Rattle.mps_model.specs.declared.call.Call.{Call}
 use Rattle.mps_model.specs.declared.call.Call.TheVariants as call
 use Rattle.mps_model.specs.Collecting.{without_registration}
-use Rattle.mps_model.specs.Graph.{Graph, Object, Point, Cell, NumberCell, Body, Automatic, Manual, entry_at, object_at, size_of_body, is_weak_body, with_last, graph_with_cells, tagged, with_tag_cell}
+use Rattle.mps_model.specs.Graph.{Graph, Object, Point, Body, Automatic, Manual, entry_at, object_at, size_of_body, is_weak_body, with_last, graph_with_cells}
 use Rattle.mps_model.specs.World.{World, Pool, PointMemory, empty_run, is_weak_kind, is_automatic_kind}
 use Rattle.mps_model.specs.Checked.{with_graph}
 use Rattle.mps_model.specs.Making.{is_weak_rank, may_have_point}
@@ -17,14 +17,15 @@ use Rattle.mps_model.specs.Reply.{act}
 use Rattle.mps_laws.proofs.Lookups.{map-slice_set, map-with_last, slice_set-same, length-slice_set, entry_is_there}
 use Rattle.mps_laws.proofs.Positions.Occupancy.{Occupancy, PointShape, shape_of, shape_of_point, reserved_words, occupancy_of}
 use Rattle.mps_laws.proofs.Positions.LaidOut.{IsLaidOut, IsRightPointShape}
-use Rattle.mps_laws.proofs.Positions.LegalMoves.{condemned_kept, cells_kept, shapes_written, length-with_target_cell}
+use Rattle.mps_laws.proofs.Positions.LegalMoves.{condemned_kept, cells_kept, shapes_written}
 use Rattle.mps_laws.proofs.Positions.Making.{pool_laid_out, point_laid_out, dropped_laid_out}
 use Rattle.mps_laws.proofs.Sound.PoolKinds.{kind_of_pool}
 use Rattle.mps_changes.proofs.ActChanges.{of_changes, but}
 pub use Rattle.mps_changes.specs.Change.{ForAct, accepted, refused, is_placing}
 pub use Rattle.mps_changes.proofs.Checks.{without_root, with_value, after_check, unless, for_world, required-is, named_by, point_named-is, pool_named-is}
 use Rattle.mps_changes.proofs.AsideFacts.{aside_is}
-use Rattle.mps_changes.specs.Change.{makes_arena, IsWritten, WritesTag, WritesReference, WritesNumber, Change, Aside, CellsAre, BlockWordIs, Allocated, PoolMade, PointMade, PointDropped, Opened, Written, Closed, Committed, Unregistered}
+use Rattle.mps_changes.proofs.Written.{written_length}
+use Rattle.mps_changes.specs.Change.{makes_arena, Change, Aside, CellsAre, BlockWordIs, Allocated, PoolMade, PointMade, PointDropped, Opened, Written, Closed, Committed, Unregistered}
 
 -- ---- what may change
 
@@ -104,20 +105,6 @@ module _ (limit : ℕ) (v : World) where
       of_parts true true false h e = absurd (true≢false h)
       of_parts true false c h e = absurd (false≢true e)
       of_parts false b c h e = absurd (true≢false h)
-
-length-with_tag_cell : (cells : List Cell) (k tag : ℕ) → length (with_tag_cell cells k tag) ≡ length cells
-length-with_tag_cell cells k tag = of_cell (slice_get cells k)
-  where
-    of_cell : (o : Option Cell) → length (option_map_or (λ cell. slice_set cells k (tagged cell tag)) o cells) ≡ length cells
-    of_cell None = refl
-    of_cell (Some c) = length-slice_set cells k (tagged c tag)
-
--- cells are written over as many
-pub written_length : {marked : Bool} {c : Call} {judged v : World} {cells : List Cell} {change : List Cell → List Cell}
-    → IsWritten marked c judged v cells change → (old : List Cell) → length (change old) ≡ length old
-written_length (WritesReference k source from e) old = length-with_target_cell old k from.value
-written_length (WritesTag k tag low) old = length-with_tag_cell old k tag
-written_length (WritesNumber k was value there) old = length-slice_set old k (NumberCell value)
 
 no_arena : (c : Call) → is_placing c ≡ false → makes_arena c ≡ false
 no_arena (call.Arena grains limit) h = absurd (true≢false h)

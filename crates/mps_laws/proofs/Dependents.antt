@@ -26,7 +26,8 @@ use Rattle.mps_model.specs.Reply.{act, world_from}
 use Rattle.mps_model.specs.History.{HeldAreLive, IsLegalStep, after_own_segment, asking, judged_world, moved_world, moves_of_poll, own_segment, world_after, world_after_call}
 use Rattle.mps_changes.specs.Change.{AsideIs, Linked, Unlinked, Change, Aside, CellsAre, BlockWordIs, Allocated, PoolMade, Committed, ForAct, accepted, refused, IsInSlot}
 use Rattle.mps_changes.proofs.ActChanges.{act_changes_so}
-use Rattle.mps_laws.proofs.Acts.{word_kept, written_length}
+use Rattle.mps_laws.proofs.Acts.{word_kept}
+use Rattle.mps_changes.proofs.Written.{written_length}
 use Rattle.mps_laws.proofs.Finding.{id_at-found}
 use Rattle.mps_laws.proofs.FoundBy.{object_found, slot_found}
 use Rattle.mps_laws.proofs.LegalHistories.{legal_step}

@@ -14,7 +14,7 @@ use Rattle.mps_model.specs.Checked.{Checked, Found, Numbered, ◌>>=◌, require
 use Rattle.mps_abstract.specs.Collecting.{Collecting, Running, is_white_in}
 use Rattle.mps_abstract.proofs.Lists.{contains_append, contains_left, contains_right}
 use Rattle.mps_abstract.proofs.Calls.ClientChange.{IsChange, change_keeps}
-use Rattle.mps_abstract.proofs.Calls.ClientLists.{among_all, among_entries, entry_is}
+use Rattle.mps_abstract.proofs.Calls.ClientLists.{among_all, among_entries, entry_is_there}
 
 -- ---- worlds with the same objects, addresses, segments, registrations and collection
 
@@ -152,7 +152,7 @@ word_found w slot f h = found (entry_at w.graph.areas) f (number_named w slot.na
 pub slot_held : (g : Graph) (f : Found (Option ℕ)) (id : Id) → IsFound (entry_at g.tables) f → f.value ≡ Some id
     → contains (ids_of_client g) id ≡ true
 slot_held g f id found e = held_so (ids_in_slots g) (ids_in_holds g) g.messages (ids_in_reservations g) id
-    (in_slots (among_all slots_of g.tables f.number (Some f.list) id (entry_is g.tables f.number f.list found.list)
+    (in_slots (among_all slots_of g.tables f.number (Some f.list) id (entry_is_there g.tables f.number f.list found.list)
     (among_entries f.list f.index id (found.value ∙ ap Some e))))
 
 -- a thing by its number

@@ -21,7 +21,7 @@ use Rattle.mps_model.specs.WellFormed.{IsWellFormed}
 use Rattle.mps_abstract.specs.Colours.{AreDifferent}
 use Rattle.mps_abstract.specs.Collecting.{Collecting, Running, is_white_in}
 use Rattle.mps_abstract.specs.ClientLaws.{AreApartFrom}
-use Rattle.mps_abstract.proofs.Calls.ClientLists.{among_all, entry_is}
+use Rattle.mps_abstract.proofs.Calls.ClientLists.{among_all, entry_is_there}
 use Rattle.mps_abstract.proofs.Calls.ClientCovered.{extent_of_last}
 use Rattle.mps_abstract.proofs.Calls.ClientBeside.{in_reservations, held_so, IsFound}
 use Rattle.mps_abstract.proofs.Calls.ClientRoots.{slot_keeps}
@@ -58,7 +58,7 @@ module _ (x : Collecting) (run : Running x) (formed : IsWellFormed x.world) wher
       held : (t : Id) → contains (targets_of_cells r.cells) t ≡ true → contains (ids_of_client w.graph) t ≡ true
       held t h = held_so (ids_in_slots w.graph) (ids_in_holds w.graph) w.graph.messages (ids_in_reservations w.graph) t
           (in_reservations (among_all targets_of_point w.graph.points point.number (Some point.value) t
-          (entry_is w.graph.points point.number point.value found)
+          (entry_is_there w.graph.points point.number point.value found)
           (ap (λ o. contains (option_map_or targets_of_reservation o []) t) is_open
           ∙ (ap (λ b. contains (if b then [] else targets_of_cells r.cells) t) live ∙ h))))
 

@@ -7,21 +7,21 @@ use Rattle.mps_base.specs.Address.{Id}
 use Rattle.mps_model.specs.declared.call.Call.{Call}
 use Rattle.mps_model.specs.declared.call.Call.TheVariants as call
 use Rattle.mps_model.specs.Answer.{Answer, is_block}
-use Rattle.mps_model.specs.Graph.{Cell, NumberCell, AreaWord, PlainWord, contains, entry_at, with_last, held_by_word, targets_of_cells, without_name}
+use Rattle.mps_model.specs.Graph.{Cell, AreaWord, PlainWord, contains, entry_at, with_last, held_by_word, targets_of_cells, without_name}
 use Rattle.mps_model.specs.World.{World, lies_in, live_ids}
 use Rattle.mps_model.specs.WellFormed.{IsWellFormed}
 use Rattle.mps_model.specs.Checked.{Act, Checked, Found, Numbered, slot_in}
 use Rattle.mps_model.specs.Allocating.{with_slot}
 use Rattle.mps_model.specs.Making.{graph_with_table, graph_with_area, graph_with_blocks}
 use Rattle.mps_model.specs.Reply.{act, world_from}
-use Rattle.mps_changes.specs.Change.{ForAct, accepted, refused, IsFoundBy, Now, Before, makes_pool, IsGot, GotNull, FromSlot, FromCell, FromWord, FromMessage, IsShown, ShownPlain, ShownPinned, ShownPoked, IsWritten, WritesTag, WritesReference, WritesNumber, Change, Unchanged, Aside, SlotIs, WordIs, MessageTaken, TableMade, AreaMade, BlocksMade, TableDropped, AreaDropped, CellsAre, BlockWordIs, PlaceEmptied, Allocated, PoolMade, PointMade, PointDropped, Opened, Written, Closed, Committed, Registered, Unregistered}
+use Rattle.mps_changes.specs.Change.{ForAct, accepted, refused, IsFoundBy, Now, Before, makes_pool, IsGot, GotNull, FromSlot, FromCell, FromWord, FromMessage, IsShown, ShownPlain, ShownPinned, ShownPoked, IsWritten, Change, Unchanged, Aside, SlotIs, WordIs, MessageTaken, TableMade, AreaMade, BlocksMade, TableDropped, AreaDropped, CellsAre, BlockWordIs, PlaceEmptied, Allocated, PoolMade, PointMade, PointDropped, Opened, Written, Closed, Committed, Registered, Unregistered}
 use Rattle.mps_changes.proofs.ActChanges.{act_changes_so, but}
 use Rattle.mps_abstract.specs.Colours.{AreDifferent}
 use Rattle.mps_abstract.specs.Collecting.{Collecting, Running}
 use Rattle.mps_abstract.specs.ClientLaws.{IsMarkedKept, IsReadKept}
 use Rattle.mps_abstract.proofs.Lists.{contains_here, contains_later}
 use Rattle.mps_abstract.proofs.Addresses.{listed_is_live}
-use Rattle.mps_abstract.proofs.Calls.ClientCells.{length_set, length_with_tag, length_with_target, targets_tagged, targets_written, targets_retargeted}
+use Rattle.mps_changes.proofs.Written.{written_length, written_targets}
 use Rattle.mps_abstract.proofs.Calls.ClientBeside.{IsRightlyHeld, IsFound, roots_keep, slot_found, word_found, slot_held, point_found, same_Ok}
 use Rattle.mps_abstract.proofs.Calls.ClientRoots.{object_found, held_word, still_slots, still_holds, still_messages, held_by_parts, slots_written, slot_keeps, slot_right, hold_right, word_keeps, as_block_black, new_table, new_area, dropped_table, dropped_area}
 use Rattle.mps_abstract.proofs.Calls.ClientPoints.{with_point_keeps, without_point_keeps, with_reserved_keeps, written_keeps}
@@ -109,23 +109,12 @@ module _ (x : Collecting) (run : Running x) (judged : World) (c : Call) (answer 
         ],
       ))
 
-  written_many : {cells : List Cell} {change : List Cell → List Cell} → IsWritten (is_block answer) c judged w cells change
-      → (old : List Cell) → length (change old) ≡ length old
-  written_many (WritesReference k source from e) old = length_with_target old k from.value
-  written_many (WritesTag k tag low) old = length_with_tag old k tag
-  written_many (WritesNumber k was value there) old = length_set old k (NumberCell value)
-
   written_right : {cells : List Cell} {change : List Cell → List Cell} → IsWritten (is_block answer) c judged w cells change
       → (old : List Cell) (t : Id) → contains (targets_of_cells (change old)) t ≡ true
       → (contains (targets_of_cells old) t ≡ true) ⊎ (contains (Rattle.mps_model.specs.Graph.ids_of_client w.graph) t ≡ true)
-  written_right (WritesReference k source from e) old t h = elim (targets_retargeted old k from.value t h) [
+  written_right write old t h = elim (written_targets write old t h) [
     | inl was ↦ inl was
-    | inr new ↦ inr (slot_held w.graph from t (slot_found w source from e) new)
-  ]
-  written_right (WritesTag k tag low) old t h = inl (targets_tagged old k tag t h)
-  written_right (WritesNumber k was value there) old t h = elim (targets_written old k (NumberCell value) t h) [
-    | inl was ↦ inl was
-    | inr none ↦ absurd (none-some t none)
+    | inr o ↦ inr (slot_held w.graph o.from t (slot_found w o.slot o.from o.there) o.is)
   ]
 
   slots_there : (into : Found (Option ℕ)) → IsFoundBy slot_in judged w into → IsFound (entry_at w.graph.tables) into
@@ -165,7 +154,7 @@ module _ (x : Collecting) (run : Running x) (judged : World) (c : Call) (answer 
       roots_keep x run (record w.graph { areas = slice_set w.graph.areas n None; names = without_name w.graph.names name })
       (held_by_parts x run w.graph.tables (slice_set w.graph.areas n None) w.graph.messages (still_slots x run) (dropped_area x run n) (still_messages x run))
   change_runs h different (CellsAre object change held write) =
-      with_cells_keeps x run object.number change (record { as_many = written_many write; referred = written_right write })
+      with_cells_keeps x run object.number change (record { as_many = written_length write; referred = written_right write })
   change_runs h different (BlockWordIs id k value) = with_word_keeps x run id k value
   change_runs h different (PlaceEmptied from place e found) =
       aside_keeps x run w (slice_set w.graph.blocks place.number (slice_set place.list place.index None))
@@ -183,7 +172,7 @@ module _ (x : Collecting) (run : Running x) (judged : World) (c : Call) (answer 
       (same_Ok r.point p (sym checked.point ∙ (ap (λ g. point_in g name) same ∙ there))) checked.closed)
       (record { head = head; cells = r.cells; is_doomed = false }) at checked.nothing
   change_runs h different (Written name p r change e there has lives write) =
-      written_keeps x run p (point_found w name p there) r has (change r.cells) (written_many write r.cells)
+      written_keeps x run p (point_found w name p there) r has (change r.cells) (written_length write r.cells)
       (λ id new. elim (written_right write r.cells id new) [ inl was ↦ inl was | inr held ↦ inr (inl held) ]) lives
   change_runs h different (Closed name target p r e there has ended) =
       flipped_keeps x run (known.formed (ap moves_itself e)) p (point_found w name p there) r has ended

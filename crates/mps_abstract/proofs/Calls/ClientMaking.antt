@@ -17,7 +17,7 @@ use Rattle.mps_abstract.proofs.Sweeping.{contains-above}
 use Rattle.mps_abstract.proofs.KeptRunning.{one_that_is}
 use Rattle.mps_abstract.specs.ClientLaws.{AreApartFrom}
 use Rattle.mps_abstract.proofs.HeldSegments.{IsAmong, over_among, held_among}
-use Rattle.mps_abstract.proofs.Calls.ClientLists.{length_last, last_cases, entry_last_cases, entry_last, entry_of_last}
+use Rattle.mps_abstract.proofs.Calls.ClientLists.{length-with_last, last_cases, entry_last_cases, entry_last, entry_of_last}
 use Rattle.mps_abstract.proofs.Calls.ClientThings.{slice_get-last}
 use Rattle.mps_abstract.proofs.Calls.ClientChange.{IsChange, IsUsed, change_keeps}
 use Rattle.mps_abstract.proofs.Calls.ClientCovered.{holds_still, any_cases, any_left, any_right, extents_last, extents_freed}
@@ -146,7 +146,7 @@ module _ (x : Collecting) (run : Running x) where
     made_change = record {
       runs = run.runs;
       different = different;
-      existing = let e = length_last w.graph.objects o in omega (arith, e);
+      existing = let e = length-with_last w.graph.objects o in omega (arith, e);
       automatic = λ id h. still_passes is_automatic w.graph.objects o id h;
       weak = λ id h. still_passes is_weak_object w.graph.objects o id h;
       copying = λ id is h. sym (passed_before (λ p. is_copying_pool w p.pool) is_automatic w.graph.objects o id

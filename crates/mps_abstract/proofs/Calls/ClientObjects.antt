@@ -12,7 +12,7 @@ use Rattle.mps_model.specs.Allocating.{body_with_word, graph_with_word}
 use Rattle.mps_abstract.specs.Collecting.{Collecting, Running}
 use Rattle.mps_abstract.proofs.Lists.{slice_get-set_same, slice_get-set_other, index_below}
 use Rattle.mps_abstract.proofs.Calls.ClientChange.{IsChange, change_keeps}
-use Rattle.mps_abstract.proofs.Calls.ClientCells.{length_set}
+use Rattle.mps_changes.proofs.Lookups.{length-slice_set}
 use Rattle.mps_abstract.proofs.Calls.ClientCovered.{holds_still, extents_same}
 
 -- an object as it was, but for what it refers to and for its numbers
@@ -64,7 +64,7 @@ module _ (x : Collecting) (run : Running x) where
     rewritten_change = record {
       runs = run.runs;
       different = run.different;
-      existing = let same = length_set w.graph.objects n q in omega (arith, same);
+      existing = let same = length-slice_set w.graph.objects n q in omega (arith, same);
       automatic = λ id h. written_passes is_automatic false w.graph.objects n id o q there r.automatic ∙ h;
       weak = λ id h. written_passes is_weak_object false w.graph.objects n id o q there r.weak ∙ h;
       copying = λ id is h. sym (written_passes (λ p. is_copying_pool w p.pool) false w.graph.objects n id o q there
@@ -153,7 +153,7 @@ module _ (x : Collecting) (run : Running x) where
 
       size_so : (b : Body) → size_of_body (body_with_word b k value) ≡ size_of_body b
       size_so (Automatic head cells is_weak) = refl
-      size_so (Manual words) = length_set words k value
+      size_so (Manual words) = length-slice_set words k value
 
       refers_so : (b : Body) (t : Id) → contains (targets_of_body (body_with_word b k value)) t ≡ true
           → contains (targets_of_body b) t ≡ true

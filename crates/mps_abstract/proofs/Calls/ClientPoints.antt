@@ -16,7 +16,7 @@ use Rattle.mps_model.specs.Making.{with_point, without_point}
 use Rattle.mps_model.specs.Allocating.{with_reservation, with_reserved, buffer_after}
 use Rattle.mps_abstract.specs.Collecting.{Collecting, Running}
 use Rattle.mps_abstract.proofs.Lists.{slice_get-set_same, index_below}
-use Rattle.mps_abstract.proofs.Calls.ClientLists.{among_all, written_among, last_among, entry_is}
+use Rattle.mps_abstract.proofs.Calls.ClientLists.{among_all, written_among, last_among, entry_is_there}
 use Rattle.mps_abstract.proofs.Calls.ClientCovered.{holds_still, any_cases, any_left, any_right, extent_at_point, reserved_written, reserved_point_written, reserved_at_point, reserved_last}
 use Rattle.mps_abstract.proofs.Calls.ClientBeside.{beside_keeps, IsRightlyHeld, IsHeldIn, in_slots, in_holds, in_messages, in_reservations, held_where, held_so}
 
@@ -92,7 +92,7 @@ module _ (x : Collecting) (run : Running x) where
 
   is_value : (point : Numbered Point) (o : Option Point) → entry_at w.graph.points point.number ≡ Some point.value
       → slice_get w.graph.points point.number ≡ Some o → o ≡ Some point.value
-  is_value point o found there = sym (same_Some (Some point.value) o (sym (entry_is w.graph.points point.number point.value found) ∙ there))
+  is_value point o found there = sym (same_Some (Some point.value) o (sym (entry_is_there w.graph.points point.number point.value found) ∙ there))
 
   no_reservation : (o : Option Reservation) (memory : PointMemory) → is_some o ≡ false → extent_of_reservation o memory ≡ []
   no_reservation None memory h = refl
@@ -120,7 +120,7 @@ module _ (x : Collecting) (run : Running x) where
   reserved_held : (point : Numbered Point) (r : Reservation) (id : Id) → entry_at w.graph.points point.number ≡ Some point.value
       → point.value.reservation ≡ Some r → contains (targets_of_reservation r) id ≡ true → contains (ids_in_reservations w.graph) id ≡ true
   reserved_held point r id found is_open h =
-      among_all targets_of_point w.graph.points point.number (Some point.value) id (entry_is w.graph.points point.number point.value found)
+      among_all targets_of_point w.graph.points point.number (Some point.value) id (entry_is_there w.graph.points point.number point.value found)
       (ap (λ o. contains (option_map_or targets_of_reservation o []) id) is_open ∙ h)
 
   -- a reservation ends that a flip has ended already, or whose extent is an object's

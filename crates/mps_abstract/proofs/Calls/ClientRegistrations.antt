@@ -14,7 +14,7 @@ use Rattle.mps_abstract.specs.Collecting.{Collecting, Running, AreExamined, is_w
 use Rattle.mps_abstract.proofs.Counted.{counted_runs, survivors_again}
 use Rattle.mps_abstract.proofs.Lists.{contains_append, contains_cases, index_below}
 use Rattle.mps_abstract.proofs.Registrations.{StandsFirst, contains-without_first, length-without_first, slice_get-without_before, slice_get-without_after}
-use Rattle.mps_abstract.proofs.Calls.ClientLists.{length_last, last_cases}
+use Rattle.mps_abstract.proofs.Calls.ClientLists.{length-with_last, last_cases}
 
 -- ---- where a number first stands
 
@@ -120,7 +120,7 @@ module _ (x : Collecting) (run : Running x) where
         ];
         from = run.examined.from;
         up_to = run.examined.up_to;
-        existing = let h = run.examined.existing in let e = length_last w.graph.registered id in omega (arith, h, e);
+        existing = let h = run.examined.existing in let e = length-with_last w.graph.registered id in omega (arith, h, e);
         examined = λ position n there part. elim (last_cases w.graph.registered id position n there) [
           | inl old ↦ run.examined.examined position n old part
           | inr new ↦ subst (λ m. is_white_in x m ≡ false) new.1 (run.coloured.held id held)

@@ -13,7 +13,7 @@ use Rattle.mps_model.specs.Allocating.{with_slot}
 use Rattle.mps_model.specs.Accessing.{AsBlock, AsNumber, AsMarked, poked, poked_in, with_word, held_in}
 use Rattle.mps_abstract.specs.Collecting.{Collecting, Running, is_white_in}
 use Rattle.mps_abstract.proofs.Keeping.{not_white_outside}
-use Rattle.mps_abstract.proofs.Calls.ClientLists.{among_all, written_among, last_among, entry_is, among_entries, written_entries, no_entries, map-slice_set, map-slice_get, map-replicate}
+use Rattle.mps_abstract.proofs.Calls.ClientLists.{among_all, written_among, last_among, entry_is_there, among_entries, written_entries, no_entries, map-slice_set, map-slice_get, map-replicate}
 use Rattle.mps_abstract.proofs.Calls.ClientBeside.{IsRightlyHeld, roots_keep, IsHeldIn, in_slots, in_holds, in_messages, in_reservations, held_where, held_so, same_Ok, not_Ok, IsFound, slot_held}
 
 -- an object that a slot refers to
@@ -81,7 +81,7 @@ module _ (x : Collecting) (run : Running x) where
         | inl old ↦ still_slots id old
         | inr new ↦ elim (written_entries f.list f.index target id new) [
           | inl old ↦ still_slots id (among_all slots_of w.graph.tables f.number (Some f.list) id
-              (entry_is w.graph.tables f.number f.list found.list) old)
+              (entry_is_there w.graph.tables f.number f.list found.list) old)
           | inr it ↦ right id it
         ]
       ]
@@ -100,7 +100,7 @@ module _ (x : Collecting) (run : Running x) where
 
   pub hold_right : (f : Found AreaWord) → IsFound (entry_at w.graph.areas) f → (id : Id) → held_by_word f.value ≡ Some id → IsRightlyHeld x id
   hold_right f found id e =
-      still_holds id (among_all holds_of w.graph.areas f.number (Some f.list) id (entry_is w.graph.areas f.number f.list found.list)
+      still_holds id (among_all holds_of w.graph.areas f.number (Some f.list) id (entry_is_there w.graph.areas f.number f.list found.list)
       (among_entries (map held_by_word f.list) f.index id (map-slice_get held_by_word f.list f.index f.value found.value ∙ ap Some e)))
 
   words_written : (f : Found AreaWord) (word : AreaWord) → IsFound (entry_at w.graph.areas) f
@@ -113,7 +113,7 @@ module _ (x : Collecting) (run : Running x) where
         | inr new ↦ elim (written_entries (map held_by_word f.list) f.index (held_by_word word) id
             (subst (λ os. contains (entries os) id ≡ true) (map-slice_set held_by_word f.list f.index word) new)) [
               | inl old ↦ still_holds id (among_all holds_of w.graph.areas f.number (Some f.list) id
-                  (entry_is w.graph.areas f.number f.list found.list) old)
+                  (entry_is_there w.graph.areas f.number f.list found.list) old)
               | inr it ↦ right id it
             ]
       ]

@@ -9,20 +9,21 @@ use Rattle.mps_base.specs.Address.{Address, address_of_word, address_of_grain, g
 use Rattle.mps_base.specs.Placement.{Placement, Place, NewSegment, OverLimit, NoFreeRun, run_placement}
 use Rattle.mps_base.specs.Run.{Run, gaps, lowest_fitting, total}
 use Rattle.mps_base.specs.Segment.{Segment, words_of_segment}
-use Rattle.mps_model.specs.Graph.{Graph, Object, Cell, Body, Automatic, Manual, contains, without_first, entry_at, object_at, size_of_body, body_with_cells, object_with_cells, graph_with_cells, with_target_cell, retargeted, is_automatic}
+use Rattle.mps_model.specs.Graph.{Graph, Object, Cell, Body, Automatic, Manual, contains, without_first, entry_at, object_at, size_of_body, body_with_cells, object_with_cells, graph_with_cells, with_target_cell, is_automatic}
 use Rattle.mps_model.specs.Collection.{Collection}
 use Rattle.mps_model.specs.World.{World, object_is, is_copying_pool, held_grains, with_tail}
 use Rattle.mps_model.specs.Effect.{after_segment, after_splat, after_post, after_free, with_collection, giving_back, reclaiming, splatting, posting, registration_of, segment_base_of, segment_of_move, graph_nulled, graph_splatted, without_object}
 use Rattle.mps_model.specs.Placement.{placement_at_front, new_segment_for}
 use Rattle.mps_model.specs.LegalMove.{IsPlaceAt, IsNewSegmentAt}
 use Rattle.mps_model.specs.Replay.{Store}
-use Rattle.mps_laws.proofs.Lookups.{length-slice_set, map-slice_set, slice_set-same, there_is, entry_within}
+use Rattle.mps_laws.proofs.Lookups.{map-slice_set, slice_set-same, there_is, entry_within}
 use Rattle.mps_laws.proofs.Positions.Occupancy.{Occupancy, Occupant, OfBlock, Shape, shape_of, occupancy_of, condemned_in, run_of, run_of_block}
 use Rattle.mps_laws.proofs.Positions.LaidOut.{IsLaidOut}
 use Rattle.mps_laws.proofs.Replays.Blocks.{stored, blocks_in, AreDifferent, IsPlaced}
 use Rattle.mps_laws.proofs.Positions.Holding.{IsFresh, fresh_of_placement, held_laid_out, tailed_laid_out}
 use Rattle.mps_laws.proofs.Positions.Condemning.{without_first-none}
 use Rattle.mps_model.proofs.Nulled.{splatted_holds}
+use Rattle.mps_changes.proofs.Written.{length-with_target_cell}
 
 -- the arena of a world is laid out
 abbrev pub HasLayout : (limit : ℕ) → World → Type 0
@@ -103,14 +104,6 @@ cells_kept g id change same = of_one (object_at g id) refl
         (ap (λ n. shape_with o.pool n (Rattle.mps_model.specs.Graph.is_weak_body (body_with_cells o.body change)))
         (size_kept o.body change same)
         ∙ ap (shape_with o.pool (size_of_body o.body)) (weak_kept o.body change))
-
-length-retargeted : (cells : List Cell) (k : ℕ) (target : Option ℕ) (c : Option Cell)
-    → length (option_map_or (λ cell. slice_set cells k (retargeted cell target)) c cells) ≡ length cells
-length-retargeted cells k target None = refl
-length-retargeted cells k target (Some c) = length-slice_set cells k (retargeted c target)
-
-pub length-with_target_cell : (cells : List Cell) (k : ℕ) (target : Option ℕ) → length (with_target_cell cells k target) ≡ length cells
-length-with_target_cell cells k target = length-retargeted cells k target (slice_get cells k)
 
 nulled_kept : (g : Graph) (id cell : ℕ) → map shape_of (graph_nulled g id cell).objects ≡ map shape_of g.objects
 nulled_kept g id cell =

@@ -1,19 +1,19 @@
 -- What passes a test of all ids that a client holds, and of all ids in its tables of blocks, after each effect of a call: a fact for
 -- each place where ids are held, so that what an effect doesn't touch is passed on as it was. The test is, as a rule, whether the
 -- object is live, or whether the running collection keeps it.
-use Rattle.std.proofs.Common.{◌≡◌, ◌∙◌, ℕ, zero, suc, ◌+◌, ◌-◌, Bool, true, false, true≢false, refl, sym, ap, subst, List, [], ◌∷◌, ◌++◌, map, Option, Some, None}
+use Rattle.std.proofs.Common.{◌≡◌, ℕ, zero, suc, ◌+◌, ◌-◌, Bool, true, false, true≢false, refl, sym, subst, List, [], ◌∷◌, ◌++◌, map, Option, Some, None}
 use Rattle.std.proofs.lemmas.Bool.{and_parts}
-use Rattle.std.proofs.lemmas.Option.{none-some, same_Some, slice_get-map}
+use Rattle.std.proofs.lemmas.Option.{none-some, same_Some}
 use Rattle.std.specs.Prelude.{IsTrue, ◌&&◌, if◌then◌else◌, option_and_then, option_map, replicate, slice_get, slice_set}
 use Rattle.std.specs.List.{list_all, flat_map}
 use Rattle.std.specs.Option.{option_map_or}
 use Rattle.mps_base.specs.declared.names.Rank.{Rank}
 use Rattle.mps_model.specs.Layout.{Layout}
-use Rattle.mps_model.specs.Graph.{Graph, Cell, HeadCell, NumberCell, ReferenceCell, retargeted, new_cells, new_cells_from, Point, Reservation, AreaWord, PlainWord, Slots, entries, entry_at, held_by_word, holds_of, ids_in_blocks, ids_in_holds, ids_in_reservations, ids_in_slots, ids_of_client, slots_of, target_of_cell, targets_of_cells, targets_of_point, targets_of_reservation, with_last, with_target_cell, tagged, with_tag_cell}
+use Rattle.mps_model.specs.Graph.{Graph, NumberCell, ReferenceCell, new_cells, new_cells_from, Point, Reservation, AreaWord, PlainWord, Slots, entries, entry_at, held_by_word, holds_of, ids_in_blocks, ids_in_holds, ids_in_reservations, ids_in_slots, ids_of_client, slots_of, targets_of_cells, targets_of_point, targets_of_reservation, with_last}
 use Rattle.mps_model.specs.Checked.{Found, Numbered}
 use Rattle.mps_model.specs.Allocating.{with_block_place, with_reservation, with_slot}
 use Rattle.mps_model.specs.Accessing.{with_word}
-use Rattle.mps_laws.proofs.Sound.SoundGraph.{entry-passes, tagged_target}
+use Rattle.mps_changes.proofs.Lookups.{map-slice_set}
 
 -- ---- lists
 
@@ -88,11 +88,6 @@ zeros-none : (test : ℕ → Bool) (n : ℕ) → All test (entries (map held_by_
 zeros-none test zero = refl
 zeros-none test (suc n) = zeros-none test n
 
-map-set : {X : Type 0} (f : X → Option ℕ) (xs : List X) (n : ℕ) (x : X) → map f (slice_set xs n x) ≡ slice_set (map f xs) n (f x)
-map-set f [] n x = refl
-map-set f (y ∷ ys) zero x = refl
-map-set f (y ∷ ys) (suc n) x = ap (λ rest. f y ∷ rest) (map-set f ys n x)
-
 pub all-weaker : (test less : ℕ → Bool) → ((id : ℕ) → test id ≡ true → less id ≡ true) → (ids : List ℕ) → All test ids → All less ids
 all-weaker test less implies [] h = refl
 all-weaker test less implies (id ∷ ids) h =
@@ -159,7 +154,7 @@ module _ (test : ℕ → Bool) (g : Graph) (a : AreHeld test g) where
   word_written found word there passes = record {
     slots = a.slots;
     holds = all-set test holds_of g.areas found.number (Some (slice_set found.list found.index word)) a.holds
-        (subst (λ xs. All test (entries xs)) (sym (map-set held_by_word found.list found.index word))
+        (subst (λ xs. All test (entries xs)) (sym (map-slice_set held_by_word found.list found.index word))
         (entries-set test (map held_by_word found.list) found.index (held_by_word word) (area_passes found.list there) passes));
     messages = a.messages;
     reservations = a.reservations;
@@ -298,38 +293,6 @@ module _ (test : ℕ → Bool) (g : Graph) (a : All test (ids_in_blocks g)) wher
   blocks_made places = all-last test entries g.blocks (replicate places None) a (entries-none test places)
 
 -- ---- cells
-
--- whatever the cells refer to passes the test, after a cell is written
-pub cell_written : (test : ℕ → Bool) (cells : List Cell) (k : ℕ) (cell : Cell) → All test (targets_of_cells cells)
-    → PassesOrNull test (target_of_cell cell) → All test (targets_of_cells (slice_set cells k cell))
-cell_written test cells k cell all passes =
-    subst (λ xs. All test (entries xs)) (sym (map-set target_of_cell cells k cell))
-    (entries-set test (map target_of_cell cells) k (target_of_cell cell) all passes)
-
-pub target_written : (test : ℕ → Bool) (cells : List Cell) (k : ℕ) (target : Option ℕ) → All test (targets_of_cells cells)
-    → PassesOrNull test target → All test (targets_of_cells (with_target_cell cells k target))
-target_written test cells k target all passes = by_cell (slice_get cells k)
-  where
-    retargeted_passes : (cell : Cell) → PassesOrNull test (target_of_cell (retargeted cell target))
-    retargeted_passes HeadCell = tt
-    retargeted_passes (NumberCell number) = tt
-    retargeted_passes (ReferenceCell old tag) = passes
-
-    by_cell : (o : Option Cell) → All test (targets_of_cells (option_map_or (λ cell. slice_set cells k (retargeted cell target)) o cells))
-    by_cell None = all
-    by_cell (Some cell) = cell_written test cells k (retargeted cell target) all (retargeted_passes cell)
-
-pub tag_written : (test : ℕ → Bool) (cells : List Cell) (k tag : ℕ) → All test (targets_of_cells cells)
-    → All test (targets_of_cells (with_tag_cell cells k tag))
-tag_written test cells k tag all = by_cell (slice_get cells k) refl
-  where
-    by_cell : (o : Option Cell) → slice_get cells k ≡ o
-        → All test (targets_of_cells (option_map_or (λ cell. slice_set cells k (tagged cell tag)) o cells))
-    by_cell None e = all
-    by_cell (Some cell) e =
-        cell_written test cells k (tagged cell tag) all (subst (PassesOrNull test) (sym (tagged_target cell tag))
-        (entry-passes test (map target_of_cell cells) k (target_of_cell cell) all
-        (slice_get-map target_of_cell cells k ∙ ap (option_map target_of_cell) e)))
 
 -- a new block refers to nothing
 new_from : (test : ℕ → Bool) (f : Layout) (head k count : ℕ) → All test (targets_of_cells (new_cells_from f head k count))

@@ -17,7 +17,7 @@ use Rattle.mps_model.specs.LegalMove.{IsLegalMove, IsLegalMoved, IsLegalStay, Is
 use Rattle.mps_model.specs.Checked.{with_graph}
 use Rattle.mps_laws.proofs.Lookups.{entry_at-set_same, entry_at-set_other, entry_within, opened}
 use Rattle.mps_laws.proofs.Finding.{for_both, for_one, id_at-found}
-use Rattle.mps_laws.proofs.Positions.LegalMoves.{length-with_target_cell}
+use Rattle.mps_changes.proofs.Written.{length-with_target_cell}
 use Rattle.mps_laws.proofs.Sound.SoundGraph.{All, IsSoundGraph, IsRightPoint, Grows, auto, manual, is_sound_reservation, all-contains, all-without, all-ended, all-weaker, edited, grows_alike, untouched, right_target_cell, all-both}
 use Rattle.mps_laws.proofs.Sound.SoundActs.{held_written, cells_changed}
 use Rattle.mps_model.proofs.Nulled.{splatted_holds}

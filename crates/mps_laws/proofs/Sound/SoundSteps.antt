@@ -27,7 +27,7 @@ use Rattle.mps_laws.proofs.Sound.SoundGraph.{All, PassesOrNull, AreRight, IsSoun
 use Rattle.mps_laws.proofs.Sound.SoundActs.{table_passes, slot_passes, object_cells, reference_passes, held_written, slot_written, word_written, cells_changed, reservation_written, object_added, place_written, block_word_written, pin_is_sound, block_lies, hold_is_sound}
 use Rattle.mps_changes.specs.Change.{IsFoundBy, Now, Before, IsGot, GotNull, FromSlot, FromCell, FromWord, FromMessage, IsShown, ShownPlain, ShownPinned, ShownPoked, IsWritten, WritesTag, WritesReference, WritesNumber, Change, Unchanged, Aside, SlotIs, WordIs, MessageTaken, TableMade, AreaMade, BlocksMade, TableDropped, AreaDropped, CellsAre, BlockWordIs, PlaceEmptied, Allocated, PoolMade, PointMade, PointDropped, Opened, Written, Closed, Committed, Registered, Unregistered}
 use Rattle.mps_changes.proofs.ActChanges.{but, of_changes}
-use Rattle.mps_laws.proofs.Acts.{written_length}
+use Rattle.mps_changes.proofs.Written.{written_length}
 use Rattle.mps_laws.proofs.FoundBy.{found_by, slot_found, word_found, object_found, number_found}
 use Rattle.mps_laws.proofs.Sound.SoundParts.{cells_sound, new_table, new_blocks, new_area, new_point, no_point, object_of_slot, id_of_slot, taken}
 

@@ -7,7 +7,7 @@ use Rattle.mps_base.specs.Address.{Address}
 use Rattle.mps_format.specs.Layout.{Layout}
 use Rattle.mps_trace.specs.GenState.{ChainsState}
 use Rattle.mps_root.specs.State.{RootsState, kept, items_of, with_item}
-use Rattle.mps_abstract.proofs.Calls.ClientCells.{length_set}
+use Rattle.mps_changes.proofs.Lookups.{length-slice_set}
 use Rattle.mps_trace.specs.Trace.{Traced}
 use Rattle.mps_trace.specs.Roots.{FixesSlots, FixesTables, begins, goes_on, key_at, with_slot}
 use Rattle.mps_format.specs.declared.pool.Policy.{Policy}
@@ -22,7 +22,7 @@ written_rows : (rows : List (Option (List ℕ))) (key index value k : ℕ) → i
     → long_of (kept (with_item rows key index value) k) ≡ long_of (kept rows k)
 written_rows [] key index value k within = refl
 written_rows (None ∷ rows) zero index value k within = absurd (omega (arith, within))
-written_rows (Some items ∷ rows) zero index value zero within = ap Some (length_set items index value)
+written_rows (Some items ∷ rows) zero index value zero within = ap Some (length-slice_set items index value)
 written_rows (Some items ∷ rows) zero index value (suc k) within = refl
 written_rows (row ∷ rows) (suc key) index value zero within = refl
 written_rows (row ∷ rows) (suc key) index value (suc k) within = written_rows rows key index value k within

@@ -1,5 +1,5 @@
 -- What the changes of calls that make no moves leave where no collection runs: a sound world, of the same formats.
-use Rattle.std.proofs.Common.{◌≡◌, ◌∙◌, ℕ, Bool, true, false, refl, sym, ap, subst, List, [], ◌∷◌, map, Option, Some, None, Ok}
+use Rattle.std.proofs.Common.{◌≡◌, ◌∙◌, ℕ, Bool, true, false, refl, sym, ap, subst, List, [], ◌∷◌, map, Option, Some, None, Ok, inl, inr}
 use Rattle.std.proofs.lemmas.Bool.{and_parts, false≢true}
 use Rattle.std.proofs.lemmas.Option.{none-some, same_Some, slice_get-map}
 use Rattle.std.specs.Prelude.{◌||◌, find, if◌then◌else◌, is_some, nat_lt, option_map}
@@ -9,7 +9,7 @@ use Rattle.mps_base.specs.declared.names.Slot.{Slot}
 use Rattle.mps_format.specs.Layout.{Layout}
 use Rattle.mps_model.specs.declared.call.Call.{Call}
 use Rattle.mps_model.specs.declared.call.Call.TheVariants as call
-use Rattle.mps_model.specs.Graph.{Graph, Object, Body, Automatic, Manual, Cell, NumberCell, AreaWord, PlainWord, Hold, entry_at, held_by_word, holds_of, is_automatic, object_with_cells, with_last, without_first, target_of_cell, targets, targets_of, targets_of_body, targets_of_cells, targets_of_point, targets_of_reservation}
+use Rattle.mps_model.specs.Graph.{Graph, Object, Body, Automatic, Manual, Cell, AreaWord, PlainWord, Hold, entry_at, held_by_word, holds_of, is_automatic, object_with_cells, with_last, without_first, target_of_cell, targets, targets_of, targets_of_body, targets_of_cells, targets_of_point, targets_of_reservation}
 use Rattle.mps_model.specs.Collection.{Collection}
 use Rattle.mps_model.specs.World.{World, block_of_word, is_copying_object, is_live, is_live_and, is_running, is_word_in, lies_in, live_ids, object_is, words_of}
 use Rattle.mps_model.specs.Checked.{Found, Numbered, cells_of_body, slot_in, with_graph, word_in}
@@ -20,12 +20,15 @@ use Rattle.mps_model.specs.Reply.{act}
 use Rattle.mps_model.specs.History.{HeldAreLive, is_held_rightly}
 use Rattle.mps_laws.proofs.Acts.{ForAct, point_named-is}
 use Rattle.mps_changes.proofs.ActChanges.{but, of_changes}
-use Rattle.mps_changes.specs.Change.{IsFoundBy, Now, Before, IsInSlot, IsGot, GotNull, FromSlot, FromCell, FromWord, FromMessage, IsShown, ShownPlain, ShownPinned, ShownPoked, IsWritten, WritesTag, WritesReference, WritesNumber, Change, Unchanged, Aside, SlotIs, WordIs, MessageTaken, TableMade, AreaMade, BlocksMade, TableDropped, AreaDropped, CellsAre, BlockWordIs, PlaceEmptied, Allocated, PoolMade, PointMade, PointDropped, Opened, Written, Closed, Committed, Registered, Unregistered}
+use Rattle.mps_changes.specs.Change.{IsFoundBy, Now, Before, IsInSlot, IsGot, GotNull, FromSlot, FromCell, FromWord, FromMessage, IsShown, ShownPlain, ShownPinned, ShownPoked, IsWritten, Change, Unchanged, Aside, SlotIs, WordIs, MessageTaken, TableMade, AreaMade, BlocksMade, TableDropped, AreaDropped, CellsAre, BlockWordIs, PlaceEmptied, Allocated, PoolMade, PointMade, PointDropped, Opened, Written, Closed, Committed, Registered, Unregistered}
 use Rattle.mps_laws.proofs.FoundBy.{object_found, reference_found, slot_found, word_found}
 use Rattle.mps_laws.proofs.Sound.SoundGraph.{all-at, entry-passes}
 use Rattle.mps_laws.proofs.Lookups.{entry_is_there}
 use Rattle.mps_laws.proofs.QuietSteps.{IsSound}
-use Rattle.mps_laws.proofs.Sound.HeldIds.{All, PassesOrNull, cell_written, tag_written, target_written}
+use Rattle.mps_laws.proofs.Sound.HeldIds.{All, PassesOrNull}
+use Rattle.mps_model.proofs.Reaching.{list_all-contains}
+use Rattle.mps_abstract.proofs.Lists.{list_all-members}
+use Rattle.mps_changes.proofs.Written.{written_targets}
 use Rattle.mps_laws.proofs.Sound.Referred.{SoundParts, sound_parts, word_of_block_written}
 use Rattle.mps_laws.proofs.Sound.SoundEffects.{MayBeHeld, cells_sound, reservation_sound, slot_passes, slot_sound, word_sound}
 use Rattle.mps_laws.proofs.Sound.SoundChanges.{area_gone_sound, area_sound, blocks_sound, message_sound, point_gone_sound, point_sound, registrations_sound, sound_again, table_gone_sound, table_sound}
@@ -153,10 +156,11 @@ module _ (w : World) (rest : w.collection ≡ None) (sound : IsSound w) where
 
   written_live : {marked : Bool} {c : Call} {cells : List Cell} {change : List Cell → List Cell} → IsWritten marked c w w cells change
       → (old : List Cell) → All (is_live w) (targets_of_cells old) → All (is_live w) (targets_of_cells (change old))
-  written_live (WritesReference k source from e) old all =
-      target_written (is_live w) old k from.value all (slot_passes (is_live w) w source from e parts.held)
-  written_live (WritesTag k tag low) old all = tag_written (is_live w) old k tag all
-  written_live (WritesNumber k was value there) old all = cell_written (is_live w) old k (NumberCell value) all tt
+  written_live {change = change} write old all =
+      list_all-members (is_live w) (targets_of_cells (change old)) (λ t h. elim (written_targets write old t h) [
+        | inl was ↦ list_all-contains (is_live w) (targets_of_cells old) t all was
+        | inr o ↦ subst (PassesOrNull (is_live w)) o.is (slot_passes (is_live w) w o.slot o.from o.there parts.held)
+      ])
 
   slots_there : (into : Found (Option ℕ)) → IsFoundBy slot_in w w into → entry_at w.graph.tables into.number ≡ Some into.list
   slots_there into (Now slot e) = (slot_found w slot into e).0

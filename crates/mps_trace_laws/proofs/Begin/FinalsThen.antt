@@ -10,7 +10,7 @@ use Rattle.mps_trace.specs.State.{FinalsState}
 use Rattle.mps_trace.specs.Roots.{FixesMessages, begins, goes_on}
 use Rattle.mps_trace.specs.Trace.{Traced}
 use Rattle.mps_abstract.specs.Collecting.{Collecting}
-use Rattle.mps_abstract.proofs.Calls.ClientCells.{length_set}
+use Rattle.mps_laws.proofs.Lookups.{length-slice_set}
 use Rattle.mps_trace_laws.specs.Roots.OneRoot.{IsWhere}
 use Rattle.mps_trace_laws.specs.Units.Finals.{address_of_id}
 
@@ -27,7 +27,7 @@ messages_after layout formats chains finals x _ finals'' z (goes_on {finals' = f
     let before = messages_after layout formats chains finals x count finals' y row in
     subst (AreFinalsAfter finals) (sym is) (record {
       registered = before.registered;
-      as_many = length_set finals'.messages count at ∙ before.as_many;
+      as_many = length-slice_set finals'.messages count at ∙ before.as_many;
     })
 
 -- messages that have, one by one, the addresses of their objects
