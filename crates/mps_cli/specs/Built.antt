@@ -1,22 +1,18 @@
 -- What is built, and what takes memory.
-use Rattle.std.specs.Prelude.{◌≡◌, ◌∷◌, [], Bool, true, false, ◌&&◌, ◌||◌, nat_lt, not, if◌then◌else◌, None, refl}
+use Rattle.std.specs.Prelude.{◌≡◌, ◌∷◌, [], Bool, true, false, ◌&&◌, nat_lt, not, if◌then◌else◌, None, refl}
 use Rattle.std.specs.List.{list_all}
 use Rattle.mps_base.specs.declared.names.Kind.TheVariants as kind
 use Rattle.mps_model.specs.declared.call.Call.{Call}
 use Rattle.mps_model.specs.declared.call.Call.TheVariants as call
 use Rattle.mps_model.specs.FirstCall.{is_arena}
 use Rattle.mps_model.specs.Graph.{empty_graph}
-use Rattle.mps_model.specs.World.{World, Pool, PoolKind, Collected, is_automatic_kind, is_copying_kind, empty_world}
+use Rattle.mps_model.specs.World.{World, Pool, Collected, is_weak_kind, empty_world}
 use Rattle.mps_commands.specs.Built.{Built}
 use Rattle.mps_refinement.specs.Collecting.{is_empty}
 
--- whether a collection moves the blocks of pools of a kind, or leaves them alone
-abbrev pub is_moved_or_manual_kind : PoolKind → Bool
-is_moved_or_manual_kind of = not (is_automatic_kind of) || is_copying_kind of
-
--- whether everything can be collected in a world: each automatic pool moves its blocks, and nothing is registered
+-- whether everything can be collected in a world: no pool has weak references, and nothing is registered
 abbrev pub can_collect_world : World → Bool
-can_collect_world w = list_all (λ (p : Pool). is_moved_or_manual_kind p.kind) w.pools && is_empty w.graph.registered
+can_collect_world w = list_all (λ (p : Pool). not (is_weak_kind p.kind)) w.pools && is_empty w.graph.registered
 
 -- whether the form of a call is built: all but chains of generations, what begins or drives a collection by steps, tags, labels and
 -- dependents; a collection of everything is if it can be done
@@ -86,10 +82,15 @@ a_collection_is = refl
 pub no_collection_by_steps_is : is_unsupported_call example_world call.Start ≡ true
 no_collection_by_steps_is = refl
 
-pub no_collection_beside_a_pool_that_marks :
+pub a_collection_beside_a_pool_that_marks :
     is_unsupported_call (record example_world { pools = record { kind = Collected kind.Ams; format = 1; chain = None } ∷ [] }) call.Collect
+    ≡ false
+a_collection_beside_a_pool_that_marks = refl
+
+pub no_collection_beside_a_pool_with_weak_references :
+    is_unsupported_call (record example_world { pools = record { kind = Collected kind.Awl; format = 1; chain = None } ∷ [] }) call.Collect
     ≡ true
-no_collection_beside_a_pool_that_marks = refl
+no_collection_beside_a_pool_with_weak_references = refl
 
 pub none_while_an_object_is_registered :
     is_unsupported_call (record example_world { graph = record empty_graph { registered = 0 ∷ [] } }) call.Collect ≡ true

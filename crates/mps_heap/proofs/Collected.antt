@@ -9,8 +9,7 @@ use Rattle.mps_format.specs.Layout.{Layout}
 use Rattle.mps_model.specs.World.{World}
 use Rattle.mps_heap_spec.specs.Table.{IsMarked}
 use Rattle.mps_heap_spec.specs.Collect.{most_moves}
-use Rattle.mps_heap_spec.specs.Collecting.{CanCollectAll, IsCollected, can_collect, is_empty, most_flips}
-use Rattle.mps_format.specs.Pools.{is_moved_or_manual}
+use Rattle.mps_heap_spec.specs.Collecting.{CanCollectAll, IsCollected, can_collect, is_empty, is_strong_pool, most_flips}
 use Rattle.mps_heap_spec.specs.State.{HeapState}
 use Rattle.mps_refinement.specs.StandsFor.{StandsFor}
 use Rattle.mps_refinement.specs.StandsForSome.{StandsForSome}
@@ -26,7 +25,7 @@ module _ {F : Type 0} (layout : F → Layout) (h : HeapState F) (some : StandsFo
   pub few_epochs : h.epochs.count < 2 ^ 63
   few_epochs =
       let few = ltb-true h.points.flips most_flips
-      (and_parts (list_all is_moved_or_manual h.pools && is_empty h.finals.registered) (nat_lt h.points.flips most_flips) can).1 in
+      (and_parts (list_all is_strong_pool h.pools && is_empty h.finals.registered) (nat_lt h.points.flips most_flips) can).1 in
       subst (λ n. n < 2 ^ 63) (one.1.parts.point_flips ∙ sym one.1.parts.flips.count) few
 
   module _ (marked : IsMarked h.segs.grains h.segs.marks h.segs.condemned h.segs.summaries) (m : Moves)

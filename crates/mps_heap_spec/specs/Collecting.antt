@@ -8,9 +8,9 @@ use Rattle.mps_trace.specs.LdState as ld
 use Rattle.mps_trace.specs.Trace.{TraceState, traced}
 use Rattle.mps_trace.specs.Collect.{CanCollect, Collects, most_moves}
 use Rattle.mps_trace.specs.Flip.{moving_of, zones_of}
+pub use Rattle.mps_trace.specs.Pools.{is_strong_pool}
 use Rattle.mps_trace.specs.PoolsCollecting.{IsTraceOf}
 use Rattle.mps_heap_spec.specs.State.{HeapState}
-use Rattle.mps_format.specs.Pools.{is_moved_or_manual}
 use Rattle.mps_heap_spec.specs.declared.arena.ArenaState.TheVariants as arena
 
 -- the most flips that a heap counts
@@ -22,9 +22,9 @@ is_empty [] = true
 is_empty (x ∷ xs) = false
 
 module _ {F : Type 0} where
-  -- whether a heap can collect everything: each automatic pool moves its blocks, nothing is registered, and one flip more can be counted
+  -- whether a heap can collect everything: no pool has weak references, nothing is registered, and one flip more can be counted
   abbrev pub can_collect : HeapState F → Bool
-  can_collect h = list_all is_moved_or_manual h.pools && is_empty h.finals.registered && nat_lt h.points.flips most_flips
+  can_collect h = list_all is_strong_pool h.pools && is_empty h.finals.registered && nat_lt h.points.flips most_flips
 
   -- whatever words are at hand for its pools, a heap can do a collection of everything within this trail
   abbrev pub CanCollectAll : (F → Layout) → HeapState F → Moves → Type 0

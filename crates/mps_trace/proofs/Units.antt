@@ -6,18 +6,17 @@ use Rattle.mps_final.specs.State.{FinalsState}
 use Rattle.mps_format.specs.Layout.{Layout}
 use Rattle.mps_seg.specs.Segs.{SegsState}
 use Rattle.mps_amc.proofs.Lost.{spare_after}
-use Rattle.mps_amc.specs.Reclaiming.{IsReclaimed, is_given, is_padded, lost_of}
+use Rattle.mps_seg.specs.Reclaiming.{IsSwept, is_given, is_used, lost_of}
 use Rattle.mps_trace.specs.Splat.{SplatsOne}
 use Rattle.mps_trace.specs.Trace.{TraceState, Traced, traced}
 use Rattle.mps_trace.specs.Unit.{HasRoomToEnd, UnitTo}
 use Rattle.mps_trace.specs.declared.running.Running.{Running}
 
 -- after a reclaim there is room for the end of the collection
-pub room_left : (f : Layout) (s s' : SegsState) (m m' : Moves) (base : Addr) → HasRoomToEnd s m base → IsReclaimed f s m base s' m'
-    → 0 < m'.spare
-room_left f s s' m m' base room (is_given t over empty state moves) =
+pub room_left : (s s' : SegsState) (m m' : Moves) (base : Addr) → HasRoomToEnd s m base → IsSwept s m base s' m' → 0 < m'.spare
+room_left s s' m m' base room (is_given t over empty state moves) =
     omega (arith, ap (λ (x : Moves). x.spare) moves, spare_after (lost_of s t) m, room t over)
-room_left f s s' m m' base room (is_padded t over used state padded moves) =
+room_left s s' m m' base room (is_used t over used state unwritten moves) =
     omega (arith, ap (λ (x : Moves). x.spare) moves, spare_after (lost_of s t) m, room t over)
 
 -- units go on at a state of which only what is at hand has changed

@@ -7,17 +7,17 @@ ghost use Rattle.mps_base.specs.Address.{max_grains};
 ghost use Rattle.mps_buffer.specs.Points as buffer;
 ghost use Rattle.mps_gen.specs.State.{max_pools};
 ghost use Rattle.mps_ld.specs.State as ld;
-ghost use Rattle.mps_format.specs.Pools.{is_moved_or_manual, policy_of_pool};
+ghost use Rattle.mps_format.specs.Pools.{policy_of_pool};
 ghost use Rattle.mps_trace.specs.Collect.{most_moves};
 ghost use Rattle.mps_trace.specs.Flip.{moving_of, zones_of};
 ghost use Rattle.mps_trace.specs.PoolsCollecting.{CanCollectPools, ArePoolsCollected};
-ghost use Rattle.mps_trace.specs.Pools.{none_made, with_one_more};
+ghost use Rattle.mps_trace.specs.Pools.{none_made, with_one_more, is_strong_pool};
 
 use crate::Trace;
 use mps_base::{Trail, WORDS_OF_GRAIN};
 use mps_buffer::OpenPoints;
 use mps_final::Finals;
-use mps_format::{Format, Pool, is_moved_or_manual, policy_of_pool, size_of_pool};
+use mps_format::{Format, Pool, is_weak, policy_of_pool, size_of_pool};
 use mps_ld::Epochs;
 use mps_manual::Manual;
 use mps_root::Roots;
@@ -96,11 +96,11 @@ impl<F: Format> Pools<F> {
         Ok(())
     }
 
-    /// Whether a collection moves the blocks of each automatic pool.
-    pub fn are_moved(&self) -> bool
-        ensures { result ≡ list_all is_moved_or_manual self.now.pools }
+    /// Whether no pool has objects with weak references.
+    pub fn are_strong(&self) -> bool
+        ensures { result ≡ list_all is_strong_pool self.now.pools }
     {
-        are_moved(&self.pools)
+        are_strong(&self.pools)
     }
 
     /// Collects everything, from the flip to the end, within `most` units.
@@ -129,11 +129,11 @@ impl<F: Format> Pools<F> {
     }
 }
 
-/// Whether a collection moves the blocks of each automatic one of these pools.
-fn are_moved<F: Format>(pools: &[Pool<F>]) -> bool
-    ensures { result ≡ list_all is_moved_or_manual pools.now }
+/// Whether none of these pools has objects with weak references.
+fn are_strong<F: Format>(pools: &[Pool<F>]) -> bool
+    ensures { result ≡ list_all is_strong_pool pools.now }
 {
-    pools.iter().all(|pool| is_moved_or_manual(*pool))
+    pools.iter().all(|pool| !is_weak(*pool))
 }
 
 /// The most moves, and the most units, of a full collection in an arena of these grains.

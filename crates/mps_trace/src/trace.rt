@@ -21,6 +21,7 @@ use mps_amc::Amc;
 use mps_base::{Addr, BYTES_OF_WORD, Rank, Trail};
 use mps_format::{Format, Policy};
 use mps_gen::Chains;
+use mps_mark::Mark;
 use mps_seg::{Owner, SegmentInfo, Segs};
 use std::alloc::{AllocError, Global};
 use std::marker::Model;
@@ -296,6 +297,10 @@ impl<F: Format> Trace<F> {
         let Some(format) = self.formats[pool as usize] else {
             unreachable!()
         };
-        self.amc.reclaim_seg(segs, trail, &format.format, base);
+        if format.moves {
+            self.amc.reclaim_seg(segs, trail, &format.format, base);
+        } else {
+            Mark.reclaim_seg(segs, trail, base);
+        }
     }
 }

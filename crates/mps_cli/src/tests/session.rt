@@ -107,7 +107,7 @@ fn is_in_range(call: &Call) -> bool
         Call::Pool { format, .. } => 1 <= format && format <= 3,
         Call::Blocks { length, .. } => 1 <= length && length <= 65536,
         Call::Limit { .. } | Call::Chain { .. } | Call::PoolOnChain { .. } => false,
-        Call::Area { .. } => false,
+        Call::Area { length, .. } => 1 <= length && length <= 65536,
         _ => true,
     }
 }
@@ -225,11 +225,11 @@ fn a_manual_block_comes_and_goes(rt: HostRuntime) {
     run(&rt, rt.alloc(), &steps);
 }
 
-/// Makes the pool `m`, of blocks that a collection doesn't move.
-fn marking_pool() -> Call {
+/// Makes the pool `w`, whose blocks may be weak.
+fn weak_pool() -> Call {
     Call::Pool {
-        pool: named(b'm'),
-        kind: Kind::Ams,
+        pool: named(b'w'),
+        kind: Kind::Awl,
         format: 1,
     }
 }
@@ -286,8 +286,66 @@ fn a_block_is_moved(rt: HostRuntime) {
         (number(0, 2), Reply::Number(7), &[]),
         (Call::Dump { at: to.0 }, Reply::Words(to, 3), &[]),
         (Call::Committed, Reply::Number(1), &[]),
-        (marking_pool(), Reply::Ok, &[]),
+        (weak_pool(), Reply::Ok, &[]),
         (Call::Collect, NO, &[]),
+    ];
+    run(&rt, rt.alloc(), &steps);
+}
+
+/// Makes the pool `p`, of blocks that a collection keeps where they lie.
+fn marking_pool() -> Call {
+    Call::Pool {
+        pool: named(b'p'),
+        kind: Kind::Ams,
+        format: 1,
+    }
+}
+
+/// Makes the area `a`, of one word.
+fn area() -> Call {
+    Call::Area {
+        area: named(b'a'),
+        length: 1,
+    }
+}
+
+/// Stores an address in the word of the area `a`.
+fn poke(value: u64) -> Call {
+    let word = Slot {
+        name: named(b'a'),
+        index: 0,
+    };
+    Call::Poke { word, value }
+}
+
+#[test]
+fn a_marked_block_is_kept_by_its_address_alone(rt: HostRuntime) {
+    let flip = Move::Flip {
+        zones: ZoneSet(0),
+        chain: 16,
+        generation: 0,
+    };
+    let base = Addr(0x1000);
+    let gone = [
+        flip,
+        Move::Free { at: base },
+        Move::Unseg { base },
+        Move::End,
+    ];
+    let steps: [Step<'_>; 13] = [
+        (arena(8), Reply::Ok, &[]),
+        (table(), Reply::Ok, &[]),
+        (area(), Reply::Ok, &[]),
+        (marking_pool(), Reply::Ok, &[]),
+        (point(), Reply::Ok, &[]),
+        (reserve(ONE_REFERENCE), Reply::Ok, &[SEGMENT]),
+        (commit(0), Reply::Ok, &[committed(0x1000)]),
+        (Call::Clear { slot: slot(0) }, Reply::Ok, &[]),
+        (poke(0x1000), Reply::Block, &[]),
+        (Call::Collect, Reply::Ok, &[flip, Move::End]),
+        (poke(0x1001), Reply::Plain, &[]),
+        (Call::Collect, Reply::Ok, &gone),
+        (Call::Live, Reply::Pair(0, 0), &[]),
     ];
     run(&rt, rt.alloc(), &steps);
 }

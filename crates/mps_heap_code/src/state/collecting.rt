@@ -15,7 +15,7 @@ use mps_trace::most_moves;
 const MAX_FLIPS: u64 = 1 << 63;
 
 impl<F: Format> State<F> {
-    /// Whether everything can be collected: each automatic pool moves its blocks, nothing is registered, and one flip more can be counted.
+    /// Whether everything can be collected: no pool has weak references, nothing is registered, and one flip more can be counted.
     #[tactic(auto, using(crate::proofs::Collecting::no_entries))]
     pub fn can_collect(&self) -> bool
         ensures value { result ≡ can_collect self.now }
@@ -24,7 +24,7 @@ impl<F: Format> State<F> {
     {
         self.segs.tables_are_whole();
         self.points.reservations_are_past();
-        self.pools.are_moved() && self.finals.registered() == 0 && self.points.flips() < MAX_FLIPS
+        self.pools.are_strong() && self.finals.registered() == 0 && self.points.flips() < MAX_FLIPS
     }
 
     /// How many moves a full collection makes at most: the room that its trail needs.

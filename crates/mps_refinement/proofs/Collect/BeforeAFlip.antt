@@ -13,7 +13,7 @@ use Rattle.mps_trace.specs.Trace.{TraceState}
 use Rattle.mps_trace_laws.specs.Begin.Before.{StandsBefore}
 use Rattle.mps_heap_spec.specs.Collecting.{can_collect, is_empty, most_flips}
 use Rattle.mps_trace.specs.PoolsCollecting.{IsTraceOf}
-use Rattle.mps_format.specs.Pools.{is_moved_or_manual}
+use Rattle.mps_trace.specs.Pools.{is_strong_pool}
 use Rattle.mps_heap_spec.specs.State.{HeapState}
 use Rattle.mps_refinement.specs.StandsFor.{AreParts, AreSlots, IsReached, Past, Rests}
 use Rattle.mps_refinement.proofs.Collect.CollectRight.{IsBefore}
@@ -32,15 +32,15 @@ module _ {F : Type 0} (layout : F → Layout) (past : Past) (h : HeapState F) (w
   -- whatever words are at hand for its pools
   pub stands_before : (t : TraceState F) → IsTraceOf h.pools t → StandsBefore layout t h.segs m h.points w
   stands_before t of =
-      let moved = list_all is_moved_or_manual h.pools in
+      let strong = list_all is_strong_pool h.pools in
       let none = is_empty h.finals.registered in
-      let first = and_parts (moved && none) (nat_lt h.points.flips most_flips) can in
-      let can_move = and_parts moved none first.0 in
+      let first = and_parts (strong && none) (nat_lt h.points.flips most_flips) can in
+      let both = and_parts strong none first.0 in
       let few = moves_are_few layout past h w parts reached (blocks_in_order layout past h w parts reached rest) in
       record {
-        plain = plain_at_rest layout past h w parts reached rest.none can_move.0 can_move.1;
+        plain = plain_at_rest layout past h w parts reached rest.none both.0 both.1;
         segments = segments_at_rest layout past h w parts reached rest marked;
-        pools = pools_known layout h.pools t w parts.pools parts.chains of can_move.0;
+        pools = pools_known layout h.pools t w parts.pools parts.chains of both.0;
         reservations = reservations_are_open layout past h w parts;
         room = omega (arith, few, room);
       }

@@ -1,18 +1,16 @@
 -- A heap at rest that can be collected stands for a plain world: nothing is registered, and no object is weak.
-use Rattle.std.proofs.Common.{None, ◌≡◌, true, false, refl, List, [], ◌∷◌}
-use Rattle.std.proofs.lemmas.Bool.{false≢true}
+use Rattle.std.proofs.Common.{None, ◌≡◌, true, refl, List, [], ◌∷◌}
+use Rattle.std.proofs.lemmas.Bool.{false≢true, not-true}
 use Rattle.std.specs.List.{list_all}
-use Rattle.mps_base.proofs.PoolKinds.{moving_is_not_weak}
 use Rattle.mps_format.specs.Layout.{Layout}
 use Rattle.mps_model.specs.World.{World}
 use Rattle.mps_trace_laws.proofs.Image.Laws.{well_formed_is_shaped}
 use Rattle.mps_trace_laws.proofs.Image.Shaped.{all_at}
 use Rattle.mps_trace_laws.specs.Begin.Before.{IsPlainAtRest}
 use Rattle.mps_heap_spec.specs.Collecting.{is_empty}
-use Rattle.mps_format.specs.Pools.{is_moved_or_manual, is_weak_pool}
+use Rattle.mps_format.specs.Pools.{is_weak_pool}
+use Rattle.mps_trace.specs.Pools.{is_strong_pool}
 use Rattle.mps_heap_spec.specs.State.{HeapState}
-use Rattle.mps_format.specs.declared.pool.Pool.{Pool}
-use Rattle.mps_format.specs.declared.pool.Pool.TheVariants as pool
 use Rattle.mps_refinement.specs.StandsFor.{AreParts, IsReached, Past}
 use Rattle.mps_refinement.proofs.Lookups.BlockRuns.{targets_live}
 use Rattle.mps_refinement.proofs.Worlds.Reached.{reached_sound, reached_well_formed}
@@ -23,20 +21,14 @@ empty_is : {A : Type 0} (xs : List A) → is_empty xs ≡ true → xs ≡ []
 empty_is [] e = refl
 empty_is (x ∷ xs) e = absurd (false≢true e)
 
--- a pool whose blocks move, or that isn't collected, has no weak references
-moved_is_strong : {F : Type 0} (p : Pool F) → is_moved_or_manual p ≡ true → is_weak_pool p ≡ false
-moved_is_strong (pool.Automatic kind format) moved = moving_is_not_weak kind moved
-moved_is_strong (pool.OneSize words) moved = refl
-moved_is_strong pool.AnySize moved = refl
-
 module _ {F : Type 0} (layout : F → Layout) (past : Past) (h : HeapState F) (w : World) (parts : AreParts layout past h w)
-    (reached : IsReached w) (none : w.collection ≡ None) (moved : list_all is_moved_or_manual h.pools ≡ true)
+    (reached : IsReached w) (none : w.collection ≡ None) (strong : list_all is_strong_pool h.pools ≡ true)
     (none_registered : is_empty h.finals.registered ≡ true)
   where
     pub plain_at_rest : IsPlainAtRest w
     plain_at_rest =
         let plain = plain_heap layout past h w parts reached (empty_is h.finals.registered none_registered)
-        (λ number p there. moved_is_strong p (all_at is_moved_or_manual h.pools number p moved there)) in
+        (λ number p there. not-true (is_weak_pool p) (all_at is_strong_pool h.pools number p strong there)) in
         record {
           rest = may_begin layout past h w parts reached none;
           none_registered = plain.none_registered;

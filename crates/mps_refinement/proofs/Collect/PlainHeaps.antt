@@ -30,12 +30,12 @@ pub record IsPlain (w : World) : Type 0 where
   pub none_registered : w.graph.registered ≡ []
   pub none_weak : (id : Id) → object_is is_weak_object w id ≡ false
 
-module _ {F : Type 0} (layout : F → Layout) where
-  weak_alike : (p : Pool F) → is_weak_pool p ≡ is_weak_kind (kind_of p)
-  weak_alike (pool.Automatic kind format) = refl
-  weak_alike (pool.OneSize words) = refl
-  weak_alike pool.AnySize = refl
+pub weak_alike : {F : Type 0} (p : Pool F) → is_weak_pool p ≡ is_weak_kind (kind_of p)
+weak_alike (pool.Automatic kind format) = refl
+weak_alike (pool.OneSize words) = refl
+weak_alike pool.AnySize = refl
 
+module _ {F : Type 0} (layout : F → Layout) where
   -- a weak object's pool may hold weak references
   not_weak : (w : World) (q : world.Pool) (b : Body) → is_weak_kind q.kind ≡ false → is_right_body w q b ≡ true → is_weak_body b ≡ false
   not_weak w q (Manual words) strong right = refl

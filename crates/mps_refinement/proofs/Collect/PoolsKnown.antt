@@ -1,14 +1,12 @@
--- What a collector knows of the pools of a heap, where it has their policies and none is on a chain, and each automatic one moves its
--- blocks, so none has weak references.
+-- What a collector knows of the pools of a heap, where it has their policies, none is on a chain, and none has weak references.
 use Rattle.std.proofs.Common.{◌≡◌, ◌∙◌, ℕ, true, false, refl, sym, ap, subst, List, [], length, replicate, Option, Some, None, is_some, arith}
-use Rattle.std.proofs.lemmas.Bool.{false≢true}
+use Rattle.std.proofs.lemmas.Bool.{false≢true, not-true}
 use Rattle.std.proofs.lemmas.List.{length-replicate}
 use Rattle.std.proofs.lemmas.Option.{none-some, same_Some, slice_get-map, slice_get_within, unwrap_or-slice_get}
 use Rattle.std.specs.Prelude.{option_map, option_and_then, slice_get}
 use Rattle.std.specs.List.{list_all}
 use Rattle.std.specs.Option.{option_map_or, unwrap_or}
 use Rattle.mps_base.specs.Generation.{target_generation}
-use Rattle.mps_base.proofs.PoolKinds.{moving_is_not_weak}
 use Rattle.mps_format.specs.Layout.{Layout}
 use Rattle.mps_amc.specs.Amc.{HasTail}
 use Rattle.mps_trace.specs.GenState as chains
@@ -23,12 +21,14 @@ use Rattle.mps_trace_laws.specs.Fix.Tracing.{AreKnownPools}
 use Rattle.mps_trace_laws.specs.Flip.Condemned.{AreFormatsOf, AreMovesOf}
 use Rattle.mps_trace_laws.specs.Begin.Before.{ArePoolsKnown}
 use Rattle.mps_trace.specs.PoolsCollecting.{IsTraceOf}
-use Rattle.mps_format.specs.Pools.{is_moved_or_manual, policy_of_pool, is_copying_pool}
+use Rattle.mps_format.specs.Pools.{policy_of_pool, is_copying_pool, is_weak_pool}
+use Rattle.mps_trace.specs.Pools.{is_strong_pool}
 use Rattle.mps_format.specs.declared.pool.Pool.{Pool}
 use Rattle.mps_format.specs.declared.pool.Pool.TheVariants as pool
 use Rattle.mps_refinement.specs.StandsFor.{ArePools, IsPool}
 use Rattle.mps_refinement.proofs.Lookups.PoolKinds.{copying_by_number, kind_of, kinds_alike}
 use Rattle.mps_refinement.proofs.Collect.CollectIsRight.{something}
+use Rattle.mps_refinement.proofs.Collect.PlainHeaps.{weak_alike}
 use Rattle.mps_format.specs.declared.pool.Policy.{Policy}
 
 -- ---- one pool
@@ -39,10 +39,8 @@ module _ {F : Type 0} where
   has_format (pool.OneSize words) = refl
   has_format pool.AnySize = refl
 
-  not_weak : (p : Pool F) → is_moved_or_manual p ≡ true → is_weak_kind (kind_of p) ≡ false
-  not_weak (pool.Automatic kind format) moved = moving_is_not_weak kind moved
-  not_weak (pool.OneSize words) moved = refl
-  not_weak pool.AnySize moved = refl
+  not_weak : (p : Pool F) → is_strong_pool p ≡ true → is_weak_kind (kind_of p) ≡ false
+  not_weak p strong = sym (weak_alike p) ∙ not-true (is_weak_pool p) strong
 
   format_where_automatic : (p : Pool F) → is_automatic_kind (kind_of p) ≡ true
       → (format : Policy F) × (policy_of_pool p ≡ Some format)
@@ -96,7 +94,7 @@ none_on_chain (Some chain) = refl
 
 module _ {F : Type 0} (layout : F → Layout) (pools : List (Pool F)) (t : TraceState F) (w : World)
     (are : ArePools layout w.formats pools w.pools) (none : w.chains ≡ []) (of : IsTraceOf pools t)
-    (moved : list_all is_moved_or_manual pools ≡ true) where
+    (strong : list_all is_strong_pool pools ≡ true) where
   -- a pool and what it stands for have one number, and so does what is no pool
   data AtNumber (number : ℕ) : Type 0 where
     both : (p : Pool F) (q : world.Pool) → slice_get pools number ≡ Some p → slice_get w.pools number ≡ Some q
@@ -154,7 +152,7 @@ module _ {F : Type 0} (layout : F → Layout) (pools : List (Pool F)) (t : Trace
       by_cases (both p q e f is) =
           ap (λ (o : Option world.Pool). option_map_or (λ p. is_weak_kind p.kind) o false) f
           ∙ ap is_weak_kind (kinds_alike layout w.formats p q is)
-          ∙ not_weak p (all_at is_moved_or_manual pools number p moved e)
+          ∙ not_weak p (all_at is_strong_pool pools number p strong e)
       by_cases (neither e f) = ap (λ (o : Option world.Pool). option_map_or (λ p. is_weak_kind p.kind) o false) f
 
   -- an automatic pool, with its policy

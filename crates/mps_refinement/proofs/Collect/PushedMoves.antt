@@ -19,7 +19,7 @@ use Rattle.mps_trace.specs.GenState.{ChainsState}
 use Rattle.mps_root.specs.State.{RootsState, items_of}
 use Rattle.mps_amc.specs.Amc.{moves_fixed, placement_of_copy}
 use Rattle.mps_amc.specs.Moving.{size_at}
-use Rattle.mps_amc.specs.Reclaiming.{lost_of, moves_freed, IsReclaimed, is_given, is_padded}
+use Rattle.mps_seg.specs.Reclaiming.{lost_of, moves_freed, IsSwept, is_given, is_used}
 use Rattle.mps_amc.proofs.Lost.{spare_after}
 use Rattle.mps_refinement.specs.RightMoving.{KeepsRoom}
 use Rattle.mps_trace.specs.Roots as roots
@@ -181,16 +181,16 @@ pub record IsReclaimPushed (s : SegsState) (base : Addr) (m m' : Moves) : Type 0
   pub over : segment_over s.segments base.0 ≡ Some segment
   pub most : pushed.told ≤ length (lost_of s segment) + 1
 
-pub reclaim_pushes : (f : Layout) (s : SegsState) (m : Moves) (base : Addr) (s' : SegsState) (m' : Moves) → IsReclaimed f s m base s' m'
+pub reclaim_pushes : (s : SegsState) (m : Moves) (base : Addr) (s' : SegsState) (m' : Moves) → IsSwept s m base s' m'
     → IsReclaimPushed s base m m'
-reclaim_pushes f s m base s' m' (is_given t found empty state trail) =
+reclaim_pushes s m base s' m' (is_given t found empty state trail) =
     subst (IsReclaimPushed s base m) (sym trail) (record {
       pushed = pushed_on (freed_pushed (lost_of s t) m) (one_pushed (moves_freed (lost_of s t) m) (Unseg base));
       segment = t;
       over = found;
       most = omega arith;
     })
-reclaim_pushes f s m base s' m' (is_padded t found used state padded trail) =
+reclaim_pushes s m base s' m' (is_used t found used state unwritten trail) =
     subst (IsReclaimPushed s base m) (sym trail) (record {
       pushed = freed_pushed (lost_of s t) m;
       segment = t;
@@ -210,8 +210,7 @@ module _ {F : Type 0} (layout : F → Layout) (formats : List (Option (Policy F)
       (pushed_on (keep_pushes layout formats chains x (registration_of f run.next) y to kept) (one_pushed y.moves (Post to)))
   unit_pushes x f run z f' run' (units.splats drained none one now) = splat_pushes layout formats x z one
   unit_pushes x f run z f' run' (units.reclaims base left next other is) =
-      let r = next.reclaimed in
-      (reclaim_pushes (layout r.format.format) x.segs x.moves base z.segs z.moves r.reclaimed).pushed
+      (reclaim_pushes x.segs x.moves base z.segs z.moves next.reclaimed.swept).pushed
 
   pub units_push : (x : Traced) (f : FinalsState) (run : Running) (count : ℕ) (z : Traced) (f' : FinalsState) (run' : Running)
       → UnitsTo layout formats chains x f run count z f' run' → IsPushed x.moves z.moves

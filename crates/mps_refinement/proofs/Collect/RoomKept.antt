@@ -49,12 +49,11 @@ module _ {F : Type 0} (layout : F → Layout) (t : TraceState F) where
       let some = has_room at_flip u f' ends.run_before done.after done.stands in
       let row = pushed_on begun (units_push layout t.formats t.chains x f run ends.count u f' ends.run_before ends.units) in
       let next = ends.last.reclaimed in
-      let r = next.reclaimed in
       let base = ends.last.base in
       let v = ends.last.before in
       let can = a_unit_is_ready layout (record t { amc = u.amc }) u.segs u.moves at_flip f' ends.run_before done.after done.stands in
       let room : HasRoomToEnd u.segs u.moves base = (can.reclaim next.scanned next.examined).room base next.lowest in
-      let told = reclaim_pushes (layout r.format.format) u.segs u.moves base v.segs v.moves r.reclaimed in
+      let told = reclaim_pushes u.segs u.moves base v.segs v.moves next.reclaimed.swept in
       let enough = room told.segment told.over in
       let few = told.most in
       let whole = pushed_on row (pushed_on told.pushed (one_pushed v.moves End)) in

@@ -12,7 +12,6 @@ use Rattle.mps_trace.specs.GenState.{ChainsState}
 use Rattle.mps_seg.specs.Segs.{SegsState}
 use Rattle.mps_seg.specs.Reclaiming.{lost_of, without_block, without_blocks, IsSwept, is_given, is_used}
 use Rattle.mps_seg.proofs.Lost.{segments_after}
-use Rattle.mps_amc.proofs.Reclaimed.{reclaimed_is_swept}
 use Rattle.mps_model.specs.Collection.{Collection}
 use Rattle.mps_model.specs.Effect.{world_after_moves}
 use Rattle.mps_model.specs.Flip.{end_where}
@@ -107,7 +106,7 @@ module _ {F : Type 0} (layout : F → Layout) (formats : List (Option (Policy F)
   unreserved = stands.unreserved t lowest.listed lowest.condemned
 
   swept : IsSwept x.segs x.moves base z.segs z.moves
-  swept = reclaimed_is_swept (layout next.reclaimed.format.format) x.segs x.moves base z.segs z.moves next.reclaimed.reclaimed
+  swept = next.reclaimed.swept
 
   pub trail_is : z.moves.moves ++ end_where (is_last_condemned y.running t.base) ≡ x.moves.moves ++ reclaim_by y t.base freed
   trail_is =
@@ -262,10 +261,7 @@ the_last_unit_is_done layout formats of at_flip x z f run y stands unit =
     let last = is_last layout formats of at_flip x unit.before f run y unit.base stands next unit.last in
     let next_is = is_next layout formats of at_flip x unit.before f run y unit.base stands next in
     let there = stands.unreserved low.segment low.listed low.condemned in
-    let swept =
-    reclaimed_is_swept (layout next.reclaimed.format.format) x.segs x.moves unit.base unit.before.segs unit.before.moves
-    next.reclaimed.reclaimed
-    in
+    let swept = next.reclaimed.swept in
     let freed = addresses_of (lost_of x.segs low.segment) in
     let shown =
     a_reclaim_is_a_unit y x.segs (pool_layout y.world) unit.base x.moves unit.before.segs unit.before.moves stands.running band.scanned

@@ -15,9 +15,8 @@ returns-in-Some-left-clause-goes_on g c =
 
 pub end-requires : goal.end-requires
 end-requires g c =
-    let r = c.reclaim.ensures in
-    room_left (g.F.Format.layout r.format.format) c.args.segs.now c.reclaim.new.segs c.args.trail.now c.reclaim.new.trail c.in-Some.base
-    (c.requires.can.room c.in-Some.base c.in-Some.ensures.sound) r.reclaimed
+    room_left c.args.segs.now c.reclaim.new.segs c.args.trail.now c.reclaim.new.trail c.in-Some.base
+    (c.requires.can.room c.in-Some.base c.in-Some.ensures.sound) c.reclaim.ensures.swept
 
 pub returns-clause-ended : goal.returns-clause-ended
 returns-clause-ended g c =
