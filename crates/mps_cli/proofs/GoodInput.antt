@@ -1,5 +1,5 @@
 -- A reader of a good input, without a fault and with memory, ends with status 0.
-use Rattle.std.proofs.Common.{◌≡◌, ◌≢◌, ◌⊎◌, ℕ, true, Some, Ok, List, refl, sym, subst, inl, inr}
+use Rattle.std.proofs.Common.{◌≡◌, ◌≢◌, ℕ, true, Some, Ok, List, refl, sym, subst, inl, inr}
 use Rattle.mps_desk.specs.Desk.{Outside}
 use Rattle.mps_event.specs.declared.version.Version.{Version}
 use Rattle.mps_base.specs.Record.{Record}

@@ -1,12 +1,9 @@
 -- The log of a run is read to its end by the readers.
-use Rattle.std.proofs.Common.{◌≡◌, ◌≢◌, ◌<◌, ◌≤◌, ℕ, List, [], ◌++◌, length, Option, Some, None, Ok, refl, sym, ap, ◌∙◌, append-nil, arith}
-use Rattle.std.specs.Prelude.{All}
-use Rattle.mps_base.specs.Record.{Record, header_bytes, records_bytes}
+use Rattle.std.proofs.Common.{◌≡◌, ◌≢◌, ◌<◌, ◌≤◌, ℕ, List, [], length, Option, Some, None, Ok, refl, sym, ap, ◌∙◌, append-nil, arith}
 use Rattle.mps_desk.specs.Desk.{Outside}
 use Rattle.mps_event.specs.declared.version.Version.TheVariants.{One}
-use Rattle.mps_event.specs.Grammar.{IsRecord}
 use Rattle.mps_model.specs.Step.{History}
-use Rattle.mps_model.specs.Replay.{Store, replay}
+use Rattle.mps_model.specs.Replay.{Store}
 use Rattle.mps_model.specs.Log.{log_bytes, log_of}
 use Rattle.mps_model.specs.History.{live_blocks, world_after_history}
 use Rattle.mps_report.specs.Streams.{appended}
@@ -19,7 +16,7 @@ use Rattle.mps_tools.specs.ReplayEnding.{Replays}
 use Rattle.mps_model.specs.Replayed.{State, replayed}
 use Rattle.mps_args.specs.Kinds.{all_kinds}
 use Rattle.mps_tools.specs.Portable.{portable}
-use Rattle.mps_tools.specs.Text.{portable_text, readable_text}
+use Rattle.mps_tools.specs.Text.{portable_text}
 use Rattle.mps_cnv.proofs.AllKinds.{text_of_all}
 use Rattle.mps_txt.proofs.OwnText.{reads_its_own}
 use Rattle.mps_blocks.proofs.VersionOne.{blocks_of, version_one}
@@ -60,7 +57,8 @@ module _ (ran : List Line) (history : History) (runs : HasRun session_built ran 
   replays = record { prefix = all_of_it; state = live.state; replay = live.is; ends_at = refl }
 
   module _ (status : ℕ) (old new : Outside) (none : NoFaultRose old new) (memory : status ≢ 8) where
-    listed : (log : List ℕ) → old.text log ≡ Some (log_bytes history) → ListsBlocks log status old new → ListsLiveBlocks history status old new
+    listed : (log : List ℕ) → old.text log ≡ Some (log_bytes history) → ListsBlocks log status old new
+        → ListsLiveBlocks history status old new
     unfolding replays
     listed log known does =
         let ends = does.unique (verdict status old new none memory does.justified) (log_bytes history) known (Ok tt)
@@ -70,7 +68,8 @@ module _ (ran : List Line) (history : History) (runs : HasRun session_built ran 
           printed = ends.printed ∙ ap (λ (blocks : Store). appended old.printed (listing blocks)) live.blocks;
         }
 
-    converted : (log : List ℕ) → old.text log ≡ Some (log_bytes history) → (kinds : ℕ) → ConvertsLog log kinds status old new → ConvertsRecords kinds history status old new
+    converted : (log : List ℕ) → old.text log ≡ Some (log_bytes history) → (kinds : ℕ) → ConvertsLog log kinds status old new
+        → ConvertsRecords kinds history status old new
     unfolding all_of_it
     converted log known kinds does =
         let ends = (does.unique (verdict status old new none memory does.justified) (log_bytes history) known).with_header all_of_it (Ok tt)

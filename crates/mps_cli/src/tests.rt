@@ -4,6 +4,7 @@
 // has a function of its own, and the function that owns a desk does nothing but hand it on.
 mod desk;
 mod gathered;
+mod host;
 mod memory;
 mod played;
 mod scripts;

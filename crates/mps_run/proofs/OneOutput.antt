@@ -41,7 +41,8 @@ records_told [] [] h k e = refl
 records_told [] (q ∷ qs) h k e = absurd (no_bytes q (records_bytes qs) e)
 records_told (r ∷ rs) [] h k e = absurd (no_bytes r (records_bytes rs) (sym e))
 records_told (r ∷ rs) (q ∷ qs) h k e =
-    let both = one_beginning One r q (records_bytes rs) (records_bytes qs) (All-head (IsRecord One) r rs h) (All-head (IsRecord One) q qs k) e in
+    let both = one_beginning One r q (records_bytes rs) (records_bytes qs) (All-head (IsRecord One) r rs h) (All-head (IsRecord One) q qs k) e
+    in
     let rest : rs ≡ qs = records_told rs qs (All-tail (IsRecord One) r rs h) (All-tail (IsRecord One) q qs k) both.1 in
     λ j. both.0 j ∷ rest j
 
@@ -53,9 +54,11 @@ is_of_move r = nat_le 32 r.code
 
 of_moves : (ms : List Move) (line : ℕ) → filter is_of_move (records_of ms line) ≡ records_of ms line
 of_moves [] line = refl
-of_moves (moves.Seg base grains pool generation ∷ ms) line = ap (λ rs. record_of (moves.Seg base grains pool generation) line ∷ rs) (of_moves ms line)
+of_moves (moves.Seg base grains pool generation ∷ ms) line =
+    ap (λ rs. record_of (moves.Seg base grains pool generation) line ∷ rs) (of_moves ms line)
 of_moves (moves.Unseg base ∷ ms) line = ap (λ rs. record_of (moves.Unseg base) line ∷ rs) (of_moves ms line)
-of_moves (moves.Flip zones chain generation ∷ ms) line = ap (λ rs. record_of (moves.Flip zones chain generation) line ∷ rs) (of_moves ms line)
+of_moves (moves.Flip zones chain generation ∷ ms) line =
+    ap (λ rs. record_of (moves.Flip zones chain generation) line ∷ rs) (of_moves ms line)
 of_moves (moves.End ∷ ms) line = ap (λ rs. record_of moves.End line ∷ rs) (of_moves ms line)
 of_moves (moves.Moved from to ∷ ms) line = ap (λ rs. record_of (moves.Moved from to) line ∷ rs) (of_moves ms line)
 of_moves (moves.Stay at ∷ ms) line = ap (λ rs. record_of (moves.Stay at) line ∷ rs) (of_moves ms line)

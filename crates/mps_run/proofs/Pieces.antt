@@ -53,7 +53,8 @@ pub records_more : (line : ℕ) (moves : List Move) (i : ℕ) (d : Move) → i <
     → All (IsRecord One) (records_of (take (i + 1) moves) line)
 records_more line moves i d h before next =
     subst (All (IsRecord One))
-    (sym (ap (λ ms. records_of ms line) (take_more moves i d h) ∙ map-append (λ (m : Move). record_of m line) (take i moves) (get_or moves i d ∷ [])))
+    (sym (ap (λ ms. records_of ms line) (take_more moves i d h)
+    ∙ map-append (λ (m : Move). record_of m line) (take i moves) (get_or moves i d ∷ [])))
     (All-push (IsRecord One) (records_of (take i moves) line) (record_of (get_or moves i d) line) before next)
 
 -- ---- records of a command

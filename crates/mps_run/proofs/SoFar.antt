@@ -119,7 +119,8 @@ module _ (built : Built) (stood stands_now : World → Type 0) (p q : Progress) 
   run_more =
       let legal = IsLegalFrom-append empty_world history l.ran.steps c.run.legal
       (l.ran.answered.legal (world_after_history history) c.stands_for) in
-      let logs : log_of (history ++ l.ran.steps) ≡ log_of history ++ log_from p.pools l.ran.steps = log_more history l.ran.steps p.pools c.pools in
+      let logs : log_of (history ++ l.ran.steps) ≡ log_of history ++ log_from p.pools l.ran.steps =
+      log_more history l.ran.steps p.pools c.pools in
       record {
         bounded = let size = length-append ran (line ∷ []) in omega (arith, size, c.counted, l.lines, bounded);
         grammatical = grammar_more history ran line c.run.grammatical c.run.commands

@@ -41,7 +41,8 @@ pub fn log_records<D: Desk>(
         (records_bytes (records_of moves.now line ++ records_of_command pools call.now (Replied reply.now) line))) }
     ensures failed { OnErr result (LogsPart (D.outside desk.old) (D.outside desk.new)
         (records_bytes (records_of moves.now line ++ records_of_command pools call.now (Replied reply.now) line))) }
-    ensures recorded { OnOk result (All (IsRecord One) (records_of moves.now line ++ records_of_command pools call.now (Replied reply.now) line)) }
+    ensures recorded { OnOk result (All (IsRecord One)
+        (records_of moves.now line ++ records_of_command pools call.now (Replied reply.now) line)) }
 {
     log_moves(desk, line, moves)?;
     log_command(desk, line, pools as u64, call, reply)

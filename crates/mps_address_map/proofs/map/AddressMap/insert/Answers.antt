@@ -7,7 +7,8 @@ use Rattle.mps_address_map.proofs.map.AddressMap.insert.Goals as goal
 pub returns-then-is_kept_in_order-clause-old : goal.returns-then-is_kept_in_order-clause-old
 returns-then-is_kept_in_order-clause-old g c =
     let s = c.self.inside in
-    let same = sym (found_second s.hashed.entries s.ordered.entries c.args.at (c.is_kept_in_order.ensures.ordered c.if-is_kept_in_order.true))
+    let none = c.is_kept_in_order.ensures.ordered c.if-is_kept_in_order.true in
+    let same = sym (found_second s.hashed.entries s.ordered.entries c.args.at none)
     ∙ ap (λ (es : List (ℕ × g.row.V.Denot)). found_at es c.args.at) c.self.view_is in
     IfOk-weaker c.insert_ordered.result (λ old. old ≡ found_at s.ordered.entries c.args.at) _ (λ old is. is ∙ same)
     c.insert_ordered.ensures.old
@@ -26,7 +27,8 @@ returns-then-is_kept_in_order-clause-changes g c =
 pub returns-else-is_kept_in_order-clause-old : goal.returns-else-is_kept_in_order-clause-old
 returns-else-is_kept_in_order-clause-old g c =
     let s = c.self.inside in
-    let same = found_first_alone s.hashed.entries s.ordered.entries c.args.at (c.is_kept_in_order.ensures.hashed c.if-is_kept_in_order.false)
+    let none = c.is_kept_in_order.ensures.hashed c.if-is_kept_in_order.false in
+    let same = found_first_alone s.hashed.entries s.ordered.entries c.args.at none
     ∙ ap (λ (es : List (ℕ × g.row.V.Denot)). found_at es c.args.at) c.self.view_is in
     IfOk-weaker c.insert_hashed.result (λ old. old ≡ found_at s.hashed.entries c.args.at) _ (λ old is. is ∙ same)
     c.insert_hashed.ensures.old

@@ -22,7 +22,8 @@ pub returns-in-Some-clause-changes : goal.returns-in-Some-clause-changes
 returns-in-Some-clause-changes g c =
     let s = c.self.inside in
     let there = ap (λ o. is_some o) (sym c.in-Some.ensures.value) in
-    subst (λ (es : List (ℕ × g.row.V.Denot)). Changes es (c.swap_remove.new.self.entries ++ s.ordered.entries) c.args.at None) c.self.view_is
+    subst (λ (es : List (ℕ × g.row.V.Denot)). Changes es (c.swap_remove.new.self.entries ++ s.ordered.entries) c.args.at None)
+    c.self.view_is
     (first_changed s.hashed.entries c.swap_remove.new.self.entries s.ordered.entries c.args.at None c.in-Some.ensures.updates.0
     (c.self.invariant c.args.at there))
 
@@ -40,7 +41,8 @@ returns-in-None-clause-changes g c =
     let same = c.in-None.ensures.unchanged in
     subst (λ (es : List (ℕ × g.row.V.Denot)). Changes es (c.swap_remove.new.self.entries ++ c.remove.new.self.entries) c.args.at None)
     c.self.view_is
-    (subst (λ (es : List (ℕ × g.row.V.Denot)). Changes (s.hashed.entries ++ s.ordered.entries) (es ++ c.remove.new.self.entries) c.args.at None)
+    (subst (λ (es : List (ℕ × g.row.V.Denot)). Changes (s.hashed.entries ++ s.ordered.entries) (es ++ c.remove.new.self.entries) c.args.at
+    None)
     (sym same)
     (second_changed s.hashed.entries s.ordered.entries c.remove.new.self.entries c.args.at None
     (changed_by_order s.ordered.entries c.remove.new.self.entries c.args.at None c.remove.ensures.updates.0)
