@@ -41,8 +41,9 @@ records_told [] [] h k e = refl
 records_told [] (q ∷ qs) h k e = absurd (no_bytes q (records_bytes qs) e)
 records_told (r ∷ rs) [] h k e = absurd (no_bytes r (records_bytes rs) (sym e))
 records_told (r ∷ rs) (q ∷ qs) h k e =
-    let both = one_beginning One r q (records_bytes rs) (records_bytes qs) (All-head (IsRecord One) r rs h) (All-head (IsRecord One) q qs k) e
-    in
+    let first = All-head (IsRecord One) r rs h in
+    let first' = All-head (IsRecord One) q qs k in
+    let both = one_beginning One r q (records_bytes rs) (records_bytes qs) first first' e in
     let rest : rs ≡ qs = records_told rs qs (All-tail (IsRecord One) r rs h) (All-tail (IsRecord One) q qs k) both.1 in
     λ j. both.0 j ∷ rest j
 
