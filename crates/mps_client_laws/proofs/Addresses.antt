@@ -12,7 +12,7 @@ use Rattle.mps_model.specs.Step.{Step, History}
 use Rattle.mps_model.specs.Graph.{entry_at, is_automatic}
 use Rattle.mps_model.specs.World.{World, address_of, id_at, is_copying_pool, object_is, with_tail}
 use Rattle.mps_model.specs.Checked.{Act, Checked}
-use Rattle.mps_model.specs.Effect.{where_one, world_after_move, world_after_moves, after_moved, after_free, holding, segment_of_move, with_address, with_collection, reclaiming, segment_base_of}
+use Rattle.mps_model.specs.Effect.{where_one, world_after_move, world_after_moves, after_moved, after_free, holding, segment_of_move, without_object, with_collection, reclaiming, segment_base_of}
 use Rattle.mps_model.specs.Policy.{units_asked}
 use Rattle.mps_model.specs.Reply.{act, world_from}
 use Rattle.mps_model.specs.History.{after_its_moves, after_own_segment, asking, judged_world, moved_world, moves_of_poll, own_segment, rank_of_point, with_buffer, with_segment_for_point, world_after, world_after_call, world_after_steps}
@@ -117,7 +117,7 @@ module _ (id : ℕ) (Good : ℕ → Type 0) where
   moved_lies w to (Some other) may l = lies_moved w.addresses other to may l
 
   free_by_kind : (w : World) (other at : ℕ) (b : Bool) → is_this id (Some other) ≡ false → LiesIn w
-      → LiesIn (if b then with_collection (with_address w other None) (reclaiming (segment_base_of w at)) else with_address w other None)
+      → LiesIn (if b then with_collection (without_object w other) (reclaiming (segment_base_of w at)) else without_object w other)
   free_by_kind w other at true this l = lies_beside w.addresses other None (differs other this) l
   free_by_kind w other at false this l = lies_beside w.addresses other None (differs other this) l
 

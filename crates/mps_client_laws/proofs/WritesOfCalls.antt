@@ -9,8 +9,9 @@ use Rattle.mps_base.specs.declared.refusal.Refusal.TheVariants as refusal
 use Rattle.mps_model.specs.declared.call.Call.{Call}
 use Rattle.mps_model.specs.declared.call.Call.TheVariants as call
 use Rattle.mps_model.specs.declared.reply.Reply.TheVariants as reply
-use Rattle.mps_model.specs.Graph.{Graph, Object, Cell, NumberCell, AreaWord, Point, Reservation, is_taken, position_of_first, thing_named, with_last, with_tag_cell, with_target_cell, graph_with_cells}
+use Rattle.mps_model.specs.Graph.{Graph, Object, Cell, NumberCell, AreaWord, Point, Reservation, dependent_in, is_taken, position_of_first, thing_named, with_last, with_tag_cell, with_target_cell, graph_with_cells}
 use Rattle.mps_model.specs.Tagging.{tag_count}
+use Rattle.mps_model.specs.Dependents.{may_depend, most_dependents}
 use Rattle.mps_model.specs.World.{World, committed, Pool, Dependency, block_of_word, id_at, is_automatic_kind, is_running}
 use Rattle.mps_model.specs.Checked.{Act, Checked, Found, Numbered, block_place_in, cells_of_body, chain_named, dependency_named, done, label_named, tag_at, number_at, object_in, point_named, pool_named, reference_at, refuse_when, required, says, slot_in, tells, with_graph, word_in}
 use Rattle.mps_model.specs.Making.{graph_without_root, is_block_size, live_points, make_pool, may_have_point, most_chains, most_dependencies, most_labels, most_points, most_pools, refuse_at_limit, refuse_root, refuse_taken}
@@ -220,6 +221,15 @@ module _ (marked : Bool) (judged v : World) where
   writes_of_act (call.Label slot label) =
       andthen (slot_in v slot) (λ (from : Found (Option ℕ)). andthen (object_in v from.value) (λ (object : Numbered Object).
       andthen (label_named v label) (λ (found : Numbered Name). accepted (same refl))))
+  writes_of_act (call.Depend holder dependent) =
+      andthen (slot_in v holder) (λ (from : Found (Option ℕ)). andthen (slot_in v dependent) (λ (to : Found (Option ℕ)).
+      andthen (object_in v from.value) (λ (weak : Numbered Object). andthen (object_in v to.value) (λ (exact : Numbered Object).
+      after_check (refuse_when (not (may_depend v weak.value exact.value)) refusal.WrongPool)
+      (after_check (refuse_when (is_none (dependent_in v.graph.dependents weak.number)
+      && nat_le most_dependents (length v.graph.dependents)) (refusal.TooMany most_dependents)) (accepted (same refl)))))))
+  writes_of_act (call.Undepend holder) =
+      andthen (slot_in v holder) (λ (from : Found (Option ℕ)). andthen (object_in v from.value) (λ (weak : Numbered Object).
+      after_check (required (dependent_in v.graph.dependents weak.number) refusal.NotLinked) (accepted (same refl))))
   writes_of_act (call.Peek word) = andthen (word_in v word) (λ (at : Found AreaWord). accepted (same refl))
   writes_of_act (call.Pin word slot) =
       andthen (word_in v word) (λ (at : Found AreaWord). andthen (slot_in v slot) (λ (from : Found (Option ℕ)).

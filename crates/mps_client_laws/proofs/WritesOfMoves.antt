@@ -1,7 +1,9 @@
 -- What the moves of a step write of objects, and what they leave of slots and places.
-use Rattle.std.proofs.Common.{◌≡◌, ℕ, zero, suc, Bool, true, false, refl, sym, ◌∙◌, ap, subst, List, [], ◌∷◌, map, Option, Some, None}
-use Rattle.std.proofs.lemmas.Bool.{true≢false, and_parts, and_from, eq-eqb, or_parts}
-use Rattle.std.specs.Prelude.{not, take, ◌&&◌, ◌==◌, if◌then◌else◌}
+use Rattle.std.proofs.Common.{◌≡◌, ◌⊎◌, inl, inr, ℕ, zero, suc, Bool, true, false, refl, sym, ◌∙◌, ap, subst, List, [], ◌∷◌, ◌++◌, map, Option, Some, None}
+use Rattle.std.proofs.lemmas.Bool.{true≢false, and_parts, and_from, cases_eq, eq-eqb, or_parts}
+use Rattle.std.proofs.lemmas.List.Folds.{list_any-append}
+use Rattle.std.proofs.lemmas.Option.{none-some}
+use Rattle.std.specs.Prelude.{not, take, ◌&&◌, ◌==◌, if◌then◌else◌, option_and_then, option_map, slice_get, slice_set}
 use Rattle.std.specs.List.{list_any}
 use Rattle.std.specs.Option.{option_map_or}
 use Rattle.mps_base.specs.Segment.{Segment, words_of_segment}
@@ -10,14 +12,16 @@ use Rattle.mps_base.specs.declared.moves.Move.{Move}
 use Rattle.mps_base.specs.declared.moves.Move.TheVariants as moves
 use Rattle.mps_model.specs.declared.call.Call.{Call}
 use Rattle.mps_model.specs.declared.call.Call.TheVariants as call
-use Rattle.mps_model.specs.Graph.{Graph, Cell, NamedThing, Slots, graph_with_cells, object_with_cells, with_target_cell, is_automatic, empty_graph}
+use Rattle.mps_model.specs.Graph.{Graph, Object, Body, Automatic, Manual, Cell, HeadCell, NumberCell, ReferenceCell, NamedThing, Slots, body_with_cells, dependent_in, is_reference_cell, retargeted, object_with_cells, with_target_cell, is_automatic, empty_graph}
 use Rattle.mps_model.specs.World.{World, id_at, is_copying_pool, with_tail, object_is, empty_world}
-use Rattle.mps_model.specs.Effect.{where_one, after_splat, world_after_move, world_after_moves, holding, segment_of_move, with_address, with_collection, reclaiming, segment_base_of}
+use Rattle.mps_model.specs.Effect.{where_one, after_splat, world_after_move, world_after_moves, holding, segment_of_move, graph_nulled, graph_splatted, without_object, with_collection, reclaiming, segment_base_of}
 use Rattle.mps_model.specs.Policy.{units_asked}
 use Rattle.mps_model.specs.History.{after_its_moves, after_own_segment, asking, moved_world, moves_of_poll, own_segment, with_segment_for_point, with_buffer, rank_of_point}
+use Rattle.mps_model.specs.Checked.{cells_of_body}
+use Rattle.mps_laws.proofs.Entries.{slice_get-written}
 use Rattle.mps_laws.specs.Held.{target_of_slot}
-use Rattle.mps_client_laws.specs.Objects.{identity_of, cell_at, word_at, cells_nulled, is_cell, moves_leave_cell, writes_cell, writes_word, is_this, block_of_place}
-use Rattle.mps_client_laws.proofs.Cells.{target_is_one_cell, identities_stay, cells_keep_identity, other_cells_stay, words_beside_cells}
+use Rattle.mps_client_laws.specs.Objects.{identity_of, cell_at, word_at, cells_nulled, cells_splatted, is_cell, reference_cell_of, moves_leave_cell, writes_cell, writes_word, is_this, block_of_place}
+use Rattle.mps_client_laws.proofs.Cells.{this_is_changed, target_is_one_cell, identities_stay, cells_keep_identity, other_cells_stay, words_beside_cells}
 
 -- ---- what one move leaves
 
@@ -56,18 +60,117 @@ not_these id k this j none same equal =
     true≢false (sym (and_from (id == this) (k == j) (eq-eqb id this same) (eq-eqb k j equal))
     ∙ (or_parts (id == this && k == j) false none).0)
 
-splat_leaves : (g : Graph) (id k : ℕ) → LeavesObjects g (graph_with_cells g id (λ cells. with_target_cell cells k None)) ((id, k) ∷ [])
-splat_leaves g id k =
-    let one = target_is_one_cell k None in
-    record {
+-- a cell that isn't a reference stays where it would be made null
+retargeted_stays : (c : Cell) → is_reference_cell c ≡ false → retargeted c None ≡ c
+retargeted_stays HeadCell plain = refl
+retargeted_stays (NumberCell n) plain = refl
+retargeted_stays (ReferenceCell target tag) plain = absurd (true≢false plain)
+
+no_reference_stays : (g : Graph) (id k : ℕ) (c : Cell) → is_reference_cell c ≡ false → cell_at g id k ≡ Some c
+    → cell_at (graph_nulled g id k) id k ≡ Some c
+no_reference_stays g id k c plain there =
+    ap (option_and_then (λ (o : Object). slice_get (cells_of_body o.body) k)) (this_is_changed g.objects id nulled)
+    ∙ of_object (slice_get g.objects id) there
+  where
+    nulled : Object → Object
+    nulled o = object_with_cells o (λ cells. with_target_cell cells k None)
+
+    of_body : (b : Body) → slice_get (cells_of_body b) k ≡ Some c
+        → slice_get (cells_of_body (body_with_cells b (λ cells. with_target_cell cells k None))) k ≡ Some c
+    of_body (Automatic head cells is_weak) there =
+        ap (λ o. slice_get (option_map_or (λ d. slice_set cells k (retargeted d None)) o cells) k) there
+        ∙ slice_get-written cells k c (retargeted c None) there ∙ ap Some (retargeted_stays c plain)
+    of_body (Manual words) there = there
+
+    of_object : (o : Option Object) → option_and_then (λ (x : Object). slice_get (cells_of_body x.body) k) o ≡ Some c
+        → option_and_then (λ (x : Object). slice_get (cells_of_body x.body) k) (option_map nulled o) ≡ Some c
+    of_object None there = absurd (none-some c there)
+    of_object (Some x) there = of_body x.body there
+
+-- what stands in a cell that no reference names is no reference, if it is the one that is made null
+no_reference : (g : Graph) (id k this j : ℕ) (c : Cell) → list_any (is_cell this j) (reference_cell_of g id k) ≡ false
+    → cell_at g this j ≡ Some c → id ≡ this → k ≡ j → is_reference_cell c ≡ false
+no_reference g id k this j c none there same equal = by_case (is_reference_cell c) refl
+  where
+    by_case : (b : Bool) → is_reference_cell c ≡ b → is_reference_cell c ≡ false
+    by_case false e = e
+    by_case true e =
+        absurd (not_these id k this j
+        (subst (λ b. list_any (is_cell this j) (if b then (id, k) ∷ [] else []) ≡ false)
+        (ap (λ o. option_map_or is_reference_cell o false) (ap (λ n. cell_at g n k) same ∙ ap (cell_at g this) equal ∙ there) ∙ e) none)
+        same equal)
+
+nulled_cell_stays : (g : Graph) (id k this j : ℕ) (c : Cell) → (id ≡ this → k ≡ j → is_reference_cell c ≡ false)
+    → cell_at g this j ≡ Some c → cell_at (graph_nulled g id k) this j ≡ Some c
+nulled_cell_stays g id k this j c plain there =
+    elim (cases_eq id this) [
+      | inl same ↦ by_cell same (cases_eq k j)
+      | inr other ↦ beside (λ same equal. other same)
+    ]
+  where
+    beside : (id ≡ this → k ≡ j → ⊥) → cell_at (graph_nulled g id k) this j ≡ Some c
+    beside other =
+        other_cells_stay g id k (λ cells. with_target_cell cells k None) (target_is_one_cell k None) this j c other there
+
+    by_cell : id ≡ this → (k ≡ j) ⊎ (k ≡ j → ⊥) → cell_at (graph_nulled g id k) this j ≡ Some c
+    by_cell same (inr other) = beside (λ same equal. other equal)
+    by_cell same (inl equal) =
+        ap (λ n. cell_at (graph_nulled g id k) n j) (sym same) ∙ ap (cell_at (graph_nulled g id k) id) (sym equal)
+        ∙ no_reference_stays g id k c (plain same equal) (ap (λ n. cell_at g n k) same ∙ ap (cell_at g this) equal ∙ there)
+
+-- what a cell that is made null leaves beside the cells
+record LeavesOthers (before after : Graph) : Type 0 where
+  identities : map identity_of after.objects ≡ map identity_of before.objects
+  words : (id k : ℕ) → word_at after id k ≡ word_at before id k
+
+null_leaves : (g : Graph) (id k : ℕ) → LeavesOthers g (graph_nulled g id k)
+null_leaves g id k = record {
+  identities = identities_stay g.objects id (λ o. object_with_cells o (λ cells. with_target_cell cells k None))
+      (cells_keep_identity (λ cells. with_target_cell cells k None) (target_is_one_cell k None).as_many);
+  words = λ this j. words_beside_cells g id this j (λ cells. with_target_cell cells k None);
+}
+
+none_of_both : (test : ℕ × ℕ → Bool) (xs ys : List (ℕ × ℕ)) → list_any test (xs ++ ys) ≡ false
+    → (list_any test xs ≡ false) × (list_any test ys ≡ false)
+none_of_both test xs ys none = or_parts (list_any test xs) (list_any test ys) (sym (list_any-append test xs ys) ∙ none)
+
+splat_leaves : (g : Graph) (id k : ℕ) → LeavesObjects g (graph_splatted g id k) (cells_splatted g id k)
+splat_leaves g id k = of_dependent (dependent_in g.dependents id)
+  where
+    nulled : Graph
+    nulled = graph_nulled g id k
+
+    first : LeavesOthers g nulled
+    first = null_leaves g id k
+
+    first_cells : (others : List (ℕ × ℕ)) (this j : ℕ) (c : Cell) → list_any (is_cell this j) (reference_cell_of g id k ++ others) ≡ false
+        → cell_at g this j ≡ Some c → cell_at nulled this j ≡ Some c
+    first_cells others this j c none there =
+        nulled_cell_stays g id k this j c
+        (no_reference g id k this j c (none_of_both (is_cell this j) (reference_cell_of g id k) others none).0 there) there
+
+    of_dependent : (o : Option ℕ)
+        → LeavesObjects g (record g { objects = option_map_or (λ dependent. (graph_nulled nulled dependent k).objects) o nulled.objects })
+        (reference_cell_of g id k ++ option_map_or (λ dependent. reference_cell_of g dependent k) o [])
+    of_dependent None = record {
       names = refl;
       tables = refl;
       blocks = refl;
-      identities = identities_stay g.objects id (λ o. object_with_cells o (λ cells. with_target_cell cells k None))
-          (cells_keep_identity (λ cells. with_target_cell cells k None) one.as_many);
-      words = λ this j. words_beside_cells g id this j (λ cells. with_target_cell cells k None);
-      cells = λ this j c none there. other_cells_stay g id k (λ cells. with_target_cell cells k None) one this j c
-          (not_these id k this j none) there;
+      identities = first.identities;
+      words = first.words;
+      cells = first_cells [];
+    }
+    of_dependent (Some dependent) = record {
+      names = refl;
+      tables = refl;
+      blocks = refl;
+      identities = (null_leaves nulled dependent k).identities ∙ first.identities;
+      words = λ this j. (null_leaves nulled dependent k).words this j ∙ first.words this j;
+      cells = λ this j c none there.
+          nulled_cell_stays nulled dependent k this j c
+          (no_reference g dependent k this j c
+          (none_of_both (is_cell this j) (reference_cell_of g id k) (reference_cell_of g dependent k) none).1 there)
+          (first_cells (reference_cell_of g dependent k) this j c none there);
     }
 
 module _ (w : World) where
@@ -78,7 +181,7 @@ module _ (w : World) where
 
   splat_found_leaves : (k : ℕ) (found : Option ℕ)
       → LeavesObjects w.graph (where_one w found (λ id. after_splat w id k)).graph
-      (option_map_or (λ id. (id, k) ∷ []) found [])
+      (option_map_or (λ id. cells_splatted w.graph id k) found [])
   splat_found_leaves k None = all_left w.graph []
   splat_found_leaves k (Some id) = splat_leaves w.graph id k
 
@@ -88,10 +191,10 @@ module _ (w : World) where
   segment_leaves s false = all_left w.graph []
 
   free_leaves : (id at : ℕ) (b : Bool)
-      → LeavesObjects w.graph (if b then with_collection (with_address w id None) (reclaiming
-      (segment_base_of w at)) else with_address w id None).graph []
-  free_leaves id at true = all_left w.graph []
-  free_leaves id at false = all_left w.graph []
+      → LeavesObjects w.graph (if b then with_collection (without_object w id) (reclaiming (segment_base_of w at)) else
+      without_object w id).graph []
+  free_leaves id at true = objects_left w.graph _ refl refl refl refl
+  free_leaves id at false = objects_left w.graph _ refl refl refl refl
 
   pub move_leaves_objects : (m : Move) → LeavesObjects w.graph (world_after_move w m).graph (cells_nulled w m)
   move_leaves_objects (moves.Seg base grains pool generation) =

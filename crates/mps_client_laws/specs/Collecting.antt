@@ -1,5 +1,6 @@
 -- What a `collect` leaves of what can be reached.
-use Rattle.std.specs.Prelude.{◌≡◌, ℕ, false, IsTrue, List, [], ◌∷◌, ◌++◌, Some, refl}
+use Rattle.std.specs.Prelude.{◌≡◌, ◌==◌, if◌then◌else◌, ℕ, Bool, false, IsTrue, List, [], ◌∷◌, ◌++◌, Some, refl}
+use Rattle.std.specs.List.{list_any}
 use Rattle.mps_base.specs.Address.{Id}
 use Rattle.mps_model.specs.Layout.{Layout}
 use Rattle.mps_model.specs.declared.call.Call.TheVariants as call
@@ -14,22 +15,35 @@ use Rattle.mps_model.specs.Flip.{world_at_flip}
 use Rattle.mps_model.specs.Posts.{IsWidelyReachableWith}
 use Rattle.mps_model.specs.History.{IsLegalHistoryOf, world_after}
 use Rattle.mps_laws.specs.Replay.{reached}
-use Rattle.mps_client_laws.specs.Objects.{cell_at, two_objects}
+use Rattle.mps_client_laws.specs.Objects.{cell_at, two_objects, with_a_dependent}
 
 -- the objects in slots, area words and messages
 abbrev pub held_ids : Graph → List Id
 held_ids g = ids_in_slots g ++ ids_in_holds g ++ g.messages
 
--- a path leads to the object from what is in slots, area words and messages, through reference cells of objects that aren't weak
-abbrev pub IsReached : Graph → (id : Id) → Type 0
-IsReached g id = PathLeads (strong_targets g) (held_ids g) id
+-- whether an object is the dependent of another, whose splats make its cells null too
+abbrev pub is_dependent : Graph → (id : Id) → Bool
+is_dependent g id = list_any (λ (p : Id × Id). p.1 == id) g.dependents
 
--- an object that a collection left: it is live, and each cell is as before if the object isn't weak
+-- what an object refers to, if no splat makes a cell of it null: it is neither weak nor a dependent
+abbrev pub lasting_targets : Graph → (id : Id) → List ℕ
+lasting_targets g id = if is_dependent g id then [] else strong_targets g id
+
+-- a path leads to the object from what is in slots, area words and messages, through reference cells of objects that are neither
+-- weak nor dependents
+abbrev pub IsReached : Graph → (id : Id) → Type 0
+IsReached g id = PathLeads (lasting_targets g) (held_ids g) id
+
+-- a path leads there through reference cells of objects that aren't weak, dependents too
+abbrev pub IsReachedByDependents : Graph → (id : Id) → Type 0
+IsReachedByDependents g id = PathLeads (strong_targets g) (held_ids g) id
+
+-- an object that a collection left: it is live, and each cell is as before if the object is neither weak nor a dependent
 pub record IsLeft (before after : World) (id : Id) : Type 0 where
   pub live : IsTrue (is_live after id)
   pub cells :
-      (k : ℕ) (cell : Cell) → object_is is_weak_object before id ≡ false → cell_at before.graph id k ≡ Some cell
-      → cell_at after.graph id k ≡ Some cell
+      (k : ℕ) (cell : Cell) → object_is is_weak_object before id ≡ false → is_dependent before.graph id ≡ false
+      → cell_at before.graph id k ≡ Some cell → cell_at after.graph id k ≡ Some cell
 
 -- What can be reached before an accepted `collect` is live after it with its cells.
 abbrev pub CollectLeavesWhatIsReached : Type 0
@@ -37,6 +51,15 @@ CollectLeavesWhatIsReached =
     (formats : ℕ → Layout) (steps later : History) (s : Step) (id : Id) → IsLegalHistoryOf formats (steps ++ s ∷ later)
     → s.call ≡ call.Collect → IsTrue (is_accepted s.answer) → IsReached (reached formats steps).graph id
     → IsLeft (reached formats steps) (world_after (reached formats steps) s) id
+
+-- If no collection runs, what dependents refer to stays for this `collect` too: each live automatic object that is reached through
+-- them is live after it, also if a splat of the `collect` makes such a reference null.
+abbrev pub WhatDependentsReachStays : Type 0
+WhatDependentsReachStays =
+    (formats : ℕ → Layout) (steps later : History) (s : Step) (id : Id) → IsLegalHistoryOf formats (steps ++ s ∷ later)
+    → s.call ≡ call.Collect → IsTrue (is_accepted s.answer) → is_running (reached formats steps) ≡ false
+    → IsTrue (is_live_automatic (reached formats steps) id) → IsReachedByDependents (reached formats steps).graph id
+    → IsTrue (is_live (world_after (reached formats steps) s) id)
 
 -- What can't be reached is gone. Take a live automatic object when no collection runs, and the messages that an accepted `collect`
 -- posts. If the object isn't reached in the world that the flip leaves, neither from what the client holds, nor from the objects in
@@ -60,3 +83,12 @@ a_strong_object_leads_on = refl
 
 pub a_weak_object_leads_nowhere : strong_targets two_objects.graph 1 ≡ []
 a_weak_object_leads_nowhere = refl
+
+pub no_dependent_leads_on_as_before : lasting_targets two_objects.graph 0 ≡ 1 ∷ []
+no_dependent_leads_on_as_before = refl
+
+pub a_dependent_may_lose_what_it_refers_to : lasting_targets with_a_dependent.graph 0 ≡ []
+a_dependent_may_lose_what_it_refers_to = refl
+
+pub the_holder_is_no_dependent : is_dependent with_a_dependent.graph 1 ≡ false
+the_holder_is_no_dependent = refl

@@ -1,5 +1,5 @@
 -- No object is lost: what every step leaves of every object, and what alone may write its cells and words.
-use Rattle.std.specs.Prelude.{◌≡◌, ℕ, Bool, true, false, not, ◌&&◌, ◌==◌, IsTrue, Option, Some, None, option_map, option_and_then, List, [], ◌∷◌, slice_get, refl}
+use Rattle.std.specs.Prelude.{◌≡◌, ℕ, Bool, true, false, not, ◌&&◌, ◌==◌, if◌then◌else◌, IsTrue, Option, Some, None, option_map, option_and_then, List, [], ◌∷◌, ◌++◌, slice_get, refl}
 use Rattle.std.specs.List.{list_any}
 use Rattle.std.specs.Option.{option_map_or}
 use Rattle.mps_base.specs.Address.{Id}
@@ -11,7 +11,7 @@ use Rattle.mps_model.specs.declared.call.Call.TheVariants as call
 use Rattle.mps_model.specs.declared.reply.Reply.TheVariants as reply
 use Rattle.mps_model.specs.Answer.{Replied}
 use Rattle.mps_model.specs.Step.{Step, History}
-use Rattle.mps_model.specs.Graph.{Graph, Object, Automatic, Manual, Cell, HeadCell, NumberCell, ReferenceCell, TableThing, BlocksThing, object_at, size_of, is_automatic, is_weak_object, empty_graph}
+use Rattle.mps_model.specs.Graph.{Graph, Object, Automatic, Manual, Cell, HeadCell, NumberCell, ReferenceCell, TableThing, BlocksThing, object_at, size_of, is_automatic, is_weak_object, is_reference_cell, dependent_in, empty_graph}
 use Rattle.mps_model.specs.World.{World, id_at, empty_world}
 use Rattle.mps_model.specs.Checked.{block_place_in, cells_of_body, head_of_body, words_of_body}
 use Rattle.mps_model.specs.Effect.{world_after_move}
@@ -77,9 +77,19 @@ abbrev pub writes_word : World → Call → (id : Id) → (k : ℕ) → Bool
 writes_word w (call.Store place word value) id k = is_this id (block_of_place w place) && word == k
 writes_word w _ id k = false
 
--- the cells that a move makes null, each with its object: that of a splat
+-- a cell with its object, if it is a reference
+abbrev pub reference_cell_of : Graph → (id cell : ℕ) → List (Id × ℕ)
+reference_cell_of g id cell = if option_map_or is_reference_cell (cell_at g id cell) false then (id, cell) ∷ [] else []
+
+-- the cells that a splat makes null, each with its object: the reference of the holder, and that in the same cell of its dependent
+abbrev pub cells_splatted : Graph → (holder cell : ℕ) → List (Id × ℕ)
+cells_splatted g holder cell =
+    reference_cell_of g holder cell
+    ++ option_map_or (λ dependent. reference_cell_of g dependent cell) (dependent_in g.dependents holder) []
+
+-- the cells that a move makes null: those of a splat
 abbrev pub cells_nulled : World → Move → List (Id × ℕ)
-cells_nulled w (moves.Splat holder cell) = option_map_or (λ id. (id, cell) ∷ []) (id_at w holder.0) []
+cells_nulled w (moves.Splat holder cell) = option_map_or (λ id. cells_splatted w.graph id cell) (id_at w holder.0) []
 cells_nulled w _ = []
 
 abbrev pub is_cell : (id : Id) → (k : ℕ) → Id × ℕ → Bool
@@ -158,6 +168,30 @@ a_splat_writes_its_cell = refl
 
 pub a_splat_leaves_another_object : leave_cell two_objects (stepping (call.Step 1) splat_of_one ∷ []) 0 1 ≡ true
 a_splat_leaves_another_object = refl
+
+abbrev splat_of_a_number : List Move
+splat_of_a_number = moves.Splat (record { 0 = 0x2000 }) 2 ∷ []
+
+-- the object 0 is the dependent of the weak object 1
+abbrev pub with_a_dependent : World
+with_a_dependent = record two_objects { graph = record two_objects.graph { dependents = (1, 0) ∷ [] } }
+
+pub a_splat_writes_the_cell_of_the_dependent : leave_cell with_a_dependent (stepping (call.Step 1) splat_of_one ∷ []) 0 1 ≡ false
+a_splat_writes_the_cell_of_the_dependent = refl
+
+pub a_splat_leaves_another_cell_of_the_dependent : leave_cell with_a_dependent (stepping (call.Step 1) splat_of_one ∷ []) 0 2 ≡ true
+a_splat_leaves_another_cell_of_the_dependent = refl
+
+pub a_splat_leaves_a_number : leave_cell with_a_dependent (stepping (call.Step 1) splat_of_a_number ∷ []) 0 2 ≡ true
+a_splat_leaves_a_number = refl
+
+pub the_number_of_the_dependent :
+    cell_at (world_after with_a_dependent (stepping (call.Step 1) splat_of_a_number)).graph 0 2 ≡ Some (NumberCell 5)
+the_number_of_the_dependent = refl
+
+pub the_splatted_cell_of_the_dependent :
+    cell_at (world_after with_a_dependent (stepping (call.Step 1) splat_of_one)).graph 0 1 ≡ Some (ReferenceCell None 0)
+the_splatted_cell_of_the_dependent = refl
 
 pub a_splat_keeps_the_identity :
     identity_at (world_after two_objects (stepping (call.Step 1) splat_of_one)).graph 1

@@ -4,14 +4,14 @@
 
 ghost use Rattle.mps_client_laws.specs.Objects.{ObjectsKeepTheirIdentity, CellsStay, WordsStay};
 ghost use Rattle.mps_client_laws.specs.Addresses.{ObjectsLiveOn, AddressesStay, NoTwoHaveOneAddress};
-ghost use Rattle.mps_client_laws.specs.Collecting.{CollectLeavesWhatIsReached, WhatIsNotReachedIsGone};
+ghost use Rattle.mps_client_laws.specs.Collecting.{CollectLeavesWhatIsReached, WhatDependentsReachStays, WhatIsNotReachedIsGone};
 ghost use Rattle.mps_client_laws.specs.Committing.{CommitMakesTheObject, FlippedMakesNone};
 ghost use Rattle.mps_client_laws.specs.ReadingBack.{GetGivesWhatWasPut, NumAnswersWhatWasSet, LoadAnswersWhatWasStored};
 ghost use Rattle.mps_client_laws.specs.Slots.{SlotsStay, CopyGivesTheSameObject, ClearLeavesNull, YesIsTheSameObject, NoIsAnotherObject, YesIsNoObject, NoIsAnObject};
 
 /// No object is lost. Over any steps an object keeps its pool, its kind, its size, its head and its weakness. A cell is
-/// what it was, unless a `put`, `setnum` or `settag` of this cell or a splat of it writes it; a word of a manual block, unless
-/// a `store` of this word does.
+/// what it was, unless a `put`, `setnum` or `settag` of this cell or a splat writes it; a word of a manual block, unless
+/// a `store` of this word does. A splat writes a reference of a weak object, and that in the same cell of its dependent.
 pub fn no_object_is_lost()
     ensures identity { ObjectsKeepTheirIdentity }
     ensures cells { CellsStay }
@@ -53,10 +53,12 @@ pub fn slots_are_equal_by_object()
 {}
 
 /// What can be reached before a `collect` is live after it: by a path from slots, area words and messages, through reference cells of
-/// objects that aren't weak. Each object that isn't weak has the cells that it had. What isn't reached is gone, if no collection
-/// ran: also from objects in which area words lie, and from those that the `collect` posts.
+/// objects that are neither weak nor dependents. Each such object has the cells that it had. If no collection ran, what is reached
+/// through dependents is live after it too, and what isn't reached is gone. Then objects in which area words lie are roots too,
+/// and those that the `collect` posts.
 pub fn what_is_reached_stays()
     ensures reached { CollectLeavesWhatIsReached }
+    ensures dependents { WhatDependentsReachStays }
     ensures gone { WhatIsNotReachedIsGone }
 {}
 
