@@ -113,7 +113,8 @@ barrier_shown s (barrier_scans id {x} {y} {z} {these} {those} tracing grey fixes
     let parts = and_parts (is_live_and (is_in_segment s) x.world id) (is_grey x.colours id) grey in
     let done = scanned_rightly x y id these run tracing parts.1 fixes in
     let left = done.fewer in
-    barrier_goes_on s x (collecting_after_scan y id) z these those done.fixed.leads done.fixed.legal done.fixed.further.band (omega (arith, left))
+    barrier_goes_on s x (collecting_after_scan y id) z these those done.fixed.leads done.fixed.legal done.fixed.further.band
+    (omega (arith, left))
     (λ t. fixes_scans (IsScannedByBarrier s) id x
     (is_scanned_by s x run id parts.0 (run.grey.grey_kept id parts.1) (run.grey.grey_automatic id parts.1)) fixes run tracing
     (targets_may_be_fixed x id run tracing parts.1) (no_further x) (λ n h. h))

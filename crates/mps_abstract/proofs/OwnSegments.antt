@@ -52,7 +52,8 @@ keeping_ends_so (stays copying full) = refl
 fixing_ends_so : {x y : Collecting} {ids : List Id} {ms : List Move} → Fixes x ids ms y → EndsInNoSegment ms
 fixing_ends_so fixes_no_more = refl
 fixing_ends_so (passes black rest) = fixing_ends_so rest
-fixing_ends_so (keeps {these = these} {those = those} white keep rest) = both_end_so these those (keeping_ends_so keep) (fixing_ends_so rest)
+fixing_ends_so (keeps {these = these} {those = those} white keep rest) = both_end_so these those (keeping_ends_so keep)
+    (fixing_ends_so rest)
 
 reclaim_ends_so : (x : Collecting) (base : Address) (freed : List ℕ) → EndsInNoSegment (reclaim_by x base freed)
 reclaim_ends_so x base freed =

@@ -215,7 +215,8 @@ module _ (x : Collecting) (run : Running x) (id : Id) (due : IsExaminedNext x id
 
 pub posts_shown : (x : Collecting) (id : Id) (ms : List Move) (c : Collection) → Running x → IsExaminedNext x id → is_white_in x id ≡ true
     → Keeps x.world x.running id ms c
-    → IsUnitShown x (ms ++ moves.Post (at_address (address_or_null (world_after_moves x.world ms) id)) ∷ []) (collecting_after_post (kept_by x id ms c) id)
+    → IsUnitShown x (ms ++ moves.Post (at_address (address_or_null (world_after_moves x.world ms) id)) ∷ [])
+    (collecting_after_post (kept_by x id ms c) id)
 posts_shown x id ms c run due white keep =
     let is_live = legal.live x run id due white in
     let w = world_after_moves x.world ms in

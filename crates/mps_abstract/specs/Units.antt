@@ -107,7 +107,8 @@ pub data IsUnit (x : Collecting) : List Move → Collecting → Type 0 where
   examines : (id : Id) → IsExaminedNext x id → is_white_in x id ≡ false → IsUnit x [] (record x { band = Final; next = suc x.next })
   -- or of a white one, which is kept and posted
   posts : (id : Id) {ms : List Move} {c : Collection} → IsExaminedNext x id → IsTrue (is_white_in x id) → Keeps x.world x.running id ms c
-      → IsUnit x (ms ++ moves.Post (at_address (address_or_null (world_after_moves x.world ms) id)) ∷ []) (collecting_after_post (kept_by x id ms c) id)
+      → IsUnit x (ms ++ moves.Post (at_address (address_or_null (world_after_moves x.world ms) id)) ∷ [])
+      (collecting_after_post (kept_by x id ms c) id)
   -- a weak object is scanned
   splats : (id : Id) {y : Collecting} {cells : List ℕ} → IsDrainedIn x → AreAllExamined x → IsTrue (is_grey x.colours id)
       → Splats id (record x { band = Weak }) cells y → IsUnit x (splats_by x id cells) (collecting_after_scan y id)

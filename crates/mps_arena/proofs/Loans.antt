@@ -49,7 +49,8 @@ module _ (words new : List ℕ) (at : ℕ) (inside : at ≤ length words) where
       ∙ get_or_append_left (take at words) (new ++ rest) 0 i (omega (arith, before, first_long))
       ∙ get_or-take at words i 0 before
 
-  pub written_inside : (i : ℕ) → at ≤ i → i < at + length new → i < length words → get_or (with_words words at new) i 0 ≡ get_or new (i - at) 0
+  pub written_inside : (i : ℕ) → at ≤ i → i < at + length new → i < length words → get_or (with_words words at new) i 0
+      ≡ get_or new (i - at) 0
   written_inside i after within there =
       get_or-take (length words) (take at words ++ (new ++ rest)) i 0 there
       ∙ get_or-append_right (take at words) (new ++ rest) at i 0 first_long after

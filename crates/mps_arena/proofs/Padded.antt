@@ -390,7 +390,8 @@ module _ (size : ℕ) (stored : List ℕ) (from m : ℕ) (fits : length stored �
         | inl within ↦ padded_within size (with_words stored from new) i (omega (arith, within, after_long)) ∙ elim (cases_lt i from) [
           | inl before ↦
               written_before stored new from (omega (arith, all)) i before
-              ∙ sym (written_before whole (take m new) from (omega (arith, all, fits, whole_long)) i before ∙ padded_within size stored i within)
+              ∙ sym (written_before whole (take m new) from (omega (arith, all, fits, whole_long)) i before
+              ∙ padded_within size stored i within)
           | inr after ↦ elim (cases_lt i (from + length new)) [
             | inl there ↦
                 written_inside stored new from (omega (arith, all)) i after there within

@@ -14,7 +14,8 @@ module _ (flips : ℕ) (points : List (Option Point)) (i : ℕ) (s : SegsState) 
       let Q : ℕ → Type 0 = λ k. AreReserved flips (drop k points) (after_end_at flips (get_or points i None) s) in
       (both.0, subst Q (sym (add-one i)) both.1)
 
-  pub first_ended : after_all_end flips (drop (i + 1) points) (after_end_at flips (get_or points i None) s) ≡ after_all_end flips (drop i points) s
+  pub first_ended : after_all_end flips (drop (i + 1) points) (after_end_at flips (get_or points i None) s)
+      ≡ after_all_end flips (drop i points) s
   first_ended =
       ap (λ (k : ℕ). after_all_end flips (drop k points) (after_end_at flips (get_or points i None) s)) (add-one i)
       ∙ sym (ap (λ (ps : List (Option Point)). after_all_end flips ps s) (drop-cons points i None within))

@@ -221,7 +221,8 @@ module _ {F : Type 0} (layout : F → Layout) (h : HeapState F) (w : World) (st 
         let size = run_is s w.addresses parts.image.placed h.segs parts.image.runs.blocks o.number b.at o.value is.address is.object
         (length words) are.whole in
         ap (λ x. option_map_or (λ (q : Object). image_of_body w q.body) x []) is.object
-        ∙ sym (words_are h.segs w (image_at_rest layout st.past h w parts now.time) now.none (reached_sound w st.reached now.none) o.number b.at o.value is.address
+        ∙ sym (words_are h.segs w (image_at_rest layout st.past h w parts now.time) now.none (reached_sound w st.reached now.none)
+        o.number b.at o.value is.address
         is.object)
         ∙ sym (ap (λ n. slice_range h.segs.words (word_of b.at) (word_of b.at + n)) size)
         ∙ sym are.value

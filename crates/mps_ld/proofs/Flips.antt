@@ -37,7 +37,8 @@ either_nonzero (suc x) y = grind (arith, common_steps, or_add_and (suc x) y, and
 meets_either : (z a b : ℕ) → zones_meet z (bit_or a b) ≡ (zones_meet z a || zones_meet z b)
 meets_either z a b = ap (λ (n : ℕ). not (n == 0)) (and_over_or z a b) ∙ either_nonzero (bit_and z a) (bit_and z b)
 
-pub any_meets : (z : ℕ) (flips : List ℕ) → zones_meet z (all_zones flips) ≡ list_any (λ epochs_after_flip. zones_meet z epochs_after_flip) flips
+pub any_meets : (z : ℕ) (flips : List ℕ) → zones_meet z (all_zones flips)
+    ≡ list_any (λ epochs_after_flip. zones_meet z epochs_after_flip) flips
 any_meets z [] = ap (λ (n : ℕ). not (n == 0)) (and_zero_r z)
 any_meets z (f ∷ fs) = meets_either z f (all_zones fs) ∙ ap (λ (b : Bool). zones_meet z f || b) (any_meets z fs)
 

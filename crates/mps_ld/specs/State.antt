@@ -42,5 +42,6 @@ the_oldest_of_four_goes = refl
 pub an_address_adds_its_zone : with_address (record { epoch = 3; zones = 2 }) 0x43008 ≡ record { epoch = 3; zones = 10 }
 an_address_adds_its_zone = refl
 
-pub the_earlier_epoch_stays : after_merge (record { epoch = 3; zones = 2 }) (record { epoch = 1; zones = 4 }) ≡ record { epoch = 1; zones = 6 }
+pub the_earlier_epoch_stays : after_merge (record { epoch = 3; zones = 2 }) (record { epoch = 1; zones = 4 })
+    ≡ record { epoch = 1; zones = 6 }
 the_earlier_epoch_stays = refl

@@ -183,7 +183,13 @@ module _
                     let written =
                     ap (λ (k : ℕ). get_or (set bounds grain (words - 1)) k 0) here
                     ∙ get_or-set_same bounds grain (words - 1) 0
-                    (omega (arith, here, (contained_bounds 1 size held t ascending there).2, (contained_bounds 1 size held t ascending there).1, bounded.bounds_size))
+                    (omega (
+                      arith,
+                      here,
+                      (contained_bounds 1 size held t ascending there).2,
+                      (contained_bounds 1 size held t ascending there).1,
+                      bounded.bounds_size,
+                    ))
                     in
                     omega (arith, written, short)
                 | inr other ↦

@@ -30,7 +30,8 @@ pub record Giving (s : Inside) (base : ℕ) (t : Segment) : Type 0 where
   pub held : IsHeld (record s.arena { held = without_run (grain_of base) s.arena.held }) (set s.table.items (grain_of base) Free)
       s.extents
   pub bounded : (firsts : List ℕ) → Noted s.firsts.items firsts (record { from = grain_of base; count = t.grains }) 0
-      → AreGapsBounded (without_run (grain_of base) s.arena.held) (s.arena.grains + 1) firsts (set s.bounds (grain_of base) 0) s.extents.covered
+      → AreGapsBounded (without_run (grain_of base) s.arena.held) (s.arena.grains + 1) firsts (set s.bounds (grain_of base) 0)
+      s.extents.covered
   pub segments : segments_in (set s.table.items (grain_of base) Free) ≡ without_segment (segments_in s.table.items) base
 
 pub giving : (s : Inside) (seen : SegsState) (base : ℕ) (t : Segment) → IsSoundInside s

@@ -48,7 +48,8 @@ module _ {F : Type 0} (formats : List (Option (Policy F))) (t : Segment) (ts : L
 
   -- and those of the segments after it
   pub zones_and_later : (zones : ℕ) → zones < 2 ^ 64
-      → bit_or (bit_or zones (zones_here formats t)) (zones_of (moving_of formats ts)) ≡ bit_or zones (zones_of (moving_of formats (t ∷ ts)))
+      → bit_or (bit_or zones (zones_here formats t)) (zones_of (moving_of formats ts))
+      ≡ bit_or zones (zones_of (moving_of formats (t ∷ ts)))
   zones_and_later zones small =
       let here = zones_from t.grains (grain_of t.base) in
       let rest = zones_of (moving_of formats ts) in
@@ -78,7 +79,8 @@ pub record AreCondemnedBelow {F : Type 0} (formats : List (Option (Policy F))) (
     : Type 0 where
   pub same : s.segments ≡ before.segments
   pub to_go : condemning_all (automatic_of formats (rest_from at before.segments)) s ≡ all_condemned formats before
-  pub zones_to_go : bit_or zones (zones_of (moving_of formats (rest_from at before.segments))) ≡ zones_of (moving_of formats before.segments)
+  pub zones_to_go : bit_or zones (zones_of (moving_of formats (rest_from at before.segments)))
+      ≡ zones_of (moving_of formats before.segments)
   pub count_to_go : count + length (automatic_of formats (rest_from at before.segments)) ≡ length (automatic_of formats before.segments)
   pub few : count ≤ at
 

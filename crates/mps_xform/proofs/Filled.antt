@@ -32,7 +32,8 @@ module _ (entries entries' : List (ℕ × Pair)) (spare spare' : ℕ) (marks : L
   apart at within unmarked =
       let m = mark_of pair.old.0 in
       let other : mark_of at ≢ m =
-      λ same. false≢true (sym unmarked ∙ ap (λ (n : ℕ). get_or (set marks m true) n false) same ∙ get_or-set_same marks m true false within) in
+      λ same. false≢true (sym unmarked ∙ ap (λ (n : ℕ). get_or (set marks m true) n false) same
+      ∙ get_or-set_same marks m true false within) in
       elim (eqb_tells pair.old.0 at) [
         | inl same ↦ absurd (other (ap mark_of (sym same.1)))
         | inr differs ↦ (differs.0, sym (get_or-set_other marks m (mark_of at) true false other) ∙ unmarked)

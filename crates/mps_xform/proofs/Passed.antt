@@ -70,7 +70,8 @@ module _ (f : Layout) (to : Address → Option Address) (pool : ℕ) (s : SegsSt
       listed = let P : List Segment → Type 0 = λ ts. Contains ts next.segment in subst P (sym segments_same) next.there
 
       pub is_aligned : base.0 % bytes_of_word ≡ 0
-      is_aligned = ap (λ (a : Address). a % bytes_of_word) (sym next.begins) ∙ (bounds 0 s.segments next.segment can.segments next.there).aligned
+      is_aligned = ap (λ (a : Address). a % bytes_of_word) (sym next.begins)
+          ∙ (bounds 0 s.segments next.segment can.segments next.there).aligned
 
       pub is_long : base.0 < end_of_segment next.segment
       is_long = omega (arith, next.begins, (bounds 0 s.segments next.segment can.segments next.there).some)

@@ -72,7 +72,8 @@ pub record IsWalked (f : Layout) (to : Address → Option Address) (initial now 
       → now ≡ after_apply_below f to s pool (word_of from)
 
 -- a word over which no block lies is no reference
-pub no_reference : (f : Layout) (s : SegsState) (i : Word) → ((at : ℕ) → run_over s.blocks i ≡ Some at → ⊥) → is_reference_word f s i ≡ false
+pub no_reference : (f : Layout) (s : SegsState) (i : Word) → ((at : ℕ) → run_over s.blocks i ≡ Some at → ⊥)
+    → is_reference_word f s i ≡ false
 no_reference f s i none = by_block (run_over s.blocks i) refl
   where
     by_block : (o : Option ℕ) → run_over s.blocks i ≡ o
@@ -109,7 +110,8 @@ module _ (f : Layout) (to : Address → Option Address) (s : SegsState) (pool : 
         omega (arith, w (omega (arith, above, low_is)) (omega (arith, below, high_is)), high_is)
 
     pub is_aligned : base % bytes_of_word ≡ 0
-    is_aligned = ap (λ (a : Address). a % bytes_of_word) (sym span.begins) ∙ (bounds 0 s.segments span.segment begun.can.segments there).aligned
+    is_aligned = ap (λ (a : Address). a % bytes_of_word) (sym span.begins)
+        ∙ (bounds 0 s.segments span.segment begun.can.segments there).aligned
 
     pub is_long : base < end
     is_long =
@@ -190,7 +192,8 @@ module _ (f : Layout) (to : Address → Option Address) (s : SegsState) (pool : 
 
         pub ends : end_of found.run ≤ word_of end
         ends =
-            ends_inside found.run found.there (omega (arith, walked.above, found.above, found.begins)) (omega (arith, found.below, found.begins))
+            ends_inside found.run found.there (omega (arith, walked.above, found.above, found.begins))
+            (omega (arith, found.below, found.begins))
 
         pub block : IsBlockOf f s pool (word_of at.0) (slice_index now.words (word_of at.0))
         block = record {
@@ -255,7 +258,12 @@ walked_on f to s pool initial now after base end from next at begun span walked 
       blocks = ap (λ (t : SegsState). t.blocks) after_is ∙ parts.blocks ∙ sym parts'.blocks;
       size = ap (λ (t : SegsState). length t.words) after_is ∙ parts.size ∙ sym parts'.size;
       bounded = λ r there below.
-          omega (arith, word, bounded_after f to s pool initial base end begun span now from walked at is r there (omega (arith, below, word)));
+          omega (
+            arith,
+            word,
+            bounded_after f to s pool initial base end begun span now from walked at is r there
+                (omega (arith, below, word)),
+          );
       applied = λ s' pool' begun' span'.
           done s' pool' (to_block f to s' pool' initial base end begun' span' now from walked at is)
           (block f to s' pool' initial base end begun' span' now from walked at is)

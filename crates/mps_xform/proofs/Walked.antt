@@ -56,7 +56,11 @@ apart_segments low (s ∷ ts) t u apart here there =
       | inr first ↦
           elim (segment_cases ts u s there) [
             | inl same' ↦
-                inr (inr (omega (arith, ap (λ (x : Segment). end_of_segment x) same', (bounds (end_of_segment s) ts t apart.3 first).above)))
+                inr (inr (omega (
+                  arith,
+                  ap (λ (x : Segment). end_of_segment x) same',
+                  (bounds (end_of_segment s) ts t apart.3 first).above,
+                )))
             | inr later ↦ apart_segments (end_of_segment s) ts t u apart.3 first later
           ]
     ]

@@ -34,7 +34,8 @@ word_after_apply f to s pool word =
 -- a word is written, if it has a replacement, and the summary of its segment has the zone of what it then leads to
 abbrev pub after_replace : Layout → Word → (value : ℕ) → Option Address → SegsState → SegsState
 after_replace f word value None s = s
-after_replace f word value (Some at) s = noting (record s { words = slice_set s.words word (f.retarget value at) }) (address_of_word word) at
+after_replace f word value (Some at) s = noting (record s { words = slice_set s.words word (f.retarget value at) })
+    (address_of_word word) at
 
 -- the references below a word lead to their replacements, each judged by the state before all of them
 abbrev pub after_apply_below : Layout → (to : Address → Option Address) → SegsState → (pool : ℕ) → Word → SegsState

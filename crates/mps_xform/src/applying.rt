@@ -99,7 +99,8 @@ fn apply_to_block<F: Format>(
     requires begins { at.0 % bytes_of_word ≡ 0 }
     requires valid { IsTrue ((F.layout format.now).is_valid head) }
     requires inside { word_of at.0 + (F.layout format.now).size head ≤ length segs.old.words }
-    ensures { (s : SegsState) (pool : ℕ) → segs.old ≡ after_apply_below (F.layout format.now) (new_in replacements.now) s pool (word_of at.0)
+    ensures { (s : SegsState) (pool : ℕ) → segs.old ≡ after_apply_below (F.layout format.now) (new_in replacements.now) s pool
+        (word_of at.0)
         → IsBlockOf (F.layout format.now) s pool (word_of at.0) head
         → segs.new ≡ after_apply_below (F.layout format.now) (new_in replacements.now) s pool
         (word_of at.0 + (F.layout format.now).size head) }

@@ -92,7 +92,8 @@ module _ (x : Collecting) (run : Running x) (judged : World) (c : Call) (answer 
   got_right (FromWord place at held e f) id is =
       subst (IsRightlyHeld x) (same_Some held id is) (hold_right x run at (word_found w place at e) held (held_word at.value held f))
   got_right (FromMessage first ids e) id is =
-      subst (IsRightlyHeld x) (same_Some first id is) (still_messages x run first (ap (λ ns. contains ns first) e ∙ contains_here first ids))
+      subst (IsRightlyHeld x) (same_Some first id is) (still_messages x run first (ap (λ ns. contains ns first) e
+      ∙ contains_here first ids))
 
   shown_right : {word : AreaWord} → IsShown (is_block answer) c judged w word → (id : Id) → held_by_word word ≡ Some id
       → IsRightlyHeld x id
@@ -139,7 +140,8 @@ module _ (x : Collecting) (run : Running x) (judged : World) (c : Call) (answer 
       (λ n there. still_messages x run n (ap (λ ns. contains ns n) are ∙ contains_later id ids n there)))
   change_runs h different (TableMade name slots) =
       roots_keep x run (graph_with_table w.graph name slots)
-      (held_by_parts x run (with_last w.graph.tables (Some (replicate slots None))) w.graph.areas w.graph.messages (new_table x run slots) (still_holds x run) (still_messages x run))
+      (held_by_parts x run (with_last w.graph.tables (Some (replicate slots None))) w.graph.areas w.graph.messages
+      (new_table x run slots) (still_holds x run) (still_messages x run))
   change_runs h different (AreaMade name words) =
       roots_keep x run (graph_with_area w.graph name words)
       (held_by_parts x run w.graph.tables (with_last w.graph.areas (Some (replicate words (PlainWord 0)))) w.graph.messages
@@ -149,10 +151,12 @@ module _ (x : Collecting) (run : Running x) (judged : World) (c : Call) (answer 
       (held_by_parts x run w.graph.tables w.graph.areas w.graph.messages (still_slots x run) (still_holds x run) (still_messages x run))
   change_runs h different (TableDropped name n named) =
       roots_keep x run (record w.graph { tables = slice_set w.graph.tables n None; names = without_name w.graph.names name })
-      (held_by_parts x run (slice_set w.graph.tables n None) w.graph.areas w.graph.messages (dropped_table x run n) (still_holds x run) (still_messages x run))
+      (held_by_parts x run (slice_set w.graph.tables n None) w.graph.areas w.graph.messages (dropped_table x run n)
+      (still_holds x run) (still_messages x run))
   change_runs h different (AreaDropped name n named) =
       roots_keep x run (record w.graph { areas = slice_set w.graph.areas n None; names = without_name w.graph.names name })
-      (held_by_parts x run w.graph.tables (slice_set w.graph.areas n None) w.graph.messages (still_slots x run) (dropped_area x run n) (still_messages x run))
+      (held_by_parts x run w.graph.tables (slice_set w.graph.areas n None) w.graph.messages (still_slots x run)
+      (dropped_area x run n) (still_messages x run))
   change_runs h different (CellsAre object change held write) =
       with_cells_keeps x run object.number change (record { as_many = written_length write; referred = written_right write })
   change_runs h different (BlockWordIs id k value) = with_word_keeps x run id k value

@@ -205,7 +205,8 @@ module _ (w : World) (x : Collecting) (run : Running x) (formed : IsWellFormed x
         next = next_without (position_taken x.world (call.Definalize slot)) x.next;
       })) (sym led) (definalize_keeps x run slot)
   call_keeps c ms answer led due marked read placed =
-      plain_keeps c answer (moved_world w c ms) led refl refl (subst (HasTables w) led (same_tables (units_asked w c) w ms)) marked read placed
+      plain_keeps c answer (moved_world w c ms) led refl refl (subst (HasTables w) led (same_tables (units_asked w c) w ms))
+      marked read placed
 
 -- ---- the whole step
 

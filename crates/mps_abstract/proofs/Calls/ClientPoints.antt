@@ -92,7 +92,8 @@ module _ (x : Collecting) (run : Running x) where
 
   is_value : (point : Numbered Point) (o : Option Point) → entry_at w.graph.points point.number ≡ Some point.value
       → slice_get w.graph.points point.number ≡ Some o → o ≡ Some point.value
-  is_value point o found there = sym (same_Some (Some point.value) o (sym (entry_is_there w.graph.points point.number point.value found) ∙ there))
+  is_value point o found there = sym (same_Some (Some point.value) o
+      (sym (entry_is_there w.graph.points point.number point.value found) ∙ there))
 
   no_reservation : (o : Option Reservation) (memory : PointMemory) → is_some o ≡ false → extent_of_reservation o memory ≡ []
   no_reservation None memory h = refl
@@ -120,7 +121,8 @@ module _ (x : Collecting) (run : Running x) where
   reserved_held : (point : Numbered Point) (r : Reservation) (id : Id) → entry_at w.graph.points point.number ≡ Some point.value
       → point.value.reservation ≡ Some r → contains (targets_of_reservation r) id ≡ true → contains (ids_in_reservations w.graph) id ≡ true
   reserved_held point r id found is_open h =
-      among_all targets_of_point w.graph.points point.number (Some point.value) id (entry_is_there w.graph.points point.number point.value found)
+      among_all targets_of_point w.graph.points point.number (Some point.value) id
+      (entry_is_there w.graph.points point.number point.value found)
       (ap (λ o. contains (option_map_or targets_of_reservation o []) id) is_open ∙ h)
 
   -- a reservation ends that a flip has ended already, or whose extent is an object's

@@ -110,7 +110,8 @@ pub owned_graph : (w v : World) → MayOwn w v → v.graph ≡ w.graph
 owned_graph w v owns_nothing = refl
 owned_graph w v (owns_segment s memories same) = refl
 
-pub owned_keeps : (x : Collecting) → Running x → (v : World) → MayOwn x.world v → AreApartFrom 1 v.segments → Running (record x { world = v })
+pub owned_keeps : (x : Collecting) → Running x → (v : World) → MayOwn x.world v → AreApartFrom 1 v.segments
+    → Running (record x { world = v })
 owned_keeps x run v owns_nothing in_order = run
 owned_keeps x run v (owns_segment s memories same) in_order =
     let held = record x { world = record x.world { segments = with_segment s x.world.segments } } in

@@ -98,7 +98,8 @@ module _ (x : Collecting) (run : Running x) where
 
   -- ---- area words
 
-  pub hold_right : (f : Found AreaWord) → IsFound (entry_at w.graph.areas) f → (id : Id) → held_by_word f.value ≡ Some id → IsRightlyHeld x id
+  pub hold_right : (f : Found AreaWord) → IsFound (entry_at w.graph.areas) f → (id : Id) → held_by_word f.value ≡ Some id
+      → IsRightlyHeld x id
   hold_right f found id e =
       still_holds id (among_all holds_of w.graph.areas f.number (Some f.list) id (entry_is_there w.graph.areas f.number f.list found.list)
       (among_entries (map held_by_word f.list) f.index id (map-slice_get held_by_word f.list f.index f.value found.value ∙ ap Some e)))
@@ -148,7 +149,8 @@ module _ (x : Collecting) (run : Running x) where
     | inr new ↦ absurd (true≢false (sym new ∙ no_entries slots id))
   ]
 
-  pub new_area : (words : ℕ) (id : Id) → contains (flat_map holds_of (with_last w.graph.areas (Some (replicate words (PlainWord 0))))) id ≡ true
+  pub new_area : (words : ℕ) (id : Id) → contains (flat_map holds_of
+      (with_last w.graph.areas (Some (replicate words (PlainWord 0))))) id ≡ true
       → IsRightlyHeld x id
   new_area words id h = elim (last_among holds_of w.graph.areas (Some (replicate words (PlainWord 0))) id h) [
     | inl old ↦ still_holds id old
@@ -163,7 +165,8 @@ module _ (x : Collecting) (run : Running x) where
     | inr none ↦ absurd (false≢true none)
   ]
 
-  pub dropped_area : (number : ℕ) (id : Id) → contains (flat_map holds_of (slice_set w.graph.areas number None)) id ≡ true → IsRightlyHeld x id
+  pub dropped_area : (number : ℕ) (id : Id) → contains (flat_map holds_of (slice_set w.graph.areas number None)) id ≡ true
+      → IsRightlyHeld x id
   dropped_area number id h = elim (written_among holds_of w.graph.areas number None id h) [
     | inl old ↦ still_holds id old
     | inr none ↦ absurd (false≢true none)

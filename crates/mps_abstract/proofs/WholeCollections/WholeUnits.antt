@@ -72,7 +72,8 @@ module _ (flipped : World) where
   -- ---- a scan
 
   pub scan_whole : (x y : Collecting) (id : Id) (ms : List Move) → Running x → IsWholeSoFar flipped x → is_grey x.colours id ≡ true
-      → object_is is_weak_object x.world id ≡ false → Fixes x (targets x.world.graph id) ms y → IsWholeSoFar flipped (collecting_after_scan y id)
+      → object_is is_weak_object x.world id ≡ false → Fixes x (targets x.world.graph id) ms y
+      → IsWholeSoFar flipped (collecting_after_scan y id)
   scan_whole x y id ms run p grey strong fixes =
       let s = scanned_rightly x y id ms run (strong_is_tracing x id run grey strong) grey fixes in
       let f = s.fixed.further in
@@ -315,7 +316,8 @@ module _ (flipped : World) where
 
   reclaimed_whole : (x : Collecting) (s : Segment) (freed : List Address) (c : Collection) → (run : Running x) → IsWholeSoFar flipped x
       → (next : IsReclaimedNext x s freed) → is_last_condemned x.running s.base ≡ false
-      → (world_after_moves x.world (reclaim_by x s.base freed)).collection ≡ Some c → IsWholeSoFar flipped (collecting_after_reclaim x s.base freed c)
+      → (world_after_moves x.world (reclaim_by x s.base freed)).collection ≡ Some c
+      → IsWholeSoFar flipped (collecting_after_reclaim x s.base freed c)
   reclaimed_whole x s freed c run p next not_last runs =
       let leads = goes_on_leads x run s freed next not_last in
       let same : final_collection x run s freed next ≡ c =

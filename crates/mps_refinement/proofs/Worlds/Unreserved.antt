@@ -47,9 +47,11 @@ copying_unreserved w laid t held condemned copying point l r n lies =
             ∙ found_segment 1 (w.grains + 1) w.segments t laid.ascending laid.aligned held n
             (omega (arith, above, aligned), omega (arith, below, aligned))) in
             absurd (elim (home.uncondemned refl) [
-              | inl free ↦ true≢false (sym condemned ∙ (ap (λ (u : Segment). contains (condemned_in w.collection) u.base) (sym same) ∙ free))
+              | inl free ↦ true≢false (sym condemned ∙ (ap (λ (u : Segment). contains (condemned_in w.collection) u.base)
+                  (sym same) ∙ free))
               | inr staying ↦
-                  not_both (slice_get w.pools t.pool) copying (ap (λ (u : Segment). kind_in is_staying_kind w.pools u.pool) (sym same) ∙ staying)
+                  not_both (slice_get w.pools t.pool) copying
+                  (ap (λ (u : Segment). kind_in is_staying_kind w.pools u.pool) (sym same) ∙ staying)
             ])
         | inr beyond ↦ inr beyond
       ]

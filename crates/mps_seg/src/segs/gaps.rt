@@ -69,7 +69,8 @@ fn search(
         × AreGapsBounded arena.held (arena.grains + 1) firsts bounds.old extents.now.covered }
     ensures value { result ≡ lowest_fitting words (gaps_of extents.now.covered (segments_in table.now) pool rank) }
     ensures free { IfSome result (λ word. (arena : ArenaMemory) → IsHeld arena table.now extents.now
-        → IsOpenRun arena.grains (map grains_of_segment (segments_in table.now)) extents.now.covered (record { from = word; count = words })) }
+        → IsOpenRun arena.grains (map grains_of_segment (segments_in table.now)) extents.now.covered
+        (record { from = word; count = words })) }
     ensures at_most { IfSome result (λ word. word < 2 ^ 32) }
     ensures bounded { (arena : ArenaMemory) (firsts : List ℕ) → IsHeld arena table.now extents.now
         → AreGapsBounded arena.held (arena.grains + 1) firsts bounds.old extents.now.covered

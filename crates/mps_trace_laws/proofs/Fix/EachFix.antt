@@ -105,7 +105,8 @@ module _ (F : Type 0) (layout : F → Layout) (formats : List (Option (Policy F)
           subst (λ (a : Addr). Step state' s' moves' a.0) (sym is)
           (subst (λ c. Step c s' moves' at.0) (sym (tails ∙ same_tail x.amc o.pool generation))
           (subst (λ g. Step x.amc g moves' at.0) (sym segs)
-          (stays_there F layout formats of at_flip done x y shaped stands t at o object automatic there s over pool condemned white copying moves'
+          (stays_there F layout formats of at_flip done x y shaped stands t at o object automatic there s over pool condemned
+          white copying moves'
           (ap has_no_room (place ∙ e) ∙ none) trail)))
 
       as_step : (p : Placement) → IsPlacedAt x.segs b size p → placement_of_copy x.amc x.segs o.pool generation size ≡ p
@@ -131,7 +132,8 @@ module _ (F : Type 0) (layout : F → Layout) (formats : List (Option (Policy F)
           (subst (λ c. Step c s' moves' base) (sym is.tails)
           (subst (λ g. Step after g moves' base) (sym is.segs_are)
           (subst (λ n. Step after (placed grain n s'.words) moves' base) number
-          (new_there F layout formats of at_flip done x y shaped stands t at o object automatic there s over pool condemned white copying grain
+          (new_there F layout formats of at_flip done x y shaped stands t at o object automatic there s over pool condemned white
+          copying grain
           lowest
           s'.words is.words moves' (place ∙ e) is.trail))))
       as_step p (is_over committed need limit) e state' s' moves' answer is =

@@ -35,7 +35,8 @@ automatic_body (Automatic head cells is_weak) is = (cells, is_weak, refl)
 automatic_body (Manual words) is = absurd (false≢true is)
 
 module _ (F : Type 0) (layout : F → Layout) (formats : List (Option (Policy F))) (of : ChainsState) (at_flip : List (Option Address))
-    (x : Traced) (y : Collecting) (none_paired : y.world.graph.dependents ≡ []) (shaped : AreShaped y.world.graph.objects (pool_layout y.world))
+    (x : Traced) (y : Collecting) (none_paired : y.world.graph.dependents ≡ [])
+    (shaped : AreShaped y.world.graph.objects (pool_layout y.world))
     (stands : TracingStands layout formats of at_flip (black_cells y.running.condemned y.colours) x y) (holder : Id) (at : Addr)
     (o : Object) (scan : IsToBeScanned y holder at.0 o) where
   abbrev done : CellSet
@@ -54,7 +55,8 @@ module _ (F : Type 0) (layout : F → Layout) (formats : List (Option (Policy F)
       → AreSplatsDone layout formats of at_flip done x z y holder at (size_of o)
   whole_run z all =
       let body = automatic_body o.body scan.automatic in
-      run_is_splats layout formats of at_flip done x z y holder at o body.0 body.1 all.from none_paired shaped stands.state scan body.2 all.run all.done
+      run_is_splats layout formats of at_flip done x z y holder at o body.0 body.1 all.from none_paired shaped stands.state scan
+      body.2 all.run all.done
 
   -- the block is grey no longer
   ended : (z : Traced) → AreSplatsDone layout formats of at_flip done x z y holder at (size_of o)

@@ -16,7 +16,8 @@ abbrev pub setting_flipped_in : Setting → SegsState → List (Option Address) 
 setting_flipped_in s g addresses points memories condemned = setting_flipped s addresses points memories condemned (is_condemned_word g)
 
 -- from an arena with this memory in which no collection ran, a flip that condemned these objects has led to these segments: the words
--- and the pools over them are as they were, no reservation is live, an object is condemned exactly if its segment is, what is live and isn't condemned
+-- and the pools over them are as they were, no reservation is live, an object is condemned exactly if its segment is, what is live and
+-- isn't condemned
 -- refers to nothing condemned, and nothing is marked yet
 pub record IsFlipped (s : Setting) (m : Memory) (g : SegsState) (addresses : List (Option Address)) (points : List (Option Point))
     (memories : List PointMemory) (condemned : List Id) : Type 0 where

@@ -42,7 +42,8 @@ returns-clause-forwarded g c =
     )))) c.forward_first.ensures.forwarded
 
 pub returns-clause-leads : goal.returns-clause-leads
-returns-clause-leads g c = ap (λ (ws : List ℕ). slice_index ws 1) (first_left c.args.segs.now.words c.words_from_mut-memory.result.now c.forward_first.new.memory (word_of c.args.at.0)
+returns-clause-leads g c = ap (λ (ws : List ℕ). slice_index ws 1)
+    (first_left c.args.segs.now.words c.words_from_mut-memory.result.now c.forward_first.new.memory (word_of c.args.at.0)
     c.words_from_mut-memory.ensures.value (omega (arith, c.requires.inside)) c.forward_first.auto.memory c.args.words
     (omega (
       arith,

@@ -13,7 +13,17 @@ use Rattle.mps_run.proofs.Records.{at_error}
 use Rattle.mps_run.proofs.log_moves.log_batches.Goals as goal
 
 pub loop-batch-init : goal.loop-batch-init
-loop-batch-init g c = (search rules, tt, search rules, ([], search rules, logs_none (g.D.Desk.outside c.args.desk.now), All-from_recursion (IsRecord One) [] tt))
+loop-batch-init g c = (
+  search rules,
+  tt,
+  search rules,
+  (
+    [],
+    search rules,
+    logs_none (g.D.Desk.outside c.args.desk.now),
+    All-from_recursion (IsRecord One) [] tt,
+  ),
+)
 
 pub loop-batch-preserved : goal.loop-batch-preserved
 loop-batch-preserved g c =

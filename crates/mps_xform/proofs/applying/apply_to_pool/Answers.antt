@@ -148,7 +148,8 @@ loop-base-preserved g c =
     ∙ ap (λ (a : ℕ). after_apply_below f to s c.args.pool (word_of a)) (sym end))
 
 pub loop-base-init : goal.loop-base-init
-loop-base-init g c = passed.none_yet (g.F.Format.layout c.args.format.now) (new_in c.args.replacements.now) c.args.pool c.args.segs.now c.requires.can
+loop-base-init g c = passed.none_yet (g.F.Format.layout c.args.format.now) (new_in c.args.replacements.now) c.args.pool
+    c.args.segs.now c.requires.can
 
 pub returns : goal.returns
 returns g c =

@@ -10,7 +10,8 @@ use Rattle.mps_xform.proofs.applying.apply_to_segment.Goals as goal
 pub loop-at-init : goal.loop-at-init
 loop-at-init g c =
     let b = c.requires.begun in
-    segments.at_first (g.F.Format.layout c.args.format.now) (new_in c.args.replacements.now) b.0 b.1 c.args.segs.now c.args.base.0 c.args.end.0
+    segments.at_first (g.F.Format.layout c.args.format.now) (new_in c.args.replacements.now) b.0 b.1 c.args.segs.now c.args.base.0
+    c.args.end.0
     b.2 b.3
 
 pub word-head-requires : goal.word-head-requires

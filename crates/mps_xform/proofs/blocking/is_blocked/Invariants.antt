@@ -10,5 +10,6 @@ use Rattle.mps_xform.proofs.blocking.is_blocked.Given as goal
 abbrev pub invariant-loop-key : goal.invariant-loop-key
 invariant-loop-key l =
     (key : ℕ) → key < l.key
-    → option_map_or (λ words. any_lies_in_old (λ old. lookup (nat_eq old) l.replacements) l.segs.blocks words) (kept l.roots.areas key) false
+    → option_map_or (λ words. any_lies_in_old (λ old. lookup (nat_eq old) l.replacements) l.segs.blocks words)
+    (kept l.roots.areas key) false
     ≡ false

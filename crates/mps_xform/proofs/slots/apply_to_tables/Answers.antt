@@ -20,7 +20,8 @@ loop-index-preserved c =
     ap (λ (x : RootsState). x.tables) c.apply_to_table.ensures in
     let P : List (Option (List ℕ)) → Type 0 = λ ts. AreMapped to r (l.index + 1) ts in (
       c.apply_to_table.ensures
-          ∙ ap (λ (x : RootsState). let y : RootsState = record x { tables = slice_set l.roots.tables key (table_after_apply to (kept l.roots.tables key)) } in y)
+          ∙ ap (λ (x : RootsState). let y : RootsState = record x
+          { tables = slice_set l.roots.tables key (table_after_apply to (kept l.roots.tables key)) } in y)
           l.invariant.0
           ∙ ap (λ (ts : List (Option (List ℕ))). let y : RootsState = record r { tables = ts } in y) (sym tables_are),
       subst P (sym tables_are) (one_table_more to r c.requires l.index l.roots.tables key within key_is l.invariant.1),

@@ -14,7 +14,8 @@ returns c =
     let as_stored = ap (λ (s : StoredWords). s.stored) c.self.view_is in
     let few : length items ≤ inside.size = omega (arith, c.self.invariant.0, inside.stored.ok.0) in
     let all : from + m ≡ length items = omega (arith, c.slice_mut.ensures.len, as_stored, c.requires, inside.stored.ok.0) in
-    let part = c.slice_mut.ensures.value ∙ ap (λ (n : ℕ). slice_range items from n) (let e : inside.stored.len ≡ length items = inside.stored.ok.0 in e) in
+    let part = c.slice_mut.ensures.value ∙ ap (λ (n : ℕ). slice_range items from n) (let e : inside.stored.len
+    ≡ length items = inside.stored.ok.0 in e) in
     let P : List ℕ → Type 0 = λ ws. ws ≡ take (length ws) (drop from c.args.self.now.words) in (
       (
         refl,

@@ -15,7 +15,8 @@ abandon_at-requires-clause-reserved c =
     let segs = c.loop-key.segs in
     let within : i < length first.points = omega (arith, c.loop-key-test.true, c.count-key-end.ensures) in
     let now_is : get_or c.loop-key.self.points i None ≡ get_or first.points i None =
-    ap (λ (ps : List (Option Point)). get_or ps i None) c.loop-key.invariant.0 ∙ next_as_before (option_map after_close) first.points i None in
+    ap (λ (ps : List (Option Point)). get_or ps i None) c.loop-key.invariant.0
+    ∙ next_as_before (option_map after_close) first.points i None in
     let P : Option Point → Type 0 = λ o. IsReservedAt first.flips o segs in
     let Q : ℕ → Type 0 = λ f. IsReservedAt f (get_or c.loop-key.self.points i None) segs in
     subst Q (sym c.loop-key.invariant.1)
@@ -30,7 +31,8 @@ loop-key-preserved c =
     let within : i < length first.points = omega (arith, c.loop-key-test.true, c.count-key-end.ensures) in
     let here = get_or now.points i None in
     let now_is : here ≡ get_or first.points i None =
-    ap (λ (ps : List (Option Point)). get_or ps i None) c.loop-key.invariant.0 ∙ next_as_before (option_map after_close) first.points i None in
+    ap (λ (ps : List (Option Point)). get_or ps i None) c.loop-key.invariant.0
+    ∙ next_as_before (option_map after_close) first.points i None in
     let ended : c.abandon_at.new.segs ≡ after_end_at first.flips (get_or first.points i None) segs =
     c.abandon_at.ensures.state ∙ ap (λ (f : ℕ). after_end_at f here segs) c.loop-key.invariant.1
     ∙ ap (λ (o : Option Point). after_end_at first.flips o segs) now_is in

@@ -46,7 +46,8 @@ pub returns-then-is_empty-clause-words : goal.returns-then-is_empty-clause-words
 returns-then-is_empty-clause-words c =
     let t = c.requires in
     ap (λ (x : SegsState). x.words) c.give.ensures.state
-    ∙ ap (λ (x : SegsState). x.words) (c.drop_lost.ensures.state t.segment t.over) ∙ words_after (lost_of c.args.segs.now t.segment) c.args.segs.now
+    ∙ ap (λ (x : SegsState). x.words) (c.drop_lost.ensures.state t.segment t.over)
+    ∙ words_after (lost_of c.args.segs.now t.segment) c.args.segs.now
 
 pub returns-else-is_empty-clause-words : goal.returns-else-is_empty-clause-words
 returns-else-is_empty-clause-words c =

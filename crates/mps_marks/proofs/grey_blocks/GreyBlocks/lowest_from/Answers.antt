@@ -24,7 +24,8 @@ loop-grain-preserved c =
       size = c.clear.ensures.len ∙ kept.size;
       room = kept.room;
       above = omega (arith, kept.above, above);
-      passed = passed_grain s.blocks s.grains s.count c.args.first c.loop-grain.from c.len-end.result c.in-Some.grain kept.tally some none kept.passed;
+      passed = passed_grain s.blocks s.grains s.count c.args.first c.loop-grain.from c.len-end.result c.in-Some.grain kept.tally
+          some none kept.passed;
     }
 
 pub returns-clause-complete : goal.returns-clause-complete

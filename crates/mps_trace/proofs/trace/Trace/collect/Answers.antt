@@ -8,6 +8,7 @@ returns-clause-collected g c =
     let begun = traced c.begin.new.self c.begin.new.segs c.begin.new.trail in
     let after = traced c.finish.new.self c.finish.new.segs c.finish.new.trail in
     in_units c.in-Some.running c.in-Some.ensures.begun
-    (ends_still g.F.Format.layout c.args.self.now c.begin.new.self c.begin.ensures.unchanged begun after c.begin.new.finals c.finish.new.finals
+    (ends_still g.F.Format.layout c.args.self.now c.begin.new.self c.begin.ensures.unchanged begun after c.begin.new.finals
+    c.finish.new.finals
     c.in-Some.running c.args.most
     c.in-None.ensures.ended)

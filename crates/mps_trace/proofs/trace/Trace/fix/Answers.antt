@@ -37,7 +37,8 @@ keep_as-requires-clause-can g c =
     record { formats = c.self.inside.formats.items; amc = c.self.inside.amc; chains = c.self.inside.chains }
     in
     let P : Option Addr → Type 0 = λ o. FindsTo g.F.Format.layout c.args.self.now.formats c.args.segs.now c.args.at o in
-    c.requires.keep (subst P c.in-None.is (finds_to g.F.Format.layout c.args.self.now t c.self.view_is c.args.segs.now c.args.at c.in-Some.owner c.requires.find
+    c.requires.keep (subst P c.in-None.is (finds_to g.F.Format.layout c.args.self.now t c.self.view_is c.args.segs.now c.args.at
+    c.in-Some.owner c.requires.find
     c.in-Some.ensures.condemned c.in-Some.ensures.over c.index.result.now c.index.ensures c.in-Some-index.policy c.in-Some-index.is
     c.find_in.result c.find_in.ensures.found))
 
@@ -58,7 +59,8 @@ returns-in-Some-find_in-clause-fixed g c =
     record { formats = c.self.inside.formats.items; amc = c.self.inside.amc; chains = c.self.inside.chains }
     in
     let P : Option Addr → Type 0 = λ o. FindsTo g.F.Format.layout c.args.self.now.formats c.args.segs.now c.args.at o in
-    finds c.in-Some-find_in.to (subst P c.in-Some-find_in.is (finds_to g.F.Format.layout c.args.self.now t c.self.view_is c.args.segs.now c.args.at c.in-Some.owner c.requires.find
+    finds c.in-Some-find_in.to (subst P c.in-Some-find_in.is
+    (finds_to g.F.Format.layout c.args.self.now t c.self.view_is c.args.segs.now c.args.at c.in-Some.owner c.requires.find
     c.in-Some.ensures.condemned c.in-Some.ensures.over c.index.result.now c.index.ensures c.in-Some-index.policy c.in-Some-index.is
     c.find_in.result c.find_in.ensures.found))
 
@@ -68,7 +70,8 @@ returns-in-Some-find_in-clause-aligned g c =
     record { formats = c.self.inside.formats.items; amc = c.self.inside.amc; chains = c.self.inside.chains }
     in
     let Q : Option Addr → Type 0 = λ o. IfSome o (λ to. to.0 % bytes_of_word ≡ 0) in
-    subst Q c.in-Some-find_in.is (finds_aligned g.F.Format.layout c.args.self.now t c.self.view_is c.args.segs.now c.args.at c.in-Some.owner c.requires.find
+    subst Q c.in-Some-find_in.is (finds_aligned g.F.Format.layout c.args.self.now t c.self.view_is c.args.segs.now c.args.at
+    c.in-Some.owner c.requires.find
     c.in-Some.ensures.condemned c.in-Some.ensures.over c.index.result.now c.index.ensures c.in-Some-index.policy c.in-Some-index.is
     c.find_in.result c.find_in.ensures.found)
 
@@ -78,6 +81,7 @@ returns-in-None-clause-fixed g c =
     record { formats = c.self.inside.formats.items; amc = c.self.inside.amc; chains = c.self.inside.chains }
     in
     let P : Option Addr → Type 0 = λ o. FindsTo g.F.Format.layout c.args.self.now.formats c.args.segs.now c.args.at o in
-    keeps c.keep_as.result (subst P c.in-None.is (finds_to g.F.Format.layout c.args.self.now t c.self.view_is c.args.segs.now c.args.at c.in-Some.owner c.requires.find
+    keeps c.keep_as.result (subst P c.in-None.is (finds_to g.F.Format.layout c.args.self.now t c.self.view_is c.args.segs.now
+    c.args.at c.in-Some.owner c.requires.find
     c.in-Some.ensures.condemned c.in-Some.ensures.over c.index.result.now c.index.ensures c.in-Some-index.policy c.in-Some-index.is
     c.find_in.result c.find_in.ensures.found)) c.keep_as.ensures.kept

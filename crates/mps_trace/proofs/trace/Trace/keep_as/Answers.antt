@@ -26,7 +26,8 @@ target-generation-requires g c =
     record { formats = c.self.inside.formats.items; amc = c.self.inside.amc; chains = c.self.inside.chains }
     in
     let can = can_there g.F.Format.layout c.args.self.now t s m c.args.at c.self.view_is c.requires.can in
-    let known = subst (λ (u : TraceState g.row.F.Denot). slice_get u.formats c.args.owner.pool ≡ Some (Some c.args.policy)) (sym c.self.view_is)
+    let known = subst (λ (u : TraceState g.row.F.Denot). slice_get u.formats c.args.owner.pool ≡ Some (Some c.args.policy))
+    (sym c.self.view_is)
     c.requires.known
     in
     let got_is =
@@ -42,7 +43,8 @@ keep-requires-clause-stands g c =
     record { formats = c.self.inside.formats.items; amc = c.self.inside.amc; chains = c.self.inside.chains }
     in
     let can = can_there g.F.Format.layout c.args.self.now t s m c.args.at c.self.view_is c.requires.can in
-    let known = subst (λ (u : TraceState g.row.F.Denot). slice_get u.formats c.args.owner.pool ≡ Some (Some c.args.policy)) (sym c.self.view_is)
+    let known = subst (λ (u : TraceState g.row.F.Denot). slice_get u.formats c.args.owner.pool ≡ Some (Some c.args.policy))
+    (sym c.self.view_is)
     c.requires.known
     in
     let got_is =
@@ -58,7 +60,8 @@ keep-requires-clause-block g c =
     record { formats = c.self.inside.formats.items; amc = c.self.inside.amc; chains = c.self.inside.chains }
     in
     let can = can_there g.F.Format.layout c.args.self.now t s m c.args.at c.self.view_is c.requires.can in
-    let known = subst (λ (u : TraceState g.row.F.Denot). slice_get u.formats c.args.owner.pool ≡ Some (Some c.args.policy)) (sym c.self.view_is)
+    let known = subst (λ (u : TraceState g.row.F.Denot). slice_get u.formats c.args.owner.pool ≡ Some (Some c.args.policy))
+    (sym c.self.view_is)
     c.requires.known
     in
     let got_is =
@@ -74,7 +77,8 @@ keep-requires-clause-fits g c =
     record { formats = c.self.inside.formats.items; amc = c.self.inside.amc; chains = c.self.inside.chains }
     in
     let can = can_there g.F.Format.layout c.args.self.now t s m c.args.at c.self.view_is c.requires.can in
-    let known = subst (λ (u : TraceState g.row.F.Denot). slice_get u.formats c.args.owner.pool ≡ Some (Some c.args.policy)) (sym c.self.view_is)
+    let known = subst (λ (u : TraceState g.row.F.Denot). slice_get u.formats c.args.owner.pool ≡ Some (Some c.args.policy))
+    (sym c.self.view_is)
     c.requires.known
     in
     let got_is =
@@ -90,13 +94,15 @@ keep-requires-clause-tail g c =
     record { formats = c.self.inside.formats.items; amc = c.self.inside.amc; chains = c.self.inside.chains }
     in
     let can = can_there g.F.Format.layout c.args.self.now t s m c.args.at c.self.view_is c.requires.can in
-    let known = subst (λ (u : TraceState g.row.F.Denot). slice_get u.formats c.args.owner.pool ≡ Some (Some c.args.policy)) (sym c.self.view_is)
+    let known = subst (λ (u : TraceState g.row.F.Denot). slice_get u.formats c.args.owner.pool ≡ Some (Some c.args.policy))
+    (sym c.self.view_is)
     c.requires.known
     in
     let got_is =
     policy_known t.formats t.chains s c.args.at c.args.owner can.segment can.format can.over can.listed c.requires.owned c.args.policy known
     in
-    has_tail g.F.Format.layout t s m c.args.at can c.args.policy got_is c.if-not-policy.false c.args.owner c.requires.owned c.target-generation.result
+    has_tail g.F.Format.layout t s m c.args.at can c.args.policy got_is c.if-not-policy.false c.args.owner c.requires.owned
+    c.target-generation.result
     c.target-generation.ensures
 
 pub keep-requires-clause-at_hand : goal.keep-requires-clause-at_hand
@@ -107,13 +113,15 @@ keep-requires-clause-at_hand g c =
     record { formats = c.self.inside.formats.items; amc = c.self.inside.amc; chains = c.self.inside.chains }
     in
     let can = can_there g.F.Format.layout c.args.self.now t s m c.args.at c.self.view_is c.requires.can in
-    let known = subst (λ (u : TraceState g.row.F.Denot). slice_get u.formats c.args.owner.pool ≡ Some (Some c.args.policy)) (sym c.self.view_is)
+    let known = subst (λ (u : TraceState g.row.F.Denot). slice_get u.formats c.args.owner.pool ≡ Some (Some c.args.policy))
+    (sym c.self.view_is)
     c.requires.known
     in
     let got_is =
     policy_known t.formats t.chains s c.args.at c.args.owner can.segment can.format can.over can.listed c.requires.owned c.args.policy known
     in
-    at_hand g.F.Format.layout t s m c.args.at can c.args.policy got_is c.if-not-policy.false c.args.owner c.requires.owned c.target-generation.result
+    at_hand g.F.Format.layout t s m c.args.at can c.args.policy got_is c.if-not-policy.false c.args.owner c.requires.owned
+    c.target-generation.result
     c.target-generation.ensures
 
 pub returns-clause-kept : goal.returns-clause-kept
@@ -124,7 +132,8 @@ returns-clause-kept g c =
     record { formats = c.self.inside.formats.items; amc = c.self.inside.amc; chains = c.self.inside.chains }
     in
     let can = can_there g.F.Format.layout c.args.self.now t s m c.args.at c.self.view_is c.requires.can in
-    let known = subst (λ (u : TraceState g.row.F.Denot). slice_get u.formats c.args.owner.pool ≡ Some (Some c.args.policy)) (sym c.self.view_is)
+    let known = subst (λ (u : TraceState g.row.F.Denot). slice_get u.formats c.args.owner.pool ≡ Some (Some c.args.policy))
+    (sym c.self.view_is)
     c.requires.known
     in
     let got_is =
@@ -135,7 +144,8 @@ returns-clause-kept g c =
     λ u. KeepsTo g.F.Format.layout u.formats u.chains (traced u s m) c.args.at y c.keep.result
     in
     subst P c.self.view_is
-    (moved g.F.Format.layout t s m c.args.at can c.args.policy got_is c.if-not-policy.false c.args.owner c.requires.owned c.target-generation.result
+    (moved g.F.Format.layout t s m c.args.at can c.args.policy got_is c.if-not-policy.false c.args.owner c.requires.owned
+    c.target-generation.result
     c.target-generation.ensures y c.keep.result c.keep.ensures.kept)
 
 pub returns-clause-aligned : goal.returns-clause-aligned

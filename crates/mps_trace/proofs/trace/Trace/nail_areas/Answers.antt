@@ -24,7 +24,8 @@ loop-key-preserved g c =
     let so_far : AreBlocksSame c.args.segs.now s = c.loop-key.invariant.1 in
     let same = area_same formats area s in (
       ap (λ (n : ℕ). nailed_by_areas formats (drop n areas) s') (add-one key)
-          ∙ ap (λ (x : SegsState). nailed_by_areas formats (drop (suc key) areas) x) now ∙ next_area formats areas key s ∙ c.loop-key.invariant.0,
+          ∙ ap (λ (x : SegsState). nailed_by_areas formats (drop (suc key) areas) x) now ∙ next_area formats areas key s
+          ∙ c.loop-key.invariant.0,
       record {
         blocks = ap (λ (x : SegsState). x.blocks) now ∙ same.blocks ∙ so_far.blocks;
         grains = ap (λ (x : SegsState). x.grains) now ∙ same.grains ∙ so_far.grains;

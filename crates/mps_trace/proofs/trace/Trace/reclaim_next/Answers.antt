@@ -9,7 +9,14 @@ returns-in-Some-left-clause-goes_on g c =
     let x = traced c.args.self.now c.args.segs.now c.args.trail.now in
     let y = traced c.args.self.now c.reclaim.new.segs c.reclaim.new.trail in
     let next : ReclaimsNext g.F.Format.layout c.args.self.now.formats x c.args.running c.in-Some.base y =
-    record { scanned = c.requires.scanned; examined = c.requires.examined; lowest = c.in-Some.ensures.sound; reclaimed = c.reclaim.ensures; at_hand = refl }
+    record {
+      scanned = c.requires.scanned;
+      examined = c.requires.examined;
+      lowest = c.in-Some.ensures.sound;
+      reclaimed =
+          c.reclaim.ensures;
+      at_hand = refl;
+    }
     in
     λ finals. reclaims c.in-Some.base c.in-Some-left.field-0 next c.in-Some-left.ensures.sound refl
 
@@ -26,7 +33,14 @@ returns-clause-ended g c =
       base = c.in-Some.base;
       before = y;
       reclaimed =
-          record { scanned = c.requires.scanned; examined = c.requires.examined; lowest = c.in-Some.ensures.sound; reclaimed = c.reclaim.ensures; at_hand = refl };
+          record {
+            scanned = c.requires.scanned;
+            examined = c.requires.examined;
+            lowest = c.in-Some.ensures.sound;
+            reclaimed =
+                c.reclaim.ensures;
+            at_hand = refl;
+          };
       last = c.in_default-left.ensures.complete;
       over = cc;
     }
