@@ -1,6 +1,7 @@
 -- The tails of copying pools, and what a fix does.
-use Rattle.std.specs.Prelude.{ℕ, ◌≡◌, ◌<◌, Result, Ok, Err, List, [], ◌∷◌, ◌++◌, length, map, replicate, get_or, slice_set, refl}
+use Rattle.std.specs.Prelude.{ℕ, ◌≡◌, ◌<◌, true, false, Some, Result, Ok, Err, List, [], ◌∷◌, ◌++◌, length, map, replicate, get_or, slice_set, refl}
 use Rattle.mps_base.specs.Address.{Address}
+use Rattle.mps_base.specs.Segment.{Segment, segment_over}
 use Rattle.mps_base.specs.Placement.{Placement, Place, NewSegment, OverLimit, NoFreeRun}
 use Rattle.mps_base.specs.Trail.{Moves, with_move}
 use Rattle.mps_base.specs.declared.address.Addr.{Addr}
@@ -11,10 +12,11 @@ use Rattle.mps_base.specs.declared.refusal.Refusal.TheVariants.{NoRun}
 use Rattle.mps_format.specs.Layout.{Layout}
 use Rattle.mps_arena.specs.Arena.{answer_of_placement}
 use Rattle.mps_seg.specs.Segs.{SegsState, new_segments, moves_after}
+use Rattle.mps_seg.specs.Collecting.{is_kept_at}
 use Rattle.mps_seg.specs.Buffer as placed
 use Rattle.mps_seg.specs.declared.buffer.Buffer.{Buffer}
 use Rattle.mps_seg.specs.Buffer.{empty_buffer, placement_at_front, rest_at_hand}
-use Rattle.mps_amc.specs.Moving.{AreCopied, moved_to, kept_in_place}
+use Rattle.mps_amc.specs.Moving.{AreCopied, IsForwarded, IsUnforwarded, size_at, moved_to, kept_in_place}
 
 -- by pool and generation, the rest of the last segment that the running collection took for them
 pub record AmcState : Type 0 where
@@ -99,6 +101,20 @@ pub record IsFixed (f : Layout) (amc amc' : AmcState) (s s' : SegsState) (moves 
   pub tails : amc' ≡ tails_after amc pool generation size (placement_of_copy amc s pool generation size)
   pub trail : moves' ≡ moves_fixed (answer_of_placement (placement_of_copy amc s pool generation size))
       (moves_after (placement_of_copy amc s pool generation size) pool generation moves) at
+
+-- what a fix does with an address, and where the block lies then
+pub data FixesAt (f : Layout) (amc : AmcState) (s : SegsState) (moves : Moves) (at : Addr) (generation : ℕ)
+    : AmcState → SegsState → Moves → (answer : Addr) → Type 0
+  where
+    -- the block has moved
+    forwards : (to : Addr) → IsForwarded f s.words at.0 to.0 → FixesAt f amc s moves at generation amc s moves to
+    -- it is kept already
+    is_kept : IsUnforwarded f s.words at.0 → is_kept_at s at.0 ≡ true → FixesAt f amc s moves at generation amc s moves at
+    -- it is kept from now on
+    keeps : {amc' : AmcState} {s' : SegsState} {moves' : Moves} (t : Segment) (answer : Addr) → IsUnforwarded f s.words at.0
+        → is_kept_at s at.0 ≡ false → segment_over s.segments at.0 ≡ Some t
+        → IsFixed f amc amc' s s' moves moves' at t.pool generation (size_at f s.words at.0) answer
+        → FixesAt f amc s moves at generation amc' s' moves' answer
 
 -- ---- vectors
 

@@ -6,7 +6,7 @@ ghost use Rattle.mps_base.specs.Address.{word_of, bytes_of_word, words_of_grain}
 ghost use Rattle.mps_base.specs.Segment.{Segment, segment_over};
 ghost use Rattle.mps_seg.specs.Buffer.{IsAtHand};
 ghost use Rattle.mps_amc.specs.Moving.{BlockStands, IsBlockOf, IsForwarded, IsUnforwarded, size_at, nailed};
-ghost use Rattle.mps_amc.specs.Amc.{no_pools, with_pool, row_after_flip, tails_after_flip, HasTail, tail_of, with_tail, IsFixed};
+ghost use Rattle.mps_amc.specs.Amc.{no_pools, with_pool, row_after_flip, tails_after_flip, HasTail, tail_of, with_tail, IsFixed, FixesAt};
 
 use crate::moving::move_block;
 use mps_base::{Addr, Move, Rank, Trail};
@@ -107,6 +107,39 @@ impl Amc {
         self.keep_block(segs, trail, format, at, pool, generation, words)
     }
 
+    /// Fixes the block at `at` and returns its address: the forwarding address if it has moved, `at` if it is kept already. Any other
+    /// block is kept now: it moves to this generation of its pool, or stays if there is no space.
+    pub fn fix<F: Format>(
+        &mut self,
+        segs: &mut Segs,
+        trail: &mut Trail,
+        format: &F,
+        at: Addr,
+        generation: u32,
+    ) -> Addr
+        requires aligned { at.0 % bytes_of_word ≡ 0 }
+        requires in_arena { word_of at.0 < length segs.old.words }
+        requires block { IsUnforwarded (F.layout format.now) segs.old.words at.0
+            → BlockStands (F.layout format.now) segs.old.words at.0 (size_at (F.layout format.now) segs.old.words at.0)
+            × IsBlockOf segs.old at.0 (size_at (F.layout format.now) segs.old.words at.0) }
+        requires segment { (t : Segment) × (segment_over segs.old.segments at.0 ≡ Some t) × HasTail self.old t.pool generation
+            × IsAtHand segs.old (tail_of self.old t.pool generation) }
+        requires fits { 1 < trail.old.spare }
+        ensures fixed { FixesAt (F.layout format.now) self.old segs.old trail.old at generation self.new segs.new trail.new result }
+        ensures at_hand { (t : Segment) → segment_over segs.old.segments at.0 ≡ Some t
+            → IsAtHand segs.new (tail_of self.new t.pool generation) }
+    {
+        if let Some(to) = forwarded_from(segs, format, at) {
+            return to;
+        }
+        let _ = segs.grains();
+        if segs.is_kept(at) {
+            return at;
+        }
+        let pool = pool_at(segs, at);
+        self.keep(segs, trail, format, at, pool, generation)
+    }
+
     /// Keeps a block of `words` words, as `keep` does.
     fn keep_block<F: Format>(
         &mut self,
@@ -156,6 +189,17 @@ pub fn forwarded_from<F: Format>(segs: &Segs, format: &F, at: Addr) -> Option<Ad
     ensures complete { IfNone result (IsUnforwarded (F.layout format.now) segs.now.words at.0) }
 {
     format.forwarded(segs.words_from(at))
+}
+
+/// The pool of the segment in which an address lies.
+fn pool_at(segs: &Segs, at: Addr) -> u32
+    requires { (t : Segment) × (segment_over segs.now.segments at.0 ≡ Some t) }
+    ensures { (t : Segment) → segment_over segs.now.segments at.0 ≡ Some t → result ≡ t.pool }
+{
+    let Some(base) = segs.segment_of(at) else {
+        unreachable!()
+    };
+    segs.segment(base).pool
 }
 
 /// Empties these rows of tails.
