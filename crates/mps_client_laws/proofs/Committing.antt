@@ -47,12 +47,12 @@ module _ (w : World) (s : Step) (point : Name) (target : Slot) (answered : IsAns
       ap (world_after_moves w) (subst (λ c. AreMovesOf w c s.answer s.moves) is answered.answered.moves_are_due)
       ∙ commit_moves_nothing w s.answer (point_named w point)
 
-  commit_world : world_after w s ≡ with_client_remembered (world_from w (act_commit w point target))
+  pub commit_world : world_after w s ≡ with_client_remembered (world_from w (act_commit w point target))
   commit_world =
       answered.after ∙ ap (λ c. world_after_call w c s.moves s.answer) is
       ∙ ap (λ v. with_client_remembered (world_from v (act_commit v point target))) unmoved
 
-  commit_answer : s.answer ≡ answer_from (act_commit w point target)
+  pub commit_answer : s.answer ≡ answer_from (act_commit w point target)
   commit_answer =
       subst (λ c. s.answer ≡ reply_to (is_block s.answer) (judged_world w c s.moves) (moved_world w c s.moves) c) is
       answered.answered.answer_is_due

@@ -11,3 +11,6 @@ pub mod SlotsStay
 pub mod Collecting
 pub mod Gone
 pub mod Committing
+pub mod ReservationsOfMoves
+pub mod ReservationsStay
+pub mod Reservations

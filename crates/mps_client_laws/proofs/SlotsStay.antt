@@ -35,14 +35,14 @@ kept_first true t rest more x keeps e = e
 kept_first false t rest more x keeps e = keeps e
 
 -- what a name stands for it still does after a name is made
-named_kept : (ns : List NamedThing) (one : NamedThing) (name : Name) (t : Thing) → thing_in ns name ≡ Some t
+pub named_kept : (ns : List NamedThing) (one : NamedThing) (name : Name) (t : Thing) → thing_in ns name ≡ Some t
     → thing_in (with_last ns one) name ≡ Some t
 named_kept [] one name t e = absurd (none-some t e)
 named_kept (n ∷ ns) one name t e =
     kept_first (same_name n.name name) n.thing (thing_in ns name) (thing_in (with_last ns one) name) t (named_kept ns one name t) e
 
 -- another name than the one that is dropped
-unnamed_kept : (ns : List NamedThing) (gone name : Name) → (gone ≡ name → ⊥) → thing_in (without_name ns gone) name ≡ thing_in ns name
+pub unnamed_kept : (ns : List NamedThing) (gone name : Name) → (gone ≡ name → ⊥) → thing_in (without_name ns gone) name ≡ thing_in ns name
 unnamed_kept [] gone name differs = refl
 unnamed_kept (n ∷ ns) gone name differs = by_gone (unnamed_kept ns gone name differs) (same_name n.name gone) refl
   where
@@ -223,7 +223,7 @@ judged_leaves w (call.Reserve point head) ms =
     let left = moves_leave_objects w (moves_of_poll ms) in (left.names, left.tables)
 judged_leaves w _ ms = (refl, refl)
 
-not_false : (b : Bool) → not b ≡ true → b ≡ false
+pub not_false : (b : Bool) → not b ≡ true → b ≡ false
 not_false true h = absurd (true≢false (sym h))
 not_false false h = refl
 

@@ -4,3 +4,4 @@ pub mod Addresses
 pub mod Slots
 pub mod Collecting
 pub mod Committing
+pub mod Reservations

@@ -7,6 +7,7 @@ ghost use Rattle.mps_client_laws.specs.Addresses.{ObjectsLiveOn, AddressesStay, 
 ghost use Rattle.mps_client_laws.specs.Collecting.{CollectLeavesWhatIsReached, WhatDependentsReachStays, WhatIsNotReachedIsGone};
 ghost use Rattle.mps_client_laws.specs.Committing.{CommitMakesTheObject, FlippedMakesNone};
 ghost use Rattle.mps_client_laws.specs.ReadingBack.{GetGivesWhatWasPut, NumAnswersWhatWasSet, LoadAnswersWhatWasStored};
+ghost use Rattle.mps_client_laws.specs.Reservations.{ReserveOpens, ReservationsStay, InitOfDoomedLeavesTheGraph, CommitAnswersByFlips, CommitSpendsTheReservation};
 ghost use Rattle.mps_client_laws.specs.Slots.{SlotsStay, CopyGivesTheSameObject, ClearLeavesNull, YesIsTheSameObject, NoIsAnotherObject, YesIsNoObject, NoIsAnObject};
 
 /// No object is lost. Over any steps an object keeps its pool, its kind, its size, its head and its weakness. A cell is
@@ -67,4 +68,15 @@ pub fn what_is_reached_stays()
 pub fn a_commit_makes_the_object()
     ensures made { CommitMakesTheObject }
     ensures flipped { FlippedMakesNone }
+{}
+
+/// A `commit` into a slot that there is answers `flipped` if a step after its `reserve` and before it has a flip, and else `ok`. An
+/// accepted `reserve` opens a reservation, which stays open until its point commits, and is doomed exactly by a flip. An `init` of a
+/// doomed one leaves the object graph as it was. A `commit` that answers `ok` or `flipped` leaves no reservation.
+pub fn a_commit_answers_by_flips()
+    ensures opened { ReserveOpens }
+    ensures stays { ReservationsStay }
+    ensures doomed { InitOfDoomedLeavesTheGraph }
+    ensures answer { CommitAnswersByFlips }
+    ensures spent { CommitSpendsTheReservation }
 {}
