@@ -4,6 +4,10 @@ pub mod WritesOfMoves
 pub mod Objects
 pub mod QuietCalls
 pub mod ReadingBack
+pub mod Failing
+pub mod Room
+pub mod RefusalsOfCalls
+pub mod RefusedSteps
 pub mod Addresses
 pub mod Slots
 pub mod SlotsOfCalls

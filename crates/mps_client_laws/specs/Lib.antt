@@ -1,5 +1,6 @@
 pub mod Objects
 pub mod ReadingBack
+pub mod Refusals
 pub mod Addresses
 pub mod Slots
 pub mod Collecting

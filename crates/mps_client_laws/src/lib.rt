@@ -8,6 +8,7 @@ ghost use Rattle.mps_client_laws.specs.Collecting.{CollectLeavesWhatIsReached, W
 ghost use Rattle.mps_client_laws.specs.Committing.{CommitMakesTheObject, FlippedMakesNone};
 ghost use Rattle.mps_client_laws.specs.ReadingBack.{GetGivesWhatWasPut, NumAnswersWhatWasSet, LoadAnswersWhatWasStored};
 ghost use Rattle.mps_client_laws.specs.Reservations.{ReserveOpens, ReservationsStay, InitOfDoomedLeavesTheGraph, CommitAnswersByFlips, CommitSpendsTheReservation};
+ghost use Rattle.mps_client_laws.specs.Refusals.{RefusalsAreListed, RefusedStepsAreListed, NoneIsOutOfMemory, RefusedStepsMakeNoMoves, RefusedStepsChangeNothing, RefusedStepsLeaveTheirMoves};
 ghost use Rattle.mps_client_laws.specs.Slots.{SlotsStay, CopyGivesTheSameObject, ClearLeavesNull, YesIsTheSameObject, NoIsAnotherObject, YesIsNoObject, NoIsAnObject};
 
 /// No object is lost. Over any steps an object keeps its pool, its kind, its size, its head and its weakness. A cell is
@@ -39,6 +40,21 @@ pub fn a_read_gives_what_was_written()
 /// object is moved meanwhile.
 pub fn slots_stay()
     ensures { SlotsStay }
+{}
+
+/// A call is answered, or refused by one of its own list: in any world, and so in each legal step. No list has out of memory.
+pub fn refusals_are_listed()
+    ensures acts { RefusalsAreListed }
+    ensures steps { RefusedStepsAreListed }
+    ensures memory { NoneIsOutOfMemory }
+{}
+
+/// A refused step makes no moves and changes nothing, from any world on, unless its call polls: a `reserve` for which there is no
+/// place in what is held. That one leaves what its poll did, and nothing else.
+pub fn a_refused_call_changes_nothing()
+    ensures moves { RefusedStepsMakeNoMoves }
+    ensures world { RefusedStepsChangeNothing }
+    ensures after_poll { RefusedStepsLeaveTheirMoves }
 {}
 
 /// `copy`, `clear`, `same` and `null` are about the objects in slots. After a `copy` the target refers to the source's object, and
