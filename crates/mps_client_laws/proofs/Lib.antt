@@ -7,6 +7,7 @@ pub mod ReadingBack
 pub mod Failing
 pub mod Room
 pub mod RefusalsOfCalls
+pub mod ReservesPassing
 pub mod RefusedSteps
 pub mod Addresses
 pub mod Slots

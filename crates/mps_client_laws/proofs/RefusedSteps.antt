@@ -19,15 +19,16 @@ use Rattle.mps_model.specs.Placement.{ForReserve, placement_of}
 use Rattle.mps_model.specs.Checked.{Act, Checked, Numbered, ◌>>=◌, ◌>>◌, as_point, done, number_named, point_named, required, refuse_when}
 use Rattle.mps_model.specs.Allocating.{Reserving, act_reserve, address_of_placement, check_reserve, layout_of, refuse_without_place, takes_head, with_reserved}
 use Rattle.mps_model.specs.Effect.{world_after_moves}
-use Rattle.mps_model.specs.Policy.{polls, units_asked, units_of_poll}
+use Rattle.mps_model.specs.Policy.{polls, polls_for, units_asked, units_of_poll}
 use Rattle.mps_model.specs.Reply.{act, answer_from, world_from}
 use Rattle.mps_model.specs.History.{AreMovesOf, AreMovesOfReserve, IsLegalStep, IsPoll, after_its_moves, after_own_segment, asking, judged_world, moved_world, moves_of_poll, own_segment, segment_of_reserve, segment_taken, with_client_remembered, world_after}
 use Rattle.mps_laws.proofs.LegalHistories.{IsAnswered, supported_step}
 use Rattle.mps_laws.proofs.OwnSegments.{own_segment_taken}
 use Rattle.mps_laws.proofs.Reading.{bind_ok}
-use Rattle.mps_client_laws.specs.Refusals.{NoneIsOutOfMemory, RefusalsAreListed, RefusedStepsAreListed, RefusedStepsChangeNothing, RefusedStepsLeaveTheirMoves, RefusedStepsMakeNoMoves, refusals_of}
+use Rattle.mps_client_laws.specs.Refusals.{NoneIsOutOfMemory, RefusalsAreListed, RefusedStepsAreListed, RefusedStepsChangeNothing, RefusedStepsLeaveTheirMoves, RefusedStepsMakeNoMoves, RefusedPollsHaveNoPlace, is_without_place, refusals_of}
 use Rattle.mps_client_laws.proofs.Failing.{IsOf, Comes, answered, is_refusal, contained}
 use Rattle.mps_client_laws.proofs.RefusalsOfCalls.{refusals_of_act}
+use Rattle.mps_client_laws.proofs.ReservesPassing.{passes_after}
 
 -- ---- the refusal of an act is listed
 
@@ -83,6 +84,18 @@ no_segment pool (NoFreeRun need longest) x point next why e h = refl
 no_segment pool (NewSegment grain grains) x point next why e h =
     let f : done (next point) ≡ Err why = ap (λ (y : Checked (Numbered Point)). y >>= (λ q. done (next q))) (sym e) ∙ h in absurd cc
 
+-- one that is refused there has no place
+without_place : (p : Placement) (x : Checked (Numbered Point)) (point : Numbered Point) (next : Numbered Point → World) (why : Refusal)
+    → x ≡ Ok point → (refuse_without_place p >> (x >>= (λ q. done (next q)))) ≡ Err why → is_without_place why ≡ true
+without_place (OverLimit committed need limit) x point next why e h =
+    let same : refusal.CommitLimit committed need limit ≡ why = cc in ap is_without_place (sym same)
+without_place (NoFreeRun need longest) x point next why e h =
+    let same : refusal.NoRun need longest ≡ why = cc in ap is_without_place (sym same)
+without_place (Place word) x point next why e h =
+    let f : done (next point) ≡ Err why = ap (λ (y : Checked (Numbered Point)). y >>= (λ q. done (next q))) (sym e) ∙ h in absurd cc
+without_place (NewSegment grain grains) x point next why e h =
+    let f : done (next point) ≡ Err why = ap (λ (y : Checked (Numbered Point)). y >>= (λ q. done (next q))) (sym e) ∙ h in absurd cc
+
 module _ (judged after : World) (name : Name) (head : ℕ) (why : Refusal) (same : after.graph ≡ judged.graph)
     (h : act_reserve judged after name head ≡ Err why) where
   -- what a `reserve` checks of its point, and what it does with a place
@@ -109,6 +122,13 @@ module _ (judged after : World) (name : Name) (head : ℕ) (why : Refusal) (same
       let p = bind_ok (point_named judged name) checks_of r e in
       no_segment r.point.value.pool (placement_of judged (ForReserve r.point.number (length r.cells))) (point_named after name) p.0
       (opened r) why
+      (ap (λ g. point_named (of_graph g) name) same ∙ p.1)
+      (ap (λ (x : Checked Reserving). x >>= opens) (sym e) ∙ h)
+
+  without_place_where_judged : (r : Reserving) → check_reserve judged name head ≡ Ok r → is_without_place why ≡ true
+  without_place_where_judged r e =
+      let p = bind_ok (point_named judged name) checks_of r e in
+      without_place (placement_of judged (ForReserve r.point.number (length r.cells))) (point_named after name) p.0 (opened r) why
       (ap (λ g. point_named (of_graph g) name) same ∙ p.1)
       (ap (λ (x : Checked Reserving). x >>= opens) (sym e) ∙ h)
 
@@ -144,11 +164,21 @@ module _ (w : World) (point : Name) (head : ℕ) (ms : List Move) (why : Refusal
       sym (all_are_of_poll none)
       ∙ subst (λ (b : Bool). MatchBool b (IsPoll w (moves_of_poll ms)) (moves_of_poll ms ≡ [])) rests due.poll
 
+  -- one that passes its other checks passes them after its poll too, and is refused for the place
+  rests_by_check : act_reserve polled (moved_world w reserving ms) point head ≡ Err why → is_without_place why ≡ false
+      → (x : Checked Reserving) → check_reserve w point head ≡ x → polls_for w x ≡ false
+  rests_by_check h other (Err first) e = refl
+  rests_by_check h other (Ok r) e =
+      let q = passes_after head w (moves_of_poll ms) point r e in
+      absurd (true≢false
+      (sym (without_place_where_judged polled (moved_world w reserving ms) point head why same_graph h q.0 q.1) ∙ other))
+
 -- what is known of the moves of a call that is refused
-record AreRefused (w : World) (c : Call) (ms : List Move) : Type 0 where
+record AreRefused (w : World) (c : Call) (ms : List Move) (why : Refusal) : Type 0 where
   moved : after_its_moves w c ms ≡ world_after_moves w ms
   none : polls w c ≡ false → ms ≡ []
   asked : polls w c ≡ false → units_asked w c ≡ None
+  rests : is_without_place why ≡ false → polls w c ≡ false
 
 module _ (marked : Bool) (w : World) (why : Refusal) (ms : List Move) where
   none_of_get : (b : Bool) (A : Type 0) → MatchBool (b && not (is_refused (refused why))) A (ms ≡ []) → ms ≡ []
@@ -164,20 +194,21 @@ module _ (marked : Bool) (w : World) (why : Refusal) (ms : List Move) where
   its_act c = act marked (judged_world w c ms) (moved_world w c ms) c
 
   refused_moves : (c : Call) → AreMovesOf w c (refused why) ms → IsOf why (refusals_of (judged_world w c ms) c) → its_act c ≡ Err why
-      → AreRefused w c ms
+      → AreRefused w c ms why
   refused_moves (call.Reserve point head) due is h =
       let none = no_own w point head ms why due h in
       record {
         moved = reserve_moved w point head ms why due none;
         none = unpolled w point head ms why due none;
         asked = λ rests. reserve_asks (is_running w) (polls w (call.Reserve point head)) rests;
+        rests = λ other. rests_by_check w point head ms why due h other (check_reserve w point head) refl;
       }
   refused_moves (call.Get target source cell) due is h =
-      record { moved = refl; none = λ rests. none_of_get (is_running w) _ due; asked = λ rests. refl }
+      record { moved = refl; none = λ rests. none_of_get (is_running w) _ due; asked = λ rests. refl; rests = λ other. refl }
   refused_moves (call.Step units) due is h = elim is [ ]
   refused_moves call.Collect due is h = elim is [ ]
   refused_moves call.Park due is h = elim is [ ]
-  refused_moves _ due is h = record { moved = refl; none = λ rests. due; asked = λ rests. refl }
+  refused_moves _ due is h = record { moved = refl; none = λ rests. due; asked = λ rests. refl; rests = λ other. refl }
 
 -- ---- a refused step
 
@@ -202,7 +233,7 @@ module _ (w : World) (s : Step) (why : Refusal) (legal : IsLegalStep w s) (is : 
   its_refusal : IsOf why (refusals_of judged s.call)
   its_refusal = refusal_is the_act why (refusals_of_act (is_block s.answer) judged moved s.call) act_refused
 
-  its_moves : AreRefused w s.call s.moves
+  its_moves : AreRefused w s.call s.moves why
   its_moves =
       refused_moves (is_block s.answer) w why s.moves s.call
       (subst (λ answer. AreMovesOf w s.call answer s.moves) is was_answered.answered.moves_are_due) its_refusal act_refused
@@ -228,3 +259,6 @@ refused_steps_change_nothing w s why legal is rests =
     its_world w s why legal is
     ∙ ap (λ units. with_client_remembered (asking units (world_after_moves w s.moves))) (known.asked rests)
     ∙ ap (λ ms. with_client_remembered (world_after_moves w ms)) (known.none rests)
+
+pub refused_polls_have_no_place : RefusedPollsHaveNoPlace
+refused_polls_have_no_place w s why legal is other = (its_moves w s why legal is).rests other

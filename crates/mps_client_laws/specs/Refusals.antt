@@ -1,5 +1,5 @@
 -- Refusals: those that each call may have, and what a refused call leaves.
-use Rattle.std.specs.Prelude.{◌≡◌, ℕ, ◌+◌, Bool, false, List, [], ◌∷◌, length, Contains, Ok, Err, refl}
+use Rattle.std.specs.Prelude.{◌≡◌, ℕ, ◌+◌, Bool, true, false, List, [], ◌∷◌, length, Contains, Ok, Err, refl}
 use Rattle.mps_base.specs.Address.{grains_needed}
 use Rattle.mps_base.specs.Run.{gaps, longest}
 use Rattle.mps_base.specs.declared.refusal.Refusal.{Refusal}
@@ -156,6 +156,18 @@ abbrev pub RefusedStepsMakeNoMoves : Type 0
 RefusedStepsMakeNoMoves =
     (w : World) (s : Step) (why : Refusal) → IsLegalStep w s → s.answer ≡ refused why → polls w s.call ≡ false → s.moves ≡ []
 
+-- whether a refusal says that there is no place for a block
+abbrev pub is_without_place : Refusal → Bool
+is_without_place (refusal.CommitLimit committed need limit) = true
+is_without_place (refusal.NoRun need longest) = true
+is_without_place _ = false
+
+-- A call that is refused for anything else didn't poll.
+abbrev pub RefusedPollsHaveNoPlace : Type 0
+RefusedPollsHaveNoPlace =
+    (w : World) (s : Step) (why : Refusal) → IsLegalStep w s → s.answer ≡ refused why → is_without_place why ≡ false
+    → polls w s.call ≡ false
+
 -- So it changes nothing. Only a running collection remembers once more what the client holds.
 abbrev pub RefusedStepsChangeNothing : Type 0
 RefusedStepsChangeNothing =
@@ -194,3 +206,9 @@ an_intern_has_the_limit_of_labels = refl
 
 pub a_get_is_never_not_open : refusals_of two_objects (call.Get (slot_of_t 0) (slot_of_t 1) 1) ≡ refusal.NotOpen ∷ [] → ⊥
 a_get_is_never_not_open e = absurd cc
+
+pub no_run_is_without_place : is_without_place (refusal.NoRun 5 4) ≡ true
+no_run_is_without_place = refl
+
+pub a_bad_head_isnt_without_place : is_without_place refusal.BadHead ≡ false
+a_bad_head_isnt_without_place = refl

@@ -7,8 +7,8 @@ ghost use Rattle.mps_client_laws.specs.Addresses.{ObjectsLiveOn, AddressesStay, 
 ghost use Rattle.mps_client_laws.specs.Collecting.{CollectLeavesWhatIsReached, WhatDependentsReachStays, WhatIsNotReachedIsGone};
 ghost use Rattle.mps_client_laws.specs.Committing.{CommitMakesTheObject, FlippedMakesNone};
 ghost use Rattle.mps_client_laws.specs.ReadingBack.{GetGivesWhatWasPut, NumAnswersWhatWasSet, LoadAnswersWhatWasStored};
+ghost use Rattle.mps_client_laws.specs.Refusals.{RefusalsAreListed, RefusedStepsAreListed, NoneIsOutOfMemory, RefusedStepsMakeNoMoves, RefusedStepsChangeNothing, RefusedStepsLeaveTheirMoves, RefusedPollsHaveNoPlace};
 ghost use Rattle.mps_client_laws.specs.Reservations.{ReserveOpens, ReservationsStay, InitOfDoomedLeavesTheGraph, CommitAnswersByFlips, CommitSpendsTheReservation};
-ghost use Rattle.mps_client_laws.specs.Refusals.{RefusalsAreListed, RefusedStepsAreListed, NoneIsOutOfMemory, RefusedStepsMakeNoMoves, RefusedStepsChangeNothing, RefusedStepsLeaveTheirMoves};
 ghost use Rattle.mps_client_laws.specs.Slots.{SlotsStay, CopyGivesTheSameObject, ClearLeavesNull, YesIsTheSameObject, NoIsAnotherObject, YesIsNoObject, NoIsAnObject};
 
 /// No object is lost. Over any steps an object keeps its pool, its kind, its size, its head and its weakness. A cell is
@@ -50,10 +50,12 @@ pub fn refusals_are_listed()
 {}
 
 /// A refused step makes no moves and changes nothing, from any world on, unless its call polls: a `reserve` for which there is no
-/// place in what is held. That one leaves what its poll did, and nothing else.
+/// place in what is held. What is refused otherwise than for the place didn't poll. A step that polls leaves what its poll did, and
+/// nothing else.
 pub fn a_refused_call_changes_nothing()
     ensures moves { RefusedStepsMakeNoMoves }
     ensures world { RefusedStepsChangeNothing }
+    ensures polls { RefusedPollsHaveNoPlace }
     ensures after_poll { RefusedStepsLeaveTheirMoves }
 {}
 
