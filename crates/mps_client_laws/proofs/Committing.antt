@@ -109,7 +109,7 @@ none_by_act w point target a e flipped =
     ap (λ (u : World). u.graph.objects)
     (ended_reservation r.0.is_doomed (with_graph w (with_reservation w.graph p.0 None)) (world_committed w p.0 r.0 slot.0) a r.2 flipped)
 
--- what is made is told by the graph afterwards
+-- what is made is seen in the graph afterwards
 made_in : (w u v : World) (point : Name) (target : Slot) → v.graph ≡ u.graph → IsMade w u point target → IsMade w v point target
 made_in w u v point target same made = record {
   of = made.of;

@@ -82,9 +82,9 @@ module _ {whys : List Refusal} (w : World) where
 -- ---- what is answered
 
 module _ {whys : List Refusal} (v : World) where
-  told : (b : Bool) → Comes whys (tells b v)
-  told true = answered refl
-  told false = answered refl
+  yes_or_no : (b : Bool) → Comes whys (tells b v)
+  yes_or_no true = answered refl
+  yes_or_no false = answered refl
 
   made : (name : Name) (p : Pool) → IsOf (refusal.TooMany most_pools) whys → Comes whys (make_pool v name p)
   made name p is = check_then (limit_fails v (length v.pools) most_pools is) (answered refl)
@@ -232,9 +232,9 @@ module _ (marked : Bool) (judged v : World) where
   refusals_of_act (call.Clear slot) = value_then (slot_fails v slot first second) (λ (into : Found (Option ℕ)). answered refl)
   refusals_of_act (call.Same slot other) =
       value_then (slot_fails v slot first second) (λ (one : Found (Option ℕ)).
-      value_then (slot_fails v other first second) (λ (two : Found (Option ℕ)). told v (same_target one.value two.value)))
+      value_then (slot_fails v other first second) (λ (two : Found (Option ℕ)). yes_or_no v (same_target one.value two.value)))
   refusals_of_act (call.Null slot) =
-      value_then (slot_fails v slot first second) (λ (from : Found (Option ℕ)). told v (is_none from.value))
+      value_then (slot_fails v slot first second) (λ (from : Found (Option ℕ)). yes_or_no v (is_none from.value))
   refusals_of_act (call.Head slot) =
       value_then (slot_fails v slot first second) (λ (from : Found (Option ℕ)).
       value_then (object_fails v from.value third) (λ (o : Numbered Object). answered refl))
@@ -311,7 +311,7 @@ module _ (marked : Bool) (judged v : World) where
       value_then (dependency_fails v source first) (λ (e : Numbered Dependency). answered refl))
   refusals_of_act (call.DependencyStale dependency) =
       value_then (dependency_fails v dependency first) (λ (d : Numbered Dependency).
-      told v (is_stale v.flips d.value.epoch d.value.zones))
+      yes_or_no v (is_stale v.flips d.value.epoch d.value.zones))
   refusals_of_act call.Live = answered refl
   refusals_of_act (call.Dump at) =
       check_then (when_fails (is_running v) refusal.Running first)

@@ -54,26 +54,26 @@ module _ (w : World) where
       ap (λ (u : World). target_of_slot u slot) (done_world _ a into.2) ∙ slot_written w slot into.0 None into.1
 
   -- what a yes or a no says
-  told : (b c : Bool) → answer_from (tells c w) ≡ answer_from (tells b w) → c ≡ b
-  told true true e = refl
-  told false false e = refl
-  told true false e = absurd cc
-  told false true e = absurd cc
+  same_answer : (b c : Bool) → answer_from (tells c w) ≡ answer_from (tells b w) → c ≡ b
+  same_answer true true e = refl
+  same_answer false false e = refl
+  same_answer true false e = absurd cc
+  same_answer false true e = absurd cc
 
   not_refused : (b : Bool) (why : Refusal) {A : Type 0} → answer_from (tells b w) ≡ answer_from (Err why) → A
   not_refused true why e = absurd cc
   not_refused false why e = absurd cc
 
-  same_told : (slot other : Slot) (b : Bool) → answer_from (tells b w) ≡ answer_from (act_same w slot other)
+  same_answers : (slot other : Slot) (b : Bool) → answer_from (tells b w) ≡ answer_from (act_same w slot other)
       → b ≡ same_target (target_of_slot w slot) (target_of_slot w other)
-  same_told slot other b due = by_slot (slot_in w slot) refl due
+  same_answers slot other b due = by_slot (slot_in w slot) refl due
     where
       by_other : (one : Found (Option ℕ)) → slot_in w slot ≡ Ok one → (x : Checked (Found (Option ℕ))) → slot_in w other ≡ x
           → answer_from (tells b w) ≡ answer_from (x >>= (λ two. tells (same_target one.value two.value) w))
           → b ≡ same_target (target_of_slot w slot) (target_of_slot w other)
       by_other one e (Err why) f due = not_refused b why due
       by_other one e (Ok two) f due =
-          told (same_target one.value two.value) b due
+          same_answer (same_target one.value two.value) b due
           ∙ ap (λ t. same_target t two.value) (sym (ap target_found e)) ∙ ap (same_target (target_of_slot w slot)) (sym (ap target_found f))
 
       by_slot : (x : Checked (Found (Option ℕ))) → slot_in w slot ≡ x
@@ -82,13 +82,13 @@ module _ (w : World) where
       by_slot (Err why) e due = not_refused b why due
       by_slot (Ok one) e due = by_other one e (slot_in w other) refl due
 
-  null_told : (slot : Slot) (b : Bool) → answer_from (tells b w) ≡ answer_from (act_null w slot) → b ≡ is_none (target_of_slot w slot)
-  null_told slot b due = by_slot (slot_in w slot) refl due
+  null_answers : (slot : Slot) (b : Bool) → answer_from (tells b w) ≡ answer_from (act_null w slot) → b ≡ is_none (target_of_slot w slot)
+  null_answers slot b due = by_slot (slot_in w slot) refl due
     where
       by_slot : (x : Checked (Found (Option ℕ))) → slot_in w slot ≡ x
           → answer_from (tells b w) ≡ answer_from (x >>= (λ from. tells (is_none from.value) w)) → b ≡ is_none (target_of_slot w slot)
       by_slot (Err why) e due = not_refused b why due
-      by_slot (Ok from) e due = told (is_none from.value) b due ∙ ap is_none (sym (ap target_found e))
+      by_slot (Ok from) e due = same_answer (is_none from.value) b due ∙ ap is_none (sym (ap target_found e))
 
 same_is_equal : (x y : Option ℕ) → true ≡ same_target x y → x ≡ y
 same_is_equal None None e = refl
@@ -147,25 +147,25 @@ yes_is_the_same_object formats steps later s slot other legal is says =
     let w = reached formats steps in
     let answered = supported_step w s (ap is_unsupported says) (legal_here formats steps later s legal) in
     same_is_equal (target_of_slot w slot) (target_of_slot w other)
-    (same_told w slot other true (sym says ∙ quiet_answer (call.Same slot other) (same_is_quiet slot other) w s answered is))
+    (same_answers w slot other true (sym says ∙ quiet_answer (call.Same slot other) (same_is_quiet slot other) w s answered is))
 
 pub no_is_another_object : NoIsAnotherObject
 no_is_another_object formats steps later s slot other legal is says =
     let w = reached formats steps in
     let answered = supported_step w s (ap is_unsupported says) (legal_here formats steps later s legal) in
     other_is_unequal (target_of_slot w slot) (target_of_slot w other)
-    (same_told w slot other false (sym says ∙ quiet_answer (call.Same slot other) (same_is_quiet slot other) w s answered is))
+    (same_answers w slot other false (sym says ∙ quiet_answer (call.Same slot other) (same_is_quiet slot other) w s answered is))
 
 pub yes_is_no_object : YesIsNoObject
 yes_is_no_object formats steps later s slot legal is says =
     let w = reached formats steps in
     let answered = supported_step w s (ap is_unsupported says) (legal_here formats steps later s legal) in
     none_is_null (target_of_slot w slot)
-    (null_told w slot true (sym says ∙ quiet_answer (call.Null slot) (null_is_quiet slot) w s answered is))
+    (null_answers w slot true (sym says ∙ quiet_answer (call.Null slot) (null_is_quiet slot) w s answered is))
 
 pub no_is_an_object : NoIsAnObject
 no_is_an_object formats steps later s slot legal is says =
     let w = reached formats steps in
     let answered = supported_step w s (ap is_unsupported says) (legal_here formats steps later s legal) in
     some_is_object (target_of_slot w slot)
-    (null_told w slot false (sym says ∙ quiet_answer (call.Null slot) (null_is_quiet slot) w s answered is))
+    (null_answers w slot false (sym says ∙ quiet_answer (call.Null slot) (null_is_quiet slot) w s answered is))

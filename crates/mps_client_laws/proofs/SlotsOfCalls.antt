@@ -65,9 +65,9 @@ module _ (marked : Bool) (judged v : World) where
       → u.graph.tables ≡ slice_set v.graph.tables into.number (Some (slice_set into.list into.index x)) → WritesSlots c judged v u
   slot_is slot into x is found e f = record { names = AsNamed e; tables = ASlot slot into x is found f }
 
-  told : {c : Call} (b : Bool) → Leads c (tells b v)
-  told true = accepted (same refl refl)
-  told false = accepted (same refl refl)
+  yes_or_no : {c : Call} (b : Bool) → Leads c (tells b v)
+  yes_or_no true = accepted (same refl refl)
+  yes_or_no false = accepted (same refl refl)
 
   made : {c : Call} (name : Name) (p : Pool) → Leads c (make_pool v name p)
   made name p = after_check (refuse_at_limit (length v.pools) most_pools) (accepted (named_one _ refl refl))
@@ -217,8 +217,8 @@ module _ (marked : Bool) (judged v : World) where
       with_value (slot_in v slot) (λ (into : Found (Option ℕ)) e. accepted (slot_is slot into None refl (inr e) refl refl))
   slots_of_act (call.Same slot other) =
       andthen (slot_in v slot) (λ (one : Found (Option ℕ)). andthen (slot_in v other) (λ (two : Found (Option ℕ)).
-      told (same_target one.value two.value)))
-  slots_of_act (call.Null slot) = andthen (slot_in v slot) (λ (from : Found (Option ℕ)). told (is_none from.value))
+      yes_or_no (same_target one.value two.value)))
+  slots_of_act (call.Null slot) = andthen (slot_in v slot) (λ (from : Found (Option ℕ)). yes_or_no (is_none from.value))
   slots_of_act (call.Head slot) =
       andthen (slot_in v slot) (λ (from : Found (Option ℕ)). andthen (object_in v from.value) (λ (o : Numbered Object).
       accepted (same refl refl)))
@@ -284,7 +284,7 @@ module _ (marked : Bool) (judged v : World) where
       andthen (dependency_named v dependency) (λ (d : Numbered Dependency). andthen (dependency_named v source)
       (λ (e : Numbered Dependency). accepted (same refl refl)))
   slots_of_act (call.DependencyStale dependency) =
-      andthen (dependency_named v dependency) (λ (d : Numbered Dependency). told (is_stale v.flips d.value.epoch d.value.zones))
+      andthen (dependency_named v dependency) (λ (d : Numbered Dependency). yes_or_no (is_stale v.flips d.value.epoch d.value.zones))
   slots_of_act call.Live = accepted (same refl refl)
   slots_of_act (call.Dump at) =
       after_check (refuse_when (is_running v) refusal.Running)

@@ -59,9 +59,9 @@ module _ (marked : Bool) (judged v : World) where
   same : {c : Call} {u : World} → u.graph.objects ≡ v.graph.objects → Writes c v u
   same e = Nothing e
 
-  told : {c : Call} (b : Bool) → Leads c (tells b v)
-  told true = accepted (same refl)
-  told false = accepted (same refl)
+  yes_or_no : {c : Call} (b : Bool) → Leads c (tells b v)
+  yes_or_no true = accepted (same refl)
+  yes_or_no false = accepted (same refl)
 
   made : {c : Call} (name : Name) (p : Pool) → Leads c (make_pool v name p)
   made name p = after_check (refuse_at_limit (length v.pools) most_pools) (accepted (same refl))
@@ -197,8 +197,8 @@ module _ (marked : Bool) (judged v : World) where
   writes_of_act (call.Clear slot) = andthen (slot_in v slot) (λ (into : Found (Option ℕ)). accepted (same refl))
   writes_of_act (call.Same slot other) =
       andthen (slot_in v slot) (λ (one : Found (Option ℕ)). andthen (slot_in v other) (λ (two : Found (Option ℕ)).
-      told (same_target one.value two.value)))
-  writes_of_act (call.Null slot) = andthen (slot_in v slot) (λ (from : Found (Option ℕ)). told (is_none from.value))
+      yes_or_no (same_target one.value two.value)))
+  writes_of_act (call.Null slot) = andthen (slot_in v slot) (λ (from : Found (Option ℕ)). yes_or_no (is_none from.value))
   writes_of_act (call.Head slot) =
       andthen (slot_in v slot) (λ (from : Found (Option ℕ)). andthen (object_in v from.value) (λ (o : Numbered Object).
       accepted (same refl)))
@@ -265,7 +265,7 @@ module _ (marked : Bool) (judged v : World) where
       andthen (dependency_named v dependency) (λ (d : Numbered Dependency). andthen (dependency_named v source)
       (λ (e : Numbered Dependency). accepted (same refl)))
   writes_of_act (call.DependencyStale dependency) =
-      andthen (dependency_named v dependency) (λ (d : Numbered Dependency). told (is_stale v.flips d.value.epoch d.value.zones))
+      andthen (dependency_named v dependency) (λ (d : Numbered Dependency). yes_or_no (is_stale v.flips d.value.epoch d.value.zones))
   writes_of_act call.Live = accepted (same refl)
   writes_of_act (call.Dump at) =
       after_check (refuse_when (is_running v) refusal.Running)
