@@ -1,7 +1,7 @@
 #!/bin/sh
 # Measures how long a collection takes that moves everything, by a runtime that holds the heap itself, with no script and no log: rings and
 # lists of 1,000, 10,000 and 100,000 objects of 3 words with one reference. A ring is collected in the order of its making, and a list
-# against it. Room for the moves is taken before the clock runs. Each is collected three times, and the shortest of these is told.
+# against it. Room for the moves is taken before the clock runs. Each is collected three times, and the shortest of these is printed.
 # It makes a program over a copy of the crates, proves it, and runs it.
 home=$(cd "$(dirname "$0")/.." && pwd)
 folder=$(mktemp -d)

@@ -35,7 +35,7 @@ impl Crowd {
         }
     }
 
-    /// Whether so many addresses have come that they are to be counted anew.
+    /// Whether more addresses have come than the table counts well, so that they are to be counted anew.
     #[inline(always)]
     pub(crate) fn is_outgrown(&self, addresses: usize) -> bool {
         self.recount_at <= addresses

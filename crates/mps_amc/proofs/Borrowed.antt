@@ -1,4 +1,4 @@
--- Words that were lent to be written, all that are stored from one on.
+-- Words that were borrowed to be written, all that are stored from one on.
 use Rattle.std.proofs.Common.{ℕ, ◌+◌, ◌-◌, ◌<◌, ◌≤◌, ◌≡◌, ◌⊎◌, List, length, get_or, take, drop, sym, ap, ◌∙◌, inl, inr, arith}
 use Rattle.std.proofs.Math.ListN.{length-take, length-drop}
 use Rattle.std.proofs.lemmas.Bool.{cases_lt}
@@ -22,9 +22,9 @@ module _ (words loan left : List ℕ) (at : ℕ) (part : loan ≡ take (length l
     pub written_long : length written ≡ length words
     written_long = with_words_long words (take (length loan) left) at
 
-    -- the first n words that were lent
-    pub first_lent : (n : ℕ) → n ≤ length loan → take n loan ≡ slice_range words at (at + n)
-    first_lent n few =
+    -- the first n words that were borrowed
+    pub first_borrowed : (n : ℕ) → n ≤ length loan → take n loan ≡ slice_range words at (at + n)
+    first_borrowed n few =
         ext_get_or 0 (take n loan) (slice_range words at (at + n))
         (omega (
           arith,
@@ -69,16 +69,16 @@ module _ (words loan left : List ℕ) (at : ℕ) (part : loan ≡ take (length l
         ∙ word_left i (omega (arith, short, few))
         ∙ sym (get_or-take n left i 0 short))
 
-    -- where only the first n words that were lent have changed, no other word has
+    -- where only the first n words that were borrowed have changed, no other word has
     pub others_left : (n : ℕ) → ((i : ℕ) → n ≤ i → get_or left i 0 ≡ get_or loan i 0) → (i : ℕ) → (i < at) ⊎ (at + n ≤ i)
         → get_or written i 0 ≡ get_or words i 0
     others_left n same i (inl before) = written_before words (take (length loan) left) at inside i before
     others_left n same i (inr after) =
         elim (cases_lt i (at + length loan)) [
-          | inl lent ↦
+          | inl below ↦
               let k : ℕ = i - at in
               let here : at + k ≡ i = omega (arith, after) in
-              let few : k < length loan = omega (arith, lent, after) in
+              let few : k < length loan = omega (arith, below, after) in
               ap (λ (j : ℕ). get_or written j 0) (sym here) ∙ word_left k few ∙ same k (omega (arith, after))
               ∙ ap (λ (ws : List ℕ). get_or ws k 0) part ∙ get_or-take (length loan) (drop at words) k 0 few
               ∙ get_or-drop at words k 0 ∙ ap (λ (j : ℕ). get_or words j 0) here

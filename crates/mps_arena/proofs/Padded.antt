@@ -357,18 +357,18 @@ all_grown size before stored old first grown fits =
       same = ap (λ (m : StoredWords). m.words) grown;
     }
 
--- ---- after all words were stored and some of them were lent
+-- ---- after all words were stored and some of them were borrowed
 
-pub state_lent : (size : ℕ) (stored words new : List ℕ) (from : ℕ) → length stored ≡ size → padded_words size stored ≡ words
+pub state_borrowed : (size : ℕ) (stored words new : List ℕ) (from : ℕ) → length stored ≡ size → padded_words size stored ≡ words
     → memory_with size (with_words stored from new) ≡ record { words = with_words words from new; stored = length words }
-state_lent size stored words new from all is =
+state_borrowed size stored words new from all is =
     let same : stored ≡ words = sym (padded_all size stored all) ∙ is in
     let long = with_words_long stored new from in
     ap (λ (n : ℕ). seen (padded_words size (with_words stored from new)) n) (long ∙ ap (λ (ws : List ℕ). length ws) same)
     ∙ ap (λ (ws : List ℕ). seen ws (length words)) (padded_all size (with_words stored from new) (long ∙ all))
     ∙ ap (λ (ws : List ℕ). seen (with_words ws from new) (length words)) same
 
--- ---- after the stored words from one on were lent
+-- ---- after the stored words from one on were borrowed
 
 module _ (size : ℕ) (stored : List ℕ) (from m : ℕ) (fits : length stored ≤ size) (all : from + m ≡ length stored) (new : List ℕ) where
   abbrev pub whole : List ℕ
@@ -410,9 +410,9 @@ module _ (size : ℕ) (stored : List ℕ) (from m : ℕ) (fits : length stored �
             (omega (arith, part_long, past, all)) (omega (arith, lt, whole_long)) ∙ padded_past size stored i past)
       ]
 
-  pub state_lent_rest : memory_with size (with_words stored from new)
+  pub state_borrowed_rest : memory_with size (with_words stored from new)
       ≡ record (memory_with size stored) { words = with_words whole from (take m new) }
-  state_lent_rest =
+  state_borrowed_rest =
       ap (λ (n : ℕ). seen (padded_words size (with_words stored from new)) n) after_long
       ∙ ap (λ (ws : List ℕ). seen ws (length stored))
       (ext_get_or 0 (padded_words size (with_words stored from new)) (with_words whole from (take m new))

@@ -1,5 +1,5 @@
 -- Segments: runs of whole grains that the arena holds for a pool, and the gaps in them, where blocks may be placed.
-use Rattle.std.specs.Prelude.{ℕ, ◌≡◌, ◌+◌, ◌*◌, Bool, true, false, not, ◌&&◌, ◌==◌, nat_le, nat_lt, if◌then◌else◌, Option, Some, None, List, [], ◌∷◌, filter, find, refl}
+use Rattle.std.specs.Prelude.{ℕ, ◌≡◌, ◌+◌, ◌*◌, Bool, true, false, not, ◌&&◌, ◌==◌, nat_le, nat_lt, Option, Some, None, List, [], ◌∷◌, filter, find, refl}
 use Rattle.std.specs.List.{flat_map}
 use Rattle.mps_base.specs.Address.{Address, bytes_of_grain, words_of_grain, grain_of, word_of}
 use Rattle.mps_base.specs.Put.{put}

@@ -1,4 +1,4 @@
--- Records at the front of some bytes that are not wanted.
+-- Records at the beginning of some bytes that are skipped.
 use Rattle.std.specs.Prelude.{◌≡◌, ℕ, List, [], ◌∷◌, ◌++◌, All, length, drop, codes, refl}
 use Rattle.std.specs.List.{flat_map}
 use Rattle.std.proofs.Common.{arith}

@@ -322,15 +322,15 @@ hands_prints a b h = record {
 }
 
 -- what waits to be printed couldn't be handed on
-pub out_refused : (a b : Outside) → OnlyHandsOn a b → RefusesToPrint a b
-out_refused a b h = record { printed = h.printed; others = hands_prints a b h }
+pub refused : (a b : Outside) → OnlyHandsOn a b → RefusesToPrint a b
+refused a b h = record { printed = h.printed; others = hands_prints a b h }
 
-pub out_refused_twice : (a b c : Outside) → OnlyHandsOn a b → OnlyHandsOn b c → RefusesToPrint a c
-out_refused_twice a b c f g = out_refused a c (hands_on_twice a b c f g)
+pub refused_twice : (a b c : Outside) → OnlyHandsOn a b → OnlyHandsOn b c → RefusesToPrint a c
+refused_twice a b c f g = refused a c (hands_on_twice a b c f g)
 
-pub out_held_after : (a b c d : Outside) (piece : List ℕ) → OnlyHandsOn a b → OnlyHandsOn b c → TakesToPrint c d piece
+pub held_after : (a b c d : Outside) (piece : List ℕ) → OnlyHandsOn a b → OnlyHandsOn b c → TakesToPrint c d piece
     → TakesToPrint a d piece
-out_held_after a b c d piece first second t = out_after a c d piece (hands_on_twice a b c first second) t
+held_after a b c d piece first second t = out_after a c d piece (hands_on_twice a b c first second) t
 
 pub log_held_at : (i j : Outside) (g h : Gathered) (piece : List ℕ) → j ≡ i → h.log.bytes ≡ g.log.bytes ++ piece
     → h ≡ record g { log = h.log }

@@ -188,7 +188,7 @@ impl<D: Desk + Drop> Gathering<D> {
     /// Takes a piece to be printed for which there is no room: hands on what waits, that for the log first, and then holds
     /// it or hands it on too. None where the log or the printing failed.
     #[inline(never)]
-    #[tactic(auto, using(crate::proofs::Handing::out_held_after, crate::proofs::Handing::out_refused, crate::proofs::Handing::out_refused_twice))]
+    #[tactic(auto, using(crate::proofs::Handing::held_after, crate::proofs::Handing::refused, crate::proofs::Handing::refused_twice))]
     fn take_to_print(&mut self, piece: &[u8]) -> Option<usize>
         ensures at_most { IfSome result (λ n. n ≤ length piece.now) }
         ensures nonzero { IfSome result (λ n. 0 < length piece.now → 0 < n) }

@@ -1,6 +1,5 @@
 -- What epochs keep of the flips, and how staleness is found from it.
-use Rattle.std.proofs.Common.{ℕ, zero, suc, ◌+◌, ◌-◌, ◌<◌, ◌≤◌, ◌≡◌, ◌⊎◌, inl, inr, Bool, true, false, not, ◌&&◌, ◌||◌, nat_eq, ◌==◌, nat_le, min, max, List, [], ◌∷◌, ◌++◌, length, drop, bit_and, bit_or, slice_index_or, if◌then◌else◌, refl, sym, ap, ◌∙◌, subst, arith}
-use Rattle.std.specs.Int.{bit_at}
+use Rattle.std.proofs.Common.{ℕ, zero, suc, ◌+◌, ◌-◌, ◌<◌, ◌≤◌, ◌≡◌, inl, inr, Bool, false, not, ◌||◌, ◌==◌, nat_le, List, [], ◌∷◌, ◌++◌, length, drop, bit_and, bit_or, slice_index_or, if◌then◌else◌, refl, sym, ap, ◌∙◌, arith}
 use Rattle.std.specs.List.{list_any}
 use Rattle.std.specs.Int.Bits.{or_add_and, or_zero_l, or_zero_r, and_zero_r}
 use Rattle.std.proofs.lemmas.Grind.{common_steps}
@@ -10,7 +9,7 @@ use Rattle.std.proofs.lemmas.Nat.Bits.{bit_at_and, bit_at_or, same_from_bits}
 use Rattle.std.proofs.lemmas.List.{drop-append-le, length-append}
 use Rattle.std.proofs.Math.ListN.{drop_of_length-le}
 use Rattle.std.proofs.Math.Seq.{drop-length}
-use Rattle.mps_base.specs.Staleness.{is_stale, flips_that_count}
+use Rattle.mps_base.specs.Staleness.{flips_that_count}
 use Rattle.mps_base.specs.Zones.{zones_meet}
 use Rattle.mps_ld.specs.State.{EpochsState, epochs_after_flip}
 use Rattle.mps_ld.specs.Flips.{AreFlips, all_zones, last_four}

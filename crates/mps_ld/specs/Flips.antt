@@ -1,6 +1,6 @@
 -- Which flips epochs represent.
 use Rattle.std.specs.Prelude.{ℕ, ◌≡◌, bit_or, List, [], ◌∷◌, length, drop, refl}
-use Rattle.mps_ld.specs.State.{EpochsState, epochs_after_flip, no_flips}
+use Rattle.mps_ld.specs.State.{EpochsState, no_flips}
 
 -- the zones of all flips
 abbrev pub all_zones : List ℕ → ℕ

@@ -1,4 +1,4 @@
--- The record at the front of some bytes has at most four fields, and lies in them.
+-- The record at the beginning of some bytes has at most four fields, and lies in them.
 use Rattle.std.proofs.Common.{◌≡◌, ℕ, ◌≤◌, List, ◌++◌, length, drop, ap, arith}
 use Rattle.std.proofs.lemmas.List.{length-append}
 use Rattle.mps_base.specs.Record.{Record, record_bytes, fields_bytes}

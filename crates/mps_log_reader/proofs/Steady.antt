@@ -1,10 +1,6 @@
 -- What a reader asked for by name, and the faults that did not come.
-use Rattle.std.proofs.Common.{◌≡◌, Option, Some, None, List, [], Result, sym, ap, subst, append-nil}
-use Rattle.mps_desk.specs.Desk.{Outside, Request, OnlyOpens, AreNext, Asks}
-use Rattle.mps_report.specs.declared.stop.Stop.{Stop}
-use Rattle.mps_report.specs.declared.stop.Stop.TheVariants as stop
-use Rattle.mps_log_reader.specs.Input.{Buffered}
-use Rattle.mps_log_reader.specs.Causes.{WorksOnInput}
+use Rattle.std.proofs.Common.{◌≡◌, Option, Some, None, List, [], sym, ap, subst, append-nil}
+use Rattle.mps_desk.specs.Desk.{Outside, Request, AreNext, Asks}
 
 -- ---- what was asked for by name
 

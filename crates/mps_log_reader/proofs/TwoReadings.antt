@@ -22,7 +22,7 @@ use Rattle.mps_log_reader.proofs.LogPrefix.{header_first}
 abbrev Ending : Type 0
 Ending = Result (Unit {0}) (Stop BadLog)
 
--- ---- records at the front of the same bytes
+-- ---- records at the beginning of the same bytes
 
 -- the second are the first and some more
 pub record Extends (version : Version) (first second : List Record) (x y : List ℕ) : Type 0 where

@@ -1,4 +1,4 @@
--- Whole records at the front of a log, and what follows them.
+-- Whole records at the beginning of a log, and what follows them.
 use Rattle.std.specs.Prelude.{◌≡◌, ℕ, ◌+◌, ◌≤◌, All, Result, List, ◌++◌, length}
 use Rattle.mps_base.specs.Record.{Record, records_bytes}
 use Rattle.mps_event.specs.declared.version.Version.{Version}

@@ -291,13 +291,6 @@ none_of_none bits from to none = lowest_from_none (bit bits) from (to - from) (�
 pub search_sound : (blocks : List Bool) (from to word : ℕ) → next_set_below blocks from to ≡ Some word → bit blocks word ≡ true
 search_sound blocks from to word is_some = let lowest = found_bit blocks from to word is_some in lowest.passes
 
-pub search_complete : (blocks : List Bool) → next_set_below blocks 0 (length blocks) ≡ None → (word : ℕ) → bit blocks word ≡ false
-search_complete blocks none word =
-    elim (cases_Bool (bit blocks word)) [
-      | inr clear ↦ clear
-      | inl is ↦ none_below blocks 0 (length blocks) word none (omega arith) (bit_within blocks word is)
-    ]
-
 -- ---- a search over the grains, one after another
 
 pub grain_from : (grains : List Bool) (from to grain : ℕ) → next_set_below grains from to ≡ Some grain → from ≤ grain

@@ -1,14 +1,13 @@
 -- No gap of a segment is longer than its bound: this stays true through each call.
-use Rattle.std.proofs.Common.{ℕ, ◌+◌, ◌<◌, ◌≡◌, false, List, [], ◌∷◌, length, get_or, set, Contains, sym, ap, ◌∙◌, subst, inl, inr, arith, ◌^◌, replicate, ◌≤◌, ◌⊎◌, ◌*◌, ◌≢◌, Some, None, map, length-set, ◌-◌, get_or-set_same, get_or-set_other}
+use Rattle.std.proofs.Common.{ℕ, ◌+◌, ◌<◌, ◌≡◌, false, List, [], ◌∷◌, length, get_or, set, Contains, sym, ap, ◌∙◌, subst, inl, inr, arith, ◌^◌, replicate, ◌≤◌, ◌⊎◌, ◌*◌, ◌≢◌, Some, None, length-set, ◌-◌, get_or-set_same, get_or-set_other}
 use Rattle.std.proofs.lemmas.Bool.{cases_lt, cases_eq}
 use Rattle.std.proofs.lemmas.List.{length-replicate, get_or-replicate}
 use Rattle.mps_base.proofs.Runs.{contains_first, contains_later, contained_bounds, in_lowest_gap, lowest_fitting_here, lowest_fitting_later, lowest_gap_here}
 use Rattle.mps_base.specs.Run.{Run, IsAscending, with_run, without_run, end_of, runs_within, gaps, lowest_fitting}
-use Rattle.mps_base.specs.Segment.{grains_of_segment}
 use Rattle.mps_arena.specs.Arena.{ArenaMemory}
 use Rattle.mps_extents.specs.Extents.{has_word, ExtentLists}
 use Rattle.mps_seg.specs.Segs.{LiesIn}
-use Rattle.mps_seg.specs.Table.{segments_in, IsHeld, AreGapsBounded, IsClearOf, LiesInGrains, any_gap, first_over, or_zero, gaps_in_grains, runs_in_grains}
+use Rattle.mps_seg.specs.Table.{IsHeld, AreGapsBounded, IsClearOf, LiesInGrains, any_gap, first_over, or_zero, gaps_in_grains, runs_in_grains}
 use Rattle.mps_seg.specs.declared.entry.Entry.{Entry}
 use Rattle.mps_extents.proofs.ApartRuns.{contains_put, apart_from_put, apart_each, has_word-true, has_word-below, has_word-above}
 use Rattle.mps_extents.proofs.ContainedRuns.{contains_put_cases, contains_put_other, contains_without, contains_still, same_count, taken_and_put}
@@ -54,13 +53,6 @@ module _
     (arena : ArenaMemory) (table : List Entry) (ex : ExtentLists) (firsts bounds : List ℕ)
     (held : IsHeld arena table ex) (bounded : AreGapsBounded arena.held (arena.grains + 1) firsts bounds ex.covered)
   where
-    pub own_segment_of_free : (grain : ℕ) (r : Run) → LiesIn (map grains_of_segment (segments_in table)) r → 0 < r.count
-        → words_of_grain * grain ≤ r.from → r.from < words_of_grain * grain + words_of_grain
-        → OwnSegment arena.held (arena.grains + 1) firsts grain r
-    own_segment_of_free grain r lies some above below =
-        let P : List Run → Type 0 = λ rs. LiesIn rs r in
-        own_segment arena.held (arena.grains + 1) firsts bounds ex.covered bounded held.ascending grain r
-        (subst P (sym held.held) lies) some above below
 
     pub own_segment_of_covered : (grain : ℕ) (r : Run) → Contains ex.covered r → words_of_grain * grain ≤ r.from
         → r.from < words_of_grain * grain + words_of_grain → OwnSegment arena.held (arena.grains + 1) firsts grain r

@@ -1,20 +1,19 @@
 -- The next grain at which a condemned segment begins, by the bits of grains.
-use Rattle.std.proofs.Common.{ℕ, ◌+◌, ◌-◌, ◌*◌, ◌<◌, ◌≤◌, ◌≡◌, ◌≢◌, Bool, true, false, List, length, get_or, Option, Some, None, Contains, refl, sym, ap, ◌∙◌, subst, inl, inr, arith}
+use Rattle.std.proofs.Common.{ℕ, ◌+◌, ◌-◌, ◌<◌, ◌≤◌, ◌≡◌, ◌≢◌, Bool, true, false, List, length, get_or, Some, None, Contains, refl, sym, ap, ◌∙◌, subst, inl, inr, arith}
 use Rattle.std.proofs.lemmas.Bool.{cases_lt, true≢false}
-use Rattle.mps_base.specs.Address.{Address, grain_of, address_of_grain}
+use Rattle.mps_base.specs.Address.{grain_of, address_of_grain}
 use Rattle.mps_base.specs.Segment.{Segment}
-use Rattle.mps_base.specs.declared.names.Rank.{Rank}
 use Rattle.mps_bits.specs.Table.{bit, next_set_below}
 use Rattle.mps_bits.proofs.Searches.{IsLowest, found, missing, lowest_cases}
 use Rattle.mps_seg.specs.Condemned.{IsNextCondemned, NoneLeft}
 use Rattle.mps_seg.specs.Segs.{SegsState}
-use Rattle.mps_seg.specs.Table.{segments_in, NoneCondemnedFirst, IsCondemnedFirst}
+use Rattle.mps_seg.specs.Table.{NoneCondemnedFirst, IsCondemnedFirst}
 use Rattle.mps_seg.specs.declared.entry.Entry.{Entry}
 use Rattle.mps_seg.specs.declared.entry.Entry.TheVariants.{Free, First}
 use Rattle.mps_seg.specs.declared.segs.Segs.TheInside.{Inside}
 use Rattle.mps_seg.proofs.Entries.{entry_cases, entry_at_seen_base}
 use Rattle.mps_seg.proofs.GapSegment.{listed}
-use Rattle.mps_seg.proofs.Seen.{seen_by, IsSoundInside}
+use Rattle.mps_seg.proofs.Seen.{seen_by}
 
 -- ---- bits
 

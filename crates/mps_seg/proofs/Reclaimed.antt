@@ -2,7 +2,7 @@
 use Rattle.std.proofs.Common.{ℕ, ◌+◌, ◌*◌, ◌<◌, ◌≤◌, ◌≡◌, List, [], ◌∷◌, length, Contains, Some, refl, sym, ap, ◌∙◌, subst, inl, inr, arith}
 use Rattle.std.proofs.lemmas.List.Filters.{length-filter_both}
 use Rattle.std.proofs.lemmas.Option.{same_Some}
-use Rattle.std.specs.Prelude.{filter, not}
+use Rattle.std.specs.Prelude.{not}
 use Rattle.mps_base.specs.Address.{Address, Word, word_of, words_of_grain}
 use Rattle.mps_base.specs.Run.{Run, IsAscending, runs_within}
 use Rattle.mps_base.specs.Segment.{Segment, segment_over, end_of_segment, without_segment}

@@ -1,13 +1,13 @@
 -- A text of records of version 1 is read to its end.
-use Rattle.std.proofs.Common.{◌≡◌, ◌<◌, ℕ, List, [], ◌∷◌, ◌++◌, length, Option, Some, None, Ok, refl, sym, ap, ◌∙◌, append_assoc, append-nil}
-use Rattle.std.specs.Prelude.{All, MatchOption, codes, option_and_then}
+use Rattle.std.proofs.Common.{◌≡◌, ◌<◌, ℕ, List, [], ◌∷◌, ◌++◌, length, Some, Ok, refl, sym, ap, ◌∙◌, append_assoc, append-nil}
+use Rattle.std.specs.Prelude.{All, codes, option_and_then}
 use Rattle.std.specs.List.{AllByRecursion, flat_map}
 use Rattle.std.proofs.lemmas.List.Elements.{recursion_from_All}
 use Rattle.mps_base.specs.Record.{Record}
 use Rattle.mps_event.specs.declared.version.Version.TheVariants.{One}
 use Rattle.mps_event.specs.Grammar.{IsRecord}
 use Rattle.mps_log_reader.specs.RecordLine.{record_line}
-use Rattle.mps_txt.specs.Labels.{no_names, after_record, after_records}
+use Rattle.mps_txt.specs.Labels.{no_names, after_records}
 use Rattle.mps_txt.specs.Line.{record_text}
 use Rattle.mps_txt.specs.Text.{TextEndsWith, max_lines, portable_text, terminated}
 use Rattle.mps_txt.proofs.VersionOne.{named_none}

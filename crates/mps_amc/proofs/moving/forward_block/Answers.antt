@@ -3,7 +3,7 @@ use Rattle.std.proofs.Math.ListN.{length-take, length-drop}
 use Rattle.std.specs.Prelude.{slice_index}
 use Rattle.mps_base.specs.Address.{word_of}
 use Rattle.mps_format.specs.Blocks.{IsBlock, BeginsForwarded}
-use Rattle.mps_amc.proofs.Borrowed.{first_lent, first_left, others_left}
+use Rattle.mps_amc.proofs.Borrowed.{first_borrowed, first_left, others_left}
 use Rattle.mps_amc.proofs.moving.forward_block.Goals as goal
 
 pub forward_first-requires-clause-whole : goal.forward_first-requires-clause-whole
@@ -23,7 +23,7 @@ forward_first-requires-clause-block g c =
     let sizes = (g.met.F.Format.lawful c.args.format.now).sizes _ c.requires.block.valid in
     let long = length-take (at + c.args.words - at) (drop at words) in
     let few : c.args.words ≤ 65536 = omega (arith, sizes, c.requires.block.whole, long, length-drop at words, c.requires.inside) in
-    let first = first_lent words loan loan at c.words_from_mut-memory.ensures.value (omega (arith, c.requires.inside)) refl c.args.words
+    let first = first_borrowed words loan loan at c.words_from_mut-memory.ensures.value (omega (arith, c.requires.inside)) refl c.args.words
     (c.words_from_mut-memory.ensures.complete c.args.words few c.requires.inside)
     in
     let P : List ℕ → Type 0 = λ ws. IsBlock (g.F.Format.layout c.args.format.now) ws in

@@ -3,7 +3,7 @@ use Rattle.std.specs.Prelude.{slice_index, slice_range}
 use Rattle.mps_base.specs.Address.{word_of}
 use Rattle.mps_extents.proofs.ApartRuns.{apart_from_put}
 use Rattle.mps_format.specs.Blocks.{IsBlock}
-use Rattle.mps_seg.specs.Segs.{SegsState, CanCover, held_runs}
+use Rattle.mps_seg.specs.Segs.{SegsState, held_runs}
 use Rattle.mps_seg.proofs.OpenWords.{open_bounds}
 use Rattle.mps_amc.specs.Moving.{run_at}
 use Rattle.mps_amc.proofs.Copying.{are_copied, block_stays}

@@ -1,4 +1,4 @@
-use Rattle.std.proofs.Common.{ℕ, ◌+◌, ◌-◌, ◌/◌, ◌%◌, ◌<◌, ◌≤◌, ◌⊎◌, length, ◌∙◌, inl, inr, arith}
+use Rattle.std.proofs.Common.{◌+◌, ◌-◌, ◌/◌, ◌%◌, ◌<◌, ◌≤◌, ◌⊎◌, length, ◌∙◌, inl, inr, arith}
 use Rattle.mps_bits.proofs.Row.{bit_in_write_inside, bit_in_write_outside}
 use Rattle.mps_bits.proofs.words.write_range.Goals as goal
 

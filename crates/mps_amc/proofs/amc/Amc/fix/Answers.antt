@@ -1,4 +1,4 @@
-use Rattle.std.proofs.Common.{ℕ, ◌≡◌, sym, ◌∙◌, subst}
+use Rattle.std.proofs.Common.{ℕ, sym, ◌∙◌, subst}
 use Rattle.mps_seg.specs.Buffer.{IsAtHand}
 use Rattle.mps_amc.specs.Moving.{size_at}
 use Rattle.mps_amc.specs.Amc.{HasTail, tail_of, IsFixed, forwards, is_kept, keeps}

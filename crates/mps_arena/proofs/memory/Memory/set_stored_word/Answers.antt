@@ -1,6 +1,6 @@
-use Rattle.std.proofs.Common.{◌<◌, ◌≡◌, length, ap, ◌∙◌, arith}
+use Rattle.std.proofs.Common.{ap, ◌∙◌, arith}
 use Rattle.std.specs.Prelude.{slice_set}
-use Rattle.mps_arena.specs.Memory.{StoredWords, memory_with}
+use Rattle.mps_arena.specs.Memory.{StoredWords}
 use Rattle.mps_arena.proofs.Padded.{state_set_stored}
 use Rattle.mps_arena.proofs.memory.Memory.set_stored_word.Goals as goal
 

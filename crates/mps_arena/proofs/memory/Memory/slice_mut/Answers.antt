@@ -1,6 +1,6 @@
 use Rattle.std.proofs.Common.{ℕ, List, refl, sym, ap, ◌∙◌, arith, slice_range}
 use Rattle.mps_arena.specs.Memory.{memory_with}
-use Rattle.mps_arena.proofs.Padded.{sizes_of, all_grown, padded_all, state_lent}
+use Rattle.mps_arena.proofs.Padded.{sizes_of, all_grown, padded_all, state_borrowed}
 use Rattle.mps_arena.proofs.Loans.{written_over}
 use Rattle.mps_arena.proofs.memory.Memory.slice_mut.Goals as goal
 
@@ -32,7 +32,7 @@ returns c =
         refl,
         λ w. ap (λ (ws : List ℕ). memory_with inside.size ws)
             (written_over inside.stored.items w c.args.from inside.stored.len inside.stored.ok.0)
-            ∙ state_lent inside.size inside.stored.items old.words w c.args.from grown.all grown.same,
+            ∙ state_borrowed inside.size inside.stored.items old.words w c.args.from grown.all grown.same,
       ),
       record {
         writes_back = tt;

@@ -1,7 +1,7 @@
 use Rattle.std.proofs.Common.{ℕ, ◌≡◌, ◌≤◌, ◌+◌, List, length, take, drop, slice_range, refl, sym, ap, ◌∙◌, subst, arith}
 use Rattle.mps_arena.specs.Arena.{with_words}
 use Rattle.mps_arena.specs.Memory.{StoredWords, memory_with}
-use Rattle.mps_arena.proofs.Padded.{padded_tail, tail_of, state_lent_rest}
+use Rattle.mps_arena.proofs.Padded.{padded_tail, tail_of, state_borrowed_rest}
 use Rattle.mps_arena.proofs.Loans.{written_over}
 use Rattle.mps_arena.proofs.memory.Memory.words_from_mut.Goals as goal
 
@@ -20,7 +20,7 @@ returns c =
       (
         refl,
         λ w. ap (λ (ws : List ℕ). memory_with inside.size ws) (written_over items w from inside.stored.len inside.stored.ok.0)
-            ∙ state_lent_rest inside.size items from m few all w
+            ∙ state_borrowed_rest inside.size items from m few all w
             ∙ ap (λ (s : StoredWords). record s { words = with_words s.words from (take m w) }) c.self.view_is,
       ),
       record {

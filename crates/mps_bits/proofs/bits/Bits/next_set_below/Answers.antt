@@ -1,4 +1,4 @@
-use Rattle.std.proofs.Common.{ℕ, ◌≡◌, Bool, List, ap, ◌∙◌, arith}
+use Rattle.std.proofs.Common.{ℕ, Bool, List, ap, ◌∙◌, arith}
 use Rattle.mps_bits.specs.Table.{table_of, next_set_below}
 use Rattle.mps_bits.proofs.Tables.{length_of_table, next_set_below_is}
 use Rattle.mps_bits.proofs.bits.Bits.next_set_below.Goals as goal

@@ -1,4 +1,4 @@
-use Rattle.std.proofs.Common.{ℕ, List, Option, None, IfNone, length, sym, subst}
+use Rattle.std.proofs.Common.{List, Option, IfNone, length, sym, subst}
 use Rattle.mps_base.specs.declared.address.Addr.{Addr}
 use Rattle.mps_seg.specs.Condemned.{NoneLeft}
 use Rattle.mps_seg.specs.Table.{NoneCondemnedFirst, IsCondemnedFirst}
