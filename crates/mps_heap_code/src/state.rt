@@ -77,6 +77,7 @@ impl<F: Format> State<F> {
         ensures names { IfOk result (λ h. h.names.entries ≡ []) }
     {
         let finals = Finals::new(alloc)?;
+        let names = Names::new(alloc)?;
         let segs = Segs::new(alloc, grains, limit)?;
         let points = match OpenPoints::new(alloc) {
             Ok(points) => points,
@@ -96,7 +97,7 @@ impl<F: Format> State<F> {
             epochs: Epochs::new(),
             dependencies: Vec::new(alloc),
             pools: Pools::new(alloc),
-            names: Names::new(alloc),
+            names,
             arena: ArenaState::Unclamped,
         })
     }

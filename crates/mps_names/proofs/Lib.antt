@@ -1,1 +1,5 @@
 mod Bytes
+mod Joined
+mod Once
+mod ThreeTables
+mod Beside

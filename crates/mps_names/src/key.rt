@@ -50,7 +50,7 @@ impl Hash for Key {
 
 /// Whether the bytes of two names are the same. They are compared as two numbers.
 #[inline(always)]
-fn are_same(these: &[u8; 16], those: &[u8; 16]) -> bool
+pub(crate) fn are_same(these: &[u8; 16], those: &[u8; 16]) -> bool
     ensures { result ≡ bytes_eq these.now those.now }
 {
     number_of(&these[..8]) == number_of(&those[..8])

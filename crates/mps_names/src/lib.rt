@@ -3,6 +3,8 @@
 
 mod key;
 mod names;
+mod numbers;
+mod tables;
 
 pub use names::{Names, Thing};
 

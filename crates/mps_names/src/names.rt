@@ -1,10 +1,11 @@
 // The map from names to things.
 #![tactic(auto)]
 
-ghost use Rattle.std.specs.Prelude.{◌≡◌, ◌<◌, ◌≤◌, [], None, Some, IfErr, OnOk, OnErr, IsSome, IsOk};
-ghost use Rattle.mps_names.specs.State.{NamesState, thing_named, IsSameMap, Updates};
+ghost use Rattle.std.specs.Prelude.{◌≡◌, ◌<◌, nat_lt, [], None, Some, IfErr, IfOk, OnOk, IsSome};
+ghost use Rattle.mps_names.specs.State.{NamesState, thing_named, IsSameMap, Updates, no_counts, has_own_room, own_room, room_for, counts_with, counts_without};
 
 use crate::key::Key;
+use crate::tables::Tables;
 use mps_base::{Name, Refusal};
 use std::alloc::{AllocError, Global};
 use std::collections::HashMap;
@@ -20,37 +21,65 @@ pub enum Thing {
     Blocks(usize),
     Point(u32),
     Dependency(u32),
+    Label(u32),
+    Cache(u32),
+    Transform(u32),
+}
+
+impl Thing {
+    /// Whether names of things of this kind take no memory.
+    fn has_own_room(self) -> bool
+        ensures { result ≡ has_own_room self }
+    {
+        matches!(
+            self,
+            Thing::Label(_) | Thing::Cache(_) | Thing::Transform(_)
+        )
+    }
 }
 
 /// The names that are taken, and what each represents.
 #[derive(Drop)]
 pub struct Names {
     things: HashMap<Key, Thing>,
+    // Labels, caches and transforms.
+    tables: Tables,
 }
 
 impl Model for Names {
+    ghost use Rattle.std.specs.Prelude.{◌++◌};
     ghost use Rattle.mps_names.specs.State.{NamesState};
+    ghost use Rattle.mps_names.specs.Inside.{AreBeside};
     ghost use Rattle.std.specs.HashMap.{spare};
 
     ghost Value = { NamesState };
 
-    ghost view = { λ n. record { entries = n.things.entries; room = spare n.things } };
+    ghost view = { λ n. record {
+      entries = n.things.entries ++ n.tables.entries;
+      room = spare n.things;
+      counts = n.tables.counts;
+    } };
+
+    ghost invariant = { λ n. AreBeside n.things.entries n.tables };
 }
 
 impl Names {
-    /// No name is taken.
-    pub fn new(alloc: Global) -> Names
-        ensures { result.entries ≡ [] }
+    /// No name is taken. Room for the names of labels, caches and transforms is all that it takes.
+    pub fn new(alloc: Global) -> Result<Names, AllocError>
+        ensures empty { IfOk result (λ names. names.entries ≡ []) }
+        ensures counts { IfOk result (λ names. names.counts ≡ no_counts) }
     {
-        Names {
+        Ok(Names {
+            tables: Tables::new(alloc)?,
             things: HashMap::new(alloc),
-        }
+        })
     }
 
-    /// Makes room for one more name, which is the only call that allocates.
+    /// Makes room for one more name of any thing but a label, a cache or a transform.
     pub fn make_room(&mut self) -> Result<(), AllocError>
         ensures fits { OnOk result (0 < self.new.room) }
         ensures unchanged { IsSameMap self.old self.new }
+        ensures counts { self.new.counts ≡ self.old.counts }
     {
         self.things.reserve(1)
     }
@@ -60,7 +89,10 @@ impl Names {
     pub fn get(&self, name: Name) -> Option<Thing>
         ensures { result ≡ thing_named self.now name }
     {
-        self.things.get(&Key { name }).copied()
+        match self.things.get(&Key { name }) {
+            Some(thing) => Some(*thing),
+            None => self.tables.get(name),
+        }
     }
 
     /// Refuses `NameTaken` if a name represents something.
@@ -68,28 +100,44 @@ impl Names {
         ensures sound { OnOk result (thing_named self.now name ≡ None) }
         ensures refuses { IfErr result (λ why. (why ≡ Refusal.NameTaken) × IsSome (thing_named self.now name)) }
     {
-        if self.things.contains_key(&Key { name }) {
+        if self.get(name).is_some() {
             return Err(Refusal::NameTaken);
         }
         Ok(())
     }
 
-    /// A free name is taken, in the room that was made.
+    /// Whether there is room of its own for the name of a label, a cache or a transform; false for any other thing.
+    pub fn has_own_room_for(&self, thing: Thing) -> bool
+        ensures { result ≡ nat_lt 0 (own_room self.now.counts thing) }
+    {
+        self.tables.has_room_for(thing)
+    }
+
+    /// A free name is taken, in the room that was made, or in the room of labels, of caches or of transforms.
     pub fn take(&mut self, name: Name, thing: Thing)
         requires free { thing_named self.old name ≡ None }
-        requires fits { 0 < self.old.room }
-        ensures { Updates self.old self.new name (Some thing) }
+        requires fits { 0 < room_for self.old thing }
+        ensures names { Updates self.old self.new name (Some thing) }
+        ensures counts { self.new.counts ≡ counts_with self.old.counts thing }
     {
-        let Ok(_) = self.things.insert(Key { name }, thing) else {
-            unreachable!()
-        };
+        if thing.has_own_room() {
+            self.tables.take(name, thing);
+        } else {
+            let Ok(_) = self.things.insert(Key { name }, thing) else {
+                unreachable!()
+            };
+        }
     }
 
     /// A name is free again; what it represented.
     pub fn drop_name(&mut self, name: Name) -> Option<Thing>
         ensures value { result ≡ thing_named self.old name }
         ensures dropped { Updates self.old self.new name None }
+        ensures counts { self.new.counts ≡ counts_without self.old.counts result }
     {
-        self.things.remove(&Key { name })
+        if let Some(thing) = self.things.remove(&Key { name }) {
+            return Some(thing);
+        }
+        self.tables.drop_name(name)
     }
 }

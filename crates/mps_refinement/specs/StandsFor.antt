@@ -154,8 +154,11 @@ numbered_thing past (thing.Area key) = graph.AreaThing (past.area_number key)
 numbered_thing past (thing.Blocks number) = graph.BlocksThing number
 numbered_thing past (thing.Point key) = graph.PointThing (past.point_number key)
 numbered_thing past (thing.Dependency number) = graph.DependencyThing number
+numbered_thing past (thing.Label number) = graph.LabelThing number
+numbered_thing past (thing.Cache number) = graph.CacheThing number
+numbered_thing past (thing.Transform number) = graph.TransformThing number
 
--- a thing is there
+-- a thing is there; a heap has no chains, labels, caches or transforms yet
 abbrev pub IsThere : {F : Type 0} → HeapState F → Thing → Type 0
 IsThere h (thing.Chain number) = ⊥
 IsThere h (thing.Pool number) = number < length h.pools
@@ -164,6 +167,9 @@ IsThere h (thing.Area key) = IsSome (kept h.roots.areas key)
 IsThere h (thing.Blocks number) = number < length h.roots.blocks
 IsThere h (thing.Point key) = IsSome (point_at h.points key)
 IsThere h (thing.Dependency number) = number < length h.dependencies
+IsThere h (thing.Label number) = ⊥
+IsThere h (thing.Cache number) = ⊥
+IsThere h (thing.Transform number) = ⊥
 
 -- names represent the same things in both, each for one that is there, and no two for the same
 pub record AreNamed {F : Type 0} (past : Past) (h : HeapState F) (names : List graph.NamedThing) : Type 0 where

@@ -1,7 +1,7 @@
 // The calls that make and drop things.
 ghost use Rattle.std.specs.Prelude.{◌≡◌, ◌+◌, ◌<◌, ◌≤◌, None, Some, length, option_map, OnOk, IfErr};
 ghost use Rattle.std.specs.Option.{option_map_or};
-ghost use Rattle.mps_names.specs.State.{thing_named, Updates};
+ghost use Rattle.mps_names.specs.State.{thing_named, room_for, Updates};
 ghost use Rattle.mps_names.specs.declared.names.Thing.TheVariants as thing;
 ghost use Rattle.mps_format.specs.declared.pool.Pool.TheVariants as kind_of_pool;
 ghost use Rattle.mps_heap_spec.specs.Making.{IsUntouched, IsMaking, IsDropping, check_root, with_root, MakesTable, MakesArea, MakesBlocks, roots_without, root_dropped, point_dropped, without_answer, check_point, MakesPoint, MakesPointIn, check_pool, check_pool_of_size, MakesPool, check_dependency, MakesDependency};
@@ -59,7 +59,7 @@ impl<F: Format> State<F> {
     /// A root of n slots has a name.
     fn name_root(&mut self, name: Name, thing: Thing, n: u32)
         requires free { thing_named self.old.names name ≡ None }
-        requires room { 0 < self.old.names.room }
+        requires room { 0 < room_for self.old.names thing }
         requires few { self.old.live_roots < 256 }
         requires fits { self.old.live_slots + n ≤ 65536 }
         ensures names { Updates self.old.names self.new.names name (Some thing) }

@@ -37,6 +37,9 @@ module _ {F : Type 0} (h after : HeapState F) where
   stays_there stay (thing.Blocks number) there = stay.blocks number there
   stays_there stay (thing.Point key) there = stay.points key there
   stays_there stay (thing.Dependency number) there = stay.dependencies number there
+  stays_there stay (thing.Label number) there = there
+  stays_there stay (thing.Cache number) there = there
+  stays_there stay (thing.Transform number) there = there
 
   -- names that stand for the same things
   pub named_alike : (past : Past) (names : List NamedThing) → AreNamed past h names → IsSameMap h.names after.names → ThingsStay h after

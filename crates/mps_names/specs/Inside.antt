@@ -1,0 +1,73 @@
+-- What is kept of names, and what each table promises.
+use Rattle.std.specs.Prelude.{ℕ, ◌≡◌, ◌≤◌, false, Option, Some, None, IsSome, List, [], ◌∷◌, ◌++◌, map, length}
+use Rattle.std.specs.Map.{lookup}
+use Rattle.mps_base.specs.declared.names.Name.{Name}
+use Rattle.mps_base.specs.Name.{same_name}
+use Rattle.mps_names.specs.declared.names.Thing.{Thing}
+use Rattle.mps_names.specs.declared.names.Thing.TheVariants as thing
+use Rattle.mps_names.specs.State.{NameCounts, thing_in, has_own_room, most_label_names, most_cache_names, most_transform_names}
+
+-- A table of names with fixed room: the names, each with the number of its thing, and how many fit.
+pub record NumbersState : Type 0 where
+  pub entries : List (Name × ℕ)
+  pub capacity : ℕ
+
+-- each name stands once
+abbrev pub AreOnce : List (Name × ℕ) → Type 0
+AreOnce [] = Unit {0}
+AreOnce (e ∷ es) = (lookup (same_name e.0) es ≡ None) × AreOnce es
+
+-- What a caller sees of the three tables.
+pub record TablesState : Type 0 where
+  pub entries : List (Name × Thing)
+  pub counts : NameCounts
+
+-- the names of things of one kind
+abbrev pub of_kind : (ℕ → Thing) → List (Name × ℕ) → List (Name × Thing)
+of_kind kind entries = map (λ e. (e.0, kind e.1)) entries
+
+abbrev pub label : ℕ → Thing
+label number = thing.Label number
+
+abbrev pub cache : ℕ → Thing
+cache number = thing.Cache number
+
+abbrev pub transform : ℕ → Thing
+transform number = thing.Transform number
+
+-- what three tables hold
+abbrev pub state_of_tables : (labels caches transforms : NumbersState) → TablesState
+state_of_tables labels caches transforms = record {
+  entries = of_kind label labels.entries ++ (of_kind cache caches.entries ++ of_kind transform transforms.entries);
+  counts = record {
+    labels = length labels.entries;
+    caches = length caches.entries;
+    transforms = length transforms.entries;
+  };
+}
+
+-- what is found by a name
+abbrev pub found_in : {X : Type 0} → List (Name × X) → Name → Option X
+found_in entries name = lookup (same_name name) entries
+
+-- no name of the first stands in the second
+abbrev pub AreApart : {X : Type 0} → (these those : List (Name × X)) → Type 0
+AreApart these those = (name : Name) → IsSome (found_in these name) → found_in those name ≡ None
+
+-- the three tables have no name in common, and room for all
+pub record AreTables (labels caches transforms : NumbersState) : Type 0 where
+  pub labels_apart : AreApart (of_kind label labels.entries) (of_kind cache caches.entries ++ of_kind transform transforms.entries)
+  pub caches_apart : AreApart (of_kind cache caches.entries) (of_kind transform transforms.entries)
+  pub labels_fit : most_label_names ≤ labels.capacity
+  pub caches_fit : most_cache_names ≤ caches.capacity
+  pub transforms_fit : most_transform_names ≤ transforms.capacity
+
+-- the map has no name of the tables, and nothing that belongs into them
+pub record AreBeside (things : List (Name × Thing)) (tables : TablesState) : Type 0 where
+  pub apart : AreApart things tables.entries
+  pub others : (name : Name) (t : Thing) → thing_in things name ≡ Some t → has_own_room t ≡ false
+
+-- this is found by this name in the new list, or nothing, and by every other name what is found in the old
+pub record ChangesAt {X : Type 0} (old new : List (Name × X)) (name : Name) (value : Option X) : Type 0 where
+  pub named : found_in new name ≡ value
+  pub others : (other : Name) → same_name name other ≡ false → found_in new other ≡ found_in old other
