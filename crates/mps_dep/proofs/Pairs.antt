@@ -10,7 +10,8 @@ use Rattle.std.proofs.lemmas.List.Elements.{All-head, All-tail, All-cons, All-ni
 use Rattle.mps_bits.specs.Table.{bit}
 use Rattle.mps_base.specs.Address.{Address}
 use Rattle.mps_dep.specs.declared.dependents.Pair.{Pair}
-use Rattle.mps_dep.specs.Marks.{mark_of, marks_count}
+use Rattle.mps_address_marks.specs.Marks.{mark_of}
+use Rattle.mps_dep.specs.Marks.{marks_count}
 use Rattle.mps_dep.specs.Inside.{IsMarked, IsSoundDependents, has_mark}
 use Rattle.mps_dep.specs.State.{max_pairs, is_of, has_name, dependent_of, without_holder, without_address}
 
@@ -80,23 +81,23 @@ neither false true is = absurd (false≢true (sym is))
 
 module _ (marks : List Bool) where
   -- a marked address and one without a mark are two
-  apart : (a b : Address) → bit marks (mark_of a) ≡ true → bit marks (mark_of b) ≡ false → (a == b) ≡ false
+  apart : (a b : Address) → bit marks (mark_of marks_count a) ≡ true → bit marks (mark_of marks_count b) ≡ false → (a == b) ≡ false
   apart a b marked not_marked =
-      not_equal a b (λ same. false≢true (sym not_marked ∙ ap (λ (n : ℕ). bit marks (mark_of n)) (sym same) ∙ marked))
+      not_equal a b (λ same. false≢true (sym not_marked ∙ ap (λ (n : ℕ). bit marks (mark_of marks_count n)) (sym same) ∙ marked))
 
-  has_none : (at : Address) → bit marks (mark_of at) ≡ false → (p : Pair) → IsMarked marks p → has_name at p ≡ false
+  has_none : (at : Address) → bit marks (mark_of marks_count at) ≡ false → (p : Pair) → IsMarked marks p → has_name at p ≡ false
   has_none at not_marked p marked =
       let first : (p.holder.0 == at) ≡ false = apart p.holder.0 at marked.holder not_marked in
       let second : (p.dependent.0 == at) ≡ false = apart p.dependent.0 at marked.dependent not_marked in
       ap (λ b. b || (p.dependent.0 == at)) first ∙ second
 
   -- no pair has an address without a mark
-  pub unmarked_keeps_all : (pairs : List Pair) (at : Address) → All (IsMarked marks) pairs → bit marks (mark_of at) ≡ false
+  pub unmarked_keeps_all : (pairs : List Pair) (at : Address) → All (IsMarked marks) pairs → bit marks (mark_of marks_count at) ≡ false
       → pairs ≡ without_address pairs at
   unmarked_keeps_all pairs at all not_marked =
       sym (all_kept (has_name at) pairs (All-weaker (IsMarked marks) (λ p. has_name at p ≡ false) (has_none at not_marked) pairs all))
 
-  pub unmarked_has_none : (pairs : List Pair) (holder : Address) → All (IsMarked marks) pairs → bit marks (mark_of holder) ≡ false
+  pub unmarked_has_none : (pairs : List Pair) (holder : Address) → All (IsMarked marks) pairs → bit marks (mark_of marks_count holder) ≡ false
       → None ≡ dependent_of pairs holder
   unmarked_has_none pairs holder all not_marked =
       ap (λ (o : Option Pair). option_map (λ p. p.dependent.0) o) (sym (none_found (is_of holder) pairs
@@ -161,10 +162,10 @@ module _ (marks : List Bool) (mark : ℕ) where
 
   still_marked : (p : Pair) → (has_mark mark p ≡ false) → IsMarked marks p → IsMarked (slice_set marks mark false) p
   still_marked p none marked =
-      let apart = neither (mark_of p.holder.0 == mark) (mark_of p.dependent.0 == mark) none in
+      let apart = neither (mark_of marks_count p.holder.0 == mark) (mark_of marks_count p.dependent.0 == mark) none in
       record {
-        holder = other_bit (mark_of p.holder.0) false apart.0 ∙ marked.holder;
-        dependent = other_bit (mark_of p.dependent.0) false apart.1 ∙ marked.dependent;
+        holder = other_bit (mark_of marks_count p.holder.0) false apart.0 ∙ marked.holder;
+        dependent = other_bit (mark_of marks_count p.dependent.0) false apart.1 ∙ marked.dependent;
       }
 
   all_still : (pairs : List Pair) → All (λ p. has_mark mark p ≡ false) pairs → All (IsMarked marks) pairs
@@ -173,8 +174,8 @@ module _ (marks : List Bool) (mark : ℕ) where
 
   more_marked : mark < length marks → (p : Pair) → IsMarked marks p → IsMarked (slice_set marks mark true) p
   more_marked within p marked = record {
-    holder = set_bit (mark_of p.holder.0) within marked.holder;
-    dependent = set_bit (mark_of p.dependent.0) within marked.dependent;
+    holder = set_bit (mark_of marks_count p.holder.0) within marked.holder;
+    dependent = set_bit (mark_of marks_count p.dependent.0) within marked.dependent;
   }
 
 -- a mark that no pair has is cleared
@@ -189,11 +190,11 @@ cleared_stays_sound pairs marks capacity mark sound none = record {
 
 -- a pair is added, and its addresses are marked
 pub added_stays_sound : (pairs : List Pair) (marks : List Bool) (capacity capacity' : ℕ) (p : Pair) → IsSoundDependents pairs marks capacity
-    → length pairs < max_pairs → mark_of p.holder.0 < marks_count → mark_of p.dependent.0 < marks_count → capacity ≤ capacity'
-    → IsSoundDependents (pairs ++ p ∷ []) (slice_set (slice_set marks (mark_of p.holder.0) true) (mark_of p.dependent.0) true) capacity'
+    → length pairs < max_pairs → mark_of marks_count p.holder.0 < marks_count → mark_of marks_count p.dependent.0 < marks_count → capacity ≤ capacity'
+    → IsSoundDependents (pairs ++ p ∷ []) (slice_set (slice_set marks (mark_of marks_count p.holder.0) true) (mark_of marks_count p.dependent.0) true) capacity'
 added_stays_sound pairs marks capacity capacity' p sound fits first second same =
-    let h = mark_of p.holder.0 in
-    let d = mark_of p.dependent.0 in
+    let h = mark_of marks_count p.holder.0 in
+    let d = mark_of marks_count p.dependent.0 in
     let once = slice_set marks h true in
     let within : h < length marks = omega (arith, first, sound.whole) in
     let within' : d < length once = omega (arith, second, sound.whole, length-set marks h true) in

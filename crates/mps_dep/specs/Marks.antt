@@ -1,16 +1,6 @@
--- The marks of addresses.
-use Rattle.std.specs.Prelude.{ℕ, ◌≡◌, ◌/◌, ◌%◌, refl}
-use Rattle.mps_base.specs.Address.{Address}
+-- The marks of addresses in pairs.
+use Rattle.std.specs.Prelude.{ℕ}
 
+-- how many there are: addresses 1 MiB apart have the same
 abbrev pub marks_count : ℕ
 marks_count = 131072
-
--- The index of the mark of an address.
-abbrev pub mark_of : Address → ℕ
-mark_of at = (at / 8) % marks_count
-
-pub a_word_each : mark_of 0x1008 ≡ 513
-a_word_each = refl
-
-pub the_same_a_mebibyte_on : mark_of 0x101008 ≡ 513
-the_same_a_mebibyte_on = refl

@@ -7,7 +7,8 @@ ghost use Rattle.std.specs.Option.{MatchOption, option_map};
 ghost use Rattle.mps_dep.specs.State.{max_pairs, dependent_of, without_holder, without_address, with_pair, has_name};
 ghost use Rattle.mps_dep.specs.Inside.{has_mark};
 
-use crate::marks;
+use crate::marks::{self, MARKS};
+use mps_address_marks::mark_of;
 use mps_base::{Addr, Refusal};
 use mps_bits::Bits;
 use std::alloc::{AllocError, Global};
@@ -58,7 +59,7 @@ impl Dependents {
     pub fn dependent(&self, holder: Addr) -> Option<Addr>
         ensures { option_map (λ at. at.0) result ≡ dependent_of self.now holder.0 }
     {
-        if !self.marks.test(marks::mark_of(holder)) {
+        if !self.marks.test(mark_of(holder, MARKS)) {
             return None;
         }
         dependent_in(&self.pairs, holder)
@@ -78,8 +79,8 @@ impl Dependents {
                 limit: MAX_PAIRS as u32,
             });
         }
-        self.marks.set(marks::mark_of(holder));
-        self.marks.set(marks::mark_of(dependent));
+        self.marks.set(mark_of(holder, MARKS));
+        self.marks.set(mark_of(dependent, MARKS));
         let Ok(()) = self.pairs.push(Pair { holder, dependent }) else {
             unreachable!()
         };
@@ -104,7 +105,7 @@ impl Dependents {
         if self.pairs.is_empty() {
             return;
         }
-        let mark = marks::mark_of(at);
+        let mark = mark_of(at, MARKS);
         if !self.marks.test(mark) {
             return;
         }
@@ -146,6 +147,6 @@ fn has_mark(pairs: &[Pair], mark: usize) -> bool
     ensures { result ≡ list_any (has_mark mark) pairs.now }
 {
     pairs.iter().any(|pair| {
-        marks::mark_of(pair.holder) == mark || marks::mark_of(pair.dependent) == mark
+        mark_of(pair.holder, MARKS) == mark || mark_of(pair.dependent, MARKS) == mark
     })
 }

@@ -12,7 +12,8 @@ use Rattle.mps_base.specs.Address.{Address}
 use Rattle.mps_bits.specs.Table.{bit}
 use Rattle.mps_xform.specs.declared.transforms.Pair.{Pair}
 use Rattle.mps_xform.specs.Inside.{AreSoundReplacements, after_add}
-use Rattle.mps_xform.specs.Marks.{mark_of, marks_count}
+use Rattle.mps_address_marks.specs.Marks.{mark_of}
+use Rattle.mps_xform.specs.Marks.{marks_count}
 use Rattle.mps_xform.specs.State.{is_of, max_pairs}
 
 -- no pair, and no mark
@@ -26,25 +27,25 @@ none_sound entries spare marks none room whole = record {
 
 -- a pair is added, and its old address is marked
 module _ (entries entries' : List (ℕ × Pair)) (spare spare' : ℕ) (marks : List Bool) (pair : Pair) where
-  apart : (at : Address) → mark_of pair.old.0 < length marks → bit (slice_set marks (mark_of pair.old.0) true) (mark_of at) ≡ false
-      → (nat_eq pair.old.0 at ≡ false) × (bit marks (mark_of at) ≡ false)
+  apart : (at : Address) → mark_of marks_count pair.old.0 < length marks → bit (slice_set marks (mark_of marks_count pair.old.0) true) (mark_of marks_count at) ≡ false
+      → (nat_eq pair.old.0 at ≡ false) × (bit marks (mark_of marks_count at) ≡ false)
   unfolding bit
   apart at within unmarked =
-      let m = mark_of pair.old.0 in
-      let other : mark_of at ≢ m =
+      let m = mark_of marks_count pair.old.0 in
+      let other : mark_of marks_count at ≢ m =
       λ same. false≢true (sym unmarked ∙ ap (λ (n : ℕ). get_or (set marks m true) n false) same
       ∙ get_or-set_same marks m true false within) in
       elim (eqb_tells pair.old.0 at) [
-        | inl same ↦ absurd (other (ap mark_of (sym same.1)))
-        | inr differs ↦ (differs.0, sym (get_or-set_other marks m (mark_of at) true false other) ∙ unmarked)
+        | inl same ↦ absurd (other (ap (mark_of marks_count) (sym same.1)))
+        | inr differs ↦ (differs.0, sym (get_or-set_other marks m (mark_of marks_count at) true false other) ∙ unmarked)
       ]
 
   pub added_sound : AreSoundReplacements entries spare marks → max_pairs ≤ length entries' + spare'
       → ((at : Address) → nat_eq pair.old.0 at ≡ false → lookup (nat_eq at) entries' ≡ lookup (nat_eq at) entries)
-      → mark_of pair.old.0 < marks_count → AreSoundReplacements entries' spare' (slice_set marks (mark_of pair.old.0) true)
+      → mark_of marks_count pair.old.0 < marks_count → AreSoundReplacements entries' spare' (slice_set marks (mark_of marks_count pair.old.0) true)
   added_sound sound room others within = record {
     room = room;
-    whole = length-set marks (mark_of pair.old.0) true ∙ sound.whole;
+    whole = length-set marks (mark_of marks_count pair.old.0) true ∙ sound.whole;
     marked = λ at unmarked.
         let a = apart at (omega (arith, within, sound.whole)) unmarked in
         others at a.0 ∙ sound.marked at a.1;

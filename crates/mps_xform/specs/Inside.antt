@@ -6,7 +6,8 @@ use Rattle.std.specs.Map.{lookup}
 use Rattle.mps_bits.specs.Table.{bit}
 use Rattle.mps_base.specs.Address.{Address}
 use Rattle.mps_xform.specs.declared.transforms.Pair.{Pair}
-use Rattle.mps_xform.specs.Marks.{mark_of, marks_count}
+use Rattle.mps_address_marks.specs.Marks.{mark_of}
+use Rattle.mps_xform.specs.Marks.{marks_count}
 use Rattle.mps_xform.specs.State.{max_pairs}
 
 -- there is room for all pairs that there may be, and each is of a transform that there is
@@ -19,7 +20,7 @@ pub record AreSoundTransforms (live : List Bool) (pairs : List Pair) (capacity :
 pub record AreSoundReplacements (entries : List (ℕ × Pair)) (spare : ℕ) (marks : List Bool) : Type 0 where
   pub room : max_pairs ≤ length entries + spare
   pub whole : length marks ≡ marks_count
-  pub marked : (at : Address) → bit marks (mark_of at) ≡ false → lookup (nat_eq at) entries ≡ None
+  pub marked : (at : Address) → bit marks (mark_of marks_count at) ≡ false → lookup (nat_eq at) entries ≡ None
 
 -- the pair of an old address after one was added, which gives way to an earlier one
 abbrev pub after_add : (pair : Pair) → (before : Option Pair) → (old : Address) → Option Pair

@@ -5,17 +5,17 @@ ghost use Rattle.std.specs.Prelude.{◌≡◌, ℕ, ◌+◌, ◌<◌, ◌≤◌,
 ghost use Rattle.std.specs.List.{find};
 ghost use Rattle.std.specs.Map.{lookup};
 ghost use Rattle.mps_xform.specs.Inside.{after_add};
-ghost use Rattle.mps_xform.specs.Marks.{mark_of, marks_count};
 ghost use Rattle.mps_xform.specs.State.{max_pairs, is_of};
 
 use crate::transforms::{MAX_PAIRS, Pair};
 use indexmap::IndexMap;
-use mps_base::{Addr, BYTES_OF_WORD};
+use mps_address_marks::mark_of;
+use mps_base::Addr;
 use mps_bits::Bits;
 use std::alloc::{AllocError, Global};
 use std::marker::Model;
 
-/// How many marks there are: 4 KiB of bits.
+/// How many marks there are: 4 KiB of bits. Addresses 256 KiB apart have the same.
 const MARKS: usize = 32_768;
 
 /// The pairs of a transform by their old addresses. Beside them stands a mark for each old address, so that one bit says of most
@@ -55,7 +55,7 @@ impl Replacements {
     pub(crate) fn get(&self, old: Addr) -> Option<Pair>
         ensures { result ≡ lookup (nat_eq old.0) self.now }
     {
-        if !self.marks.test(mark_of(old)) {
+        if !self.marks.test(mark_of(old, MARKS)) {
             return None;
         }
         self.pairs.get(&old.0).copied()
@@ -92,18 +92,9 @@ impl Replacements {
         if self.get(pair.old).is_some() {
             return;
         }
-        self.marks.set(mark_of(pair.old));
+        self.marks.set(mark_of(pair.old, MARKS));
         let Ok(_) = self.pairs.insert(pair.old.0, pair) else {
             unreachable!()
         };
     }
-}
-
-/// The index of the mark of an address. Addresses 256 KiB apart have the same.
-#[inline(always)]
-fn mark_of(at: Addr) -> usize
-    ensures value { result ≡ mark_of at.0 }
-    ensures within { result < marks_count }
-{
-    (at.0 / BYTES_OF_WORD) as usize % MARKS
 }

@@ -4,7 +4,8 @@ use Rattle.std.specs.Vec.{vec_capacity}
 use Rattle.std.proofs.lemmas.Grind.{common_steps}
 use Rattle.mps_dep.specs.declared.dependents.Pair.{Pair}
 use Rattle.mps_dep.specs.Inside.{IsSoundDependents}
-use Rattle.mps_dep.specs.Marks.{mark_of}
+use Rattle.mps_address_marks.specs.Marks.{mark_of}
+use Rattle.mps_dep.specs.Marks.{marks_count}
 use Rattle.mps_dep.specs.State.{dependent_of, max_pairs}
 use Rattle.mps_dep.proofs.Pairs.{added_stays_sound, for_some, none_before, none_to_end}
 use Rattle.mps_dep.proofs.dependents.Dependents.link.Goals as goal
@@ -50,8 +51,8 @@ invariant_of-self c =
     let old = c.self.inside in
     let p : Pair = record { holder = c.args.holder; dependent = c.args.dependent } in
     let capacity = vec_capacity c.push.new.self in
-    let h = mark_of c.args.holder.0 in
-    let d = mark_of c.args.dependent.0 in
+    let h = mark_of marks_count c.args.holder.0 in
+    let d = mark_of marks_count c.args.dependent.0 in
     let marked : c.set-2.new.self ≡ slice_set (slice_set old.marks h true) d true =
     c.set-2.ensures.state
     ∙ ap (λ (n : ℕ). slice_set c.set.new.self n true) c.mark_of-2.ensures.value

@@ -4,7 +4,8 @@ use Rattle.std.specs.Map.{lookup}
 use Rattle.std.specs.Prelude.{nat_eq, is_some, slice_set}
 use Rattle.mps_xform.specs.declared.transforms.Pair.{Pair}
 use Rattle.mps_xform.specs.Inside.{AreSoundReplacements}
-use Rattle.mps_xform.specs.Marks.{mark_of}
+use Rattle.mps_address_marks.specs.Marks.{mark_of}
+use Rattle.mps_xform.specs.Marks.{marks_count}
 use Rattle.mps_xform.specs.State.{max_pairs}
 use Rattle.mps_xform.proofs.Filled.{added_sound}
 use Rattle.mps_xform.proofs.replacements.Replacements.add.Goals as goal
@@ -26,7 +27,7 @@ invariant_of-self c =
       c.in-Ok.ensures.spare,
       c.in-Ok.ensures.len ∙ ap (λ (b : Bool). length old.pairs.entries + cond b 0 1) (gone c),
     ) in
-    let marked : c.set.new.self ≡ slice_set old.marks (mark_of c.args.pair.old.0) true =
+    let marked : c.set.new.self ≡ slice_set old.marks (mark_of marks_count c.args.pair.old.0) true =
     c.set.ensures.state ∙ ap (λ (n : ℕ). slice_set old.marks n true) c.mark_of.ensures.value in
     let P : List Bool → Type 0 = λ marks. AreSoundReplacements c.insert.new.self.entries (spare c.insert.new.self) marks in
     subst P (sym marked)
