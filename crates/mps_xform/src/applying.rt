@@ -4,6 +4,7 @@
 ghost use Rattle.std.specs.Prelude.{◌≡◌, ◌+◌, ◌%◌, ◌<◌, ◌≤◌, ℕ, Some, None, IfSome, IfNone, IsTrue, length, slice_index};
 ghost use Rattle.std.specs.List.{All};
 ghost use Rattle.mps_base.specs.Address.{word_of, bytes_of_word};
+ghost use Rattle.mps_format.specs.Layout.{Layout};
 ghost use Rattle.mps_seg.specs.Extents.{first_run};
 ghost use Rattle.mps_seg.specs.Segs.{SegsState};
 ghost use Rattle.mps_xform.specs.Applying.{CanApply, after_apply, after_apply_below, after_replace, word_after_apply};
@@ -19,7 +20,8 @@ use mps_seg::Segs;
 impl Transforms {
     /// Applies a transform to a pool: in each block of the pool each reference that leads to an old address leads to its new one, and keeps
     /// its tag. Each is judged by the word that it had before, so a pair never acts on what another wrote. Each written cell is noted in
-    /// the summary of its segment; no other word changes. Needs the format of the pool, and new addresses that are multiples of 8.
+    /// the summary of its segment; no other word changes. Needs the format of the pool, and new addresses that are multiples of 8. A
+    /// transform can be applied to any pool after it to which it could be applied before.
     pub fn apply<F: Format>(&mut self, transform: u32, format: &F, segs: &mut Segs, pool: u32)
         requires aligned { All (λ p. p.new.0 % bytes_of_word ≡ 0) self.old.pairs }
         requires can { CanApply (F.layout format.now) segs.old pool }
@@ -27,6 +29,7 @@ impl Transforms {
         ensures state { segs.new ≡ after_apply (F.layout format.now) (new_address self.old transform) segs.old pool }
         ensures words { (word : ℕ) → slice_index segs.new.words word
             ≡ word_after_apply (F.layout format.now) (new_address self.old transform) segs.old pool word }
+        ensures again { (layout : Layout) (other : ℕ) → CanApply layout segs.old other → CanApply layout segs.new other }
     {
         self.replacements.fill(&self.pairs, transform);
         apply_to_pool(&self.replacements, format, segs, pool);

@@ -18,6 +18,7 @@ impl Transforms {
         requires { AreListedOnce roots.old }
         ensures unchanged { self.new ≡ self.old }
         ensures slots { roots.new ≡ slots_after_apply (new_address self.old transform) roots.old }
+        ensures again { AreListedOnce roots.new }
     {
         self.replacements.fill(&self.pairs, transform);
         apply_to_tables(&self.replacements, roots);

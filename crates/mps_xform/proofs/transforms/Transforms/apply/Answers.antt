@@ -1,4 +1,4 @@
-use Rattle.std.proofs.Common.{◌≡◌, ◌%◌, ◌&&◌, ◌==◌, ◌∙◌, Option, List, length, sym, ap}
+use Rattle.std.proofs.Common.{◌≡◌, ◌%◌, ◌&&◌, ◌==◌, ◌∙◌, Option, List, length, sym, ap, subst}
 use Rattle.std.specs.Prelude.{option_map, nat_eq, slice_index}
 use Rattle.std.specs.List.{find}
 use Rattle.std.specs.Map.{lookup}
@@ -7,6 +7,9 @@ use Rattle.mps_seg.specs.Segs.{SegsState}
 use Rattle.mps_xform.specs.declared.transforms.Pair.{Pair}
 use Rattle.mps_xform.specs.Passing.{new_in}
 use Rattle.mps_xform.specs.State.{TransformsState, is_of, new_address, pair_of}
+use Rattle.mps_format.specs.Layout.{Layout}
+use Rattle.mps_xform.specs.Applying.{CanApply, after_apply}
+use Rattle.mps_xform.proofs.Again.{can_again}
 use Rattle.mps_xform.proofs.Applied.{below_same}
 use Rattle.mps_xform.proofs.Done.{found_has, word_is}
 use Rattle.mps_xform.proofs.transforms.Transforms.apply.Goals as goal
@@ -39,3 +42,10 @@ returns-clause-words g c = λ word.
     ap (λ (x : SegsState). slice_index x.words word) (returns-clause-state g c)
     ∙ word_is (g.F.Format.layout c.args.format.now) (new_address c.args.self.now c.args.transform) c.args.segs.now c.args.pool
     c.requires.can word
+
+pub returns-clause-again : goal.returns-clause-again
+returns-clause-again g c = λ layout other could.
+    let P : SegsState → Type 0 = λ x. CanApply layout x other in
+    subst P (sym (returns-clause-state g c))
+    (can_again (g.F.Format.layout c.args.format.now) (g.met.F.Format.lawful c.args.format.now)
+    (new_address c.args.self.now c.args.transform) c.args.segs.now c.args.pool c.requires.can layout other could)

@@ -1,4 +1,4 @@
-use Rattle.std.proofs.Common.{ℕ, ◌≡◌, ◌&&◌, ◌==◌, ◌∙◌, Option, List, ap}
+use Rattle.std.proofs.Common.{ℕ, ◌≡◌, ◌&&◌, ◌==◌, ◌∙◌, Option, List, ap, subst, sym}
 use Rattle.std.specs.Prelude.{option_map}
 use Rattle.std.specs.List.{find}
 use Rattle.mps_base.specs.Address.{Address}
@@ -6,6 +6,8 @@ use Rattle.mps_root.specs.State.{RootsState}
 use Rattle.mps_xform.specs.declared.transforms.Pair.{Pair}
 use Rattle.mps_xform.specs.Passing.{new_in}
 use Rattle.mps_xform.specs.State.{TransformsState, is_of, new_address}
+use Rattle.mps_xform.specs.Slots.{AreListedOnce}
+use Rattle.mps_xform.proofs.Again.{listed_again}
 use Rattle.mps_xform.proofs.Mapped.{tables_same}
 use Rattle.mps_xform.proofs.transforms.Transforms.apply_slots.Goals as goal
 
@@ -21,3 +23,9 @@ returns-clause-slots c =
     c.apply_to_tables.ensures
     ∙ ap (λ (ts : List (Option (List ℕ))). let x : RootsState = record r { tables = ts } in x)
     (tables_same (new_in c.fill.new.self) (new_address t c.args.transform) same r.tables)
+
+pub returns-clause-again : goal.returns-clause-again
+returns-clause-again c =
+    let P : RootsState → Type 0 = λ x. AreListedOnce x in
+    subst P (sym (returns-clause-slots c))
+    (listed_again (new_address c.args.self.now c.args.transform) c.args.roots.now c.requires)
