@@ -97,7 +97,8 @@ module _ (marks : List Bool) where
   unmarked_keeps_all pairs at all not_marked =
       sym (all_kept (has_name at) pairs (All-weaker (IsMarked marks) (λ p. has_name at p ≡ false) (has_none at not_marked) pairs all))
 
-  pub unmarked_has_none : (pairs : List Pair) (holder : Address) → All (IsMarked marks) pairs → bit marks (mark_of marks_count holder) ≡ false
+  pub unmarked_has_none : (pairs : List Pair) (holder : Address) → All (IsMarked marks) pairs
+      → bit marks (mark_of marks_count holder) ≡ false
       → None ≡ dependent_of pairs holder
   unmarked_has_none pairs holder all not_marked =
       ap (λ (o : Option Pair). option_map (λ p. p.dependent.0) o) (sym (none_found (is_of holder) pairs
@@ -190,8 +191,10 @@ cleared_stays_sound pairs marks capacity mark sound none = record {
 
 -- a pair is added, and its addresses are marked
 pub added_stays_sound : (pairs : List Pair) (marks : List Bool) (capacity capacity' : ℕ) (p : Pair) → IsSoundDependents pairs marks capacity
-    → length pairs < max_pairs → mark_of marks_count p.holder.0 < marks_count → mark_of marks_count p.dependent.0 < marks_count → capacity ≤ capacity'
-    → IsSoundDependents (pairs ++ p ∷ []) (slice_set (slice_set marks (mark_of marks_count p.holder.0) true) (mark_of marks_count p.dependent.0) true) capacity'
+    → length pairs < max_pairs → mark_of marks_count p.holder.0 < marks_count → mark_of marks_count p.dependent.0 < marks_count
+    → capacity ≤ capacity'
+    → IsSoundDependents (pairs ++ p ∷ [])
+    (slice_set (slice_set marks (mark_of marks_count p.holder.0) true) (mark_of marks_count p.dependent.0) true) capacity'
 added_stays_sound pairs marks capacity capacity' p sound fits first second same =
     let h = mark_of marks_count p.holder.0 in
     let d = mark_of marks_count p.dependent.0 in

@@ -27,7 +27,8 @@ none_sound entries spare marks none room whole = record {
 
 -- a pair is added, and its old address is marked
 module _ (entries entries' : List (ℕ × Pair)) (spare spare' : ℕ) (marks : List Bool) (pair : Pair) where
-  apart : (at : Address) → mark_of marks_count pair.old.0 < length marks → bit (slice_set marks (mark_of marks_count pair.old.0) true) (mark_of marks_count at) ≡ false
+  apart : (at : Address) → mark_of marks_count pair.old.0 < length marks
+      → bit (slice_set marks (mark_of marks_count pair.old.0) true) (mark_of marks_count at) ≡ false
       → (nat_eq pair.old.0 at ≡ false) × (bit marks (mark_of marks_count at) ≡ false)
   unfolding bit
   apart at within unmarked =
@@ -42,7 +43,8 @@ module _ (entries entries' : List (ℕ × Pair)) (spare spare' : ℕ) (marks : L
 
   pub added_sound : AreSoundReplacements entries spare marks → max_pairs ≤ length entries' + spare'
       → ((at : Address) → nat_eq pair.old.0 at ≡ false → lookup (nat_eq at) entries' ≡ lookup (nat_eq at) entries)
-      → mark_of marks_count pair.old.0 < marks_count → AreSoundReplacements entries' spare' (slice_set marks (mark_of marks_count pair.old.0) true)
+      → mark_of marks_count pair.old.0 < marks_count
+      → AreSoundReplacements entries' spare' (slice_set marks (mark_of marks_count pair.old.0) true)
   added_sound sound room others within = record {
     room = room;
     whole = length-set marks (mark_of marks_count pair.old.0) true ∙ sound.whole;

@@ -7,7 +7,8 @@ use Rattle.mps_names.proofs.tables.Tables.take.Goals as goal
 
 -- ---- a label
 
-label_free : (c : goal.After-take) → found_in (entries_of c.self.inside.labels c.self.inside.caches c.self.inside.transforms) c.args.name ≡ None
+label_free : (c : goal.After-take)
+    → found_in (entries_of c.self.inside.labels c.self.inside.caches c.self.inside.transforms) c.args.name ≡ None
 label_free c = ap (λ (s : TablesState). found_in s.entries c.args.name) c.self.view_is ∙ c.requires.free
 
 label_taken : (c : goal.After-take)
