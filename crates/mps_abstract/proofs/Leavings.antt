@@ -31,6 +31,7 @@ same_world w = record {
   segments = w.segments;
   tails = w.tails;
   collection = w.collection;
+  unpaired = λ none. none;
   world = refl;
 }
 
@@ -44,6 +45,7 @@ moved_on a b = record {
   segments = b.segments;
   tails = b.tails;
   collection = b.collection;
+  unpaired = λ none. b.unpaired (ap (λ (t : World). t.graph.dependents) a.world ∙ a.unpaired none);
   world = b.world ∙ ap (λ (t : World). record t {
     graph = record t.graph { objects = b.objects; registered = b.registered; messages = b.messages; dependents = b.dependents };
     addresses = b.addresses;
@@ -67,6 +69,7 @@ one_kept x may id live ms c keep =
       segments = one.segments;
       tails = one.tails;
       collection = Some c;
+      unpaired = λ none. none;
       world = one.world;
     }
 
@@ -92,6 +95,7 @@ splats_move {holder} {x} (splats_cell {cell = cell} refers white rest) =
       segments = x.world.segments;
       tails = x.world.tails;
       collection = option_map splatting x.world.collection;
+      unpaired = λ none. none;
       world = refl;
     }) (splats_move rest)
 
@@ -106,6 +110,7 @@ post_moves w id = record {
   segments = w.segments;
   tails = w.tails;
   collection = (after_post w id).collection;
+  unpaired = λ none. none;
   world = refl;
 }
 
@@ -127,6 +132,7 @@ unit_moves {x} run (reclaims {s = s} {freed} {c} next not_last runs) = record {
   segments = (cleared x run s freed next).segments;
   tails = x.world.tails;
   collection = Some (final_collection x run s freed next);
+  unpaired = (frees x run s freed next).unpaired;
   world = goes_on_leads x run s freed next not_last;
 }
 
@@ -145,6 +151,7 @@ last_unit_moves {x} run (reclaims_last {s = s} {freed} next last) = record {
     segments = (cleared x run s freed next).segments;
     tails = x.world.tails;
     collection = None;
+    unpaired = (frees x run s freed next).unpaired;
     world = last_leads x run s freed next last;
   };
   ended = ap (λ (v : World). v.collection) (last_leads x run s freed next last);

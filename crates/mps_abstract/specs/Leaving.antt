@@ -1,5 +1,5 @@
 -- What units leave of the world, for every kind of pool.
-use Rattle.std.specs.Prelude.{◌≡◌, ℕ, Option, None, List}
+use Rattle.std.specs.Prelude.{◌≡◌, ℕ, Option, None, List, []}
 use Rattle.mps_base.specs.Address.{Id, Address}
 use Rattle.mps_base.specs.Segment.{Segment}
 use Rattle.mps_base.specs.declared.moves.Move.{Move}
@@ -21,6 +21,8 @@ pub record IsButCollected (before after : World) : Type 0 where
   pub segments : List Segment
   pub tails : List Tail
   pub collection : Option Collection
+  -- where no object had a dependent none has one
+  pub unpaired : before.graph.dependents ≡ [] → dependents ≡ []
   pub world : after ≡ record before {
     graph = record before.graph { objects = objects; registered = registered; messages = messages; dependents = dependents };
     addresses = addresses;
