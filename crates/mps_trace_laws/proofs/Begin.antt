@@ -4,6 +4,7 @@ pub mod HeldSegments
 pub mod NothingAtHand
 pub mod StrongNails
 pub mod CondemnedIds
+pub mod MovesAtFlip
 pub mod FlippedSegments
 pub mod FlippedImage
 pub mod FlipStands

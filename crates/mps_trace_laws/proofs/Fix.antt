@@ -12,6 +12,7 @@ pub mod Objects
 pub mod Copied
 pub mod Staying
 pub mod Grown
+pub mod SplatsLeft
 pub mod Room
 pub mod Steps
 pub mod FixSteps

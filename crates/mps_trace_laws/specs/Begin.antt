@@ -1,4 +1,4 @@
 -- The begin of a full collection: the flip of the model.
+pub mod MovesOfObjects
 pub mod Before
 pub mod Begun
-pub mod MovesOfObjects

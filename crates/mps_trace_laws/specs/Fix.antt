@@ -1,4 +1,5 @@
 -- Fixes and scans: steps of the abstract collector.
+pub mod Room
 pub mod Tracing
 pub mod Growing
 pub mod Finding

@@ -17,7 +17,7 @@ module _ (w : World) (rest : IsAtRest w) where
   abbrev x : Collecting
   x = collecting_after_flip w Everything []
 
-  condemned_automatic : (id : Id) → contains x.running.condemned id ≡ true → object_is is_automatic w id ≡ true
+  pub condemned_automatic : (id : Id) → contains x.running.condemned id ≡ true → object_is is_automatic w id ≡ true
   condemned_automatic id there =
       let listed = contains-filter (lies_in_one x.world (condemned_by x.world Everything)) (live_automatic_ids w) id there in
       (contains-filter (object_is is_automatic w) (live_ids w) id listed.0).1

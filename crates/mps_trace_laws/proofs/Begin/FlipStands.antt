@@ -23,7 +23,8 @@ use Rattle.mps_abstract.specs.Collecting.{Collecting}
 use Rattle.mps_abstract.specs.FlipLaws.{collecting_after_flip}
 use Rattle.mps_trace_laws.specs.Image.Image.{ImageStands, Stands, black_cells}
 use Rattle.mps_trace_laws.specs.Image.Memory.{Setting, is_condemned_word, memory_in, words_of_arena}
-use Rattle.mps_trace_laws.specs.Fix.Tracing.{AreSegmentsOf, AreHeld, HasTables, AreCondemnedAt, AreCoveredInOrder, StateStands, moves_left, setting_of}
+use Rattle.mps_trace_laws.specs.Fix.Tracing.{AreSegmentsOf, AreHeld, HasTables, AreCondemnedAt, AreCoveredInOrder, StateStands, setting_of}
+use Rattle.mps_trace_laws.specs.Fix.Room.{moves_left}
 use Rattle.mps_trace_laws.specs.Fix.Housed.{AreHoused}
 use Rattle.mps_trace_laws.specs.Flip.Reservations.{AreNoneLive}
 use Rattle.mps_trace_laws.proofs.Flip.Reservations.{no_reservation_is_live}
@@ -33,6 +34,7 @@ use Rattle.mps_trace_laws.specs.Nails.Nailed.{AreWordsShown, AreMarkedTo, is_mov
 use Rattle.mps_trace_laws.proofs.Nails.Marks.{areas_marked}
 use Rattle.mps_trace_laws.specs.Begin.Before.{StandsBefore}
 use Rattle.mps_trace_laws.specs.Begin.Begun.{AFlipStands, IsFlipStanding}
+use Rattle.mps_trace_laws.proofs.Begin.MovesAtFlip.{moves_at_flip}
 use Rattle.mps_trace_laws.proofs.Begin.FlippedImage.{resting, kind_is, image_pinned}
 use Rattle.mps_trace_laws.proofs.Begin.FlippedSegments.{segments_flipped, bit_is, is_held, models, moved, condemns, strong, unmarked, whole}
 use Rattle.mps_trace_laws.proofs.Begin.NothingAtHand.{tails_are_empty, empty_tails_stand}
@@ -161,11 +163,11 @@ module _ {F : Type 0} (layout : F → Layout) (t : TraceState F) (s : SegsState)
 
   room : moves_left y + 2 ≤ z.moves.spare
   room =
-      let white = count_by-le-length (is_white y.running.condemned y.colours) (live_ids w) in
+      let objects = moves_at_flip w b.plain.rest in
       let listed = count_by-le-length (nat_le 0) y.running.condemned_segments in
       let held = no_more_pass (is_condemned_by y.world Everything) w.segments in
       let before = b.room in
-      omega (arith, white, listed, held, before)
+      omega (arith, objects, listed, held, before)
 
   moving : IsMoving layout t.formats t.chains y.world
   moving = record {

@@ -11,7 +11,7 @@ use Rattle.mps_abstract.proofs.Lists.{count_by-lt}
 use Rattle.mps_trace_laws.specs.Image.Fixing.{address_moved}
 use Rattle.mps_trace_laws.proofs.Image.Entries.{entry_at-set_same, entry_at-set_other}
 use Rattle.mps_trace_laws.proofs.Image.Marked.{kept_not_white, others_white}
-use Rattle.mps_trace_laws.specs.Fix.Tracing.{white_left}
+use Rattle.mps_trace_laws.specs.Fix.Room.{white_left}
 
 -- what is white after an object was kept was white
 still_white : (condemned : List Id) (k : Colours) (t id : Id) → is_white condemned (keeping k t) id ≡ true → is_white condemned k id ≡ true

@@ -122,7 +122,10 @@ module _ (F : Type 0) (layout : F → Layout) (formats : List (Option (Policy F)
             tails = st.tails;
             hands = st.hands;
           };
-          room = run.stands.room;
+          room =
+              let before = run.stands.room in
+              let no_more = splats_scanned y'.world.graph.objects y'.running.condemned y'.colours holder (live_ids y'.world) in
+              omega (arith, before, no_more);
         };
         trail = run.trail;
       }

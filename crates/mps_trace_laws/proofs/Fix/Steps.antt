@@ -1,6 +1,6 @@
 -- A fix of the tracing collector is a step of the abstract collector: each way in which an object is kept.
 use Rattle.std.proofs.Common.{◌≡◌, ◌∙◌, ℕ, ◌+◌, ◌-◌, ◌≤◌, true, false, refl, sym, ap, List, [], ◌∷◌, ◌++◌, Option, Some, subst, arith}
-use Rattle.std.proofs.lemmas.Bool.{cond-true}
+use Rattle.std.proofs.lemmas.Bool.{cond-true, true≢false}
 use Rattle.std.proofs.lemmas.List.{append-nil, append_assoc}
 use Rattle.std.specs.Prelude.{IsTrue, slice_get}
 use Rattle.mps_base.specs.Address.{Address, Id, Word, address_of_word, address_of_grain}
@@ -12,7 +12,7 @@ use Rattle.mps_base.specs.declared.moves.Move.{Move}
 use Rattle.mps_base.specs.declared.moves.Move.TheVariants as move
 use Rattle.mps_format.specs.Layout.{Layout}
 use Rattle.mps_trace.specs.GenState.{ChainsState}
-use Rattle.mps_model.specs.Graph.{Object, entry_at}
+use Rattle.mps_model.specs.Graph.{Graph, Object, entry_at}
 use Rattle.mps_model.specs.World.{World, is_copying_pool, is_copying_object, id_at, pool_of, target_generation_for, live_ids, with_tail}
 use Rattle.mps_model.specs.Accessing.{address_or_null}
 use Rattle.mps_model.specs.Placement.{ForMove, placement_of}
@@ -29,10 +29,12 @@ use Rattle.mps_trace_laws.specs.Image.Fixing as fixing
 use Rattle.mps_trace_laws.proofs.Image.Entries.{entry_at-set_same}
 use Rattle.mps_trace_laws.proofs.Image.Marked.{kept_not_white}
 use Rattle.mps_trace.specs.Trace.{Traced}
-use Rattle.mps_trace_laws.specs.Fix.Tracing.{StateStands, TracingStands, setting_of, moves_left}
+use Rattle.mps_trace_laws.specs.Fix.Tracing.{StateStands, TracingStands, setting_of}
+use Rattle.mps_trace_laws.specs.Fix.Room.{moves_left, splats_left}
 use Rattle.mps_trace_laws.specs.Fix.Steps.{IsSameGraph, IsFixStep}
 use Rattle.mps_trace_laws.proofs.Fix.Objects.{different, lives, address_is}
 use Rattle.mps_trace_laws.proofs.Fix.Room.{fewer_white, same_live_moved}
+use Rattle.mps_trace_laws.proofs.Fix.SplatsLeft.{splats_kept}
 use Rattle.mps_format.specs.declared.pool.Policy.{Policy}
 
 -- the abstract collector after an object was kept in a world
@@ -51,6 +53,7 @@ module _ {F : Type 0} (layout : F → Layout) (formats : List (Option (Policy F)
     fixes = λ ids ms last rest. passes black rest;
     stands = stands;
     trail = sym (append-nil x.moves.moves);
+    room_to_post = λ white. absurd (true≢false (sym white ∙ black));
     there = there ∙ ap (λ a. Some a) (sym is);
     not_white = black;
     step = fixing.passed t black;
@@ -72,14 +75,19 @@ module _ {F : Type 0} (layout : F → Layout) (formats : List (Option (Policy F)
     same_live : live_ids v ≡ live_ids y.world
 
   module _ (white : is_white_in y t ≡ true) where
-    -- there is room as before, where at most two moves were taken
-    room_after : (v : World) (spare : ℕ) → live_ids v ≡ live_ids y.world → x.moves.spare ≤ spare + 2
-        → moves_left (kept_in y t v) + 2 ≤ spare
-    room_after v spare same few =
+    -- where at most two moves were taken there is room as before, and for a post
+    room_after : (v : World) (spare : ℕ) → live_ids v ≡ live_ids y.world → v.graph ≡ y.world.graph → x.moves.spare ≤ spare + 2
+        → moves_left (kept_in y t v) + 3 ≤ spare
+    room_after v spare same graph few =
         let fewer = fewer_white y.running.condemned y.colours t (live_ids y.world) (live_ids v) same
         (live_is_listed y.world t (lives y.world t now o object there)) white in
+        let no_more = splats_kept y.world.graph.objects y.running.condemned y.colours t (live_ids y.world) white in
+        let alike =
+        ap (λ (g : Graph). splats_left g.objects y.running.condemned (keeping y.colours t) (live_ids v)) graph
+        ∙ ap (splats_left y.world.graph.objects y.running.condemned (keeping y.colours t)) same
+        in
         let room = stands.room in
-        omega (arith, fewer, room, few)
+        omega (arith, fewer, no_more, alike, room, few)
 
     -- it is marked, in a pool that doesn't move its blocks
     pub mark_step : (z : Traced) → is_copying_object y.world t ≡ false → z.moves ≡ x.moves
@@ -89,22 +97,20 @@ module _ {F : Type 0} (layout : F → Layout) (formats : List (Option (Policy F)
       moves = [];
       after = kept_by y t [] y.running;
       fixes = λ ids rest last later. keeps white (marks isnt) later;
-      stands = record {
-        state = state;
-        room =
-            let fewer = fewer_white y.running.condemned y.colours t (live_ids y.world) (live_ids y.world) refl
-            (live_is_listed y.world t (lives y.world t now o object there)) white in
-            let room = stands.room in
-            let same = ap (λ (m : Moves). m.spare) moves in
-            omega (arith, fewer, room, same);
-      };
+      stands = record { state = state; room = omega (arith, enough) };
       trail = ap (λ (m : Moves). m.moves) moves ∙ sym (append-nil x.moves.moves);
+      room_to_post = λ was_white. enough;
       there = there;
       not_white = kept_not_white y.running.condemned y.colours t;
       step = fixing.kept t white;
       same = record { graph = refl; pools = refl; formats = refl };
       same_condemned = refl;
     }
+      where
+        enough : moves_left (kept_by y t [] y.running) + 3 ≤ z.moves.spare
+        enough =
+            let spare = ap (λ (m : Moves). m.spare) moves in
+            room_after y.world z.moves.spare refl refl (omega (arith, spare))
 
     -- where an object was kept by moves that lead to a world for which the state stands
     kept_step : (z : Traced) (answer : Address) (ms : List Move) (v : World) → world_after_moves y.world ms ≡ v
@@ -117,8 +123,9 @@ module _ {F : Type 0} (layout : F → Layout) (formats : List (Option (Policy F)
           moves = ms;
           after = kept_in y t w';
           fixes = λ ids rest last later. keeps white keep later;
-          stands = record { state = k.state; room = room_after w' z.moves.spare k.same_live few };
+          stands = record { state = k.state; room = omega (arith, room_after w' z.moves.spare k.same_live k.same.graph few) };
           trail = trail;
+          room_to_post = λ was_white. room_after w' z.moves.spare k.same_live k.same.graph few;
           there = k.there_now;
           not_white = kept_not_white y.running.condemned y.colours t;
           step = k.step;

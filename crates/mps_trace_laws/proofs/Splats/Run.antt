@@ -31,7 +31,8 @@ use Rattle.mps_trace_laws.proofs.Image.CellChanged.{graph_cell_changed, target_c
 use Rattle.mps_trace_laws.proofs.Image.Entries.{slice_get-set_same, slice_get-set_other}
 use Rattle.mps_trace.specs.Trace.{Traced}
 use Rattle.mps_trace.specs.Scan.{word_at, target_at, after_redirect}
-use Rattle.mps_trace_laws.specs.Fix.Tracing.{TracingStands, StateStands, setting_of, moves_left}
+use Rattle.mps_trace_laws.specs.Fix.Tracing.{TracingStands, StateStands, setting_of}
+use Rattle.mps_trace_laws.specs.Fix.Room.{moves_left}
 use Rattle.mps_trace_laws.specs.Fix.Scanning.{IsToBeScanned}
 use Rattle.mps_trace.specs.Finding.{FindsTo}
 use Rattle.mps_trace.specs.Splat.{SplatsCell, is_null, updates, splats, SplatsTo, begins, goes_on}

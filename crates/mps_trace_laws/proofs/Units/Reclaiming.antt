@@ -39,7 +39,7 @@ use Rattle.mps_trace.specs.State.{FinalsState}
 use Rattle.mps_trace_laws.proofs.Units.Finals.{finals_stay, finals_in_place, finals_at_end}
 use Rattle.mps_trace_laws.specs.Units.Standing.{StandsReclaiming, AreFinalsOf, UnitStands, IsMoving, reclaiming}
 use Rattle.mps_trace_laws.specs.Units.Laws.{HasSegmentsOf, HasFinalsOf, IsTracedUnitDone, IsLastTracedUnitDone}
-use Rattle.mps_trace_laws.specs.Fix.Tracing.{moves_left}
+use Rattle.mps_trace_laws.specs.Fix.Room.{moves_left}
 use Rattle.mps_trace_laws.proofs.Units.Entering.{the_last_band_is_entered}
 use Rattle.mps_trace_laws.proofs.Units.RoomLeft.{moves_left_after, spare_after}
 use Rattle.mps_format.specs.declared.pool.Policy.{Policy}

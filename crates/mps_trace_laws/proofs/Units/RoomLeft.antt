@@ -14,9 +14,10 @@ use Rattle.mps_model.specs.World.{World, live_ids, numbers_of}
 use Rattle.mps_abstract.specs.Colours.{is_white}
 use Rattle.mps_abstract.specs.Collecting.{Collecting, Running}
 use Rattle.mps_abstract.specs.Units.{IsReclaimedNext}
-use Rattle.mps_abstract.proofs.Reclaimed.{frees, final_world, final_state, segments_fewer}
-use Rattle.mps_trace_laws.specs.Fix.Tracing.{white_left, moves_left}
+use Rattle.mps_abstract.proofs.Reclaimed.{frees, final_world, final_state, live_before, segments_fewer}
+use Rattle.mps_trace_laws.specs.Fix.Room.{white_left, splats_at, splats_left, moves_left}
 use Rattle.mps_trace_laws.specs.Reclaim.Freed.{addresses_of, addresses_without}
+use Rattle.mps_trace_laws.proofs.Fix.SplatsLeft.{sum_by-fewer}
 use Rattle.mps_trace_laws.proofs.Reclaim.Without.{frees_lead}
 use Rattle.mps_trace_laws.proofs.Units.Counting.{freed_less}
 
@@ -69,11 +70,18 @@ module _ (y : Collecting) (run : Running y) (t : Segment) (lost : List Run) (nex
       let each = one_address_each lost in
       omega (arith, less, same, each)
 
+  splats_no_more : splats_left y.world.graph.objects y.running.condemned y.colours (live_ids (final_world y run t freed next))
+      ≤ splats_left y.world.graph.objects y.running.condemned y.colours (live_ids y.world)
+  splats_no_more =
+      sum_by-fewer (splats_at y.world.graph.objects y.running.condemned y.colours) 0 (frees y run t freed next).addresses y.world.addresses
+      (live_before y run t freed next)
+
   pub moves_left_after : moves_left (final_state y run t freed next) + length lost + length lost + 1 ≤ moves_left y
   moves_left_after =
       let white = white_fewer in
+      let splats = splats_no_more in
       let segments = segments_fewer y run t freed next in
-      omega (arith, white, segments)
+      omega (arith, white, splats, segments)
 
   pub lost_within : length lost ≤ moves_left y
   lost_within = let left = moves_left_after in omega (arith, left)

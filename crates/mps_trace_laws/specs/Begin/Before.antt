@@ -1,5 +1,5 @@
 -- What the segments of an arena at rest represent before a full flip, and what a collector has to know of pools then.
-use Rattle.std.specs.Prelude.{◌≡◌, ℕ, ◌+◌, ◌*◌, ◌≤◌, false, IsTrue, [], length}
+use Rattle.std.specs.Prelude.{◌≡◌, ℕ, ◌+◌, ◌≤◌, false, IsTrue, [], length}
 use Rattle.mps_base.specs.Address.{Id, Grain}
 use Rattle.mps_base.specs.Generation.{target_generation}
 use Rattle.mps_base.specs.Run.{in_order}
@@ -11,7 +11,7 @@ use Rattle.mps_buffer.specs.Points.{PointsState}
 use Rattle.mps_amc.specs.Amc.{HasTail}
 use Rattle.mps_trace.specs.GenState as chains
 use Rattle.mps_model.specs.Graph.{is_weak_object}
-use Rattle.mps_model.specs.World.{World, is_automatic_kind, is_weak_kind, is_copying_pool, generations_of, pool_is, object_is, live_ids}
+use Rattle.mps_model.specs.World.{World, is_automatic_kind, is_weak_kind, is_copying_pool, generations_of, pool_is, object_is}
 use Rattle.mps_abstract.specs.FlipLaws.{IsAtRest}
 use Rattle.mps_trace_laws.specs.Image.AtRest.{StandsAtRest, AreTargetsLive}
 use Rattle.mps_trace_laws.specs.Image.Image.{AreShaped}
@@ -21,6 +21,7 @@ use Rattle.mps_trace_laws.specs.Fix.Housed.{AreHoused}
 use Rattle.mps_trace.specs.Splat.{HasNoWeakMark}
 use Rattle.mps_trace_laws.specs.Fix.Tracing.{AreSegmentsOf, AreHeld, HasTables, AreCoveredInOrder, AreReservationsHeld, AreKnownPools}
 use Rattle.mps_trace_laws.specs.Nails.Nailed.{AreTablesWhole, AreMarkedAt}
+use Rattle.mps_trace_laws.specs.Begin.MovesOfObjects.{moves_of}
 use Rattle.mps_trace_laws.specs.Flip.Condemned.{AreFormatsOf, AreMovesOf}
 use Rattle.mps_trace_laws.specs.Flip.Ended.{open_runs}
 
@@ -65,4 +66,4 @@ pub record StandsBefore {F : Type 0} (layout : F → Layout) (t : TraceState F) 
   pub segments : AreSegmentsAtRest s w
   pub pools : ArePoolsKnown layout t w
   pub reservations : s.reservations ≡ in_order (open_runs points.flips points.points)
-  pub room : 2 * length (live_ids w) + length w.segments + 4 ≤ m.spare
+  pub room : moves_of w.graph.objects w.addresses + length w.segments + 4 ≤ m.spare

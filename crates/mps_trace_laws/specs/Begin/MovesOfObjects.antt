@@ -1,14 +1,15 @@
 -- How many moves a collection takes at most for the live objects.
-use Rattle.std.specs.Prelude.{◌≡◌, ℕ, ◌+◌, ◌-◌, ◌*◌, ◌≤◌, true, false, if◌then◌else◌, Option, Some, None, List, [], ◌∷◌, Contains, refl}
+use Rattle.std.specs.Prelude.{◌≡◌, ℕ, ◌+◌, ◌*◌, ◌≤◌, true, false, if◌then◌else◌, Option, Some, None, List, [], ◌∷◌, Contains, refl}
 use Rattle.mps_base.specs.Address.{Address}
 use Rattle.mps_base.specs.Run.{IsAscending, in_order}
-use Rattle.mps_model.specs.Graph.{Object, Automatic, Manual, HeadCell, is_automatic, is_weak_object, size_of}
+use Rattle.mps_model.specs.Graph.{Object, Automatic, Manual, HeadCell, is_automatic, size_of}
 use Rattle.mps_model.specs.World.{extents_of}
+use Rattle.mps_trace_laws.specs.Fix.Room.{weak_cells}
 
 -- how many moves a collection takes at most for a live object: three to keep and to post it, and one for each cell of a weak one but its
 -- head. What isn't automatic takes none
 abbrev pub moves_of_object : Object → ℕ
-moves_of_object o = if is_automatic o then 3 + (if is_weak_object o then size_of o - 1 else 0) else 0
+moves_of_object o = if is_automatic o then 3 + weak_cells o else 0
 
 -- and for all of these that are live
 abbrev pub moves_of : List Object → List (Option Address) → ℕ

@@ -1,5 +1,5 @@
 -- What a fix of the tracing collector is to the abstract collector: a step of it, after which the state represents it as before.
-use Rattle.std.specs.Prelude.{◌≡◌, false, Option, Some, List, ◌∷◌, ◌++◌}
+use Rattle.std.specs.Prelude.{◌≡◌, ◌+◌, ◌≤◌, true, false, Option, Some, List, ◌∷◌, ◌++◌}
 use Rattle.mps_base.specs.Address.{Address, Id}
 use Rattle.mps_base.specs.declared.address.Addr.{Addr}
 use Rattle.mps_base.specs.declared.moves.Move.{Move}
@@ -14,6 +14,7 @@ use Rattle.mps_trace_laws.specs.Image.Image.{CellSet, AreShaped}
 use Rattle.mps_trace_laws.specs.Image.Fixing.{FixesOne, Target}
 use Rattle.mps_trace.specs.Trace.{Traced, FixesTo}
 use Rattle.mps_trace_laws.specs.Fix.Tracing.{setting_of, TracingStands}
+use Rattle.mps_trace_laws.specs.Fix.Room.{moves_left}
 use Rattle.mps_format.specs.declared.pool.Policy.{Policy}
 
 -- what fixes leave of a world: all objects, and the pools
@@ -31,6 +32,8 @@ pub record IsFixStep {F : Type 0} (layout : F → Layout) (formats : List (Optio
   pub fixes : (ids : List Id) (ms : List Move) (last : Collecting) → Fixes after ids ms last → Fixes y (t ∷ ids) (moves ++ ms) last
   pub stands : TracingStands layout formats of at_flip done z after
   pub trail : z.moves.moves ≡ x.moves.moves ++ moves
+  -- if it was white there is room to post it too
+  pub room_to_post : is_white_in y t ≡ true → moves_left after + 3 ≤ z.moves.spare
   -- the answer is where the object is then, and it isn't white
   pub there : entry_at after.world.addresses t ≡ Some answer
   pub not_white : is_white_in after t ≡ false

@@ -1,6 +1,6 @@
 -- When the segments, the tails and the moves of a tracing collector represent the abstract collector, while objects are
 -- traced. No fact but the last takes a world.
-use Rattle.std.specs.Prelude.{◌≡◌, ℕ, ◌+◌, ◌*◌, ◌<◌, ◌≤◌, Bool, true, IsTrue, Option, Some, List, [], ◌∷◌, map, length, slice_get, count_by, Contains, false}
+use Rattle.std.specs.Prelude.{◌≡◌, ℕ, ◌+◌, ◌<◌, ◌≤◌, Bool, true, IsTrue, Option, Some, List, [], ◌∷◌, map, length, slice_get, Contains, false}
 use Rattle.std.specs.List.{AllByRecursion}
 use Rattle.mps_base.specs.Address.{Address, Id, Word, word_of, address_of_grain, grain_of, max_grains}
 use Rattle.mps_base.specs.Generation.{target_generation}
@@ -15,13 +15,13 @@ use Rattle.mps_amc.specs.Amc as amc
 use Rattle.mps_trace.specs.GenState.{ChainsState}
 use Rattle.mps_trace.specs.GenState as chains
 use Rattle.mps_model.specs.Graph.{Object, Point, Reservation, contains, is_automatic, entry_at}
-use Rattle.mps_model.specs.World.{PointMemory, is_copying_pool, generations_of, tail_of, live_ids, pool_is, is_automatic_kind}
-use Rattle.mps_abstract.specs.Colours.{Colours, is_white}
-use Rattle.mps_abstract.specs.Collecting.{Collecting, segments_left}
+use Rattle.mps_model.specs.World.{PointMemory, is_copying_pool, generations_of, tail_of, pool_is, is_automatic_kind}
+use Rattle.mps_abstract.specs.Collecting.{Collecting}
 use Rattle.mps_trace_laws.specs.Image.Memory.{Setting, LiesReserved, memory_in, setting_in, words_of_arena, pool_layout, pool_over_word}
 use Rattle.mps_trace_laws.specs.Image.Image.{CellSet, ImageStands}
 use Rattle.mps_trace_laws.specs.Image.AtHand.{Hand, hand_in_tails, HandsStand}
 use Rattle.mps_trace.specs.Trace.{Traced}
+use Rattle.mps_trace_laws.specs.Fix.Room.{moves_left}
 use Rattle.mps_format.specs.declared.pool.Policy.{Policy}
 
 -- ---- segments
@@ -110,18 +110,6 @@ pub record TailsStand (s : Setting) (segments : List Segment) (addresses : List 
   pub apart : (pool generation other its : ℕ) (n : Word) → Covers (tail pool generation) n → Covers (tail other its) n
       → (pool ≡ other) × (generation ≡ its)
   pub home : (pool generation : ℕ) → 0 < (tail pool generation).count → EndsSegment segments pool (tail pool generation)
-
--- ---- room
-
--- how many live objects are white
-abbrev pub white_left : (condemned : List Id) → Colours → (live : List Id) → ℕ
-white_left condemned k live = count_by (is_white condemned k) live
-
--- how many moves a collection may take from here on: two for an object that is kept, one for one that is freed, and one for a segment
--- that is given back
-abbrev pub moves_left : Collecting → ℕ
-moves_left y =
-    2 * white_left y.running.condemned y.colours (live_ids y.world) + segments_left y.running.condemned_segments y.cursor
 
 -- ---- all of it
 

@@ -17,7 +17,8 @@ use Rattle.mps_trace.specs.Trace.{Traced}
 use Rattle.mps_trace.specs.declared.running.Running.{Running as RunningState}
 use Rattle.mps_trace_laws.specs.Fix.Housed.{AreAllExact, AreHoused}
 use Rattle.mps_trace.specs.Splat.{HasNoWeakMark}
-use Rattle.mps_trace_laws.specs.Fix.Tracing.{AreKnownPools, AreSegmentsOf, TracingStands, moves_left}
+use Rattle.mps_trace_laws.specs.Fix.Tracing.{AreKnownPools, AreSegmentsOf, TracingStands}
+use Rattle.mps_trace_laws.specs.Fix.Room.{moves_left}
 use Rattle.mps_trace_laws.specs.Reclaim.Left.{IsUnreserved}
 use Rattle.mps_trace_laws.specs.Reclaim.Units.{FreesFor}
 use Rattle.mps_trace_laws.specs.Units.Finals.{AreFinals}
