@@ -4,6 +4,9 @@ pub mod TwoLists
 pub mod Finals
 pub mod Examining
 pub mod Entering
+pub mod Still
+pub mod Posted
+pub mod CanExamine
 pub mod RoomLeft
 pub mod Reclaiming
 pub mod Rows

@@ -44,7 +44,7 @@ use Rattle.mps_trace_laws.specs.Flip.Condemned.{AreFormatsOf, AreMovesOf}
 use Rattle.mps_trace_laws.proofs.Flip.Condemned.{flip_is_the_models}
 use Rattle.mps_trace_laws.proofs.Flip.Reservations.{no_reservation_is_live}
 use Rattle.mps_trace_laws.proofs.Begin.HeldSegments.{segments_are_exact}
-use Rattle.mps_trace_laws.specs.Units.Finals.{address_of_id}
+use Rattle.mps_trace_laws.specs.Units.Finals.{address_of_id, AreDue}
 use Rattle.mps_trace_laws.proofs.Begin.FinalsThen.{AreFinalsAfter, messages_after, messages_are}
 use Rattle.mps_trace_laws.specs.Units.Standing.{AreFinalsOf, AreCondemnedUnreserved, IsMoving, UnitStands, tracing}
 use Rattle.mps_trace_laws.specs.Begin.Before.{StandsBefore}
@@ -132,7 +132,7 @@ module _ {F : Type 0} (flip_stands : AFlipStands F) (layout : F → Layout) (t :
       (record {
         exact =
             subst (λ (ts : List Segment). AreAllExact ts) (sym flip.traces.state.segments.same_segments)
-            (segments_are_exact w before.plain.rest.well_formed before.pools.strong);
+            (segments_are_exact w before.objects.rest.well_formed before.pools.strong);
         marks = flip.strong;
       })
       held.tables held.messages begins.slots begins.messages all
@@ -182,7 +182,7 @@ module _ {F : Type 0} (flip_stands : AFlipStands F) (layout : F → Layout) (t :
 
   stands : UnitStands layout t.formats t.chains w.addresses z finals' run after
   stands = record {
-    running = begun_running w fixed.moves after before.plain.rest some fixes;
+    running = begun_running w fixed.moves after before.objects.rest some fixes;
     next = ap (λ (r : RunningState). r.next) begins.run_is ∙ sym nothing_examined;
     before =
         ap (λ (r : RunningState). r.registered_before) begins.run_is
@@ -190,7 +190,9 @@ module _ {F : Type 0} (flip_stands : AFlipStands F) (layout : F → Layout) (t :
         ∙ sym (fixed_same fixes).registered_before;
     finals = finals_then;
     all = (fixed_same fixes).registered_before ∙ ap (λ (ids : List Id). length ids) (sym registered_same);
-    examined = far.next ∙ sym ((fixed_same fixes).registered_before ∙ ap (λ (ids : List Id). length ids) before.plain.none_registered);
+    due =
+        subst (λ (n : ℕ). AreDue w.addresses after.world.graph.objects after.world.graph.registered n) (sym nothing_examined)
+        (subst (λ (g : Graph). AreDue w.addresses g.objects g.registered 0) (sym fixed.same.graph) before.objects.due);
     cursor = ap (λ (r : RunningState). r.cursor.0) begins.run_is ∙ sym far.cursor;
     moving = moving_still layout t.formats t.chains y.world after.world fixed.same fixed.stands.state.pools flip.moving;
     unreserved = unreserved;

@@ -163,7 +163,7 @@ module _ {F : Type 0} (layout : F → Layout) (t : TraceState F) (s : SegsState)
 
   room : moves_left y + 2 ≤ z.moves.spare
   room =
-      let objects = moves_at_flip w b.plain.rest in
+      let objects = moves_at_flip w b.objects.rest in
       let listed = count_by-le-length (nat_le 0) y.running.condemned_segments in
       let held = no_more_pass (is_condemned_by y.world Everything) w.segments in
       let before = b.room in
@@ -171,9 +171,9 @@ module _ {F : Type 0} (layout : F → Layout) (t : TraceState F) (s : SegsState)
 
   moving : IsMoving layout t.formats t.chains y.world
   moving = record {
-    shaped = b.plain.shaped;
+    shaped = b.objects.shaped;
     pools = b.pools.pools;
-    strong = b.plain.none_weak;
+    strong = b.objects.none_weak;
   }
 
   pub standing : IsFlipStanding layout t m w z

@@ -67,7 +67,7 @@ module _ {F : Type 0} (layout : F → Layout) (t : TraceState F) (s : SegsState)
   -- ---- objects and their pools
 
   pub kind_is : (id : Id) (o : Object) → slice_get w.graph.objects id ≡ Some o → pool_is is_automatic_kind w o.pool ≡ is_automatic o
-  kind_is id o object = pool_kind w o (list_all-at (is_right_object w) w.graph.objects id o b.plain.rest.well_formed.objects object)
+  kind_is id o object = pool_kind w o (list_all-at (is_right_object w) w.graph.objects id o b.objects.rest.well_formed.objects object)
 
   -- a word of an object is condemned where its pool is automatic
   word_condemned : (id k : ℕ) (o : Object) (n : Word) → Lies w.graph.objects w.addresses id k o n
@@ -77,7 +77,7 @@ module _ {F : Type 0} (layout : F → Layout) (t : TraceState F) (s : SegsState)
   object_condemned : (id k : ℕ) (o : Object) (n : Word) → Lies w.graph.objects w.addresses id k o n
       → contains condemned id ≡ is_condemned_word g n
   object_condemned id k o n l =
-      condemned_is w b.plain.rest id l.at o l.address l.object ∙ sym (kind_is id o l.object) ∙ sym (b.pools.formats o.pool)
+      condemned_is w b.objects.rest id l.at o l.address l.object ∙ sym (kind_is id o l.object) ∙ sym (b.pools.formats o.pool)
       ∙ sym (word_condemned id k o n l)
 
   -- ---- what the flip leaves
@@ -100,7 +100,7 @@ module _ {F : Type 0} (layout : F → Layout) (t : TraceState F) (s : SegsState)
             let o = placed.exists id at there in
             object_condemned id 0 o.0 (word_of at) (begins_there resting w.addresses placed id at o.0 there o.1);
         outside = λ id i o n c target calm l cell is.
-            let kind = condemned_is w b.plain.rest id l.at o l.address l.object in
+            let kind = condemned_is w b.objects.rest id l.at o l.address l.object in
             absurd (manual_refers_nowhere o.body i c target (sym kind ∙ calm) cell is);
         tables = whole layout t s m points w b;
         unmarked = unmarked layout t s m points w b;

@@ -103,7 +103,7 @@ module _ {F : Type 0} (layout : F → Layout) (t : TraceState F) (s : SegsState)
   exact_over : (n : Word) (o : Option Segment) → segment_over g.segments (address_of_word n) ≡ o → rank_of o ≡ Exact
   exact_over n None over = refl
   exact_over n (Some u) over =
-      segments_are_exact w b.plain.rest.well_formed b.pools.strong u
+      segments_are_exact w b.objects.rest.well_formed b.pools.strong u
       (subst (λ (ts : List Segment). Contains ts u) (condemns.segments ∙ b.segments.segments.same_segments)
       (over_is_there g.segments (address_of_word n) u over))
 

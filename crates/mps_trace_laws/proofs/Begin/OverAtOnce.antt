@@ -129,7 +129,7 @@ module _ {F : Type 0} (layout : F → Layout) (t : TraceState F) (s : SegsState)
   nothing = ap (λ (ts : List Segment). is_nothing ts) (sym the_models.segments ∙ none_automatic)
 
   over : IsFlipEnded w Everything
-  over = flip_ended w Everything before.plain.rest refl nothing
+  over = flip_ended w Everything before.objects.rest refl nothing
 
   -- the segments after the flip
   flipped_are : (at_flip t.formats points (traced t s m)).segs ≡ with_covered s after.covered after.reservations

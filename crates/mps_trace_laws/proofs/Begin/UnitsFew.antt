@@ -1,5 +1,5 @@
--- Of a collection of everything in which nothing is registered there are no more units than a collection has room for moves: what its
--- flip fixes makes no object, and condemns no segment.
+-- A collection of everything has no more units than there are live objects, registrations and segments: what its flip fixes makes no
+-- object, registers none, and condemns no segment.
 use Rattle.std.proofs.Common.{◌≡◌, ◌∙◌, ℕ, suc, ◌+◌, true, false, refl, ap, List, [], ◌∷◌, length, Option, Some, None, is_some, subst, arith}
 use Rattle.std.proofs.lemmas.List.{length-map}
 use Rattle.std.proofs.lemmas.List.Sums.{count_by-le-length, length-filter}
@@ -127,7 +127,7 @@ fixes_as_far {x = x} (keeps {id = id} white kept fixes) =
 -- ---- units
 
 pub units_are_few : UnitsAreFew
-units_are_few w first y fixes none =
+units_are_few w first y fixes =
     let far = fixes_as_far fixes in
     let objects = count_by-le-length (is_to_scan y.running.condemned y.colours) (live_ids y.world) in
     let live : length (live_ids y.world) ≡ length (live_ids w) = ap (λ (ns : List Id). length ns) far.big.live in
@@ -136,5 +136,5 @@ units_are_few w first y fixes none =
     ap (λ (bs : List Address). length bs) far.big.segments ∙ length-map (condemned_by w Everything) (λ (t : Segment). t.base)
     ∙ length-filter (is_condemned_by w Everything) w.segments in
     let held = count_by-le-length (is_condemned_by w Everything) w.segments in
-    let registered : y.running.registered_before ≡ 0 = far.big.registered ∙ ap (λ (ns : List Id). length ns) none in
+    let registered : y.running.registered_before ≡ length w.graph.registered = far.big.registered in
     omega (arith, objects, live, segments, condemned, held, registered)

@@ -13,6 +13,7 @@ use Rattle.mps_trace.specs.GenState.{ChainsState}
 use Rattle.mps_seg.specs.Collecting.{blackening}
 use Rattle.mps_model.specs.Checked.{head_of_body}
 use Rattle.mps_model.specs.Graph.{Body, Automatic, Manual, Graph, Object, targets_of, targets_of_body, targets_of_cells, size_of, size_of_body, is_automatic_body}
+use Rattle.mps_model.specs.World.{live_ids}
 use Rattle.mps_abstract.specs.Colours.{is_black}
 use Rattle.mps_abstract.specs.Collecting.{Collecting}
 use Rattle.mps_abstract.specs.Fixing.{Fixes, fixes_no_more}
@@ -26,6 +27,7 @@ use Rattle.mps_trace.specs.Scan.{ScansTo, begins, goes_on, ScansAll, Scanned}
 use Rattle.mps_trace_laws.specs.Fix.Tracing.{TracingStands, setting_of}
 use Rattle.mps_trace_laws.specs.Fix.Scanning.{with_cells, IsToBeScanned, IsScannedTo, IsScan, AScanIsAScan}
 use Rattle.mps_trace_laws.proofs.Fix.Found as found
+use Rattle.mps_trace_laws.proofs.Fix.SplatsLeft.{splats_scanned}
 use Rattle.mps_trace_laws.proofs.Fix.ScanRun.{run_to, pass_all, inside}
 use Rattle.mps_format.specs.declared.pool.Policy.{Policy}
 

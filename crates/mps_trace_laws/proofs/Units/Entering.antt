@@ -1,5 +1,5 @@
--- The last band begins where nothing is grey in words.
-use Rattle.std.proofs.Common.{◌≡◌, ◌∙◌, ℕ, ◌≤◌, Bool, true, false, refl, sym, ap, subst, List, [], ◌∷◌, Contains, inl, inr, arith}
+-- The last band begins where nothing is grey in words and no registration is due.
+use Rattle.std.proofs.Common.{◌≡◌, ◌∙◌, ℕ, ◌<◌, ◌≤◌, Bool, true, false, refl, sym, ap, subst, List, [], ◌∷◌, Contains, inl, inr, arith}
 use Rattle.std.proofs.lemmas.Bool.{cases_Bool, true≢false, or_right}
 use Rattle.std.specs.Prelude.{◌||◌, ◌+◌, ◌*◌, map, Option}
 use Rattle.std.specs.List.{AllByRecursion}
@@ -10,12 +10,13 @@ use Rattle.mps_base.proofs.Runs.{IsAscending-bounds}
 use Rattle.mps_extents.specs.Table.{bit}
 use Rattle.mps_model.specs.Accessing.{address_or_null}
 use Rattle.mps_abstract.specs.Colours.{AreAllScanned, is_grey}
-use Rattle.mps_abstract.specs.Collecting.{Collecting, Running}
+use Rattle.mps_abstract.specs.Collecting.{Collecting, Running, AreAllExamined, IsDrainedIn}
 use Rattle.mps_abstract.proofs.Addresses.{address_of-live}
 use Rattle.mps_trace_laws.specs.Image.Memory.{pool_layout}
 use Rattle.mps_trace_laws.specs.Image.SegmentWords.{AreSegmentsInOrder}
 use Rattle.mps_seg.specs.Segs.{SegsState}
-use Rattle.mps_trace.specs.Examine.{IsOneDue}
+use Rattle.mps_trace.specs.Examine.{IsOneDue, IsNoneDue}
+use Rattle.mps_trace.specs.Scan.{IsDrained}
 use Rattle.mps_trace.specs.Splat.{HasNoMark, HasNoWeakMark}
 use Rattle.mps_trace.specs.State.{FinalsState}
 use Rattle.mps_trace.specs.Trace.{Traced}
@@ -83,31 +84,57 @@ module _ {F : Type 0} (layout : F → Rattle.mps_format.specs.Layout.Layout) (fo
             (scanned.weak (word_of at))
       ]
 
-  pub entered : StandsReclaiming x y
-  entered = record {
+  pub entered : AreAllExamined y → StandsReclaiming x y
+  entered examined = record {
     segments = st.traces.state.segments;
     frees =
         the_last_band_begins x.segs y.world y.running y.colours (pool_layout y.world) at_flip none_grey st.traces.state.image
         (held_in_order x.segs st.traces.state.held) st.housed (sym st.traces.state.segments.same_segments)
         st.traces.state.condemned.is_bit;
     scanned = none_grey;
+    examined = examined;
     inside = held_inside x.segs st.traces.state.held;
     room = st.traces.room;
   }
 
 module _ {F : Type 0} (layout : F → Layout) (formats : List (Option (Policy F))) (of : ChainsState) (at_flip : List (Option Address))
     (x : Traced) (f : FinalsState) (run : RunningState) (y : Collecting) (stands : UnitStands layout formats of at_flip x f run y) where
-  -- where nothing is grey the state stands in the last band
-  pub the_last_band_is_entered : HasNoMark x.segs → StandsReclaiming x y
-  the_last_band_is_entered scanned =
+  -- where no registration is due all are examined
+  all_examined : IsNoneDue run → AreAllExamined y
+  all_examined none =
+      let most = stands.running.examined.up_to in
+      let next = stands.next in
+      let before = stands.before in
+      omega (arith, none, most, next, before)
+
+  -- where nothing is grey besides the state stands in the last band
+  pub the_last_band_is_entered : HasNoMark x.segs → IsNoneDue run → StandsReclaiming x y
+  the_last_band_is_entered scanned none =
       elim stands.band [
-        | tracing st ↦ entered layout formats of at_flip x y stands.running st scanned
+        | tracing st ↦ entered layout formats of at_flip x y stands.running st scanned (all_examined none)
         | reclaiming st ↦ st
       ]
 
-  -- no registration is left to examine
-  pub none_due : IsOneDue run → ⊥
-  none_due due = omega (arith, due, stands.next, stands.before, stands.examined)
+  -- where one is due objects are traced
+  pub due_before : IsOneDue run → y.next < y.running.registered_before
+  due_before due =
+      let next = stands.next in
+      let before = stands.before in
+      omega (arith, due, next, before)
+
+  pub due_is_traced : IsOneDue run → StandsTracing layout formats of at_flip x y
+  due_is_traced due =
+      elim stands.band [
+        | tracing st ↦ st
+        | reclaiming st ↦ absurd (let less = due_before due in let all = st.examined in omega (arith, less, all))
+      ]
+
+  -- and where no block has an exact mark nothing but weak objects is grey
+  pub drained_so : IsOneDue run → IsDrained x.segs → IsDrainedIn y
+  drained_so due drained id is =
+      let st = due_is_traced due in
+      absurd (true≢false (sym is
+      ∙ none_grey layout formats of at_flip x y stands.running st (record { exact = drained; weak = st.strong }) id))
 
   -- and no weak block is grey
   pub no_weak_mark : HasNoWeakMark x.segs

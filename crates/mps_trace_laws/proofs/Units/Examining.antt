@@ -12,7 +12,8 @@ use Rattle.mps_base.specs.declared.moves.Move.TheVariants.{Post}
 use Rattle.mps_format.specs.Layout.{Layout}
 use Rattle.mps_format.specs.declared.pool.Policy.{Policy}
 use Rattle.mps_trace.specs.GenState.{ChainsState}
-use Rattle.mps_trace.specs.State.{FinalsState, with_registered_at}
+use Rattle.mps_base.specs.Trail.{with_move}
+use Rattle.mps_trace.specs.State.{FinalsState, with_registered_at, finals_after_post}
 use Rattle.mps_trace.specs.Examine.{registration_of}
 use Rattle.mps_trace.specs.Finding.{FindsTo}
 use Rattle.mps_trace.specs.Trace.{Traced, KeepsTo, FixesTo}
@@ -52,11 +53,18 @@ there_at [] n less = absurd (omega (arith, less))
 there_at (x ∷ xs) zero less = (x, refl)
 there_at (x ∷ xs) (suc n) less = there_at xs n (omega (arith, less))
 
+-- the object of the next registration, and where it lies now
+pub record IsNextTarget (x : Traced) (y : Collecting) (f : FinalsState) (at_flip : List (Option Address)) : Type 0 where
+  pub id : Id
+  pub now : Address
+  pub object : Object
+  pub target : Target (setting_of x.segs at_flip y) y.world.addresses id (registration_of f y.next).0 now object
+
 -- a fix of one white object keeps it
-record IsKeptBy (y : Collecting) (t : Id) (ms : List Move) (after : Collecting) : Type 0 where
-  c : Collection
-  keep : Keeps y.world y.running t ms c
-  is : after ≡ kept_by y t ms c
+pub record IsKeptBy (y : Collecting) (t : Id) (ms : List Move) (after : Collecting) : Type 0 where
+  pub c : Collection
+  pub keep : Keeps y.world y.running t ms c
+  pub is : after ≡ kept_by y t ms c
 
 one_is_kept : {y after : Collecting} {t : Id} {ms : List Move} → Fixes y (t ∷ []) ms after → is_white_in y t ≡ true → IsKeptBy y t ms after
 one_is_kept (passes black rest) is = absurd (true≢false (sym is ∙ black))
@@ -65,6 +73,20 @@ one_is_kept {y} {t = t} (keeps {these = these} {c = c} so keep fixes_no_more) is
   keep = subst (λ ms. Keeps y.world y.running t ms c) (sym (append-nil these)) keep;
   is = ap (λ ms. kept_by y t ms c) (sym (append-nil these));
 }
+
+-- the next registration is of a white object: a fix keeps it, and it is posted
+pub record IsPostedNext {F : Type 0} (layout : F → Layout) (formats : List (Option (Policy F))) (of : ChainsState)
+    (at_flip : List (Option Address)) (done : CellSet) (x z : Traced) (y : Collecting) (f : FinalsState) (to : Addr) : Type 0 where
+  pub id : Id
+  pub next : IsExaminedNext y id
+  pub white : is_white_in y id ≡ true
+  pub step : IsFixStep layout formats of at_flip done x z y id to.0
+  pub kept : IsKeptBy y id step.moves step.after
+  pub unit : IsUnit y (step.moves ++ Post to ∷ []) (collecting_after_post (kept_by y id step.moves kept.c) id)
+  pub state : StateStands layout formats of at_flip done z.amc z.segs (collecting_after_post (kept_by y id step.moves kept.c) id)
+  pub trail : (with_move z.moves (Post to)).moves ≡ x.moves.moves ++ (step.moves ++ Post to ∷ [])
+  pub finals : AreFinalsOf at_flip (collecting_after_post (kept_by y id step.moves kept.c) id)
+      (finals_after_post (with_registered_at f y.next to.0) y.next)
 
 module _ (F : Type 0) (layout : F → Layout) (formats : List (Option (Policy F))) (of : ChainsState) (at_flip : List (Option Address))
     (done : CellSet) (x : Traced) (y : Collecting) (f : FinalsState) (shaped : AreShaped y.world.graph.objects (pool_layout y.world))
@@ -107,6 +129,9 @@ module _ (F : Type 0) (layout : F → Layout) (formats : List (Option (Policy F)
     automatic = object.2;
     read = refl;
   }
+
+  pub next_target : IsNextTarget x y f at_flip
+  next_target = record { id = id; now = now; object = object.0; target = target }
 
   is_found : (found : Option Addr) → FindsTo layout formats x.segs (registration_of f y.next) found
       → FindsObject y id (slice_index_or f.registered y.next 0) now found
@@ -168,10 +193,13 @@ module _ (F : Type 0) (layout : F → Layout) (formats : List (Option (Policy F)
       hands = state_then.hands;
     }
 
-    pub post_done : IsPostDone layout formats of at_flip done x z y f to
-    post_done = record {
-      moves = step.moves;
-      after = collecting_after_post y' id;
+    pub posted_next : IsPostedNext layout formats of at_flip done x z y f to
+    posted_next = record {
+      id = id;
+      next = next;
+      white = is;
+      step = step;
+      kept = kept;
       unit =
           subst (λ a. IsUnit y (step.moves ++ Post a ∷ []) (collecting_after_post y' id)) post_is (posts id next is kept.keep);
       state = posted_state;
@@ -183,9 +211,9 @@ module _ (F : Type 0) (layout : F → Layout) (formats : List (Option (Policy F)
   is_white : FindsObject y id (slice_index_or f.registered y.next 0) now None → is_white_in y id ≡ true
   is_white (white same is) = is
 
-  pub post_is_done : (z : Traced) (to : Addr) → FindsTo layout formats x.segs (registration_of f y.next) None
-      → KeepsTo layout formats of x (registration_of f y.next) z to → IsPostDone layout formats of at_flip done x z y f to
-  post_is_done z to nowhere kept = post_done z to (trace.keeps to nowhere kept) (is_white (is_found None nowhere))
+  pub next_is_posted : (z : Traced) (to : Addr) → FindsTo layout formats x.segs (registration_of f y.next) None
+      → KeepsTo layout formats of x (registration_of f y.next) z to → IsPostedNext layout formats of at_flip done x z y f to
+  next_is_posted z to nowhere kept = posted_next z to (trace.keeps to nowhere kept) (is_white (is_found None nowhere))
 
 pub examinations_are_units : {F : Type 0} → ExaminationsAreUnits F
 examinations_are_units {F} layout formats of at_flip done x y f to shaped stands given finds =
@@ -193,4 +221,12 @@ examinations_are_units {F} layout formats of at_flip done x y f to shaped stands
 
 pub posts_are_units : {F : Type 0} → PostsAreUnits F
 posts_are_units {F} layout formats of at_flip done x z y f to shaped stands given nowhere kept =
-    post_is_done F layout formats of at_flip done x y f shaped stands given z to nowhere kept
+    let p = next_is_posted F layout formats of at_flip done x y f shaped stands given z to nowhere kept in
+    record {
+      moves = p.step.moves;
+      after = collecting_after_post (kept_by y p.id p.step.moves p.kept.c) p.id;
+      unit = p.unit;
+      state = p.state;
+      trail = p.trail;
+      finals = p.finals;
+    }

@@ -1,5 +1,5 @@
--- While the state stands a unit can be done: each grey block can be scanned, and once nothing is grey a segment is left that can be
--- reclaimed, with room for its moves.
+-- While the state stands a unit can be done: each grey block can be scanned, each registration that is due can be examined, and once
+-- nothing is grey or due a segment is left that can be reclaimed, with room for its moves.
 use Rattle.std.proofs.Common.{◌≡◌, ◌∙◌, ◌⊎◌, suc, ◌+◌, ◌*◌, ◌<◌, ◌≤◌, true, false, refl, sym, ap, subst, List, [], ◌∷◌, Option, Some, length, Contains, inl, inr, arith}
 use Rattle.std.proofs.lemmas.Bool.{cases_Bool, cases_lt, true≢false}
 use Rattle.std.proofs.lemmas.Option.{same_Some}
@@ -31,7 +31,8 @@ use Rattle.mps_trace_laws.proofs.Reclaim.Room.{segments_are_in_order}
 use Rattle.mps_trace_laws.specs.Reclaim.Left.{setting_freeing_in}
 use Rattle.mps_trace_laws.specs.Units.Standing.{StandsReclaiming, UnitStands}
 use Rattle.mps_trace_laws.specs.Units.Laws.{AreScansDone}
-use Rattle.mps_trace_laws.proofs.Units.Entering.{the_last_band_is_entered, none_due, no_weak_mark}
+use Rattle.mps_trace_laws.proofs.Units.Entering.{the_last_band_is_entered, no_weak_mark}
+use Rattle.mps_trace_laws.proofs.Units.CanExamine.{can_examine}
 use Rattle.mps_trace.specs.State.{FinalsState}
 use Rattle.mps_trace_laws.proofs.Units.RoomLeft.{lost_within}
 use Rattle.mps_trace_laws.proofs.Units.Rows.{row_done}
@@ -152,7 +153,7 @@ module _ {F : Type 0} (layout : F → Layout) (t : TraceState F) (s : SegsState)
   few : (base : Address) (low : IsNextCondemned s y.cursor base) → length (lost_of s low.segment) + 1 < m.spare
   few base low =
       let next =
-      next_reclaimed y s (pool_layout y.world) base stands.running band.scanned stands.examined band.frees low
+      next_reclaimed y s (pool_layout y.world) base stands.running band.scanned band.examined band.frees low
       in
       let lost = lost_within y stands.running low.segment (lost_of s low.segment) next in
       let room = band.room in
@@ -165,7 +166,7 @@ module _ {F : Type 0} (layout : F → Layout) (t : TraceState F) (s : SegsState)
   automatic : (base : Address) (low : IsNextCondemned s y.cursor base) → pool_is is_automatic_kind y.world low.segment.pool ≡ true
   automatic base low =
       let next =
-      next_reclaimed y s (pool_layout y.world) base stands.running band.scanned stands.examined band.frees low
+      next_reclaimed y s (pool_layout y.world) base stands.running band.scanned band.examined band.frees low
       in
       let u =
       one_that_is (λ v. IsTrue (pool_is is_automatic_kind y.world v.pool)) (segment_at y.world low.segment.base)
@@ -219,19 +220,19 @@ module _ {F : Type 0} (layout : F → Layout) (t : TraceState F) (s : SegsState)
         room = λ base low. to_end base (at_cursor base.0 low);
       }
 
--- while the state stands a unit can be done. No registration is left to examine, and no weak block is grey
+-- while the state stands a unit can be done. No weak block is grey
 pub a_unit_is_ready : {F : Type 0}
     → (layout : F → Layout) (t : TraceState F) (s : SegsState) (m : Moves) (at_flip : List (Option Address)) (f : FinalsState)
     (run : RunningState) (y : Collecting) → UnitStands layout t.formats t.chains at_flip (traced t s m) f run y
     → CanUnit layout t s m f run
 a_unit_is_ready layout t s m at_flip f run y stands = record {
   scan = scans_are_ready layout t s m at_flip f run y stands;
-  examine = λ drained due. absurd (none_due layout t.formats t.chains at_flip (traced t s m) f run y stands due);
+  examine = λ drained due. can_examine layout t s m at_flip f run y stands drained due;
   splat = λ drained none n grey.
       absurd (true≢false (sym grey ∙ no_weak_mark layout t.formats t.chains at_flip (traced t s m) f run y stands n));
   reclaim = λ scanned none.
       can_reclaim layout t s m at_flip f run y stands
-      (the_last_band_is_entered layout t.formats t.chains at_flip (traced t s m) f run y stands scanned);
+      (the_last_band_is_entered layout t.formats t.chains at_flip (traced t s m) f run y stands scanned none);
 }
 
 -- and where scans are units each of n units can be done when its turn comes

@@ -37,6 +37,7 @@ use Rattle.mps_trace_laws.specs.Reclaim.Units.{FreesFor, GoesOnSo}
 use Rattle.mps_abstract.proofs.KeptPlaces.{reclaim_stays, last_stays}
 use Rattle.mps_trace.specs.State.{FinalsState}
 use Rattle.mps_trace_laws.proofs.Units.Finals.{finals_stay, finals_in_place, finals_at_end}
+use Rattle.mps_trace_laws.specs.Units.Finals.{AreDue}
 use Rattle.mps_trace_laws.specs.Units.Standing.{StandsReclaiming, AreFinalsOf, UnitStands, IsMoving, reclaiming}
 use Rattle.mps_trace_laws.specs.Units.Laws.{HasSegmentsOf, HasFinalsOf, IsTracedUnitDone, IsLastTracedUnitDone}
 use Rattle.mps_trace_laws.specs.Fix.Room.{moves_left}
@@ -88,7 +89,7 @@ module _ {F : Type 0} (layout : F → Layout) (formats : List (Option (Policy F)
     (stands : UnitStands layout formats of at_flip x f run y)
     (next : ReclaimsNext layout formats x run base z) where
   pub last_band : StandsReclaiming x y
-  last_band = the_last_band_is_entered layout formats of at_flip x f run y stands next.scanned
+  last_band = the_last_band_is_entered layout formats of at_flip x f run y stands next.scanned next.examined
 
   pub lowest : IsNextCondemned x.segs y.cursor base.0
   lowest = subst (λ from. IsNextCondemned x.segs from base.0) stands.cursor next.lowest
@@ -100,7 +101,7 @@ module _ {F : Type 0} (layout : F → Layout) (formats : List (Option (Policy F)
   freed = addresses_of (lost_of x.segs t)
 
   pub is_next : IsReclaimedNext y t freed
-  is_next = next_reclaimed y x.segs (pool_layout y.world) base.0 stands.running last_band.scanned stands.examined last_band.frees lowest
+  is_next = next_reclaimed y x.segs (pool_layout y.world) base.0 stands.running last_band.scanned last_band.examined last_band.frees lowest
 
   unreserved : IsUnreserved y.world.graph.points y.world.point_memories t
   unreserved = stands.unreserved t lowest.listed lowest.condemned
@@ -111,7 +112,7 @@ module _ {F : Type 0} (layout : F → Layout) (formats : List (Option (Policy F)
   pub trail_is : z.moves.moves ++ end_where (is_last_condemned y.running t.base) ≡ x.moves.moves ++ reclaim_by y t.base freed
   trail_is =
       the_moves_are_the_models y x.segs (pool_layout y.world) base x.moves z.segs z.moves stands.running last_band.scanned
-      stands.examined last_band.frees lowest swept
+      last_band.examined last_band.frees lowest swept
 
   -- ---- whether it is the last one
 
@@ -146,7 +147,7 @@ module _ {F : Type 0} (layout : F → Layout) (formats : List (Option (Policy F)
     on : GoesOnSo y t freed (pool_layout y.world) z.segs
     on =
         (a_reclaim_is_a_unit y x.segs (pool_layout y.world) base x.moves z.segs z.moves stands.running last_band.scanned
-        stands.examined last_band.frees lowest unreserved swept).goes_on more
+        last_band.examined last_band.frees lowest unreserved swept).goes_on more
 
     leads : world_after_moves y.world (reclaim_by y t.base freed) ≡ final_world y stands.running t freed is_next
     leads = goes_on_leads y stands.running t freed is_next more
@@ -197,6 +198,7 @@ module _ {F : Type 0} (layout : F → Layout) (formats : List (Option (Policy F)
           (pool_layout w))
           (sym leads) on.frees;
       scanned = last_band.scanned;
+      examined = last_band.examined ∙ sym (ap (λ (c : Collection). c.registered_before) collection_is);
       inside = λ u held.
           subst (λ n. word_of (end_of_segment u) ≤ words_of_grain * (n + 1)) (sym among.grains) (last_band.inside u (among.was u held));
       room = room_on;
@@ -217,7 +219,7 @@ module _ {F : Type 0} (layout : F → Layout) (formats : List (Option (Policy F)
       all =
           ap (λ (c : Collection). c.registered_before) collection_is ∙ stands.all
           ∙ ap (λ (w : World). length w.graph.registered) (sym leads);
-      examined = stands.examined ∙ sym (ap (λ (c : Collection). c.registered_before) collection_is);
+      due = subst (λ (w : World). AreDue at_flip w.graph.objects w.graph.registered y.next) (sym leads) stands.due;
       cursor = let begins = lowest.begins in omega (arith, begins);
       moving = subst (IsMoving layout formats of) (sym leads) moving_on;
       unreserved = λ u held condemned.
@@ -265,12 +267,12 @@ the_last_unit_is_done layout formats of at_flip x z f run y stands unit =
     let freed = addresses_of (lost_of x.segs low.segment) in
     let shown =
     a_reclaim_is_a_unit y x.segs (pool_layout y.world) unit.base x.moves unit.before.segs unit.before.moves stands.running band.scanned
-    stands.examined band.frees low there swept
+    band.examined band.frees low there swept
     in
     let among = are_among x.segs x.moves unit.base unit.before.segs unit.before.moves swept in
     let sizes = last_size layout formats of at_flip x unit.before f run y unit.base stands next last in
     let end =
-    the_last_reclaim_ends y x.segs unit.base x.moves unit.before.segs unit.before.moves stands.running band.scanned stands.examined
+    the_last_reclaim_ends y x.segs unit.base x.moves unit.before.segs unit.before.moves stands.running band.scanned band.examined
     band.frees low there swept last
     in
     record {
@@ -294,7 +296,7 @@ the_last_unit_is_done layout formats of at_flip x z f run y stands unit =
           }))
           (sym (last_leads y stands.running low.segment freed next_is last))
           (finals_at_end at_flip (world_after_moves y.world (reclaim_by y low.segment.base freed)).addresses y.world.graph.registered
-          y.world.graph.messages y.next f (stands.examined ∙ stands.all)
+          y.world.graph.messages y.next f (band.examined ∙ stands.all)
           (finals_in_place at_flip (world_after_moves y.world (reclaim_by y low.segment.base freed)).addresses y f stands.running
           (last_stays y stands.running low.segment freed next_is last) stands.finals));
       trail =

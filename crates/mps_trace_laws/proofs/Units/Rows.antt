@@ -12,28 +12,36 @@ use Rattle.mps_abstract.specs.Collecting.{Collecting, units_left}
 use Rattle.mps_abstract.specs.Units.{GoesOn, begun, by_one_more, by_last}
 use Rattle.mps_abstract.proofs.Rows.{units_done}
 use Rattle.mps_trace.specs.Trace.{Traced}
-use Rattle.mps_trace.specs.State.{FinalsState}
+use Rattle.mps_trace.specs.State.{FinalsState, with_registered_at, finals_after_post}
+use Rattle.mps_trace.specs.Examine.{running_after_found, running_after_post}
 use Rattle.mps_trace.specs.Unit.{UnitTo, scans, examines, posts, splats, reclaims, UnitsTo, begins, goes_on, EndsWithin}
 use Rattle.mps_trace.specs.declared.running.Running.{Running as RunningState}
 use Rattle.mps_trace_laws.specs.Units.Standing.{UnitStands}
 use Rattle.mps_trace_laws.specs.Units.Laws.{HasSegmentsOf, HasFinalsOf, AreScansDone, IsTracedUnitDone, AreTracedUnitsDone, AreLastTracedUnitsDone}
 use Rattle.std.proofs.lemmas.Bool.{true≢false}
-use Rattle.mps_trace_laws.proofs.Units.Entering.{none_due, no_weak_mark}
+use Rattle.mps_trace_laws.proofs.Units.Entering.{no_weak_mark}
+use Rattle.mps_trace_laws.proofs.Units.Posted.{examination_done, post_done}
 use Rattle.mps_trace_laws.proofs.Units.Reclaiming.{a_reclaim_is_done, the_last_unit_is_done}
 use Rattle.mps_format.specs.declared.pool.Policy.{Policy}
 use Rattle.std.specs.Prelude.{◌<◌, suc}
 
 module _ {F : Type 0} (layout : F → Layout) (formats : List (Option (Policy F))) (of : ChainsState) (at_flip : List (Option Address))
     (scanning : AreScansDone layout formats of at_flip) where
-  -- one unit. No registration is left to examine, and no weak block is grey
+  -- one unit. No weak block is grey
   pub unit_done : (x z : Traced) (f f' : FinalsState) (run run' : RunningState) (y : Collecting)
       → UnitStands layout formats of at_flip x f run y
       → UnitTo layout formats of x f run z f' run' → IsTracedUnitDone layout formats of at_flip x y z f' run'
   unit_done x z f _ run _ y stands (scans one) = scanning x z f run y stands one
   unit_done x z f f' run run' y stands (examines to drained due found is now) =
-      absurd (none_due layout formats of at_flip x f run y stands due)
-  unit_done x z f f' run run' y stands (posts to drained due white kept trail is now) =
-      absurd (none_due layout formats of at_flip x f run y stands due)
+      subst (λ r. IsTracedUnitDone layout formats of at_flip x y z f' r) (sym now)
+      (subst (λ g. IsTracedUnitDone layout formats of at_flip x y z g (running_after_found run)) (sym is)
+      (examination_done layout formats of at_flip x f run y stands drained due to found))
+  unit_done x z f f' run run' y stands (posts {y = v} to drained due white kept trail is now) =
+      subst (λ r. IsTracedUnitDone layout formats of at_flip x y z f' r) (sym now)
+      (subst (λ g. IsTracedUnitDone layout formats of at_flip x y z g (running_after_post run)) (sym is)
+      (subst (λ w. IsTracedUnitDone layout formats of at_flip x y w
+      (finals_after_post (with_registered_at f run.next to.0) run.next) (running_after_post run)) (sym trail)
+      (post_done layout formats of at_flip x f run y stands drained due v to white kept)))
   unit_done x z f _ run run' y stands (splats drained none one now) =
       absurd (true≢false (sym one.grey ∙ no_weak_mark layout formats of at_flip x f run y stands one.word))
   unit_done x z f _ run run' y stands (reclaims base left next other is) =

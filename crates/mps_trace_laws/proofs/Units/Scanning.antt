@@ -16,9 +16,7 @@ use Rattle.mps_abstract.specs.Collecting.{Collecting, Running, is_tracing_band}
 use Rattle.mps_abstract.specs.Fixing.{Fixes, fixes_no_more, passes, keeps}
 use Rattle.mps_abstract.specs.Units.{scans, collecting_after_scan}
 use Rattle.mps_abstract.proofs.Addresses.{address_of-live}
-use Rattle.mps_abstract.proofs.Kept.{held_in, keeps_leaves}
 use Rattle.mps_abstract.proofs.Lists.{contains_here, contains_later}
-use Rattle.mps_abstract.proofs.Scanning.{MayBeFixed, kept_rightly}
 use Rattle.mps_abstract.proofs.UnitScans.{scans_shown, targets_may_be_fixed}
 use Rattle.mps_abstract.proofs.WholeCollections.WholePaths.{fixed_same}
 use Rattle.mps_abstract.proofs.Calls.ClientLists.{among_entries, map-slice_get}
@@ -33,68 +31,15 @@ use Rattle.mps_trace_laws.proofs.Fix.CanScan.{object_can_be_scanned}
 use Rattle.mps_trace_laws.proofs.Fix.Housed.{fixes_keep_housed}
 use Rattle.mps_trace_laws.proofs.Fix.Ranks.{scan_keeps_ranks}
 use Rattle.mps_trace_laws.proofs.Fix.Scanned.{scan_is_a_scan}
-use Rattle.mps_base.specs.Segment.{Segment}
-use Rattle.mps_model.specs.Collection.{Collection}
-use Rattle.mps_model.specs.World.{World}
-use Rattle.mps_trace_laws.specs.Reclaim.Left.{IsUnreserved}
-use Rattle.mps_trace_laws.proofs.Reclaim.HeldSegments.{found_at, found_held, same_base}
-use Rattle.mps_trace_laws.proofs.Units.Entering.{held_in_order}
 use Rattle.mps_abstract.proofs.KeptPlaces.{running_may_keep, fixes_stay}
 use Rattle.mps_trace.specs.State.{FinalsState}
+use Rattle.mps_trace_laws.specs.Units.Finals.{AreDue}
 use Rattle.mps_trace_laws.proofs.Units.Finals.{finals_stay}
+use Rattle.mps_trace_laws.proofs.Units.Still.{IsStill, still, unreserved_still}
 use Rattle.mps_trace_laws.specs.Units.Standing.{AreCondemnedUnreserved, AreFinalsOf, StandsTracing, UnitStands, IsMoving, tracing, reclaiming}
 use Rattle.mps_trace_laws.specs.Units.Laws.{IsTracedUnitDone, AreScansDone}
 use Rattle.mps_format.specs.declared.pool.Policy.{Policy}
 use Rattle.mps_base.specs.Trail.{Moves}
-
--- ---- what fixes leave of a world
-
-pub record IsStill {F : Type 0} (layout : F
-    → Layout) (formats : List (Option (Policy F))) (of : ChainsState) (x y : Collecting) : Type 0 where
-  pub moving : IsMoving layout formats of x.world → IsMoving layout formats of y.world
-  pub cursor : y.cursor ≡ x.cursor
-  pub next : y.next ≡ x.next
-  pub band : y.band ≡ x.band
-  pub graph : y.world.graph ≡ x.world.graph
-  pub memories : y.world.point_memories ≡ x.world.point_memories
-  pub bases : y.running.condemned_segments ≡ x.running.condemned_segments
-  pub held : (base : Address) (s : Segment) → held_in x.world.segments base ≡ Some s → held_in y.world.segments base ≡ Some s
-
-module _ {F : Type 0} (layout : F → Layout) (formats : List (Option (Policy F))) (of : ChainsState) where
-  pub still : {x y : Collecting} {ids : List Id} {ms : List Move} → Fixes x ids ms y → Running x → is_tracing_band x.band ≡ true
-      → MayBeFixed x ids → IsStill layout formats of x y
-  still (fixes_no_more {x}) run trace may = record {
-    moving = λ m. m;
-    cursor = refl;
-    next = refl;
-    band = refl;
-    graph = refl;
-    memories = refl;
-    bases = refl;
-    held = λ base s e. e;
-  }
-  still {x} (passes {id = id} {ids = ids} black rest) run trace may =
-      still rest run trace (λ n h. may n (contains_later id ids n h))
-  still {x} (keeps {y = z} {id} {ids} {these} {those} {c} white keep rest) run trace may =
-      let first = may id (contains_here id ids) in
-      let one = kept_rightly x run trace id first.0 first.1 white keep in
-      let r = keeps_leaves x.world x.running id run.runs run.different first.0 keep in
-      let after = still rest one.running (ap is_tracing_band one.further.band ∙ trace) (λ n h.
-      let more = may n (contains_later id ids n h) in (one.further.live n ∙ more.0, one.further.survives n more.1)) in
-      record {
-        moving = λ m. after.moving (subst (IsMoving layout formats of) (sym r.world) (record {
-          shaped = m.shaped;
-          pools = m.pools;
-          strong = m.strong;
-        }));
-        cursor = after.cursor;
-        next = after.next;
-        band = after.band;
-        graph = after.graph ∙ ap (λ (w : World). w.graph) r.world;
-        memories = after.memories ∙ ap (λ (w : World). w.point_memories) r.world;
-        bases = after.bases ∙ ap (λ (d : Collection). d.condemned_segments) r.running;
-        held = λ base s e. after.held base s (ap (λ (w : World). held_in w.segments base) r.world ∙ r.held base s e);
-      }
 
 -- ---- the object of a grey word
 
@@ -214,30 +159,11 @@ module _ {F : Type 0} (layout : F
     strong : IsStrong z.segs
     strong = scan_keeps_ranks layout formats of x z one (record { exact = st.exact; marks = st.strong })
 
-    -- a condemned segment was held and condemned before
     unreserved_then : AreCondemnedUnreserved z.segs scan.after.world.graph.points scan.after.world.point_memories
-    unreserved_then u held condemned =
-        let now = scan.stands.state in
-        let was = st.traces.state in
-        let before : contains y.running.condemned_segments u.base ≡ true =
-        ap (λ bs. contains bs u.base) (sym stays.bases) ∙ sym (now.condemned.is_bit u held) ∙ condemned
-        in
-        let one = was.condemned.is_held u.base before in
-        let t : Segment = one.0 in
-        let bit_then = was.condemned.is_bit t one.1 ∙ ap (contains y.running.condemned_segments) one.2 ∙ before in
-        let order = held_in_order x.segs was.held in
-        let found =
-        ap (λ ss. held_in ss t.base) (sym was.segments.same_segments)
-        ∙ found_at x.segs.segments t t.base one.1 refl (λ v there is. same_base x.segs.segments order v t there one.1 is)
-        in
-        let there =
-        subst (λ ss. Contains ss t) (sym now.segments.same_segments)
-        (found_held (λ v. v.base == t.base) scan.after.world.segments t (stays.held t.base t found))
-        in
-        let same = same_base z.segs.segments (held_in_order z.segs now.held) t u there held one.2 in
-        subst (λ (v : Segment). IsUnreserved scan.after.world.graph.points scan.after.world.point_memories v) same
-        (subst (λ g. IsUnreserved g.points scan.after.world.point_memories t) (sym stays.graph)
-        (subst (λ ms. IsUnreserved y.world.graph.points ms t) (sym stays.memories) (stands.unreserved t one.1 bit_then)))
+    unreserved_then =
+        unreserved_still layout formats of x.segs z.segs y scan.after st.traces.state.held st.traces.state.segments.same_segments
+        st.traces.state.condemned scan.stands.state.held scan.stands.state.segments.same_segments scan.stands.state.condemned stays
+        stands.unreserved
 
     finals : AreFinalsOf at_flip (collecting_after_scan scan.after g.id) f
     finals =
@@ -258,7 +184,9 @@ module _ {F : Type 0} (layout : F
         all =
             (fixed_same scan.fixes).registered_before ∙ stands.all
             ∙ ap (λ (h : Graph). length h.registered) (sym stays.graph);
-        examined = stays.next ∙ stands.examined ∙ sym (fixed_same scan.fixes).registered_before;
+        due =
+            subst (λ (n : ℕ). AreDue at_flip scan.after.world.graph.objects scan.after.world.graph.registered n) (sym stays.next)
+            (subst (λ (h : Graph). AreDue at_flip h.objects h.registered y.next) (sym stays.graph) stands.due);
         cursor = stands.cursor ∙ sym stays.cursor;
         moving = stays.moving stands.moving;
         unreserved = unreserved_then;

@@ -24,6 +24,7 @@ use Rattle.mps_trace_laws.specs.Nails.Nailed.{AreTablesWhole, AreMarkedAt}
 use Rattle.mps_trace_laws.specs.Begin.MovesOfObjects.{moves_of}
 use Rattle.mps_trace_laws.specs.Flip.Condemned.{AreFormatsOf, AreMovesOf}
 use Rattle.mps_trace_laws.specs.Flip.Ended.{open_runs}
+use Rattle.mps_trace_laws.specs.Units.Finals.{AreDue}
 
 -- the segments of an arena at rest, as a world has them: nothing is marked or condemned, and each block and each live reservation lies
 -- in a held segment
@@ -50,10 +51,10 @@ pub record ArePoolsKnown {F : Type 0} (layout : F → Layout) (t : TraceState F)
   pub tails : (pool generation : ℕ) → IsTrue (is_copying_pool w pool)
       → HasTail t.amc pool (target_generation (chains.generations_of t.chains pool) generation)
 
--- a world at rest in which nothing is registered and no object is weak, and its objects
-pub record IsPlainAtRest (w : World) : Type 0 where
+-- a world at rest in which no object is weak, and its objects. Those that are registered are live and automatic
+pub record AreObjectsAtRest (w : World) : Type 0 where
   pub rest : IsAtRest w
-  pub none_registered : w.graph.registered ≡ []
+  pub due : AreDue w.addresses w.graph.objects w.graph.registered 0
   pub none_weak : (id : Id) → object_is is_weak_object w id ≡ false
   pub shaped : AreShaped w.graph.objects (pool_layout w)
   pub targets_live : AreTargetsLive w.graph.objects w.addresses
@@ -62,7 +63,7 @@ pub record IsPlainAtRest (w : World) : Type 0 where
 -- moves of a collection
 pub record StandsBefore {F : Type 0} (layout : F → Layout) (t : TraceState F) (s : SegsState) (m : Moves) (points : PointsState) (w : World)
     : Type 0 where
-  pub plain : IsPlainAtRest w
+  pub objects : AreObjectsAtRest w
   pub segments : AreSegmentsAtRest s w
   pub pools : ArePoolsKnown layout t w
   pub reservations : s.reservations ≡ in_order (open_runs points.flips points.points)

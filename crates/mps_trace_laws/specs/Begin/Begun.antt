@@ -1,5 +1,5 @@
 -- What the begin of a full collection, in words, is to the abstract collector.
-use Rattle.std.specs.Prelude.{◌≡◌, ℕ, ◌+◌, ◌*◌, ◌≤◌, false, IsTrue, Option, Some, List, [], ◌∷◌, ◌++◌, map, length, slice_get, slice_index_or}
+use Rattle.std.specs.Prelude.{◌≡◌, ℕ, ◌+◌, ◌≤◌, false, IsTrue, Option, Some, List, [], ◌∷◌, ◌++◌, map, length, slice_get, slice_index_or}
 use Rattle.std.specs.List.{flat_map}
 use Rattle.mps_base.specs.Address.{Id}
 use Rattle.mps_base.specs.Trail.{Moves}
@@ -113,8 +113,8 @@ ACollectionOfNothingEnds F =
 
 -- ---- units
 
--- there are no more units than a collection has room for moves
+-- there are no more units than live objects, registrations and segments
 abbrev pub UnitsAreFew : Type 0
 UnitsAreFew =
     (w : World) (first : List Move) (y : Collecting) → FixesHeld w (collecting_after_flip w Everything []) first y
-    → w.graph.registered ≡ [] → units_left y ≤ 2 * length (live_ids w) + length w.segments
+    → units_left y ≤ length (live_ids w) + length w.graph.registered + length w.segments

@@ -21,7 +21,7 @@ use Rattle.mps_trace_laws.specs.Fix.Tracing.{AreKnownPools, AreSegmentsOf, Traci
 use Rattle.mps_trace_laws.specs.Fix.Room.{moves_left}
 use Rattle.mps_trace_laws.specs.Reclaim.Left.{IsUnreserved}
 use Rattle.mps_trace_laws.specs.Reclaim.Units.{FreesFor}
-use Rattle.mps_trace_laws.specs.Units.Finals.{AreFinals}
+use Rattle.mps_trace_laws.specs.Units.Finals.{AreFinals, AreDue}
 use Rattle.mps_trace.specs.State.{FinalsState}
 use Rattle.mps_format.specs.declared.pool.Policy.{Policy}
 
@@ -49,11 +49,12 @@ pub record StandsTracing {F : Type 0} (layout : F → Layout) (formats : List (O
   pub exact : AreAllExact x.segs.segments
   pub strong : HasNoWeakMark x.segs
 
--- the last band: nothing is grey, and there is room for the moves that are left
+-- the last band: nothing is grey, all registrations are examined, and there is room for the moves that are left
 pub record StandsReclaiming (x : Traced) (y : Collecting) : Type 0 where
   pub segments : AreSegmentsOf x.segs y.world.grains y.world.limit y.world.segments
   pub frees : FreesFor x.segs y.world y.running y.colours (pool_layout y.world)
   pub scanned : AreAllScanned y.colours
+  pub examined : AreAllExamined y
   pub inside : AreInArena x.segs
   pub room : moves_left y + 2 ≤ x.moves.spare
 
@@ -68,7 +69,7 @@ pub data StandsInBand {F : Type 0} (layout : F → Layout) (formats : List (Opti
 abbrev pub AreFinalsOf : (at_flip : List (Option Address)) → Collecting → FinalsState → Type 0
 AreFinalsOf at_flip y f = AreFinals at_flip y.world.addresses y.world.graph.registered y.world.graph.messages y.next f
 
--- between two units: the abstract collector runs, its registrations are examined, and it has examined and reclaimed as much
+-- between two units: the abstract collector runs, and has examined and reclaimed as much
 pub record UnitStands {F : Type 0} (layout : F → Layout) (formats : List (Option (Policy F))) (of : ChainsState)
     (at_flip : List (Option Address)) (x : Traced) (f : FinalsState) (run : RunningState) (y : Collecting) : Type 0 where
   pub running : Running y
@@ -77,7 +78,8 @@ pub record UnitStands {F : Type 0} (layout : F → Layout) (formats : List (Opti
   pub finals : AreFinalsOf at_flip y f
   -- each registration was made before the flip
   pub all : y.running.registered_before ≡ length y.world.graph.registered
-  pub examined : AreAllExamined y
+  -- those that are still to be examined are of objects that were live then
+  pub due : AreDue at_flip y.world.graph.objects y.world.graph.registered y.next
   pub cursor : run.cursor.0 ≡ y.cursor
   pub moving : IsMoving layout formats of y.world
   pub unreserved : AreCondemnedUnreserved x.segs y.world.graph.points y.world.point_memories
