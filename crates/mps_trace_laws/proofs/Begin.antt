@@ -2,7 +2,7 @@
 pub mod UnitsFew
 pub mod HeldSegments
 pub mod NothingAtHand
-pub mod StrongNails
+pub mod RankedNails
 pub mod CondemnedIds
 pub mod MovesAtFlip
 pub mod FlippedSegments

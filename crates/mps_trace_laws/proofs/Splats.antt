@@ -5,3 +5,6 @@ pub mod OneCell
 pub mod Cells
 pub mod Run
 pub mod Scanned
+pub mod CanSplat
+pub mod Alike
+pub mod Words

@@ -9,6 +9,7 @@ pub mod Posted
 pub mod CanExamine
 pub mod RoomLeft
 pub mod Reclaiming
+pub mod Splatting
 pub mod Rows
 pub mod Scanning
 pub mod Ready

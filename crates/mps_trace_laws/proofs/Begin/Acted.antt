@@ -1,7 +1,8 @@
 -- The act of a flip, in words, is the abstract collector's: slots and messages are fixed, and the state stands before the first unit.
 use Rattle.std.proofs.Common.{◌≡◌, ◌∙◌, ◌<◌, false, refl, sym, ap, ap₂, subst, List, [], ◌∷◌, ◌++◌, length, Option, Some, arith}
 use Rattle.std.proofs.lemmas.List.{append_assoc, length-map}
-use Rattle.std.specs.Prelude.{ℕ, IsTrue, map, take, drop}
+use Rattle.std.specs.Option.{option_map_or}
+use Rattle.std.specs.Prelude.{Bool, ℕ, IsTrue, map, take, drop, slice_get}
 use Rattle.std.specs.List.{flat_map}
 use Rattle.mps_base.specs.Address.{Address, Id}
 use Rattle.mps_base.specs.Segment.{Segment}
@@ -16,9 +17,9 @@ use Rattle.mps_seg.specs.Segs.{SegsState}
 use Rattle.mps_model.specs.Effect.{Everything, condemned_by}
 use Rattle.mps_model.specs.Flip.{flip_of, is_nothing}
 use Rattle.mps_model.specs.Graph.{Graph, entry_at, for_object, is_weak_object}
-use Rattle.mps_model.specs.World.{World, area_words, is_automatic_kind, is_copying_pool, generations_of, pool_is}
+use Rattle.mps_model.specs.World.{World, Pool, area_words, is_automatic_kind, is_copying_kind, is_copying_pool, generations_of, pool_is}
 use Rattle.mps_abstract.specs.Colours.{is_black}
-use Rattle.mps_abstract.specs.Collecting.{Collecting, is_tracing_band}
+use Rattle.mps_abstract.specs.Collecting.{Collecting, is_reclaiming_band}
 use Rattle.mps_abstract.specs.Fixing.{Fixes, fixes_no_more, passes, keeps}
 use Rattle.mps_abstract.specs.FlipLaws.{collecting_after_flip, FixesHeld}
 use Rattle.mps_abstract.proofs.WholeCollections.WholeBegins.{begun_running}
@@ -31,7 +32,6 @@ use Rattle.mps_trace.specs.Trace.{TraceState, Traced, traced}
 use Rattle.mps_trace.specs.declared.running.Running.{Running as RunningState}
 use Rattle.mps_trace_laws.specs.Fix.Steps.{IsSameGraph}
 use Rattle.mps_trace_laws.specs.Fix.Tracing.{AreKnownPools, TracingStands}
-use Rattle.mps_trace_laws.specs.Fix.Housed.{AreAllExact}
 use Rattle.mps_trace_laws.proofs.Fix.CellLists.{fewer_done}
 use Rattle.mps_trace_laws.proofs.Fix.ScanRun.{shaped_still}
 use Rattle.mps_trace_laws.specs.Nails.Nailed.{AreWordsShown, words_of_areas}
@@ -43,10 +43,9 @@ use Rattle.mps_trace_laws.proofs.Roots.Housed.{roots_keep_housed}
 use Rattle.mps_trace_laws.specs.Flip.Condemned.{AreFormatsOf, AreMovesOf}
 use Rattle.mps_trace_laws.proofs.Flip.Condemned.{flip_is_the_models}
 use Rattle.mps_trace_laws.proofs.Flip.Reservations.{no_reservation_is_live}
-use Rattle.mps_trace_laws.proofs.Begin.HeldSegments.{segments_are_exact}
 use Rattle.mps_trace_laws.specs.Units.Finals.{address_of_id, AreDue}
 use Rattle.mps_trace_laws.proofs.Begin.FinalsThen.{AreFinalsAfter, messages_after, messages_are}
-use Rattle.mps_trace_laws.specs.Units.Standing.{AreFinalsOf, AreCondemnedUnreserved, IsMoving, UnitStands, tracing}
+use Rattle.mps_trace_laws.specs.Units.Standing.{AreFinalsOf, AreCondemnedUnreserved, AreObjectsKnown, UnitStands, tracing}
 use Rattle.mps_trace_laws.specs.Begin.Before.{StandsBefore}
 use Rattle.mps_trace_laws.specs.Begin.Begun.{AFlipStands, AreRootsHeld, IsFlipStanding, IsActDone, ACollectionBegins}
 use Rattle.mps_format.specs.declared.pool.Policy.{Policy}
@@ -78,14 +77,21 @@ as_far fixes_no_more = record { next = refl; band = refl; cursor = refl }
 as_far (passes black rest) = as_far rest
 as_far (keeps white keep rest) = let far = as_far rest in record { next = far.next; band = far.band; cursor = far.cursor }
 
+abbrev is_copying_in : Id → Graph → List Pool → Bool
+is_copying_in id g pools =
+    for_object g id (λ o. option_map_or (λ (p : Pool). is_copying_kind p.kind) (slice_get pools o.pool) false) false
+
 moving_still : {F : Type 0} (layout : F → Layout) (formats : List (Option (Policy F))) (of : ChainsState) (w w' : World) → IsSameGraph w w'
     → AreKnownPools layout formats of (pool_is is_automatic_kind w') (is_copying_pool w') (pool_layout w') (generations_of w')
-    → IsMoving layout formats of w
-    → IsMoving layout formats of w'
+    → AreObjectsKnown layout formats of w
+    → AreObjectsKnown layout formats of w'
 moving_still layout formats of w w' same pools moving = record {
   shaped = shaped_still w w' same moving.shaped;
   pools = pools;
-  strong = λ id. ap (λ (g : Graph). for_object g id is_weak_object false) same.graph ∙ moving.strong id;
+  strong_moving = λ id copying.
+      ap (λ (g : Graph). for_object g id is_weak_object false) same.graph
+      ∙ moving.strong_moving id (sym (ap₂ (is_copying_in id) same.graph same.pools) ∙ copying);
+  none_dependent = ap (λ (g : Graph). g.dependents) same.graph ∙ moving.none_dependent;
 }
 
 -- ---- the act
@@ -124,18 +130,11 @@ module _ {F : Type 0} (flip_stands : AFlipStands F) (layout : F → Layout) (t :
   abbrev after : Collecting
   after = fixed.after
 
-  -- each object lies in one segment then, and neither a segment nor a grey block is weak
+  -- each object lies in one segment of its rank then, and each grey block has the mark of its segment's rank
   kept : AreRootsHoused z after
   kept =
       roots_keep_housed layout t.formats t.chains w.addresses done x begins.before z y rows w.graph.messages roots roots' finals finals'
-      flip.traces flip.housed
-      (record {
-        exact =
-            subst (λ (ts : List Segment). AreAllExact ts) (sym flip.traces.state.segments.same_segments)
-            (segments_are_exact w before.objects.rest.well_formed before.pools.strong);
-        marks = flip.strong;
-      })
-      held.tables held.messages begins.slots begins.messages all
+      flip.traces flip.housed flip.moving.strong_moving flip.ranked held.tables held.messages begins.slots begins.messages all
 
   fixes : FixesHeld w y fixed.moves after
   fixes =
@@ -198,10 +197,9 @@ module _ {F : Type 0} (flip_stands : AFlipStands F) (layout : F → Layout) (t :
     unreserved = unreserved;
     band = tracing (record {
       traces = traces;
-      band = ap is_tracing_band far.band;
+      band = ap is_reclaiming_band far.band;
       housed = kept.housed;
-      exact = kept.strong.exact;
-      strong = kept.strong.marks;
+      ranked = kept.ranked;
     });
   }
 

@@ -28,7 +28,7 @@ use Rattle.mps_trace_laws.specs.Fix.Room.{moves_left}
 use Rattle.mps_trace_laws.specs.Fix.Housed.{AreHoused}
 use Rattle.mps_trace_laws.specs.Flip.Reservations.{AreNoneLive}
 use Rattle.mps_trace_laws.proofs.Flip.Reservations.{no_reservation_is_live}
-use Rattle.mps_trace_laws.specs.Units.Standing.{IsMoving}
+use Rattle.mps_trace_laws.specs.Units.Standing.{AreObjectsKnown}
 use Rattle.mps_trace_laws.specs.Nails.Flipped.{setting_flipped_in}
 use Rattle.mps_trace_laws.specs.Nails.Nailed.{AreWordsShown, AreMarkedTo, is_moving_word, nails, pinned_colours, words_of_areas}
 use Rattle.mps_trace_laws.proofs.Nails.Marks.{areas_marked}
@@ -36,9 +36,9 @@ use Rattle.mps_trace_laws.specs.Begin.Before.{StandsBefore}
 use Rattle.mps_trace_laws.specs.Begin.Begun.{AFlipStands, IsFlipStanding}
 use Rattle.mps_trace_laws.proofs.Begin.MovesAtFlip.{moves_at_flip}
 use Rattle.mps_trace_laws.proofs.Begin.FlippedImage.{resting, kind_is, image_pinned}
-use Rattle.mps_trace_laws.proofs.Begin.FlippedSegments.{segments_flipped, bit_is, is_held, models, moved, condemns, strong, unmarked, whole}
+use Rattle.mps_trace_laws.proofs.Begin.FlippedSegments.{segments_flipped, bit_is, is_held, models, moved, condemns, ranked, unmarked, whole}
 use Rattle.mps_trace_laws.proofs.Begin.NothingAtHand.{tails_are_empty, empty_tails_stand}
-use Rattle.mps_trace_laws.proofs.Begin.StrongNails.{strong_areas}
+use Rattle.mps_trace_laws.proofs.Begin.RankedNails.{ranked_areas}
 
 -- the same grains and segments are held as well
 held_alike : (s after : SegsState) → after.grains ≡ s.grains → after.segments ≡ s.segments → AreHeld s → AreHeld after
@@ -169,11 +169,12 @@ module _ {F : Type 0} (layout : F → Layout) (t : TraceState F) (s : SegsState)
       let before = b.room in
       omega (arith, objects, listed, held, before)
 
-  moving : IsMoving layout t.formats t.chains y.world
+  moving : AreObjectsKnown layout t.formats t.chains y.world
   moving = record {
     shaped = b.objects.shaped;
     pools = b.pools.pools;
-    strong = b.objects.none_weak;
+    strong_moving = b.objects.strong_moving;
+    none_dependent = b.objects.none_dependent;
   }
 
   pub standing : IsFlipStanding layout t m w z
@@ -181,7 +182,7 @@ module _ {F : Type 0} (layout : F → Layout) (t : TraceState F) (s : SegsState)
     traces = record { state = state; room = room };
     housed = subst (λ (ts : List Segment). AreHoused w.graph.objects ts w.addresses) (sym same_segments)
         b.segments.housed;
-    strong = strong_areas t.formats roots.areas g (strong layout t s m points w b);
+    ranked = ranked_areas t.formats roots.areas g (ranked layout t s m points w b);
     moving = moving;
     unreserved = λ u there is point l r n lies. absurd (none_live.not_live point r lies.reserved);
     trail = ap (λ (move : Move). m.moves ++ move ∷ []) (models layout t s m points w b).move;

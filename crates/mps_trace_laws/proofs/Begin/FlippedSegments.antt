@@ -1,5 +1,6 @@
 -- The segments right after a flip of everything.
 use Rattle.std.proofs.Common.{◌≡◌, ◌∙◌, ℕ, ◌+◌, ◌*◌, false, List, [], length, Option, Some, None, Contains, refl, sym, ap, subst}
+use Rattle.std.proofs.lemmas.Bool.{false≢true, or_left, or_right}
 use Rattle.std.specs.Prelude.{◌||◌, IsTrue}
 use Rattle.mps_base.specs.Address.{Address, Word, address_of_word, grain_of, words_of_grain}
 use Rattle.mps_base.specs.Run.{IsAscending}
@@ -29,8 +30,8 @@ use Rattle.mps_trace_laws.proofs.Flip.CondemnedWords.{flip_condemns_words}
 use Rattle.mps_trace_laws.proofs.Flip.Reservations.{flip_moves_nothing}
 use Rattle.mps_trace_laws.specs.Nails.Nailed.{AreTablesWhole, AreMarkedAt}
 use Rattle.mps_trace_laws.specs.Begin.Before.{StandsBefore}
-use Rattle.mps_trace_laws.proofs.Begin.HeldSegments.{begin_in_table, ready_to_condemn, segments_are_exact}
-use Rattle.mps_trace_laws.proofs.Begin.StrongNails.{AreCondemnedExact}
+use Rattle.mps_trace_laws.proofs.Begin.HeldSegments.{begin_in_table, ready_to_condemn}
+use Rattle.mps_trace_laws.specs.Fix.Ranks.{AreMarksRanked}
 
 module _ {F : Type 0} (layout : F → Layout) (t : TraceState F) (s : SegsState) (m : Moves) (points : PointsState) (w : World)
     (b : StandsBefore layout t s m points w) where
@@ -99,16 +100,9 @@ module _ {F : Type 0} (layout : F → Layout) (t : TraceState F) (s : SegsState)
     grey = λ n. ap (λ (k : MarkTables). bit k.exact n || bit k.weak n) moved.marks ∙ b.segments.unmarked.grey n;
   }
 
-  -- no segment has weak blocks
-  exact_over : (n : Word) (o : Option Segment) → segment_over g.segments (address_of_word n) ≡ o → rank_of o ≡ Exact
-  exact_over n None over = refl
-  exact_over n (Some u) over =
-      segments_are_exact w b.objects.rest.well_formed b.pools.strong u
-      (subst (λ (ts : List Segment). Contains ts u) (condemns.segments ∙ b.segments.segments.same_segments)
-      (over_is_there g.segments (address_of_word n) u over))
-
-  pub strong : AreCondemnedExact g
-  strong = record {
-    none = λ n. ap (λ (k : MarkTables). bit k.weak n) moved.marks ∙ b.segments.strong n;
-    exact = λ n condemned. exact_over n (segment_over g.segments (address_of_word n)) refl;
+  -- no block is grey
+  pub ranked : AreMarksRanked g
+  ranked = record {
+    exact = λ n is. absurd (false≢true (sym (unmarked.grey n) ∙ or_left (bit g.marks.exact n) (bit g.marks.weak n) is));
+    weak = λ n is. absurd (false≢true (sym (unmarked.grey n) ∙ or_right (bit g.marks.exact n) (bit g.marks.weak n) is));
   }

@@ -1,4 +1,4 @@
--- Held segments of an arena at rest can be condemned, and are of rank exact where no pool has weak references.
+-- Held segments of an arena at rest can be condemned.
 use Rattle.std.proofs.Common.{◌≡◌, ℕ, zero, suc, ◌+◌, Bool, true, false, refl, sym, subst, List, [], ◌∷◌, length, map, Contains, inl, inr, arith}
 use Rattle.std.proofs.lemmas.Bool.{false≢true, and_parts, or_cases, both_ways}
 use Rattle.std.specs.Prelude.{◌&&◌, ◌||◌, ◌==◌, not, nat_lt}
@@ -12,7 +12,6 @@ use Rattle.mps_model.specs.Making.{is_weak_rank}
 use Rattle.mps_model.specs.World.{World, is_weak_kind, pool_is}
 use Rattle.mps_model.specs.WellFormed.{IsWellFormed, is_right_segment, are_apart, lies_within}
 use Rattle.mps_seg.specs.Segs.{SegsState}
-use Rattle.mps_trace_laws.specs.Fix.Housed.{AreAllExact}
 use Rattle.mps_trace_laws.specs.Fix.Tracing.{AreHeld, HasTables}
 use Rattle.mps_trace_laws.proofs.Reclaim.SegmentBounds.{aligned_in}
 use Rattle.mps_trace_laws.proofs.Reclaim.HeldSegments.{some_grains}
@@ -41,29 +40,3 @@ module _ (s : SegsState) (held : AreHeld s) (tables : HasTables s) where
     ascending = (segments_are_in_order s (held_in_order s held)).ascending;
     none = none;
   }
-
--- ---- ranks
-
-passes_there : (test : Segment → Bool) (ss : List Segment) (t : Segment) → list_all test ss ≡ true → Contains ss t → test t ≡ true
-passes_there test [] t all (k, within, is) = absurd (omega (arith, within))
-passes_there test (x ∷ xs) t all (zero, within, is) =
-    subst (λ (u : Segment). test u ≡ true) is (and_parts (test x) (list_all test xs) all).0
-passes_there test (x ∷ xs) t all (suc k, within, is) =
-    passes_there test xs t (and_parts (test x) (list_all test xs) all).1 (k, omega (arith, within), is)
-
-exact_if_strong : (r : Rank) → not (is_weak_rank r) ≡ true → r ≡ Exact
-exact_if_strong Exact strong = refl
-exact_if_strong Weak strong = absurd (false≢true strong)
-
--- where no pool has weak references no segment of a well-formed world has weak blocks
-pub segments_are_exact : (w : World) → IsWellFormed w → ((pool : ℕ) → pool_is is_weak_kind w pool ≡ false) → AreAllExact w.segments
-segments_are_exact w formed strong t there =
-    let all = (and_parts (list_all (is_right_segment w) w.segments) (are_apart (map grains_of_segment w.segments)) formed.segments).0 in
-    let right = passes_there (is_right_segment w) w.segments t all there in
-    let last = (and_parts (address_of_grain (grains_of_segment t).from == t.base && nat_lt 0 t.grains
-    && lies_within (record { from = 1; count = w.grains }) (grains_of_segment t))
-    (not (is_weak_rank t.rank) || pool_is is_weak_kind w t.pool) right).1 in
-    elim (or_cases (not (is_weak_rank t.rank)) (pool_is is_weak_kind w t.pool) last) [
-      | inl exact ↦ exact_if_strong t.rank exact
-      | inr weak ↦ absurd (both_ways (pool_is is_weak_kind w t.pool) (strong t.pool) weak)
-    ]

@@ -268,7 +268,7 @@ module _ (F : Type 0) (layout : F → Layout) (formats : List (Option (Policy F)
         subst (λ a. StateStands layout formats of at_flip done a (record (moved_to one at.0 base size) { words = words' })
         (kept_in y t (Rattle.mps_model.specs.Effect.after_moved grown.world t base))) rest_is
         (copied_stands F layout formats of at_flip done whole one grown
-        (grown_stands F layout formats of at_flip done x.amc x.segs y stands.state u free has) t at.0 base o generation new_target
+        (grown_stands F layout formats of at_flip done x.amc x.segs y stands.state u refl free has) t at.0 base o generation new_target
         (has_still x.amc o.pool generation (buffer_of u) has o.pool generation has)
         (let long : (amc.tail_of whole o.pool generation).count ≡ 512 * grains_needed size = ap (λ (c : Buffer). c.count) whole_tail in
         omega (arith, long)) positive

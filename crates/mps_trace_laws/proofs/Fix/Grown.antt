@@ -3,6 +3,7 @@ use Rattle.std.proofs.Common.{◌≡◌, ◌∙◌, ℕ, ◌*◌, true, false, s
 use Rattle.std.proofs.lemmas.Bool.{cases_Bool}
 use Rattle.mps_base.specs.Address.{Address, word_of, grain_of, words_of_grain}
 use Rattle.mps_base.specs.Segment.{Segment, words_of_segment, with_segment}
+use Rattle.mps_base.specs.declared.names.Rank.TheVariants.{Exact}
 use Rattle.mps_extents.specs.Table.{bit}
 use Rattle.mps_format.specs.Layout.{Layout}
 use Rattle.mps_seg.specs.Segs.{SegsState}
@@ -39,7 +40,8 @@ grown_in y u = record y { world = with_tail (holding y.world u) u.pool u.generat
 
 module _ (F : Type 0) (layout : F → Layout) (formats : List (Option (Policy F))) (of : ChainsState) (at_flip : List (Option Address))
     (done : CellSet) (state : AmcState) (s : SegsState) (y : Collecting)
-    (stands : StateStands layout formats of at_flip done state s y) (u : Segment) (free : IsFree s u)
+    (stands : StateStands layout formats of at_flip done state s y) (u : Segment) (exact : u.rank ≡ Exact)
+    (free : IsFree s u)
     (has : HasTail state u.pool u.generation) where
   abbrev after : Collecting
   after = grown_in y u
@@ -122,6 +124,6 @@ module _ (F : Type 0) (layout : F → Layout) (formats : List (Option (Policy F)
         };
         hands =
             new_tails s stands.held y.world.graph.objects y.world.graph.points y.world.point_memories (pool_layout y.world) at_flip
-            y.running.condemned (λ id. true) y.world.addresses stands.tables stands.image.placed stands.reserved u free (tail_of y.world)
+            y.running.condemned (λ id. true) y.world.addresses stands.tables stands.image.placed stands.reserved u exact free (tail_of y.world)
             (tail_of after.world) stands.hands new;
       }

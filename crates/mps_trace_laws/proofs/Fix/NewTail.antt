@@ -3,6 +3,7 @@ use Rattle.std.proofs.Common.{◌≡◌, ◌∙◌, ℕ, zero, suc, ◌+◌, ◌
 use Rattle.mps_base.specs.Address.{Address, Id, Word}
 use Rattle.mps_base.specs.Run.{Run, Covers}
 use Rattle.mps_base.specs.Segment.{Segment, words_of_segment}
+use Rattle.mps_base.specs.declared.names.Rank.TheVariants.{Exact}
 use Rattle.mps_format.specs.Layout.{Layout}
 use Rattle.mps_seg.specs.Segs.{SegsState}
 use Rattle.mps_laws.proofs.Positions.Segments.{IsAmong, among_new, among_with, segment_bounds}
@@ -31,7 +32,7 @@ module _ (s : SegsState) (held : AreHeld s) (objects : List Object) (points : Li
     (layout : ℕ → Layout) (at_flip : List (Option Address)) (condemned : List Id) (is_read : Id → Bool)
     (addresses : List (Option Address)) (tables : HasTables s)
     (placed : LieApart (setting_in s objects points memories layout at_flip condemned is_read) addresses)
-    (reserved : AreReservationsHeld s points memories) (u : Segment) (free : IsFree s u) (tail tail' : (pool generation : ℕ) → Run)
+    (reserved : AreReservationsHeld s points memories) (u : Segment) (exact : u.rank ≡ Exact) (free : IsFree s u) (tail tail' : (pool generation : ℕ) → Run)
     (tails : TailsStand (setting_in s objects points memories layout at_flip condemned is_read) s.segments addresses tail)
     (new : IsNewTail tail tail' u) where
   abbrev its_setting : SegsState → Setting
@@ -116,6 +117,7 @@ module _ (s : SegsState) (held : AreHeld s) (objects : List Object) (points : Li
     segment = u;
     held = among_contains after.segments u (among_new u s.segments);
     home = refl;
+    exact = exact;
     above = omega arith;
     ends = omega (arith, free.aligned);
   }
@@ -131,6 +133,7 @@ module _ (s : SegsState) (held : AreHeld s) (objects : List Object) (points : Li
         held = among_contains after.segments old.segment
             (among_with u old.segment s.segments (contains_among s.segments old.segment old.held));
         home = old.home;
+        exact = old.exact;
         above = old.above;
         ends = old.ends;
       })

@@ -1,20 +1,27 @@
 -- Grey marks by rank, and what they tell of objects.
-use Rattle.std.proofs.Common.{◌≡◌, ◌∙◌, ◌⊎◌, Bool, true, false, refl, sym, ap, List, Some, inl, inr}
+use Rattle.std.proofs.Common.{◌≡◌, ◌∙◌, ◌⊎◌, Bool, true, false, refl, sym, ap, List, Some, inl, inr, arith}
 use Rattle.std.proofs.lemmas.Bool.{cases_eq, true≢false}
 use Rattle.std.proofs.lemmas.List.{get_or-set_other}
-use Rattle.std.specs.Prelude.{slice_set, if◌then◌else◌, ◌||◌, IsTrue}
+use Rattle.std.specs.Prelude.{slice_get, slice_set, if◌then◌else◌, ◌||◌, IsTrue}
+use Rattle.std.specs.Option.{option_map_or}
 use Rattle.mps_base.specs.Address.{Address, Id, Word, word_of, address_of_word}
 use Rattle.mps_base.specs.declared.names.Rank.{Rank}
 use Rattle.mps_base.specs.declared.names.Rank.TheVariants.{Exact, Weak}
 use Rattle.mps_extents.specs.Table.{bit}
 use Rattle.mps_seg.specs.Marks.{MarkTables, with_grey}
-use Rattle.mps_model.specs.Graph.{entry_at, is_weak_object}
-use Rattle.mps_model.specs.World.{object_is}
+use Rattle.mps_model.specs.Graph.{Object, entry_at, is_weak_object}
+use Rattle.mps_model.specs.World.{World, object_is}
 use Rattle.mps_model.specs.Accessing.{address_or_null}
 use Rattle.mps_abstract.specs.Colours.{is_grey}
 use Rattle.mps_abstract.proofs.Addresses.{address_of-live}
-use Rattle.mps_seg.specs.Collecting.{rank_at}
-use Rattle.mps_trace_laws.specs.Fix.Ranks.{GreyingKeepsRanks, RankedMarksTell}
+use Rattle.mps_seg.specs.Collecting.{rank_at, rank_of}
+use Rattle.mps_seg.specs.Segs.{SegsState}
+use Rattle.mps_trace_laws.specs.Fix.Housed.{AreHoused}
+use Rattle.mps_trace_laws.specs.Image.Image.{LieApart}
+use Rattle.mps_trace_laws.specs.Image.Memory.{Setting}
+use Rattle.mps_trace_laws.specs.Image.SegmentWords.{AreSegmentsInOrder}
+use Rattle.mps_trace_laws.proofs.Reclaim.HeldSegments.{over}
+use Rattle.mps_trace_laws.specs.Fix.Ranks.{AreObjectsRanked, GreyingKeepsRanks, RankedMarksTell}
 
 -- a bit that is set after one was is that one, or was set
 set_before : (bits : List Bool) (n m : Word) → bit (slice_set bits n true) m ≡ true → (m ≡ n) ⊎ (bit bits m ≡ true)
@@ -25,12 +32,12 @@ set_before bits n m e = elim (cases_eq m n) [
 ]
 
 -- a mark that is set after a block became grey was set, or is of its rank
-after_exact : (rank : Rank) (n m : Word) (marks : MarkTables) → bit (with_grey rank n marks).exact m ≡ true
+pub after_exact : (rank : Rank) (n m : Word) (marks : MarkTables) → bit (with_grey rank n marks).exact m ≡ true
     → ((m ≡ n) × (rank ≡ Exact)) ⊎ (bit marks.exact m ≡ true)
 after_exact Exact n m marks e = elim (set_before marks.exact n m e) [ inl same ↦ inl (same, refl) | inr old ↦ inr old ]
 after_exact Weak n m marks e = inr e
 
-after_weak : (rank : Rank) (n m : Word) (marks : MarkTables) → bit (with_grey rank n marks).weak m ≡ true
+pub after_weak : (rank : Rank) (n m : Word) (marks : MarkTables) → bit (with_grey rank n marks).weak m ≡ true
     → ((m ≡ n) × (rank ≡ Weak)) ⊎ (bit marks.weak m ≡ true)
 after_weak Weak n m marks e = elim (set_before marks.weak n m e) [ inl same ↦ inl (same, refl) | inr old ↦ inr old ]
 after_weak Exact n m marks e = inr e
@@ -46,6 +53,17 @@ greying_keeps_ranks s at begins ranked = record {
     | inr old ↦ ranked.weak m old
   ];
 }
+
+-- objects that lie in segments of their rank are at addresses of it
+pub objects_are_ranked : (s : SegsState) (set : Setting) (w : World) → LieApart set w.addresses → set.objects ≡ w.graph.objects
+    → AreSegmentsInOrder s.segments → AreHoused w.graph.objects s.segments w.addresses → AreObjectsRanked s w
+objects_are_ranked s set w placed same order housed id at there =
+    let o = placed.exists id at there in
+    let object : slice_get w.graph.objects id ≡ Some o.0 = ap (λ (os : List Object). slice_get os id) (sym same) ∙ o.1 in
+    let positive = placed.positive id at o.0 there o.1 in
+    let one = housed id at o.0 there object in
+    ap rank_of (over s.segments order one.segment (word_of at) one.held one.above (omega (arith, one.below, positive)))
+    ∙ one.rank_is ∙ sym (ap (λ p. if option_map_or is_weak_object p false then Weak else Exact) object)
 
 -- what a rank tells of an object
 rank_tells_weak : (b : Bool) → Weak ≡ (if b then Weak else Exact) → b ≡ true

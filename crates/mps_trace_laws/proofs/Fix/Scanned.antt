@@ -29,6 +29,7 @@ use Rattle.mps_trace_laws.specs.Fix.Scanning.{with_cells, IsToBeScanned, IsScann
 use Rattle.mps_trace_laws.proofs.Fix.Found as found
 use Rattle.mps_trace_laws.proofs.Fix.SplatsLeft.{splats_scanned}
 use Rattle.mps_trace_laws.proofs.Fix.ScanRun.{run_to, pass_all, inside}
+use Rattle.mps_trace_laws.proofs.Fix.SplatsLeft.{splats_scanned}
 use Rattle.mps_format.specs.declared.pool.Policy.{Policy}
 
 -- what all cells of a block refer to

@@ -119,6 +119,7 @@ module _ (s : Setting) (segments : List Segment) (addresses : List (Option Addre
         segment = home.segment;
         held = home.held;
         home = home.home;
+        exact = home.exact;
         above = omega (arith, home.above);
         ends = omega (arith, home.ends, taken.fits);
       })

@@ -228,6 +228,7 @@ module _ (g : SegsState) (objects : List Object) (points : List (Option Point)) 
               held =
                   held_filtered (λ x. not (x.base == t.base)) g.segments h.segment h.held
                   (ap not (ne_eqb h.segment.base t.base (elsewhere id at o there object)));
+              rank_is = h.rank_is;
               above = h.above;
               below = h.below;
             };

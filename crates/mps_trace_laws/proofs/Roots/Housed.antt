@@ -1,9 +1,10 @@
--- Fixing all slots and then all messages keeps each object in one segment, and makes no block grey as a weak one.
+-- Fixing all slots and then all messages keeps each object in one segment of its rank, and ranks marks as segments.
 use Rattle.std.proofs.Common.{◌≡◌, ◌∙◌, ℕ, zero, suc, true, refl, sym, ap, List, [], ◌∷◌, ◌++◌, map, Option, Some, None, subst, inl, inr}
 use Rattle.std.proofs.lemmas.Bool.{false≢true}
 use Rattle.std.proofs.lemmas.List.{append-nil}
 use Rattle.std.specs.Prelude.{is_some, slice_get, length}
 use Rattle.mps_base.specs.Address.{Address, Id}
+use Rattle.mps_base.specs.Segment.{Segment}
 use Rattle.mps_trace.specs.State.{FinalsState}
 use Rattle.mps_format.specs.Layout.{Layout}
 use Rattle.mps_trace.specs.GenState.{ChainsState}
@@ -15,9 +16,12 @@ use Rattle.mps_abstract.specs.Fixing.{Fixes, fixes_no_more}
 use Rattle.mps_abstract.proofs.Lists.{contains_cases, contains_here, contains_later}
 use Rattle.mps_trace.specs.Roots.{FixesRoot, is_null, leads, begins, goes_on, FixesSlots, FixesTables, FixesMessages}
 use Rattle.mps_trace.specs.Trace.{Traced}
-use Rattle.mps_trace_laws.specs.Fix.Housed.{AreHoused, AreLive, IsStrong}
+use Rattle.mps_trace_laws.specs.Fix.Housed.{AreHoused, AreLive, AreStrongMoving}
+use Rattle.mps_trace_laws.specs.Fix.Ranks.{AreMarksRanked}
+use Rattle.mps_trace_laws.specs.Image.SegmentWords.{AreSegmentsInOrder}
 use Rattle.mps_trace_laws.proofs.Fix.Housed.{fixes_keep_housed}
-use Rattle.mps_trace_laws.proofs.Fix.Ranks.{fix_strong}
+use Rattle.mps_trace_laws.proofs.Fix.Ranks.{AreAllButExact, AreRanked, all_of_them, fix_but, fix_ranked, ranked_among, ranked_there}
+use Rattle.mps_trace_laws.proofs.Units.Entering.{held_in_order}
 use Rattle.mps_trace_laws.specs.Roots.Rows.{AreHeldAtFlip}
 use Rattle.mps_trace_laws.proofs.Roots.Tables.{all_of}
 use Rattle.mps_format.specs.declared.pool.Policy.{Policy}
@@ -61,25 +65,53 @@ live_held at_flip y slots targets held = live_entries y.world targets (λ i t e.
 
 -- ---- ranks
 
-module _ {F : Type 0} (layout : F → Layout) (formats : List (Option (Policy F))) (of : ChainsState) where
-  root_strong : {x z : Traced} {at answer : Address} → FixesRoot layout formats of x at z answer → IsStrong x.segs → IsStrong z.segs
-  root_strong (is_null e) strong = strong
-  root_strong (leads to positive fixed) strong = fix_strong layout formats of fixed strong
+module _ (all : List Segment) (order : AreSegmentsInOrder all) {F : Type 0} (layout : F → Layout) (formats : List (Option (Policy F)))
+    (of : ChainsState) where
+  root_but : {x z : Traced} {at answer : Address} → FixesRoot layout formats of x at z answer → AreAllButExact z.segs.segments all
+      → AreAllButExact x.segs.segments all
+  root_but (is_null e) but = but
+  root_but (leads to positive fixed) but = fix_but all order layout formats of fixed but
 
-  slots_strong : (key : ℕ) {from : RootsState} {x : Traced} {count : ℕ} {to : RootsState} {z : Traced}
-      → FixesSlots layout formats of key from x count to z → IsStrong x.segs → IsStrong z.segs
-  slots_strong key begins strong = strong
-  slots_strong key (goes_on count at earlier fixed is) strong = root_strong fixed (slots_strong key earlier strong)
+  root_ranked : {x z : Traced} {at answer : Address} → FixesRoot layout formats of x at z answer → AreAllButExact z.segs.segments all
+      → AreRanked all order x.segs.marks → AreRanked all order z.segs.marks
+  root_ranked (is_null e) but ranked = ranked
+  root_ranked (leads to positive fixed) but ranked = fix_ranked all order layout formats of fixed but ranked
 
-  tables_strong : {from : RootsState} {x : Traced} {count : ℕ} {to : RootsState} {z : Traced}
-      → FixesTables layout formats of from x count to z → IsStrong x.segs → IsStrong z.segs
-  tables_strong begins strong = strong
-  tables_strong (goes_on count earlier table) strong = slots_strong _ table (tables_strong earlier strong)
+  slots_but : (key : ℕ) {from : RootsState} {x : Traced} {count : ℕ} {to : RootsState} {z : Traced}
+      → FixesSlots layout formats of key from x count to z → AreAllButExact z.segs.segments all → AreAllButExact x.segs.segments all
+  slots_but key begins but = but
+  slots_but key (goes_on count at earlier fixed is) but = slots_but key earlier (root_but fixed but)
 
-  messages_strong : {from : FinalsState} {x : Traced} {count : ℕ} {to : FinalsState} {z : Traced}
-      → FixesMessages layout formats of from x count to z → IsStrong x.segs → IsStrong z.segs
-  messages_strong begins strong = strong
-  messages_strong (goes_on count at earlier fixed is) strong = root_strong fixed (messages_strong earlier strong)
+  slots_ranked : (key : ℕ) {from : RootsState} {x : Traced} {count : ℕ} {to : RootsState} {z : Traced}
+      → FixesSlots layout formats of key from x count to z → AreAllButExact z.segs.segments all → AreRanked all order x.segs.marks
+      → AreRanked all order z.segs.marks
+  slots_ranked key begins but ranked = ranked
+  slots_ranked key (goes_on count at earlier fixed is) but ranked =
+      root_ranked fixed but (slots_ranked key earlier (root_but fixed but) ranked)
+
+  tables_but : {from : RootsState} {x : Traced} {count : ℕ} {to : RootsState} {z : Traced}
+      → FixesTables layout formats of from x count to z → AreAllButExact z.segs.segments all → AreAllButExact x.segs.segments all
+  tables_but begins but = but
+  tables_but (goes_on count earlier table) but = tables_but earlier (slots_but _ table but)
+
+  tables_ranked : {from : RootsState} {x : Traced} {count : ℕ} {to : RootsState} {z : Traced}
+      → FixesTables layout formats of from x count to z → AreAllButExact z.segs.segments all → AreRanked all order x.segs.marks
+      → AreRanked all order z.segs.marks
+  tables_ranked begins but ranked = ranked
+  tables_ranked (goes_on count earlier table) but ranked =
+      slots_ranked _ table but (tables_ranked earlier (slots_but _ table but) ranked)
+
+  messages_but : {from : FinalsState} {x : Traced} {count : ℕ} {to : FinalsState} {z : Traced}
+      → FixesMessages layout formats of from x count to z → AreAllButExact z.segs.segments all → AreAllButExact x.segs.segments all
+  messages_but begins but = but
+  messages_but (goes_on count at earlier fixed is) but = messages_but earlier (root_but fixed but)
+
+  messages_ranked : {from : FinalsState} {x : Traced} {count : ℕ} {to : FinalsState} {z : Traced}
+      → FixesMessages layout formats of from x count to z → AreAllButExact z.segs.segments all → AreRanked all order x.segs.marks
+      → AreRanked all order z.segs.marks
+  messages_ranked begins but ranked = ranked
+  messages_ranked (goes_on count at earlier fixed is) but ranked =
+      root_ranked fixed but (messages_ranked earlier (root_but fixed but) ranked)
 
 -- ---- all of them
 
@@ -89,12 +121,12 @@ pub roots_keep_housed : {F : Type 0}
     (x between z : Traced) (y : Collecting) (rows : List (List (Option Id))) (ids : List Id) (roots roots' : RootsState)
     (finals finals' : FinalsState)
     → TracingStands layout formats of at_flip done x y → AreHoused y.world.graph.objects x.segs.segments y.world.addresses
-    → IsStrong x.segs → AreTablesHeld at_flip y roots rows → AreHeldAtFlip at_flip y finals.messages (map Some ids)
+    → AreStrongMoving y.world → AreMarksRanked x.segs → AreTablesHeld at_flip y roots rows → AreHeldAtFlip at_flip y finals.messages (map Some ids)
     → FixesTables layout formats of roots x (length roots.order) roots' between
     → FixesMessages layout formats of finals between (length finals.messages) finals' z
     → (all : AreRootsFixed layout formats of at_flip done x z y roots roots' finals' rows ids) → AreRootsHoused z all.fixed.after
-roots_keep_housed layout formats of at_flip done x between z y rows ids roots roots' finals finals' stands housed strong held messages
-    tables run all =
+roots_keep_housed layout formats of at_flip done x between z y rows ids roots roots' finals finals' stands housed strong ranked held
+    messages tables run all =
     let f = all.fixed in
     let targets = all_of rows ++ map Some ids in
     let live =
@@ -109,6 +141,14 @@ roots_keep_housed layout formats of at_flip done x between z y rows ids roots ro
     record {
       housed =
           subst (λ ss. AreHoused f.after.world.graph.objects ss f.after.world.addresses) (sym f.stands.state.segments.same_segments)
-          (fixes_keep_housed layout formats of at_flip done x y f.after (entries targets) f.moves stands housed live fixes);
-      strong = messages_strong layout formats of run (tables_strong layout formats of tables strong);
+          (fixes_keep_housed layout formats of at_flip done x y f.after (entries targets) f.moves stands strong housed live
+          fixes);
+      ranked =
+          let ss = z.segs.segments in
+          let order = held_in_order z.segs f.stands.state.held in
+          let later = messages_but ss order layout formats of run (all_of_them ss) in
+          let first = tables_but ss order layout formats of tables later in
+          ranked_there z.segs order
+          (messages_ranked ss order layout formats of run (all_of_them ss)
+          (tables_ranked ss order layout formats of tables later (ranked_among ss order x.segs first ranked)));
     }

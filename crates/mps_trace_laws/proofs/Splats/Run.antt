@@ -2,11 +2,11 @@
 use Rattle.std.proofs.Common.{◌≡◌, ◌∙◌, ℕ, zero, suc, ◌+◌, ◌-◌, ◌<◌, ◌≤◌, Bool, true, false, refl, sym, ap, List, [], ◌∷◌, ◌++◌, length, map, Option, Some, None, subst, inl, inr, arith}
 use Rattle.std.proofs.lemmas.Bool.{cases_eq, eq-eqb, eqb-true, or_right, or_cases, true≢false, false≢true}
 use Rattle.std.proofs.lemmas.List.{append-nil, append_assoc, length-set}
-use Rattle.std.proofs.lemmas.Option.{none-some}
+use Rattle.std.proofs.lemmas.Option.{none-some, same_Some}
 use Rattle.std.specs.Prelude.{slice_get, slice_set, slice_index, ◌==◌, ◌&&◌, IsTrue}
 use Rattle.std.specs.Option.{option_map_or}
 use Rattle.mps_base.specs.Address.{Address, Id, word_of}
-use Rattle.mps_base.specs.Trail.{with_move}
+use Rattle.mps_base.specs.Trail.{Moves, with_move}
 use Rattle.mps_base.specs.declared.address.Addr.{Addr}
 use Rattle.mps_base.specs.declared.moves.Move.TheVariants.{Splat}
 use Rattle.mps_format.specs.Layout.{Layout}
@@ -34,11 +34,12 @@ use Rattle.mps_trace.specs.Scan.{word_at, target_at, after_redirect}
 use Rattle.mps_trace_laws.specs.Fix.Tracing.{TracingStands, StateStands, setting_of}
 use Rattle.mps_trace_laws.specs.Fix.Room.{moves_left}
 use Rattle.mps_trace_laws.specs.Fix.Scanning.{IsToBeScanned}
-use Rattle.mps_trace.specs.Finding.{FindsTo}
-use Rattle.mps_trace.specs.Splat.{SplatsCell, is_null, updates, splats, SplatsTo, begins, goes_on}
+use Rattle.mps_trace.specs.Finding.{CanFind, FindsTo}
+use Rattle.mps_trace.specs.Splat.{SplatsCell, is_null, updates, splats, SplatsTo, begins, goes_on, CanSplatCell, AreSplatsReady}
 use Rattle.mps_trace_laws.specs.Fix.Finding.{FindsObject, there, white}
 use Rattle.mps_trace_laws.specs.Splats.Laws.{AreSplatsDone, ASplatRunIsSplats}
 use Rattle.mps_format.specs.declared.pool.Policy.{Policy}
+use Rattle.mps_trace_laws.proofs.Fix.CanFix.{target_can_be_fixed}
 use Rattle.mps_trace_laws.proofs.Fix.Finding.{object_found}
 use Rattle.mps_trace_laws.proofs.Splats.OneCell as cell_of
 use Rattle.mps_trace_laws.proofs.Splats.Shapes as shape
@@ -65,6 +66,8 @@ module _ (F : Type 0) (layout : F → Layout) (formats : List (Option (Policy F)
     these : List ℕ
     row : (more : List ℕ) (last : Collecting) → Splats holder after more last → Splats holder y (these ++ more) last
     trail : z.moves.moves ≡ x.moves.moves ++ splats_of at these
+    few : length these ≤ before - 1
+    spare : x.moves.spare ≤ z.moves.spare + length these
     amc : z.amc ≡ x.amc
     colours : after.colours ≡ y.colours
     addresses : after.world.addresses ≡ y.world.addresses
@@ -90,6 +93,8 @@ module _ (F : Type 0) (layout : F → Layout) (formats : List (Option (Policy F)
     these = [];
     row = λ more last rest. rest;
     trail = sym (append-nil x.moves.moves);
+    few = omega arith;
+    spare = omega arith;
     amc = refl;
     colours = refl;
     addresses = refl;
@@ -151,7 +156,9 @@ module _ (F : Type 0) (layout : F → Layout) (formats : List (Option (Policy F)
       after = u;
       these = run.these;
       row = run.row;
-      trail = ap (λ (n : Rattle.mps_base.specs.Trail.Moves). n.moves) moves ∙ run.trail;
+      trail = ap (λ (n : Moves). n.moves) moves ∙ run.trail;
+      few = let few = run.few in omega (arith, few);
+      spare = let same = ap (λ (n : Moves). n.spare) moves in let spare = run.spare in omega (arith, same, spare);
       amc = amcs ∙ run.amc;
       colours = run.colours;
       addresses = run.addresses;
@@ -237,6 +244,18 @@ module _ (F : Type 0) (layout : F → Layout) (formats : List (Option (Policy F)
       not_null = cell_of.not_null set u m u.world.addresses u.colours run.done_after holder i at.0 run.object head run.left is_weak tag
           run.shaped_now (λ id. refl) holder_there run.there_now run.body_now inside run.state.image t now here (live_now t tag e).1
 
+      -- the first cell is the head
+      after_head : 0 < i
+      after_head = elim (cases_eq i 0) [
+        | inl first ↦
+            let head_cell = shaped.first holder o scan.object scan.automatic in
+            let cell = ap (λ b. slice_get (all_cells b) i) body ∙ e in
+            let same = same_Some HeadCell (ReferenceCell (Some t) tag)
+            (sym head_cell ∙ ap (slice_get (all_cells o.body)) (sym first) ∙ cell) in
+            cc
+        | inr more ↦ omega (arith, more)
+      ]
+
       -- with room enough
       abbrev roomy : Traced
       roomy = record z { moves = record { moves = []; spare = moves_left u + 2 } }
@@ -249,6 +268,11 @@ module _ (F : Type 0) (layout : F → Layout) (formats : List (Option (Policy F)
       is_found found_at finds =
           object_found F layout formats of at_flip run.done_after roomy u run.shaped_now stands (record { 0 = target_at g z at i }) t now
           found.object target found_at finds
+
+      can_find : CanFind layout formats z.segs (record { 0 = target_at g z at i })
+      can_find =
+          (target_can_be_fixed layout formats of at_flip run.done_after roomy u (record { 0 = target_at g z at i }) t now found.object
+          run.shaped_now stands target).find
 
       update : (z' : Traced) (to : Addr) → FindsObject u t (target_at g z at i) now (Some to)
           → z' ≡ after_redirect g (word_at z at i) at i to z → To z' (i + 1)
@@ -323,6 +347,8 @@ module _ (F : Type 0) (layout : F → Layout) (formats : List (Option (Policy F)
               ap (λ ms. ms ++ Splat at i ∷ []) run.trail
               ∙ append_assoc x.moves.moves (splats_of at run.these) (Splat at i ∷ [])
               ∙ ap (λ ms. x.moves.moves ++ ms) (sym (splats_last run.these));
+          few = let few = run.few in let long = one_longer run.these in omega (arith, few, long, after_head);
+          spare = let spare = run.spare in let long = one_longer run.these in omega (arith, spare, long);
           amc = run.amc;
           colours = run.colours;
           addresses = run.addresses;
@@ -366,6 +392,10 @@ module _ (F : Type 0) (layout : F → Layout) (formats : List (Option (Policy F)
             splats_last [] = refl
             splats_last (c ∷ cs) = ap (λ ms. Splat at c ∷ ms) (splats_last cs)
 
+            one_longer : (cs : List ℕ) → length (cs ++ i ∷ []) ≡ length cs + 1
+            one_longer [] = refl
+            one_longer (c ∷ cs) = let rest = one_longer cs in omega (arith, rest)
+
       by_white : (z' : Traced) → FindsObject u t (target_at g z at i) now None
           → z' ≡ record z {
             segs = record z.segs { words = slice_set z.segs.words (word_of at.0 + i) (g.retarget (word_at z at i) 0) };
@@ -402,6 +432,23 @@ module _ (F : Type 0) (layout : F → Layout) (formats : List (Option (Policy F)
         go c e (is_none a fixed) = absurd (true≢false (sym is ∙ sym (kind_is c e) ∙ a))
         go c e (is_nothing tag same) = null_step tag (e ∙ ap (λ v. Some v) same) z' there_cell
         go c e (is_one t tag same) = one_step t tag (e ∙ ap (λ v. Some v) same) z' there_cell
+
+    -- what it leads to can be found, and there is room for a splat
+    can_step : IsTrue (f.is_reference head i) → length cells - 1 < x.moves.spare → CanSplatCell layout f formats z at i
+    can_step is room = let c = in_range cells i within in go c.0 c.1 (cell_cases c.0)
+      where
+        left : 0 < z.moves.spare
+        left = let few = run.few in let spare = run.spare in omega (arith, few, spare, room, within)
+
+        go : (c : Cell) → slice_get cells i ≡ Some c → CellCases c → CanSplatCell layout f formats z at i
+        go c e (is_none a fixed) = absurd (true≢false (sym is ∙ sym (kind_is c e) ∙ a))
+        go c e (is_nothing tag same) =
+            let null = reads_null tag (e ∙ ap (λ v. Some v) same) in
+            subst (λ (h : Layout). CanSplatCell layout h formats z at i) g_now
+            (record { find = λ some. absurd (omega (arith, some, null)); room = left })
+        go c e (is_one t tag same) =
+            subst (λ (h : Layout). CanSplatCell layout h formats z at i) g_now
+            (record { find = λ some. can_find t tag (e ∙ ap (λ v. Some v) same); room = left })
 
   size_is : size_of o ≡ length cells
   size_is = ap size_of_body body
@@ -476,8 +523,19 @@ module _ (F : Type 0) (layout : F → Layout) (formats : List (Option (Policy F)
       same_addresses = run.addresses;
       same_colours = run.colours;
       same_condemned = run.condemned;
+      few = let few = run.few in omega (arith, few, size_is);
+      spare = run.spare;
+      shaped = run.shaped_now;
       object = (run.object, run.there_now, ap size_of_body run.body_now ∙ run.long ∙ sym (ap size_of_body body));
     }
+
+  -- each reference can be splatted when its turn comes
+  pub ready : size_of o - 1 < x.moves.spare → AreSplatsReady layout f formats head at x
+  ready room from cell w earlier first =
+      let r = run_to earlier in
+      let inside = within_cells cell first.reference in
+      let here = to_cell w from cell r.run first.not_before (λ k above below. first.none_between k above below) (omega (arith, inside)) in
+      can_step w cell here inside first.reference (omega (arith, room, size_is))
 
   pub run_done : (z : Traced) (from : ℕ) → SplatsTo layout f formats head at x from z → HasNoReference f head from
       → AreSplatsDone layout formats of at_flip done x z y holder at (size_of o)

@@ -29,7 +29,7 @@ use Rattle.mps_trace_laws.specs.Splats.Laws.{AreSplatsDone, IsSplatScan, ASplatS
 use Rattle.mps_trace_laws.proofs.Splats.Run.{run_is_splats}
 
 -- an automatic object has cells
-automatic_body : (b : Body) → is_automatic_body b ≡ true
+pub automatic_body : (b : Body) → is_automatic_body b ≡ true
     → (cells : List Cell) × (is_weak : Bool) × (b ≡ Automatic (head_of_body b) cells is_weak)
 automatic_body (Automatic head cells is_weak) is = (cells, is_weak, refl)
 automatic_body (Manual words) is = absurd (false≢true is)
@@ -60,7 +60,7 @@ module _ (F : Type 0) (layout : F → Layout) (formats : List (Option (Policy F)
 
   -- the block is grey no longer
   ended : (z : Traced) → AreSplatsDone layout formats of at_flip done x z y holder at (size_of o)
-      → IsSplatScan layout formats of at_flip x (record z { segs = blackening z.segs at.0 }) y holder at
+      → IsSplatScan layout formats of at_flip x (record z { segs = blackening z.segs at.0 }) y holder at (size_of o)
   ended z run =
       let y' = run.after in
       let st = run.state in
@@ -71,6 +71,9 @@ module _ (F : Type 0) (layout : F → Layout) (formats : List (Option (Policy F)
         after = y';
         splats = run.splats;
         trail = run.trail;
+        few = run.few;
+        spare = run.spare;
+        shaped = run.shaped;
         state = record {
           segments = record {
             same_grains = st.segments.same_grains;
@@ -103,7 +106,7 @@ module _ (F : Type 0) (layout : F → Layout) (formats : List (Option (Policy F)
         };
       }
 
-  pub is_scan : {z : Traced} → Splatted layout formats x at z → IsSplatScan layout formats of at_flip x z y holder at
+  pub is_scan : {z : Traced} → Splatted layout formats x at z → IsSplatScan layout formats of at_flip x z y holder at (size_of o)
   is_scan is =
       let its = found.its_segment F layout formats of at_flip done x y shaped stands at.0 holder at.0 o target in
       let head_is = found.head_there F layout formats of at_flip done x y shaped stands at.0 holder at.0 o target in
@@ -114,7 +117,7 @@ module _ (F : Type 0) (layout : F → Layout) (formats : List (Option (Policy F)
       ∙ ap (pool_layout y.world) pool in
       let all = subst (λ h. SplatsAll layout f formats h at x is.before) head_is
       (subst (λ (g : Layout). SplatsAll layout g formats (slice_index x.segs.words (word_of at.0)) at x is.before) format_is is.all) in
-      subst (λ w. IsSplatScan layout formats of at_flip x w y holder at) (sym is.black) (ended is.before (whole_run is.before all))
+      subst (λ w. IsSplatScan layout formats of at_flip x w y holder at (size_of o)) (sym is.black) (ended is.before (whole_run is.before all))
 
 pub a_splat_scan_is_a_scan : {F : Type 0} → ASplatScanIsAScan F
 a_splat_scan_is_a_scan {F} layout formats of at_flip x z y holder at o none_paired shaped stands scan is =

@@ -17,10 +17,14 @@ use Rattle.mps_trace_laws.specs.Image.SegmentWords.{AreSegmentsInOrder}
 use Rattle.mps_seg.specs.Segs.{SegsState}
 use Rattle.mps_trace.specs.Examine.{IsOneDue, IsNoneDue}
 use Rattle.mps_trace.specs.Scan.{IsDrained}
-use Rattle.mps_trace.specs.Splat.{HasNoMark, HasNoWeakMark}
+use Rattle.mps_trace.specs.Splat.{HasNoMark}
 use Rattle.mps_trace.specs.State.{FinalsState}
 use Rattle.mps_trace.specs.Trace.{Traced}
-use Rattle.mps_trace_laws.specs.Fix.Tracing.{AreHeld}
+use Rattle.mps_trace_laws.specs.Fix.Ranks.{DoMarksTell}
+use Rattle.mps_trace_laws.specs.Fix.Tracing.{AreHeld, setting_of}
+use Rattle.mps_trace_laws.proofs.Fix.RankedMarks.{objects_are_ranked, ranked_marks_tell}
+use Rattle.mps_model.specs.Graph.{is_automatic}
+use Rattle.mps_model.specs.World.{object_is}
 use Rattle.mps_trace_laws.proofs.Reclaim.SegmentBounds.{segment_cases, contains_no_segment}
 use Rattle.mps_trace_laws.proofs.Reclaim.LastBand.{the_last_band_begins}
 use Rattle.mps_trace_laws.specs.Units.Standing.{StandsTracing, StandsReclaiming, tracing, reclaiming, AreInArena, UnitStands}
@@ -72,6 +76,17 @@ either_is false true first second = absurd (true≢false second)
 
 module _ {F : Type 0} (layout : F → Rattle.mps_format.specs.Layout.Layout) (formats : List (Rattle.std.specs.Prelude.Option (Policy F)))
     (of : Rattle.mps_trace.specs.GenState.ChainsState) (at_flip : List (Rattle.std.specs.Prelude.Option Address)) (x : Traced)
+    (y : Collecting) (run : Running y) (st : StandsTracing layout formats of at_flip x y) where
+  -- marks tell which objects are weak
+  pub marks_tell : DoMarksTell x.segs y
+  marks_tell =
+      let set = setting_of x.segs at_flip y in
+      let image = st.traces.state.image in
+      ranked_marks_tell x.segs set y (object_is is_automatic y.world) st.ranked
+      (objects_are_ranked x.segs set y.world image.placed refl (held_in_order x.segs st.traces.state.held) st.housed) image.marks run.grey
+
+module _ {F : Type 0} (layout : F → Rattle.mps_format.specs.Layout.Layout) (formats : List (Rattle.std.specs.Prelude.Option (Policy F)))
+    (of : Rattle.mps_trace.specs.GenState.ChainsState) (at_flip : List (Rattle.std.specs.Prelude.Option Address)) (x : Traced)
     (y : Collecting) (run : Running y) (st : StandsTracing layout formats of at_flip x y) (scanned : HasNoMark x.segs) where
   none_grey : AreAllScanned y.colours
   none_grey id =
@@ -100,7 +115,7 @@ module _ {F : Type 0} (layout : F → Rattle.mps_format.specs.Layout.Layout) (fo
 module _ {F : Type 0} (layout : F → Layout) (formats : List (Option (Policy F))) (of : ChainsState) (at_flip : List (Option Address))
     (x : Traced) (f : FinalsState) (run : RunningState) (y : Collecting) (stands : UnitStands layout formats of at_flip x f run y) where
   -- where no registration is due all are examined
-  all_examined : IsNoneDue run → AreAllExamined y
+  pub all_examined : IsNoneDue run → AreAllExamined y
   all_examined none =
       let most = stands.running.examined.up_to in
       let next = stands.next in
@@ -130,27 +145,5 @@ module _ {F : Type 0} (layout : F → Layout) (formats : List (Option (Policy F)
       ]
 
   -- and where no block has an exact mark nothing but weak objects is grey
-  pub drained_so : IsOneDue run → IsDrained x.segs → IsDrainedIn y
-  drained_so due drained id is =
-      let st = due_is_traced due in
-      absurd (true≢false (sym is
-      ∙ none_grey layout formats of at_flip x y stands.running st (record { exact = drained; weak = st.strong }) id))
-
-  -- and no weak block is grey
-  pub no_weak_mark : HasNoWeakMark x.segs
-  no_weak_mark n =
-      elim stands.band [
-        | tracing st ↦ st.strong n
-        | reclaiming st ↦
-            elim (cases_Bool (bit x.segs.marks.weak n)) [
-              | inr isnt ↦ isnt
-              | inl is ↦
-                  let marks = st.frees.stands.image.marks in
-                  let set : (bit x.segs.marks.exact n || bit x.segs.marks.weak n) ≡ true =
-                  or_right (bit x.segs.marks.exact n) (bit x.segs.marks.weak n) is
-                  in
-                  let b = marks.marked n (or_right (bit x.segs.marks.kept n) (bit x.segs.marks.exact n || bit x.segs.marks.weak n) set) in
-                  absurd (true≢false (sym set ∙ ap (λ w. bit x.segs.marks.exact w || bit x.segs.marks.weak w) b.is
-                  ∙ sym (marks.grey_there b.id b.at b.address) ∙ st.scanned b.id))
-            ]
-      ]
+  pub drained_so : StandsTracing layout formats of at_flip x y → IsDrained x.segs → IsDrainedIn y
+  drained_so st drained = (marks_tell layout formats of at_flip x y stands.running st).drained drained

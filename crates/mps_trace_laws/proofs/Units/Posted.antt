@@ -15,13 +15,12 @@ use Rattle.mps_trace.specs.Examine.{IsOneDue, registration_of, running_after_fou
 use Rattle.mps_trace.specs.Finding.{FindsTo}
 use Rattle.mps_trace.specs.Scan.{IsDrained}
 use Rattle.mps_trace.specs.Trace.{Traced, KeepsTo}
-use Rattle.mps_trace.specs.Trace as trace
 use Rattle.mps_trace.specs.declared.running.Running.{Running as RunningState}
 use Rattle.mps_model.specs.Collection.{Collection}
 use Rattle.mps_model.specs.Graph.{Graph, Object, contains, without_first}
 use Rattle.mps_model.specs.World.{World, is_live}
 use Rattle.mps_abstract.specs.Colours.{is_black}
-use Rattle.mps_abstract.specs.Collecting.{Collecting, Final, is_tracing_band}
+use Rattle.mps_abstract.specs.Collecting.{Collecting, Final}
 use Rattle.mps_abstract.specs.Fixing.{fixes_no_more, kept_by}
 use Rattle.mps_abstract.specs.Units.{collecting_after_post}
 use Rattle.mps_abstract.proofs.Kept.{IsKept, keeps_leaves}
@@ -30,18 +29,19 @@ use Rattle.mps_abstract.proofs.PostLegal.{stands_first}
 use Rattle.mps_abstract.proofs.Registrations.{StandsFirst, length-without_first, slice_get-without_before, slice_get-without_after}
 use Rattle.mps_abstract.proofs.Rows.{unit_shown}
 use Rattle.mps_trace_laws.specs.Image.Image.{black_cells}
-use Rattle.mps_trace_laws.specs.Fix.Housed.{AreHoused, AreLive, IsStrong}
+use Rattle.mps_trace_laws.specs.Fix.Housed.{AreHoused, AreLive}
+use Rattle.mps_trace_laws.specs.Fix.Ranks.{AreMarksRanked}
 use Rattle.mps_trace_laws.specs.Fix.Room.{moves_left}
 use Rattle.mps_trace_laws.specs.Fix.Tracing.{TracingStands, StateStands}
 use Rattle.mps_trace_laws.specs.Units.Examining.{IsOneDueIn}
 use Rattle.mps_trace_laws.specs.Units.Finals.{AreDue}
 use Rattle.mps_trace_laws.specs.Units.Laws.{IsTracedUnitDone}
-use Rattle.mps_trace_laws.specs.Units.Standing.{AreCondemnedUnreserved, StandsTracing, UnitStands, IsMoving, tracing}
+use Rattle.mps_trace_laws.specs.Units.Standing.{AreCondemnedUnreserved, StandsTracing, UnitStands, AreObjectsKnown, tracing}
 use Rattle.mps_trace_laws.proofs.Image.Scanning.{fix_leaves}
 use Rattle.mps_trace_laws.proofs.Fix.CellLists.{fewer_done}
 use Rattle.mps_trace_laws.proofs.Fix.Housed.{fixes_keep_housed}
-use Rattle.mps_trace_laws.proofs.Fix.Ranks.{fix_strong}
-use Rattle.mps_trace_laws.proofs.Units.Entering.{due_before, due_is_traced, drained_so}
+use Rattle.mps_trace_laws.proofs.Fix.Ranks.{keeps_ranks}
+use Rattle.mps_trace_laws.proofs.Units.Entering.{due_before, due_is_traced, drained_so, held_in_order}
 use Rattle.mps_trace_laws.proofs.Units.Examining.{examinations_are_units, IsPostedNext, next_is_posted}
 use Rattle.mps_trace_laws.proofs.Units.Still.{IsStill, kept_is_still, unreserved_still}
 
@@ -78,7 +78,7 @@ module _ {F : Type 0} (layout : F → Layout) (formats : List (Option (Policy F)
     running = stands.running;
     finals = stands.finals;
     due = stands.due;
-    drained = drained_so layout formats of at_flip x f run y stands due drained;
+    drained = drained_so layout formats of at_flip x f run y stands st drained;
     before = due_before layout formats of at_flip x f run y stands due;
   }
 
@@ -133,7 +133,7 @@ module _ {F : Type 0} (layout : F → Layout) (formats : List (Option (Policy F)
             cursor = stands.cursor;
             moving = stands.moving;
             unreserved = stands.unreserved;
-            band = tracing (record { traces = traces_on; band = refl; housed = st.housed; exact = st.exact; strong = st.strong });
+            band = tracing (record { traces = traces_on; band = refl; housed = st.housed; ranked = st.ranked });
           };
           trail = sym (Rattle.std.proofs.lemmas.List.append-nil x.moves.moves);
         }
@@ -193,8 +193,13 @@ module _ {F : Type 0} (layout : F → Layout) (formats : List (Option (Policy F)
         subst (λ (g : Graph). AreDue at_flip g.objects (without_first g.registered id) y.next) (sym stays.graph)
         (due_posted at_flip y.world.graph.objects regs id y.next first stands.due)
 
-    moving_then : IsMoving layout formats of after.world
-    moving_then = let m = stays.moving stands.moving in record { shaped = m.shaped; pools = m.pools; strong = m.strong }
+    moving_then : AreObjectsKnown layout formats of after.world
+    moving_then = let m = stays.moving stands.moving in record {
+      shaped = m.shaped;
+      pools = m.pools;
+      strong_moving = m.strong_moving;
+      none_dependent = m.none_dependent;
+    }
 
     unreserved_then : AreCondemnedUnreserved z.segs after.world.graph.points after.world.point_memories
     unreserved_then =
@@ -214,12 +219,10 @@ module _ {F : Type 0} (layout : F → Layout) (formats : List (Option (Policy F)
         subst (λ ss. AreHoused after.world.graph.objects ss after.world.addresses) (sym posted.state.segments.same_segments)
         (subst (λ (u : Collecting). AreHoused u.world.graph.objects u.world.segments u.world.addresses) posted.kept.is
         (fixes_keep_housed layout formats of at_flip (black_cells y.running.condemned y.colours) x y posted.step.after (id ∷ [])
-        (posted.step.moves ++ []) st.traces st.housed is_alone (posted.step.fixes [] [] posted.step.after fixes_no_more)))
+        (posted.step.moves ++ []) st.traces stands.moving.strong_moving st.housed is_alone (posted.step.fixes [] [] posted.step.after fixes_no_more)))
 
-    strong_then : IsStrong z.segs
-    strong_then =
-        fix_strong layout formats of {x = x} {z = z} {at = registration_of f run.next} {answer = to} (trace.keeps to nowhere kept)
-        (record { exact = st.exact; marks = st.strong })
+    ranked_then : AreMarksRanked z.segs
+    ranked_then = keeps_ranks layout formats of kept (held_in_order z.segs posted.state.held) st.ranked
 
     -- the cells of black objects are fixed: no object is black that wasn't
     black_before : (n : Id) → IsTrue (is_black after.running.condemned after.colours n) → IsTrue (is_black y.running.condemned y.colours n)
@@ -263,8 +266,7 @@ module _ {F : Type 0} (layout : F → Layout) (formats : List (Option (Policy F)
           traces = traces_then;
           band = refl;
           housed = housed_then;
-          exact = strong_then.exact;
-          strong = strong_then.marks;
+          ranked = ranked_then;
         });
       };
       trail = posted.trail;

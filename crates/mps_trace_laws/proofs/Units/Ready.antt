@@ -31,12 +31,13 @@ use Rattle.mps_trace_laws.proofs.Reclaim.Room.{segments_are_in_order}
 use Rattle.mps_trace_laws.specs.Reclaim.Left.{setting_freeing_in}
 use Rattle.mps_trace_laws.specs.Units.Standing.{StandsReclaiming, UnitStands}
 use Rattle.mps_trace_laws.specs.Units.Laws.{AreScansDone}
-use Rattle.mps_trace_laws.proofs.Units.Entering.{the_last_band_is_entered, no_weak_mark}
+use Rattle.mps_trace_laws.proofs.Units.Entering.{the_last_band_is_entered}
 use Rattle.mps_trace_laws.proofs.Units.CanExamine.{can_examine}
 use Rattle.mps_trace.specs.State.{FinalsState}
 use Rattle.mps_trace_laws.proofs.Units.RoomLeft.{lost_within}
 use Rattle.mps_trace_laws.proofs.Units.Rows.{row_done}
 use Rattle.mps_trace_laws.proofs.Units.Scanning.{scans_are_ready}
+use Rattle.mps_trace_laws.proofs.Units.Splatting.{splats_are_ready}
 
 -- ---- the lowest condemned segment
 
@@ -220,7 +221,7 @@ module _ {F : Type 0} (layout : F → Layout) (t : TraceState F) (s : SegsState)
         room = λ base low. to_end base (at_cursor base.0 low);
       }
 
--- while the state stands a unit can be done. No weak block is grey
+-- while the state stands a unit can be done
 pub a_unit_is_ready : {F : Type 0}
     → (layout : F → Layout) (t : TraceState F) (s : SegsState) (m : Moves) (at_flip : List (Option Address)) (f : FinalsState)
     (run : RunningState) (y : Collecting) → UnitStands layout t.formats t.chains at_flip (traced t s m) f run y
@@ -228,8 +229,7 @@ pub a_unit_is_ready : {F : Type 0}
 a_unit_is_ready layout t s m at_flip f run y stands = record {
   scan = scans_are_ready layout t s m at_flip f run y stands;
   examine = λ drained due. can_examine layout t s m at_flip f run y stands drained due;
-  splat = λ drained none n grey.
-      absurd (true≢false (sym grey ∙ no_weak_mark layout t.formats t.chains at_flip (traced t s m) f run y stands n));
+  splat = λ drained none. splats_are_ready layout t s m at_flip f run y stands drained;
   reclaim = λ scanned none.
       can_reclaim layout t s m at_flip f run y stands
       (the_last_band_is_entered layout t.formats t.chains at_flip (traced t s m) f run y stands scanned none);

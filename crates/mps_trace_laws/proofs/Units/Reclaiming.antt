@@ -19,7 +19,7 @@ use Rattle.mps_model.specs.Units.{is_last_condemned}
 use Rattle.mps_model.specs.World.{World}
 use Rattle.mps_abstract.specs.Collecting.{Reclaim, Collecting}
 use Rattle.mps_abstract.specs.Units.{IsReclaimedNext, reclaim_by, collecting_after_reclaim}
-use Rattle.mps_abstract.proofs.Reclaimed.{final_world, final_collection}
+use Rattle.mps_abstract.proofs.Reclaimed.{final_world, final_collection, frees}
 use Rattle.mps_abstract.proofs.Reclaiming.{goes_on_leads, last_leads, reclaims_shown}
 use Rattle.mps_trace_laws.specs.Image.Memory.{pool_layout}
 use Rattle.mps_trace.specs.Condemned.{IsNextCondemned, NoneLeft}
@@ -38,7 +38,7 @@ use Rattle.mps_abstract.proofs.KeptPlaces.{reclaim_stays, last_stays}
 use Rattle.mps_trace.specs.State.{FinalsState}
 use Rattle.mps_trace_laws.proofs.Units.Finals.{finals_stay, finals_in_place, finals_at_end}
 use Rattle.mps_trace_laws.specs.Units.Finals.{AreDue}
-use Rattle.mps_trace_laws.specs.Units.Standing.{StandsReclaiming, AreFinalsOf, UnitStands, IsMoving, reclaiming}
+use Rattle.mps_trace_laws.specs.Units.Standing.{StandsReclaiming, AreFinalsOf, UnitStands, AreObjectsKnown, reclaiming}
 use Rattle.mps_trace_laws.specs.Units.Laws.{HasSegmentsOf, HasFinalsOf, IsTracedUnitDone, IsLastTracedUnitDone}
 use Rattle.mps_trace_laws.specs.Fix.Room.{moves_left}
 use Rattle.mps_trace_laws.proofs.Units.Entering.{the_last_band_is_entered}
@@ -160,11 +160,12 @@ module _ {F : Type 0} (layout : F → Layout) (formats : List (Option (Policy F)
     among : AreAmong x.segs z.segs
     among = are_among x.segs x.moves base z.segs z.moves swept
 
-    moving_on : IsMoving layout formats of (final_world y stands.running t freed is_next)
+    moving_on : AreObjectsKnown layout formats of (final_world y stands.running t freed is_next)
     moving_on = record {
       shaped = stands.moving.shaped;
       pools = stands.moving.pools;
-      strong = stands.moving.strong;
+      strong_moving = stands.moving.strong_moving;
+      none_dependent = (frees y stands.running t freed is_next).unpaired stands.moving.none_dependent;
     }
 
     room_on : moves_left (collecting_after_reclaim y t.base freed on.collection) + 2 ≤ z.moves.spare
@@ -221,7 +222,7 @@ module _ {F : Type 0} (layout : F → Layout) (formats : List (Option (Policy F)
           ∙ ap (λ (w : World). length w.graph.registered) (sym leads);
       due = subst (λ (w : World). AreDue at_flip w.graph.objects w.graph.registered y.next) (sym leads) stands.due;
       cursor = let begins = lowest.begins in omega (arith, begins);
-      moving = subst (IsMoving layout formats of) (sym leads) moving_on;
+      moving = subst (AreObjectsKnown layout formats of) (sym leads) moving_on;
       unreserved = λ u held condemned.
           subst (λ (w : World). IsUnreserved w.graph.points w.point_memories u) (sym leads)
           (stands.unreserved u (among.was u held) (sym (ap (λ bs. bit bs (grain_of u.base)) among.condemned) ∙ condemned));

@@ -19,7 +19,7 @@ use Rattle.mps_trace.specs.declared.running.Running.{Running as RunningState}
 use Rattle.mps_trace_laws.specs.Units.Standing.{UnitStands}
 use Rattle.mps_trace_laws.specs.Units.Laws.{HasSegmentsOf, HasFinalsOf, AreScansDone, IsTracedUnitDone, AreTracedUnitsDone, AreLastTracedUnitsDone}
 use Rattle.std.proofs.lemmas.Bool.{true≢false}
-use Rattle.mps_trace_laws.proofs.Units.Entering.{no_weak_mark}
+use Rattle.mps_trace_laws.proofs.Units.Splatting.{splats_done}
 use Rattle.mps_trace_laws.proofs.Units.Posted.{examination_done, post_done}
 use Rattle.mps_trace_laws.proofs.Units.Reclaiming.{a_reclaim_is_done, the_last_unit_is_done}
 use Rattle.mps_format.specs.declared.pool.Policy.{Policy}
@@ -27,7 +27,7 @@ use Rattle.std.specs.Prelude.{◌<◌, suc}
 
 module _ {F : Type 0} (layout : F → Layout) (formats : List (Option (Policy F))) (of : ChainsState) (at_flip : List (Option Address))
     (scanning : AreScansDone layout formats of at_flip) where
-  -- one unit. No weak block is grey
+  -- one unit
   pub unit_done : (x z : Traced) (f f' : FinalsState) (run run' : RunningState) (y : Collecting)
       → UnitStands layout formats of at_flip x f run y
       → UnitTo layout formats of x f run z f' run' → IsTracedUnitDone layout formats of at_flip x y z f' run'
@@ -43,7 +43,8 @@ module _ {F : Type 0} (layout : F → Layout) (formats : List (Option (Policy F)
       (finals_after_post (with_registered_at f run.next to.0) run.next) (running_after_post run)) (sym trail)
       (post_done layout formats of at_flip x f run y stands drained due v to white kept)))
   unit_done x z f _ run run' y stands (splats drained none one now) =
-      absurd (true≢false (sym one.grey ∙ no_weak_mark layout formats of at_flip x f run y stands one.word))
+      subst (λ r. IsTracedUnitDone layout formats of at_flip x y z f r) (sym now)
+      (splats_done layout formats of at_flip x f run y stands z drained none one)
   unit_done x z f _ run run' y stands (reclaims base left next other is) =
       subst (λ r. IsTracedUnitDone layout formats of at_flip x y z f r) (sym is)
       (a_reclaim_is_done layout formats of at_flip x z f run y base left stands next other)

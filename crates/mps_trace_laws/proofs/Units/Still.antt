@@ -19,13 +19,13 @@ use Rattle.mps_abstract.proofs.Lists.{contains_here, contains_later}
 use Rattle.mps_abstract.proofs.Scanning.{MayBeFixed, kept_rightly}
 use Rattle.mps_trace_laws.specs.Fix.Tracing.{AreHeld, AreCondemnedAt}
 use Rattle.mps_trace_laws.specs.Reclaim.Left.{IsUnreserved}
-use Rattle.mps_trace_laws.specs.Units.Standing.{AreCondemnedUnreserved, IsMoving}
+use Rattle.mps_trace_laws.specs.Units.Standing.{AreCondemnedUnreserved, AreObjectsKnown}
 use Rattle.mps_trace_laws.proofs.Reclaim.HeldSegments.{found_at, found_held, same_base}
 use Rattle.mps_trace_laws.proofs.Units.Entering.{held_in_order}
 
 pub record IsStill {F : Type 0} (layout : F
     → Layout) (formats : List (Option (Policy F))) (of : ChainsState) (x y : Collecting) : Type 0 where
-  pub moving : IsMoving layout formats of x.world → IsMoving layout formats of y.world
+  pub moving : AreObjectsKnown layout formats of x.world → AreObjectsKnown layout formats of y.world
   pub cursor : y.cursor ≡ x.cursor
   pub next : y.next ≡ x.next
   pub band : y.band ≡ x.band
@@ -41,10 +41,11 @@ module _ {F : Type 0} (layout : F → Layout) (formats : List (Option (Policy F)
   kept_is_still x id ms c run live keep =
       let r = keeps_leaves x.world x.running id run.runs run.different live keep in
       record {
-        moving = λ m. subst (IsMoving layout formats of) (sym r.world) (record {
+        moving = λ m. subst (AreObjectsKnown layout formats of) (sym r.world) (record {
           shaped = m.shaped;
           pools = m.pools;
-          strong = m.strong;
+          strong_moving = m.strong_moving;
+          none_dependent = m.none_dependent;
         });
         cursor = refl;
         next = refl;

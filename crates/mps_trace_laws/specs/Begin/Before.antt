@@ -10,15 +10,13 @@ use Rattle.mps_seg.specs.Segs.{SegsState}
 use Rattle.mps_buffer.specs.Points.{PointsState}
 use Rattle.mps_amc.specs.Amc.{HasTail}
 use Rattle.mps_trace.specs.GenState as chains
-use Rattle.mps_model.specs.Graph.{is_weak_object}
-use Rattle.mps_model.specs.World.{World, is_automatic_kind, is_weak_kind, is_copying_pool, generations_of, pool_is, object_is}
+use Rattle.mps_model.specs.World.{World, is_automatic_kind, is_copying_pool, generations_of, pool_is}
 use Rattle.mps_abstract.specs.FlipLaws.{IsAtRest}
 use Rattle.mps_trace_laws.specs.Image.AtRest.{StandsAtRest, AreTargetsLive}
 use Rattle.mps_trace_laws.specs.Image.Image.{AreShaped}
 use Rattle.mps_trace_laws.specs.Image.Memory.{pool_layout}
 use Rattle.mps_trace.specs.Trace.{TraceState}
-use Rattle.mps_trace_laws.specs.Fix.Housed.{AreHoused}
-use Rattle.mps_trace.specs.Splat.{HasNoWeakMark}
+use Rattle.mps_trace_laws.specs.Fix.Housed.{AreHoused, AreStrongMoving}
 use Rattle.mps_trace_laws.specs.Fix.Tracing.{AreSegmentsOf, AreHeld, HasTables, AreCoveredInOrder, AreReservationsHeld, AreKnownPools}
 use Rattle.mps_trace_laws.specs.Nails.Nailed.{AreTablesWhole, AreMarkedAt}
 use Rattle.mps_trace_laws.specs.Begin.MovesOfObjects.{moves_of}
@@ -37,25 +35,24 @@ pub record AreSegmentsAtRest (s : SegsState) (w : World) : Type 0 where
   pub image : StandsAtRest s w
   pub not_condemned : (grain : Grain) → bit s.condemned grain ≡ false
   pub unmarked : AreMarkedAt s (λ n. false)
-  pub strong : HasNoWeakMark s
   pub housed : AreHoused w.graph.objects s.segments w.addresses
   pub reserved : AreReservationsHeld s w.graph.points w.point_memories
 
 -- the pools of a world as a collector knows them: it has the format of each automatic pool, and moves the blocks of exactly those that
--- copy, each of which has words at hand for each generation. No pool has weak references
+-- copy, each of which has words at hand for each generation
 pub record ArePoolsKnown {F : Type 0} (layout : F → Layout) (t : TraceState F) (w : World) : Type 0 where
   pub formats : AreFormatsOf t.formats (pool_is is_automatic_kind w)
   pub moves : AreMovesOf t.formats (is_copying_pool w)
-  pub strong : (pool : ℕ) → pool_is is_weak_kind w pool ≡ false
   pub pools : AreKnownPools layout t.formats t.chains (pool_is is_automatic_kind w) (is_copying_pool w) (pool_layout w) (generations_of w)
   pub tails : (pool generation : ℕ) → IsTrue (is_copying_pool w pool)
       → HasTail t.amc pool (target_generation (chains.generations_of t.chains pool) generation)
 
--- a world at rest in which no object is weak, and its objects. Those that are registered are live and automatic
+-- a world at rest, and its objects. Those that are registered are live and automatic, those that move aren't weak, and none has a dependent
 pub record AreObjectsAtRest (w : World) : Type 0 where
   pub rest : IsAtRest w
   pub due : AreDue w.addresses w.graph.objects w.graph.registered 0
-  pub none_weak : (id : Id) → object_is is_weak_object w id ≡ false
+  pub strong_moving : AreStrongMoving w
+  pub none_dependent : w.graph.dependents ≡ []
   pub shaped : AreShaped w.graph.objects (pool_layout w)
   pub targets_live : AreTargetsLive w.graph.objects w.addresses
 

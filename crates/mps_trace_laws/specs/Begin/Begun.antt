@@ -22,14 +22,14 @@ use Rattle.mps_trace.specs.Roots.{key_at, slot_of}
 use Rattle.mps_trace.specs.Trace.{TraceState, Traced, traced}
 use Rattle.mps_trace.specs.declared.running.Running.{Running as RunningState}
 use Rattle.mps_trace_laws.specs.Fix.Housed.{AreHoused}
-use Rattle.mps_trace.specs.Splat.{HasNoWeakMark}
+use Rattle.mps_trace_laws.specs.Fix.Ranks.{AreMarksRanked}
 use Rattle.mps_trace_laws.specs.Fix.Tracing.{TracingStands}
 use Rattle.mps_trace_laws.specs.Nails.Nailed.{AreWordsShown, words_of_areas}
 use Rattle.mps_trace_laws.specs.Roots.OneRoot.{IsWhere}
 use Rattle.mps_trace_laws.specs.Roots.Rows.{AreHeldAtFlip}
 use Rattle.mps_trace_laws.specs.Roots.Tables.{AreTablesHeld}
 use Rattle.mps_trace_laws.specs.Units.Finals.{address_of_id}
-use Rattle.mps_trace_laws.specs.Units.Standing.{IsMoving, AreCondemnedUnreserved, UnitStands}
+use Rattle.mps_trace_laws.specs.Units.Standing.{AreObjectsKnown, AreCondemnedUnreserved, UnitStands}
 use Rattle.mps_trace_laws.specs.Begin.Before.{StandsBefore}
 
 -- ---- the flip and the nails
@@ -41,8 +41,8 @@ pub record IsFlipStanding {F : Type 0} (layout : F → Layout) (t : TraceState F
       (black_cells (collecting_after_flip w Everything []).running.condemned (collecting_after_flip w Everything []).colours) x
       (collecting_after_flip w Everything [])
   pub housed : AreHoused w.graph.objects x.segs.segments w.addresses
-  pub strong : HasNoWeakMark x.segs
-  pub moving : IsMoving layout t.formats t.chains (collecting_after_flip w Everything []).world
+  pub ranked : AreMarksRanked x.segs
+  pub moving : AreObjectsKnown layout t.formats t.chains (collecting_after_flip w Everything []).world
   pub unreserved : AreCondemnedUnreserved x.segs (collecting_after_flip w Everything []).world.graph.points
       (collecting_after_flip w Everything []).world.point_memories
   pub trail : x.moves.moves ≡ m.moves ++ flip_of w Everything ∷ []

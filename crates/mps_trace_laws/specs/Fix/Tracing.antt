@@ -6,6 +6,7 @@ use Rattle.mps_base.specs.Address.{Address, Id, Word, word_of, address_of_grain,
 use Rattle.mps_base.specs.Generation.{target_generation}
 use Rattle.mps_base.specs.Run.{Run, Covers, IsAscending, end_of}
 use Rattle.mps_base.specs.Segment.{Segment, grains_of_segment, end_of_segment}
+use Rattle.mps_base.specs.declared.names.Rank.TheVariants.{Exact}
 use Rattle.mps_extents.specs.Table.{bit}
 use Rattle.mps_format.specs.Layout.{Layout}
 use Rattle.mps_seg.specs.Segs.{SegsState}
@@ -95,11 +96,12 @@ pub record AreTails (of : ChainsState) (state : AmcState) (is_copying : ℕ → 
 abbrev pub hand_of : (pool generation : ℕ) → Run → Word → Option Hand
 hand_of pool generation words = hand_in_tails (record { pool = pool; generation = generation; words = words } ∷ [])
 
--- a tail is the last words of a segment of its pool
+-- a tail is the last words of an exact segment of its pool
 pub record EndsSegment (segments : List Segment) (pool : ℕ) (words : Run) : Type 0 where
   pub segment : Segment
   pub held : Contains segments segment
   pub home : segment.pool ≡ pool
+  pub exact : segment.rank ≡ Exact
   pub above : word_of segment.base ≤ words.from
   pub ends : end_of words ≡ word_of (end_of_segment segment)
 

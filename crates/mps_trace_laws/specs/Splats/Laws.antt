@@ -1,5 +1,5 @@
 -- What the scan of a weak block is to the abstract collector.
-use Rattle.std.specs.Prelude.{◌≡◌, ℕ, ◌<◌, Bool, true, Option, Some, List, [], ◌++◌, slice_get}
+use Rattle.std.specs.Prelude.{◌≡◌, ℕ, ◌+◌, ◌-◌, ◌<◌, ◌≤◌, Bool, true, Option, Some, List, [], ◌++◌, length, slice_get}
 use Rattle.mps_base.specs.Address.{Address, Id}
 use Rattle.mps_base.specs.declared.address.Addr.{Addr}
 use Rattle.mps_format.specs.Layout.{Layout}
@@ -35,6 +35,10 @@ pub record AreSplatsDone {F : Type 0} (layout : F → Layout) (formats : List (O
     pub same_addresses : after.world.addresses ≡ y.world.addresses
     pub same_colours : after.colours ≡ y.colours
     pub same_condemned : after.running.condemned ≡ y.running.condemned
+    -- each cell but the head is splatted once at most, and takes room for a move
+    pub few : length cells ≤ size - 1
+    pub spare : x.moves.spare ≤ z.moves.spare + length cells
+    pub shaped : AreShaped after.world.graph.objects (pool_layout after.world)
     pub object : (o : Object) × (slice_get after.world.graph.objects holder ≡ Some o) × (size_of o ≡ size)
 
 -- the references of a weak block up to its last one are splatted or brought up to date, if no object has a dependent
@@ -51,11 +55,14 @@ ASplatRunIsSplats F =
 
 -- the scan of a weak block is a row of splats, after which its object is black
 pub record IsSplatScan {F : Type 0} (layout : F → Layout) (formats : List (Option (Policy F))) (of : ChainsState)
-    (at_flip : List (Option Address)) (x z : Traced) (y : Collecting) (holder : Id) (at : Addr) : Type 0 where
+    (at_flip : List (Option Address)) (x z : Traced) (y : Collecting) (holder : Id) (at : Addr) (size : ℕ) : Type 0 where
   pub cells : List ℕ
   pub after : Collecting
   pub splats : Splats holder y cells after
   pub trail : z.moves.moves ≡ x.moves.moves ++ splats_of at cells
+  pub few : length cells ≤ size - 1
+  pub spare : x.moves.spare ≤ z.moves.spare + length cells
+  pub shaped : AreShaped after.world.graph.objects (pool_layout after.world)
   pub state : StateStands layout formats of at_flip (black_cells after.running.condemned (blackened after.colours holder)) z.amc z.segs
       (collecting_after_scan after holder)
 
@@ -65,4 +72,4 @@ ASplatScanIsAScan F =
     (y : Collecting) (holder : Id) (at : Addr) (o : Object) → y.world.graph.dependents ≡ []
     → AreShaped y.world.graph.objects (pool_layout y.world)
     → TracingStands layout formats of at_flip (black_cells y.running.condemned y.colours) x y → IsToBeScanned y holder at.0 o
-    → Splatted layout formats x at z → IsSplatScan layout formats of at_flip x z y holder at
+    → Splatted layout formats x at z → IsSplatScan layout formats of at_flip x z y holder at (size_of o)

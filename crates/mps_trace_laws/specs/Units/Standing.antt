@@ -1,22 +1,21 @@
--- When the segments and the moves of a collector represent the abstract collector between two units of a collection. Automatic pools
--- are those that move blocks, and no object is weak.
-use Rattle.std.specs.Prelude.{◌≡◌, ◌+◌, ◌*◌, ◌≤◌, true, false, IsTrue, Option, List, length, Contains}
-use Rattle.mps_base.specs.Address.{Address, Id, word_of, words_of_grain, grain_of}
+-- When the segments and the moves of a collector represent the abstract collector between two units of a collection.
+use Rattle.std.specs.Prelude.{◌≡◌, ◌+◌, ◌*◌, ◌≤◌, true, false, Option, List, [], length, Contains}
+use Rattle.mps_base.specs.Address.{Address, word_of, words_of_grain, grain_of}
 use Rattle.mps_base.specs.Segment.{Segment, end_of_segment}
 use Rattle.mps_extents.specs.Table.{bit}
 use Rattle.mps_format.specs.Layout.{Layout}
 use Rattle.mps_seg.specs.Segs.{SegsState}
 use Rattle.mps_trace.specs.GenState.{ChainsState}
-use Rattle.mps_model.specs.Graph.{Point, is_weak_object}
-use Rattle.mps_model.specs.World.{World, PointMemory, is_automatic_kind, is_copying_pool, generations_of, pool_is, object_is}
+use Rattle.mps_model.specs.Graph.{Point}
+use Rattle.mps_model.specs.World.{World, PointMemory, is_automatic_kind, is_copying_pool, generations_of, pool_is}
 use Rattle.mps_abstract.specs.Colours.{AreAllScanned}
-use Rattle.mps_abstract.specs.Collecting.{Collecting, Running, AreAllExamined, is_tracing_band}
+use Rattle.mps_abstract.specs.Collecting.{Collecting, Running, AreAllExamined, is_reclaiming_band}
 use Rattle.mps_trace_laws.specs.Image.Memory.{pool_layout}
 use Rattle.mps_trace_laws.specs.Image.Image.{AreShaped, black_cells}
 use Rattle.mps_trace.specs.Trace.{Traced}
 use Rattle.mps_trace.specs.declared.running.Running.{Running as RunningState}
-use Rattle.mps_trace_laws.specs.Fix.Housed.{AreAllExact, AreHoused}
-use Rattle.mps_trace.specs.Splat.{HasNoWeakMark}
+use Rattle.mps_trace_laws.specs.Fix.Housed.{AreHoused, AreStrongMoving}
+use Rattle.mps_trace_laws.specs.Fix.Ranks.{AreMarksRanked}
 use Rattle.mps_trace_laws.specs.Fix.Tracing.{AreKnownPools, AreSegmentsOf, TracingStands}
 use Rattle.mps_trace_laws.specs.Fix.Room.{moves_left}
 use Rattle.mps_trace_laws.specs.Reclaim.Left.{IsUnreserved}
@@ -25,11 +24,13 @@ use Rattle.mps_trace_laws.specs.Units.Finals.{AreFinals, AreDue}
 use Rattle.mps_trace.specs.State.{FinalsState}
 use Rattle.mps_format.specs.declared.pool.Policy.{Policy}
 
--- what units leave as it is of a world: its objects, its pools, and that none is weak
-pub record IsMoving {F : Type 0} (layout : F → Layout) (formats : List (Option (Policy F))) (of : ChainsState) (w : World) : Type 0 where
+-- what units leave as it is of a world: its objects are blocks of their formats, what moves isn't weak, and no object has a dependent. The
+-- collector knows its pools
+pub record AreObjectsKnown {F : Type 0} (layout : F → Layout) (formats : List (Option (Policy F))) (of : ChainsState) (w : World) : Type 0 where
   pub shaped : AreShaped w.graph.objects (pool_layout w)
   pub pools : AreKnownPools layout formats of (pool_is is_automatic_kind w) (is_copying_pool w) (pool_layout w) (generations_of w)
-  pub strong : (id : Id) → object_is is_weak_object w id ≡ false
+  pub strong_moving : AreStrongMoving w
+  pub none_dependent : w.graph.dependents ≡ []
 
 -- no live reservation lies in a condemned segment
 abbrev pub AreCondemnedUnreserved : SegsState → List (Option Point) → List PointMemory → Type 0
@@ -40,14 +41,14 @@ AreCondemnedUnreserved s points memories =
 abbrev pub AreInArena : SegsState → Type 0
 AreInArena s = (t : Segment) → Contains s.segments t → word_of (end_of_segment t) ≤ words_of_grain * (s.grains + 1)
 
--- objects are traced: the cells of black objects are fixed, each object lies in one segment, and no segment and no mark is weak
+-- objects are traced, or weak ones are scanned: the cells of black objects are fixed, each object lies in one segment of its rank, and
+-- each grey block has the mark of its segment's rank
 pub record StandsTracing {F : Type 0} (layout : F → Layout) (formats : List (Option (Policy F))) (of : ChainsState)
     (at_flip : List (Option Address)) (x : Traced) (y : Collecting) : Type 0 where
   pub traces : TracingStands layout formats of at_flip (black_cells y.running.condemned y.colours) x y
-  pub band : IsTrue (is_tracing_band y.band)
+  pub band : is_reclaiming_band y.band ≡ false
   pub housed : AreHoused y.world.graph.objects x.segs.segments y.world.addresses
-  pub exact : AreAllExact x.segs.segments
-  pub strong : HasNoWeakMark x.segs
+  pub ranked : AreMarksRanked x.segs
 
 -- the last band: nothing is grey, all registrations are examined, and there is room for the moves that are left
 pub record StandsReclaiming (x : Traced) (y : Collecting) : Type 0 where
@@ -81,6 +82,6 @@ pub record UnitStands {F : Type 0} (layout : F → Layout) (formats : List (Opti
   -- those that are still to be examined are of objects that were live then
   pub due : AreDue at_flip y.world.graph.objects y.world.graph.registered y.next
   pub cursor : run.cursor.0 ≡ y.cursor
-  pub moving : IsMoving layout formats of y.world
+  pub moving : AreObjectsKnown layout formats of y.world
   pub unreserved : AreCondemnedUnreserved x.segs y.world.graph.points y.world.point_memories
   pub band : StandsInBand layout formats of at_flip x y
