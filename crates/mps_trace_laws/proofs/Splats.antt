@@ -4,6 +4,7 @@ pub mod Standing
 pub mod OneCell
 pub mod Cells
 pub mod Run
+pub mod Whole
 pub mod Scanned
 pub mod CanSplat
 pub mod Alike

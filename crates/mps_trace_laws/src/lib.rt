@@ -47,7 +47,7 @@ pub fn posts_are_units<F>()
     ensures { PostsAreUnits F }
 {}
 
-/// The scan of a weak block is a row of splats of the abstract collector, by the moves of the trail, and its object is black then.
+/// The scan of a weak block is a sequence of splats of the abstract collector, by the moves of the trail, and its object is black then.
 pub fn a_splat_scan_is_a_scan<F>()
     ensures { ASplatScanIsAScan F }
 {}

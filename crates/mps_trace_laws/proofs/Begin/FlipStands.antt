@@ -17,8 +17,8 @@ use Rattle.mps_seg.specs.Segs.{SegsState}
 use Rattle.mps_trace.specs.Begin.{nailed_at_flip}
 use Rattle.mps_trace.specs.Trace.{TraceState, Traced, traced}
 use Rattle.mps_model.specs.Effect.{Everything, doomed, is_condemned_by, without_buffer}
-use Rattle.mps_model.specs.World.{World, area_words, extents_of, is_copying_pool, live_ids}
-use Rattle.mps_abstract.specs.Colours.{Colours, is_white}
+use Rattle.mps_model.specs.World.{World, area_words, extents_of, is_copying_pool}
+use Rattle.mps_abstract.specs.Colours.{Colours}
 use Rattle.mps_abstract.specs.Collecting.{Collecting}
 use Rattle.mps_abstract.specs.FlipLaws.{collecting_after_flip}
 use Rattle.mps_trace_laws.specs.Image.Image.{ImageStands, Stands, black_cells}

@@ -1,19 +1,16 @@
 -- The segments right after a flip of everything.
-use Rattle.std.proofs.Common.{◌≡◌, ◌∙◌, ℕ, ◌+◌, ◌*◌, false, List, [], length, Option, Some, None, Contains, refl, sym, ap, subst}
+use Rattle.std.proofs.Common.{◌≡◌, ◌∙◌, ℕ, ◌+◌, ◌*◌, false, List, [], length, Contains, sym, ap, subst}
 use Rattle.std.proofs.lemmas.Bool.{false≢true, or_left, or_right}
 use Rattle.std.specs.Prelude.{◌||◌, IsTrue}
-use Rattle.mps_base.specs.Address.{Address, Word, address_of_word, grain_of, words_of_grain}
+use Rattle.mps_base.specs.Address.{Address, grain_of, words_of_grain}
 use Rattle.mps_base.specs.Run.{IsAscending}
-use Rattle.mps_base.specs.Segment.{Segment, segment_over}
+use Rattle.mps_base.specs.Segment.{Segment}
 use Rattle.mps_base.specs.Trail.{Moves}
-use Rattle.mps_base.specs.declared.names.Rank.TheVariants.{Exact}
 use Rattle.mps_extents.specs.Table.{bit}
 use Rattle.mps_format.specs.Layout.{Layout}
 use Rattle.mps_seg.specs.Marks.{MarkTables}
-use Rattle.mps_amc.proofs.Found.{over_is_there}
 use Rattle.mps_buffer.specs.Points.{PointsState}
 use Rattle.mps_seg.specs.Segs.{SegsState}
-use Rattle.mps_seg.specs.Collecting.{rank_of}
 use Rattle.mps_trace.specs.Flip as flip
 use Rattle.mps_trace.specs.Trace.{TraceState, traced}
 use Rattle.mps_model.specs.Effect.{Everything}

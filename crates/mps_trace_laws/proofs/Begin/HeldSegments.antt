@@ -1,16 +1,8 @@
 -- Held segments of an arena at rest can be condemned.
-use Rattle.std.proofs.Common.{◌≡◌, ℕ, zero, suc, ◌+◌, Bool, true, false, refl, sym, subst, List, [], ◌∷◌, length, map, Contains, inl, inr, arith}
-use Rattle.std.proofs.lemmas.Bool.{false≢true, and_parts, or_cases, both_ways}
-use Rattle.std.specs.Prelude.{◌&&◌, ◌||◌, ◌==◌, not, nat_lt}
-use Rattle.std.specs.List.{list_all}
-use Rattle.mps_base.specs.Address.{address_of_grain, grain_of}
-use Rattle.mps_base.specs.Segment.{Segment, grains_of_segment}
-use Rattle.mps_base.specs.declared.names.Rank.{Rank}
-use Rattle.mps_base.specs.declared.names.Rank.TheVariants.{Exact, Weak}
+use Rattle.std.proofs.Common.{◌≡◌, ◌+◌, false, sym, length, Contains, arith}
+use Rattle.mps_base.specs.Address.{grain_of}
+use Rattle.mps_base.specs.Segment.{Segment}
 use Rattle.mps_extents.specs.Table.{bit}
-use Rattle.mps_model.specs.Making.{is_weak_rank}
-use Rattle.mps_model.specs.World.{World, is_weak_kind, pool_is}
-use Rattle.mps_model.specs.WellFormed.{IsWellFormed, is_right_segment, are_apart, lies_within}
 use Rattle.mps_seg.specs.Segs.{SegsState}
 use Rattle.mps_trace_laws.specs.Fix.Tracing.{AreHeld, HasTables}
 use Rattle.mps_trace_laws.proofs.Reclaim.SegmentBounds.{aligned_in}

@@ -1,5 +1,5 @@
 -- Right after a flip of everything the moves that are left are those that live objects take, and one for each segment.
-use Rattle.std.proofs.Common.{◌≡◌, ℕ, suc, ◌+◌, ◌*◌, ◌≤◌, Bool, true, false, refl, sym, ap, subst, List, [], ◌∷◌, Option, Some, None, inl, inr, arith}
+use Rattle.std.proofs.Common.{◌≡◌, ℕ, suc, ◌+◌, ◌*◌, ◌≤◌, Bool, true, false, refl, ap, subst, List, [], ◌∷◌, Option, Some, None, inl, inr, arith}
 use Rattle.std.proofs.lemmas.Bool.{false≢true, cases_Bool, or_cases, or_parts}
 use Rattle.std.proofs.lemmas.List.Sums.{sum_by-cons}
 use Rattle.std.specs.Prelude.{is_some, slice_get, count_by, cond, if◌then◌else◌}
@@ -8,7 +8,7 @@ use Rattle.std.specs.Option.{option_map_or}
 use Rattle.mps_base.specs.Address.{Address, Id}
 use Rattle.mps_model.specs.Effect.{Everything}
 use Rattle.mps_model.specs.Graph.{Object, contains, is_automatic}
-use Rattle.mps_model.specs.World.{World, live_ids, numbers_of, object_is, has_area_word}
+use Rattle.mps_model.specs.World.{World, live_ids, numbers_of, has_area_word}
 use Rattle.mps_abstract.specs.Collecting.{Collecting}
 use Rattle.mps_abstract.specs.Colours.{Colours, is_white, is_grey, is_to_scan}
 use Rattle.mps_abstract.specs.FlipLaws.{IsAtRest, collecting_after_flip}

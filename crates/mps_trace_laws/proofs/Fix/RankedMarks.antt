@@ -1,4 +1,4 @@
--- Grey marks by rank, and what they tell of objects.
+-- Grey marks by rank, and what they show of objects.
 use Rattle.std.proofs.Common.{◌≡◌, ◌∙◌, ◌⊎◌, Bool, true, false, refl, sym, ap, List, Some, inl, inr, arith}
 use Rattle.std.proofs.lemmas.Bool.{cases_eq, true≢false}
 use Rattle.std.proofs.lemmas.List.{get_or-set_other}
@@ -21,7 +21,7 @@ use Rattle.mps_trace_laws.specs.Image.Image.{LieApart}
 use Rattle.mps_trace_laws.specs.Image.Memory.{Setting}
 use Rattle.mps_trace_laws.specs.Image.SegmentWords.{AreSegmentsInOrder}
 use Rattle.mps_trace_laws.proofs.Reclaim.HeldSegments.{over}
-use Rattle.mps_trace_laws.specs.Fix.Ranks.{AreObjectsRanked, GreyingKeepsRanks, RankedMarksTell}
+use Rattle.mps_trace_laws.specs.Fix.Ranks.{AreObjectsRanked, GreyingKeepsRanks, RankedMarksShow}
 
 -- a bit that is set after one was is that one, or was set
 set_before : (bits : List Bool) (n m : Word) → bit (slice_set bits n true) m ≡ true → (m ≡ n) ⊎ (bit bits m ≡ true)
@@ -65,21 +65,21 @@ objects_are_ranked s set w placed same order housed id at there =
     ap rank_of (over s.segments order one.segment (word_of at) one.held one.above (omega (arith, one.below, positive)))
     ∙ one.rank_is ∙ sym (ap (λ p. if option_map_or is_weak_object p false then Weak else Exact) object)
 
--- what a rank tells of an object
-rank_tells_weak : (b : Bool) → Weak ≡ (if b then Weak else Exact) → b ≡ true
-rank_tells_weak true e = refl
-rank_tells_weak false e = cc
+-- what a rank says of an object
+of_weak_rank : (b : Bool) → Weak ≡ (if b then Weak else Exact) → b ≡ true
+of_weak_rank true e = refl
+of_weak_rank false e = cc
 
-rank_tells_exact : (b : Bool) → Exact ≡ (if b then Weak else Exact) → b ≡ false
-rank_tells_exact false e = refl
-rank_tells_exact true e = cc
+of_exact_rank : (b : Bool) → Exact ≡ (if b then Weak else Exact) → b ≡ false
+of_exact_rank false e = refl
+of_exact_rank true e = cc
 
 one_of : (a b : Bool) → (a || b) ≡ true → a ≡ false → b ≡ true
 one_of true b e f = absurd (true≢false f)
 one_of false b e f = e
 
-pub ranked_marks_tell : RankedMarksTell
-ranked_marks_tell s set y automatic ranked objects marks grey = record { drained = drained; strong = strong }
+pub ranked_marks_show : RankedMarksShow
+ranked_marks_show s set y automatic ranked objects marks grey = record { drained = drained; strong = strong }
   where
     drained : ((n : Word) → bit s.marks.exact n ≡ false) → (id : Id) → IsTrue (is_grey y.colours id)
         → IsTrue (object_is is_weak_object y.world id)
@@ -88,9 +88,9 @@ ranked_marks_tell s set y automatic ranked objects marks grey = record { drained
         let there : entry_at y.world.addresses id ≡ Some at = address_of-live y.world id (grey.grey_live id is) in
         let weak = one_of (bit s.marks.exact (word_of at)) (bit s.marks.weak (word_of at)) (sym (marks.grey_there id at there) ∙ is)
         (none (word_of at)) in
-        rank_tells_weak (object_is is_weak_object y.world id) (sym (ranked.weak (word_of at) weak) ∙ objects id at there)
+        of_weak_rank (object_is is_weak_object y.world id) (sym (ranked.weak (word_of at) weak) ∙ objects id at there)
 
     strong : (id : Id) (at : Address) → entry_at y.world.addresses id ≡ Some at → bit s.marks.exact (word_of at) ≡ true
         → object_is is_weak_object y.world id ≡ false
     strong id at there is =
-        rank_tells_exact (object_is is_weak_object y.world id) (sym (ranked.exact (word_of at) is) ∙ objects id at there)
+        of_exact_rank (object_is is_weak_object y.world id) (sym (ranked.exact (word_of at) is) ∙ objects id at there)

@@ -17,13 +17,13 @@ use Rattle.mps_format.specs.Layout.{Layout}
 use Rattle.mps_seg.specs.Arena.{answer_of_placement}
 use Rattle.mps_seg.specs.Marks.{MarkTables, with_grey, without_marks}
 use Rattle.mps_seg.specs.Segs.{SegsState, segments_after}
-use Rattle.mps_seg.specs.Collecting.{rank_of, greying, keeping, first_grain_over, noting_in}
+use Rattle.mps_seg.specs.Collecting.{rank_of, keeping, first_grain_over, noting_in}
 use Rattle.mps_amc.specs.Moving.{run_at, size_at}
 use Rattle.mps_amc.specs.Amc.{placement_of_copy, segs_fixed, with_place}
 use Rattle.mps_trace.specs.GenState.{ChainsState}
 use Rattle.mps_laws.proofs.Positions.Segments.{IsAmong, among_cases, among_with, found_among}
 use Rattle.mps_trace.specs.Trace.{Traced, KeepsTo, FixesTo, moves, marks, finds, keeps, target_of}
-use Rattle.mps_trace.specs.Scan.{FixesCell, is_null, leads, ScansTo, begins, goes_on, Scanned, word_at, ScansOne}
+use Rattle.mps_trace.specs.Scan.{FixesCell, is_null, leads, ScansTo, begins, goes_on, word_at, ScansOne}
 use Rattle.mps_trace_laws.specs.Fix.Ranks.{AreMarksRanked}
 use Rattle.mps_trace_laws.specs.Image.SegmentWords.{AreSegmentsInOrder}
 use Rattle.mps_trace_laws.proofs.Fix.Hands.{contains_among}

@@ -27,7 +27,6 @@ use Rattle.mps_trace.specs.Scan.{ScansTo, begins, goes_on, ScansAll, Scanned}
 use Rattle.mps_trace_laws.specs.Fix.Tracing.{TracingStands, setting_of}
 use Rattle.mps_trace_laws.specs.Fix.Scanning.{with_cells, IsToBeScanned, IsScannedTo, IsScan, AScanIsAScan}
 use Rattle.mps_trace_laws.proofs.Fix.Found as found
-use Rattle.mps_trace_laws.proofs.Fix.SplatsLeft.{splats_scanned}
 use Rattle.mps_trace_laws.proofs.Fix.ScanRun.{run_to, pass_all, inside}
 use Rattle.mps_trace_laws.proofs.Fix.SplatsLeft.{splats_scanned}
 use Rattle.mps_format.specs.declared.pool.Policy.{Policy}

@@ -1,8 +1,8 @@
 -- How many references may be splatted yet, as objects are kept, scanned and freed.
-use Rattle.std.proofs.Common.{◌≡◌, ℕ, zero, suc, ◌+◌, ◌≤◌, Bool, true, false, refl, sym, ap, subst, List, [], ◌∷◌, Option, Some, None, inl, inr, arith}
-use Rattle.std.proofs.lemmas.Bool.{false≢true, cases_Bool}
+use Rattle.std.proofs.Common.{◌≡◌, ℕ, suc, ◌+◌, ◌≤◌, Bool, true, false, refl, ap, List, [], ◌∷◌, Option, Some, None, inl, inr, arith}
+use Rattle.std.proofs.lemmas.Bool.{false≢true}
 use Rattle.std.proofs.lemmas.List.Sums.{sum_by-cons}
-use Rattle.std.specs.Prelude.{is_some, slice_get, if◌then◌else◌, ◌||◌}
+use Rattle.std.specs.Prelude.{is_some, slice_get, if◌then◌else◌}
 use Rattle.std.specs.List.{sum_by}
 use Rattle.std.specs.Option.{option_map_or}
 use Rattle.mps_base.specs.Address.{Address, Id}

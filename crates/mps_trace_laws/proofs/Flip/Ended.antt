@@ -1,18 +1,16 @@
 -- Reservations are ended one after the other, and each takes its run out of what is reserved and covered.
 use Rattle.std.proofs.Common.{◌∙◌, ℕ, ◌==◌, Bool, true, false, sym, ap, List, [], ◌∷◌, ◌++◌, Option, Some, None}
 use Rattle.std.specs.Prelude.{if◌then◌else◌}
-use Rattle.mps_base.specs.Run.{Run, in_order, without_run}
+use Rattle.mps_base.specs.Run.{Run, without_run}
 use Rattle.mps_base.specs.Segment.{Segment}
 use Rattle.mps_buffer.specs.declared.point.Held.{Held}
 use Rattle.mps_buffer.specs.declared.point.Point.{Point}
 use Rattle.mps_buffer.specs.Points.{run_of_held, without_reservation, after_end_at, after_all_end, PointsState}
 use Rattle.mps_trace_laws.proofs.Image.InOrder.{in_order-without}
-use Rattle.mps_model.specs.World.{extents_of}
 use Rattle.mps_seg.specs.Segs.{SegsState}
 use Rattle.mps_seg.specs.Collecting.{condemning}
 use Rattle.mps_trace.specs.Flip.{automatic_of, condemning_all, at_flip}
 use Rattle.mps_trace_laws.specs.Flip.Ended.{open_run_at, open_runs, BeginApart, AreCovered}
-use Rattle.mps_trace_laws.proofs.Flip.Reservations.{no_reservation_is_live}
 use Rattle.mps_trace.specs.Trace.{Traced}
 use Rattle.mps_format.specs.declared.pool.Policy.{Policy}
 

@@ -1,6 +1,5 @@
 -- The laws, as they are stated.
 use Rattle.mps_trace_laws.proofs.Image.Fixing.{fix_at}
-use Rattle.mps_trace_laws.proofs.Image.Bands as bands
 use Rattle.mps_trace_laws.proofs.Image.Shaped.{are_shaped_objects}
 use Rattle.std.specs.Prelude.{ℕ, Option, List}
 use Rattle.mps_format.specs.Layout.{IsLawful}

@@ -12,7 +12,6 @@ use Rattle.mps_trace_laws.specs.Image.Image.{AreShaped, CellSet, with_cell, blac
 use Rattle.mps_trace_laws.specs.Image.Fixing.{IsMarkCleared, address_moved, FixesOne, nothing, passed, kept, moved}
 use Rattle.mps_trace_laws.specs.Image.Scanning.{setting_with_pools, IsToScan, LeavesOthers}
 use Rattle.mps_trace_laws.proofs.Image.Entries.{entry_at-set_same, entry_at-set_other}
-use Rattle.mps_trace_laws.proofs.Image.Targets as targets
 use Rattle.mps_trace_laws.proofs.Image.Marked.{still_not_white, others_white, others_grey, grey_now, begins_apart}
 
 -- ---- what a fix leaves of objects

@@ -1,13 +1,12 @@
 -- What splats leave of the abstract collector: all but cells of the objects, and the phase of its collection.
-use Rattle.std.proofs.Common.{◌≡◌, ◌∙◌, ℕ, zero, suc, ◌-◌, Bool, refl, sym, ap, List, [], ◌∷◌, length, map, Option, Some, None}
+use Rattle.std.proofs.Common.{◌≡◌, ◌∙◌, ℕ, zero, suc, Bool, refl, sym, ap, List, [], ◌∷◌, length, map, Option, Some, None}
 use Rattle.std.proofs.lemmas.List.{length-set}
 use Rattle.std.proofs.lemmas.Option.{none-some, same_Some, slice_get-map}
-use Rattle.std.specs.Prelude.{slice_get, slice_set, if◌then◌else◌, option_map}
+use Rattle.std.specs.Prelude.{slice_get, slice_set, option_map}
 use Rattle.std.specs.Option.{option_map_or}
 use Rattle.mps_base.specs.Address.{Id}
 use Rattle.mps_model.specs.Effect.{graph_nulled, graph_splatted}
 use Rattle.mps_model.specs.Graph.{Graph, Body, Automatic, Manual, Cell, Object, dependent_in, is_automatic, is_weak_object, object_with_cells, object_at, retargeted, size_of, with_target_cell}
-use Rattle.mps_model.specs.World.{World}
 use Rattle.mps_abstract.specs.Collecting.{Collecting}
 use Rattle.mps_abstract.specs.Units.{Splats, splats_no_more, splats_cell}
 
@@ -40,8 +39,13 @@ outline_nulled o cell = of_body o.pool o.body
     of_body : (pool : ℕ) (b : Body)
         → outline_of (object_with_cells (record { pool = pool; body = b }) (null_in cell)) ≡ outline_of (record { pool = pool; body = b })
     of_body pool (Automatic head cells is_weak) =
-        ap (λ (n : ℕ). let v : Outline = record { pool = pool; size = n; is_weak = is_weak; is_automatic = is_automatic
-        (record { pool = pool; body = Automatic head cells is_weak }) } in v) (long_as_before cells cell)
+        ap (λ (n : ℕ). let v : Outline = record {
+          pool = pool;
+          size = n;
+          is_weak = is_weak;
+          is_automatic = is_automatic
+              (record { pool = pool; body = Automatic head cells is_weak });
+        } in v) (long_as_before cells cell)
     of_body pool (Manual words) = refl
 
 map_written : (os : List Object) (id : Id) (o new : Object) → slice_get os id ≡ Some o → outline_of new ≡ outline_of o

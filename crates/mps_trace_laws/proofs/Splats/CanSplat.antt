@@ -17,7 +17,7 @@ use Rattle.mps_trace_laws.specs.Image.Fixing.{Target}
 use Rattle.mps_trace_laws.specs.Fix.Scanning.{IsToBeScanned}
 use Rattle.mps_trace_laws.specs.Fix.Tracing.{setting_of, TracingStands}
 use Rattle.mps_trace_laws.proofs.Fix.Found as found
-use Rattle.mps_trace_laws.proofs.Splats.Run.{ready}
+use Rattle.mps_trace_laws.proofs.Splats.Whole.{ready}
 use Rattle.mps_trace_laws.proofs.Splats.Scanned.{automatic_body}
 
 -- where there is room for a splat of each cell but the head, and no object has a dependent

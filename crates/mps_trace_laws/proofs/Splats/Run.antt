@@ -1,8 +1,8 @@
--- The run over the references of a weak block is a row of splats.
-use Rattle.std.proofs.Common.{◌≡◌, ◌∙◌, ℕ, zero, suc, ◌+◌, ◌-◌, ◌<◌, ◌≤◌, Bool, true, false, refl, sym, ap, List, [], ◌∷◌, ◌++◌, length, map, Option, Some, None, subst, inl, inr, arith}
-use Rattle.std.proofs.lemmas.Bool.{cases_eq, eq-eqb, eqb-true, or_right, or_cases, true≢false, false≢true}
+-- The run over the references of a weak block, cell by cell.
+use Rattle.std.proofs.Common.{◌≡◌, ◌∙◌, ℕ, ◌+◌, ◌-◌, ◌<◌, ◌≤◌, Bool, true, false, refl, sym, ap, List, [], ◌∷◌, ◌++◌, length, Option, Some, None, subst, inl, inr, arith}
+use Rattle.std.proofs.lemmas.Bool.{cases_eq, or_right, true≢false}
 use Rattle.std.proofs.lemmas.List.{append-nil, append_assoc, length-set}
-use Rattle.std.proofs.lemmas.Option.{none-some, same_Some}
+use Rattle.std.proofs.lemmas.Option.{same_Some}
 use Rattle.std.specs.Prelude.{slice_get, slice_set, slice_index, ◌==◌, ◌&&◌, IsTrue}
 use Rattle.std.specs.Option.{option_map_or}
 use Rattle.mps_base.specs.Address.{Address, Id, word_of}
@@ -10,7 +10,6 @@ use Rattle.mps_base.specs.Trail.{Moves, with_move}
 use Rattle.mps_base.specs.declared.address.Addr.{Addr}
 use Rattle.mps_base.specs.declared.moves.Move.TheVariants.{Splat}
 use Rattle.mps_format.specs.Layout.{Layout}
-use Rattle.mps_format.specs.References.{HasNoReference}
 use Rattle.mps_trace.specs.GenState.{ChainsState}
 use Rattle.mps_seg.specs.Collecting.{first_grain_over}
 use Rattle.mps_model.specs.Graph.{Cell, HeadCell, NumberCell, ReferenceCell, Automatic, Body, Object, entries, entry_at, size_of, size_of_body, target_of_cell, targets_of_cells, targets_of_body, is_reference_cell, is_automatic, contains}
@@ -18,7 +17,7 @@ use Rattle.mps_model.specs.Checked.{head_of_body}
 use Rattle.mps_model.specs.Units.{splats_of}
 use Rattle.mps_abstract.specs.Colours.{Colours}
 use Rattle.mps_abstract.specs.Collecting.{Collecting, is_white_in}
-use Rattle.mps_abstract.specs.Units.{Splats, splats_no_more, splats_cell, collecting_after_splat, AreTargetsKept}
+use Rattle.mps_abstract.specs.Units.{Splats, splats_cell, collecting_after_splat}
 use Rattle.mps_trace_laws.specs.Image.Memory.{Setting, Memory, Lies, all_cells, memory_in, pool_layout}
 use Rattle.mps_trace_laws.specs.Image.Image.{CellSet, with_cell, ImageStands, AreShaped, IsFixedWord}
 use Rattle.mps_trace_laws.specs.Image.Fixing.{Target}
@@ -35,16 +34,15 @@ use Rattle.mps_trace_laws.specs.Fix.Tracing.{TracingStands, StateStands, setting
 use Rattle.mps_trace_laws.specs.Fix.Room.{moves_left}
 use Rattle.mps_trace_laws.specs.Fix.Scanning.{IsToBeScanned}
 use Rattle.mps_trace.specs.Finding.{CanFind, FindsTo}
-use Rattle.mps_trace.specs.Splat.{SplatsCell, is_null, updates, splats, SplatsTo, begins, goes_on, CanSplatCell, AreSplatsReady}
+use Rattle.mps_trace.specs.Splat.{SplatsCell, is_null, updates, splats, CanSplatCell}
 use Rattle.mps_trace_laws.specs.Fix.Finding.{FindsObject, there, white}
-use Rattle.mps_trace_laws.specs.Splats.Laws.{AreSplatsDone, ASplatRunIsSplats}
 use Rattle.mps_format.specs.declared.pool.Policy.{Policy}
 use Rattle.mps_trace_laws.proofs.Fix.CanFix.{target_can_be_fixed}
 use Rattle.mps_trace_laws.proofs.Fix.Finding.{object_found}
 use Rattle.mps_trace_laws.proofs.Splats.OneCell as cell_of
 use Rattle.mps_trace_laws.proofs.Splats.Shapes as shape
 use Rattle.mps_trace_laws.proofs.Splats.Standing.{noted, splatted_state}
-use Rattle.mps_trace_laws.proofs.Splats.Cells.{now_done, in_range, below, IsTargetOf, target_among, CellCases, is_none, is_nothing, is_one, cell_cases}
+use Rattle.mps_trace_laws.proofs.Splats.Cells.{now_done, in_range, CellCases, is_none, is_nothing, is_one, cell_cases}
 
 module _ (F : Type 0) (layout : F → Layout) (formats : List (Option (Policy F))) (of : ChainsState) (at_flip : List (Option Address))
     (done : CellSet) (x : Traced) (y : Collecting) (holder : Id) (at : Addr) (o : Object) (cells : List Cell) (is_weak : Bool)
@@ -61,33 +59,33 @@ module _ (F : Type 0) (layout : F → Layout) (formats : List (Option (Policy F)
   L = pool_layout y.world
 
   -- the cells before one were gone over
-  record To (z : Traced) (before : ℕ) : Type 0 where
-    after : Collecting
-    these : List ℕ
-    row : (more : List ℕ) (last : Collecting) → Splats holder after more last → Splats holder y (these ++ more) last
-    trail : z.moves.moves ≡ x.moves.moves ++ splats_of at these
-    few : length these ≤ before - 1
-    spare : x.moves.spare ≤ z.moves.spare + length these
-    amc : z.amc ≡ x.amc
-    colours : after.colours ≡ y.colours
-    addresses : after.world.addresses ≡ y.world.addresses
-    condemned : after.running.condemned ≡ y.running.condemned
-    unpaired : after.world.graph.dependents ≡ []
-    pools : pool_layout after.world ≡ L
-    object : Object
-    there_now : slice_get after.world.graph.objects holder ≡ Some object
-    pool : object.pool ≡ o.pool
-    left : List Cell
-    body_now : object.body ≡ Automatic head left is_weak
-    long : length left ≡ length cells
-    rest : (j : ℕ) → before ≤ j → slice_get left j ≡ slice_get cells j
-    shaped_now : AreShaped after.world.graph.objects (pool_layout after.world)
-    done_after : CellSet
-    more : (j l : ℕ) → done j l ≡ true → done_after j l ≡ true
-    all : (l : ℕ) → l < before → done_after holder l ≡ true
-    state : StateStands layout formats of at_flip done_after z.amc z.segs after
+  pub record To (z : Traced) (before : ℕ) : Type 0 where
+    pub after : Collecting
+    pub these : List ℕ
+    pub row : (more : List ℕ) (last : Collecting) → Splats holder after more last → Splats holder y (these ++ more) last
+    pub trail : z.moves.moves ≡ x.moves.moves ++ splats_of at these
+    pub few : length these ≤ before - 1
+    pub spare : x.moves.spare ≤ z.moves.spare + length these
+    pub amc : z.amc ≡ x.amc
+    pub colours : after.colours ≡ y.colours
+    pub addresses : after.world.addresses ≡ y.world.addresses
+    pub condemned : after.running.condemned ≡ y.running.condemned
+    pub unpaired : after.world.graph.dependents ≡ []
+    pub pools : pool_layout after.world ≡ L
+    pub object : Object
+    pub there_now : slice_get after.world.graph.objects holder ≡ Some object
+    pub pool : object.pool ≡ o.pool
+    pub left : List Cell
+    pub body_now : object.body ≡ Automatic head left is_weak
+    pub long : length left ≡ length cells
+    pub rest : (j : ℕ) → before ≤ j → slice_get left j ≡ slice_get cells j
+    pub shaped_now : AreShaped after.world.graph.objects (pool_layout after.world)
+    pub done_after : CellSet
+    pub more : (j l : ℕ) → done j l ≡ true → done_after j l ≡ true
+    pub all : (l : ℕ) → l < before → done_after holder l ≡ true
+    pub state : StateStands layout formats of at_flip done_after z.amc z.segs after
 
-  start : To x 0
+  pub start : To x 0
   start = record {
     after = y;
     these = [];
@@ -414,7 +412,7 @@ module _ (F : Type 0) (layout : F → Layout) (formats : List (Option (Policy F)
     kind_is c e =
         shaped.kinds holder i o c scan.object scan.automatic (ap (λ b. slice_get (all_cells b) i) body ∙ e)
 
-    passed : f.is_reference head i ≡ false → To z (i + 1)
+    pub passed : f.is_reference head i ≡ false → To z (i + 1)
     passed isnt = let c = in_range cells i within in go c.0 c.1 (cell_cases c.0)
       where
         go : (c : Cell) → slice_get cells i ≡ Some c → CellCases c → To z (i + 1)
@@ -422,7 +420,7 @@ module _ (F : Type 0) (layout : F → Layout) (formats : List (Option (Policy F)
         go c e (is_nothing tag is) = absurd (true≢false (sym (ap is_reference_cell is) ∙ kind_is c e ∙ isnt))
         go c e (is_one t tag is) = absurd (true≢false (sym (ap is_reference_cell is) ∙ kind_is c e ∙ isnt))
 
-    stepped : (z' : Traced) → IsTrue (f.is_reference head i) → SplatsCell layout f formats at i z z' → To z' (i + 1)
+    pub stepped : (z' : Traced) → IsTrue (f.is_reference head i) → SplatsCell layout f formats at i z z' → To z' (i + 1)
     stepped z' is cell = let c = in_range cells i within in go c.0 c.1 (cell_cases c.0)
       where
         there_cell : SplatsCell layout g formats at i z z'
@@ -434,7 +432,7 @@ module _ (F : Type 0) (layout : F → Layout) (formats : List (Option (Policy F)
         go c e (is_one t tag same) = one_step t tag (e ∙ ap (λ v. Some v) same) z' there_cell
 
     -- what it leads to can be found, and there is room for a splat
-    can_step : IsTrue (f.is_reference head i) → length cells - 1 < x.moves.spare → CanSplatCell layout f formats z at i
+    pub can_step : IsTrue (f.is_reference head i) → length cells - 1 < x.moves.spare → CanSplatCell layout f formats z at i
     can_step is room = let c = in_range cells i within in go c.0 c.1 (cell_cases c.0)
       where
         left : 0 < z.moves.spare
@@ -449,100 +447,3 @@ module _ (F : Type 0) (layout : F → Layout) (formats : List (Option (Policy F)
         go c e (is_one t tag same) =
             subst (λ (h : Layout). CanSplatCell layout h formats z at i) g_now
             (record { find = λ some. can_find t tag (e ∙ ap (λ v. Some v) same); room = left })
-
-  size_is : size_of o ≡ length cells
-  size_is = ap size_of_body body
-
-  pass_all : (z : Traced) (n from : ℕ) → To z from → ((k : ℕ) → from ≤ k → k < from + n → f.is_reference head k ≡ false)
-      → from + n ≤ length cells → To z (from + n)
-  pass_all z zero from run none within = subst (To z) (let e : from ≡ from + 0 = omega arith in e) run
-  pass_all z (suc n) from run none within =
-      subst (To z) (let e : (from + 1) + n ≡ from + suc n = omega arith in e)
-      (pass_all z n (from + 1) (passed z from run (omega (arith, within)) (none from (omega arith) (omega arith)))
-      (λ k low high. none k (omega (arith, low)) (omega (arith, high))) (omega (arith, within)))
-
-  within_cells : (k : ℕ) → IsTrue (f.is_reference head k) → k < length cells
-  within_cells k is =
-      let valid = shaped.valid holder o scan.object scan.automatic in
-      let at_most = ((shaped.lawful o.pool).references head k valid is).1 in
-      let whole = shaped.whole holder o scan.object scan.automatic in
-      omega (arith, at_most, whole, size_is)
-
-  to_cell : (z : Traced) (from cell : ℕ) → To z from → from ≤ cell → ((k : ℕ) → from ≤ k → k < cell → f.is_reference head k ≡ false)
-      → cell ≤ length cells → To z cell
-  to_cell z from cell run low none within =
-      subst (To z) (let e : from + (cell - from) ≡ cell = omega (arith, low) in e)
-      (pass_all z (cell - from) from run (λ k above below. none k above (omega (arith, below, low))) (omega (arith, low, within)))
-
-  record Reached (z : Traced) (from : ℕ) : Type 0 where
-    run : To z from
-    few : from ≤ length cells
-
-  run_to : {z : Traced} {from : ℕ} → SplatsTo layout f formats head at x from z → Reached z from
-  run_to begins = record { run = start; few = omega arith }
-  run_to {z = z} (goes_on {y = w} from cell earlier first one) =
-      let r = run_to earlier in
-      let inside = within_cells cell first.reference in
-      let here = to_cell w from cell r.run first.not_before (λ k above below. first.none_between k above below) (omega (arith, inside)) in
-      record { run = stepped w cell here inside z first.reference one; few = omega (arith, inside) }
-
-  module _ (z : Traced) (run : To z (length cells)) where
-    kept : AreTargetsKept run.after holder
-    kept target among =
-        let cells_now : contains (targets_of_cells run.left) target ≡ true =
-        ap (λ b. contains (targets_of_body b) target) (sym run.body_now)
-        ∙ ap (λ p. contains (option_map_or Rattle.mps_model.specs.Graph.targets_of p []) target) (sym run.there_now) ∙ among
-        in
-        let one = target_among run.left target cells_now in
-        let less = below run.left one.i one.c one.cell in
-        let long = run.long in
-        let within : one.i < length cells = omega (arith, less, long) in
-        let size = ap size_of_body run.body_now in
-        let fixed = run.state.image.fixed.cells holder one.i run.object (word_of at.0 + one.i) one.c (run.all one.i within)
-        (record {
-          at = at.0;
-          address = ap (λ ps. entry_at ps holder) run.addresses ∙ scan.there;
-          object = run.there_now;
-          within = omega (arith, less, size);
-          is = refl;
-        })
-        (ap (λ b. slice_get (all_cells b) one.i) run.body_now ∙ one.cell)
-        in
-        fixed.not_white target one.target
-
-    finished : AreSplatsDone layout formats of at_flip done x z y holder at (size_of o)
-    finished = record {
-      after = run.after;
-      cells = run.these;
-      splats = subst (λ cs. Splats holder y cs run.after) (append-nil run.these) (run.row [] run.after (splats_no_more kept));
-      trail = run.trail;
-      done_after = run.done_after;
-      all = λ l lt. run.all l (omega (arith, lt, size_is));
-      more = run.more;
-      state = run.state;
-      same_addresses = run.addresses;
-      same_colours = run.colours;
-      same_condemned = run.condemned;
-      few = let few = run.few in omega (arith, few, size_is);
-      spare = run.spare;
-      shaped = run.shaped_now;
-      object = (run.object, run.there_now, ap size_of_body run.body_now ∙ run.long ∙ sym (ap size_of_body body));
-    }
-
-  -- each reference can be splatted when its turn comes
-  pub ready : size_of o - 1 < x.moves.spare → AreSplatsReady layout f formats head at x
-  ready room from cell w earlier first =
-      let r = run_to earlier in
-      let inside = within_cells cell first.reference in
-      let here = to_cell w from cell r.run first.not_before (λ k above below. first.none_between k above below) (omega (arith, inside)) in
-      can_step w cell here inside first.reference (omega (arith, room, size_is))
-
-  pub run_done : (z : Traced) (from : ℕ) → SplatsTo layout f formats head at x from z → HasNoReference f head from
-      → AreSplatsDone layout formats of at_flip done x z y holder at (size_of o)
-  run_done z from run none =
-      let r = run_to run in
-      finished z (to_cell z from (length cells) r.run r.few (λ k above below. none k above) (omega arith))
-
-pub run_is_splats : {F : Type 0} → ASplatRunIsSplats F
-run_is_splats {F} layout formats of at_flip done x z y holder at o cells is_weak from none_paired shaped st scan body run none =
-    run_done F layout formats of at_flip done x y holder at o cells is_weak none_paired shaped st scan body z from run none

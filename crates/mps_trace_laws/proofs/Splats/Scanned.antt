@@ -1,9 +1,9 @@
--- The scan of a weak block is a row of splats, and its object is black then.
-use Rattle.std.proofs.Common.{◌≡◌, ◌∙◌, ℕ, ◌<◌, Bool, true, false, refl, sym, ap, List, [], Option, Some, subst, inl, slice_index, arith}
+-- The scan of a weak block is a sequence of splats, and its object is black then.
+use Rattle.std.proofs.Common.{◌≡◌, ◌∙◌, ℕ, ◌<◌, Bool, true, refl, sym, ap, List, [], Option, subst, inl, slice_index}
 use Rattle.std.proofs.lemmas.Bool.{false≢true}
 use Rattle.std.proofs.lemmas.List.{length-set}
 use Rattle.std.proofs.lemmas.Option.{same_Some}
-use Rattle.std.specs.Prelude.{IsTrue, slice_get}
+use Rattle.std.specs.Prelude.{IsTrue}
 use Rattle.mps_base.specs.Address.{Address, Id, word_of}
 use Rattle.mps_base.specs.Segment.{Segment}
 use Rattle.mps_base.specs.declared.address.Addr.{Addr}
@@ -26,7 +26,7 @@ use Rattle.mps_trace_laws.specs.Fix.Tracing.{TracingStands, setting_of}
 use Rattle.mps_trace_laws.specs.Fix.Scanning.{IsToBeScanned}
 use Rattle.mps_trace_laws.proofs.Fix.Found as found
 use Rattle.mps_trace_laws.specs.Splats.Laws.{AreSplatsDone, IsSplatScan, ASplatScanIsAScan}
-use Rattle.mps_trace_laws.proofs.Splats.Run.{run_is_splats}
+use Rattle.mps_trace_laws.proofs.Splats.Whole.{run_is_splats}
 
 -- an automatic object has cells
 pub automatic_body : (b : Body) → is_automatic_body b ≡ true

@@ -1,5 +1,5 @@
 -- What the scan of a weak block leaves of segments: it writes words and summaries, and the block is grey no longer.
-use Rattle.std.proofs.Common.{◌≡◌, ◌∙◌, Bool, refl, sym, ap, subst, List, Option, Some, None}
+use Rattle.std.proofs.Common.{◌≡◌, ◌∙◌, refl, sym, ap, subst, List, Option, Some, None}
 use Rattle.std.specs.Prelude.{ℕ, ◌+◌, slice_set}
 use Rattle.mps_base.specs.Address.{Address, Grain, word_of}
 use Rattle.mps_base.specs.declared.address.Addr.{Addr}

@@ -1,6 +1,6 @@
 -- The last band begins where nothing is grey in words and no registration is due.
-use Rattle.std.proofs.Common.{◌≡◌, ◌∙◌, ℕ, ◌<◌, ◌≤◌, Bool, true, false, refl, sym, ap, subst, List, [], ◌∷◌, Contains, inl, inr, arith}
-use Rattle.std.proofs.lemmas.Bool.{cases_Bool, true≢false, or_right}
+use Rattle.std.proofs.Common.{◌≡◌, ◌∙◌, ℕ, ◌<◌, ◌≤◌, Bool, true, false, refl, sym, subst, List, [], ◌∷◌, Contains, inl, inr, arith}
+use Rattle.std.proofs.lemmas.Bool.{cases_Bool, true≢false}
 use Rattle.std.specs.Prelude.{◌||◌, ◌+◌, ◌*◌, map, Option}
 use Rattle.std.specs.List.{AllByRecursion}
 use Rattle.mps_base.specs.Address.{Address, word_of, max_grains, grain_of, address_of_grain, words_of_grain}
@@ -20,9 +20,9 @@ use Rattle.mps_trace.specs.Scan.{IsDrained}
 use Rattle.mps_trace.specs.Splat.{HasNoMark}
 use Rattle.mps_trace.specs.State.{FinalsState}
 use Rattle.mps_trace.specs.Trace.{Traced}
-use Rattle.mps_trace_laws.specs.Fix.Ranks.{DoMarksTell}
+use Rattle.mps_trace_laws.specs.Fix.Ranks.{DoMarksShow}
 use Rattle.mps_trace_laws.specs.Fix.Tracing.{AreHeld, setting_of}
-use Rattle.mps_trace_laws.proofs.Fix.RankedMarks.{objects_are_ranked, ranked_marks_tell}
+use Rattle.mps_trace_laws.proofs.Fix.RankedMarks.{objects_are_ranked, ranked_marks_show}
 use Rattle.mps_model.specs.Graph.{is_automatic}
 use Rattle.mps_model.specs.World.{object_is}
 use Rattle.mps_trace_laws.proofs.Reclaim.SegmentBounds.{segment_cases, contains_no_segment}
@@ -77,12 +77,12 @@ either_is false true first second = absurd (true≢false second)
 module _ {F : Type 0} (layout : F → Rattle.mps_format.specs.Layout.Layout) (formats : List (Rattle.std.specs.Prelude.Option (Policy F)))
     (of : Rattle.mps_trace.specs.GenState.ChainsState) (at_flip : List (Rattle.std.specs.Prelude.Option Address)) (x : Traced)
     (y : Collecting) (run : Running y) (st : StandsTracing layout formats of at_flip x y) where
-  -- marks tell which objects are weak
-  pub marks_tell : DoMarksTell x.segs y
-  marks_tell =
+  -- marks show which objects are weak
+  pub marks_show : DoMarksShow x.segs y
+  marks_show =
       let set = setting_of x.segs at_flip y in
       let image = st.traces.state.image in
-      ranked_marks_tell x.segs set y (object_is is_automatic y.world) st.ranked
+      ranked_marks_show x.segs set y (object_is is_automatic y.world) st.ranked
       (objects_are_ranked x.segs set y.world image.placed refl (held_in_order x.segs st.traces.state.held) st.housed) image.marks run.grey
 
 module _ {F : Type 0} (layout : F → Rattle.mps_format.specs.Layout.Layout) (formats : List (Rattle.std.specs.Prelude.Option (Policy F)))
@@ -146,4 +146,4 @@ module _ {F : Type 0} (layout : F → Layout) (formats : List (Option (Policy F)
 
   -- and where no block has an exact mark nothing but weak objects is grey
   pub drained_so : StandsTracing layout formats of at_flip x y → IsDrained x.segs → IsDrainedIn y
-  drained_so st drained = (marks_tell layout formats of at_flip x y stands.running st).drained drained
+  drained_so st drained = (marks_show layout formats of at_flip x y stands.running st).drained drained

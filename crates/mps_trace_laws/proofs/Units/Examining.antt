@@ -36,7 +36,7 @@ use Rattle.mps_trace_laws.specs.Fix.Finding.{FindsObject, there, white}
 use Rattle.mps_trace_laws.specs.Fix.Steps.{IsFixStep}
 use Rattle.mps_trace_laws.specs.Units.Finals.{address_of_id}
 use Rattle.mps_trace_laws.specs.Units.Standing.{AreFinalsOf}
-use Rattle.mps_trace_laws.specs.Units.Examining.{IsOneDueIn, ExaminationsAreUnits, IsPostDone, PostsAreUnits}
+use Rattle.mps_trace_laws.specs.Units.Examining.{IsOneDueIn, ExaminationsAreUnits, PostsAreUnits}
 use Rattle.mps_trace_laws.proofs.Fix.EachFix.{fix_is_a_step}
 use Rattle.mps_trace_laws.proofs.Fix.Finding.{object_found}
 use Rattle.mps_trace_laws.proofs.Units.Finals.{finals_passed, finals_posted}

@@ -1,11 +1,10 @@
 -- The examination of a registration is a unit after which the state stands, whether its object was found or posted.
-use Rattle.std.proofs.Common.{◌≡◌, ◌∙◌, ℕ, suc, ◌+◌, ◌<◌, ◌≤◌, true, false, refl, sym, ap, subst, List, [], ◌∷◌, ◌++◌, length, Option, Some, None, inl, inr, arith}
+use Rattle.std.proofs.Common.{◌≡◌, ◌∙◌, ℕ, suc, ◌+◌, ◌≤◌, true, refl, sym, ap, subst, List, [], ◌∷◌, ◌++◌, length, Option, Some, None, inl, inr, arith}
 use Rattle.std.proofs.lemmas.Bool.{cases_lt, false≢true}
-use Rattle.std.specs.Prelude.{IsTrue, slice_get}
+use Rattle.std.specs.Prelude.{IsTrue}
 use Rattle.mps_base.specs.Address.{Address, Id}
-use Rattle.mps_base.specs.Trail.{Moves, with_move}
+use Rattle.mps_base.specs.Trail.{with_move}
 use Rattle.mps_base.specs.declared.address.Addr.{Addr}
-use Rattle.mps_base.specs.declared.moves.Move.{Move}
 use Rattle.mps_base.specs.declared.moves.Move.TheVariants.{Post}
 use Rattle.mps_format.specs.Layout.{Layout}
 use Rattle.mps_format.specs.declared.pool.Policy.{Policy}
@@ -17,8 +16,8 @@ use Rattle.mps_trace.specs.Scan.{IsDrained}
 use Rattle.mps_trace.specs.Trace.{Traced, KeepsTo}
 use Rattle.mps_trace.specs.declared.running.Running.{Running as RunningState}
 use Rattle.mps_model.specs.Collection.{Collection}
-use Rattle.mps_model.specs.Graph.{Graph, Object, contains, without_first}
-use Rattle.mps_model.specs.World.{World, is_live}
+use Rattle.mps_model.specs.Graph.{Graph, Object, without_first}
+use Rattle.mps_model.specs.World.{is_live}
 use Rattle.mps_abstract.specs.Colours.{is_black}
 use Rattle.mps_abstract.specs.Collecting.{Collecting, Final}
 use Rattle.mps_abstract.specs.Fixing.{fixes_no_more, kept_by}
@@ -32,7 +31,7 @@ use Rattle.mps_trace_laws.specs.Image.Image.{black_cells}
 use Rattle.mps_trace_laws.specs.Fix.Housed.{AreHoused, AreLive}
 use Rattle.mps_trace_laws.specs.Fix.Ranks.{AreMarksRanked}
 use Rattle.mps_trace_laws.specs.Fix.Room.{moves_left}
-use Rattle.mps_trace_laws.specs.Fix.Tracing.{TracingStands, StateStands}
+use Rattle.mps_trace_laws.specs.Fix.Tracing.{TracingStands}
 use Rattle.mps_trace_laws.specs.Units.Examining.{IsOneDueIn}
 use Rattle.mps_trace_laws.specs.Units.Finals.{AreDue}
 use Rattle.mps_trace_laws.specs.Units.Laws.{IsTracedUnitDone}

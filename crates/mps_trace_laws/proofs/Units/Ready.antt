@@ -1,7 +1,7 @@
 -- While the state stands a unit can be done: each grey block can be scanned, each registration that is due can be examined, and once
 -- nothing is grey or due a segment is left that can be reclaimed, with room for its moves.
 use Rattle.std.proofs.Common.{◌≡◌, ◌∙◌, ◌⊎◌, suc, ◌+◌, ◌*◌, ◌<◌, ◌≤◌, true, false, refl, sym, ap, subst, List, [], ◌∷◌, Option, Some, length, Contains, inl, inr, arith}
-use Rattle.std.proofs.lemmas.Bool.{cases_Bool, cases_lt, true≢false}
+use Rattle.std.proofs.lemmas.Bool.{cases_Bool, cases_lt}
 use Rattle.std.proofs.lemmas.Option.{same_Some}
 use Rattle.std.specs.Prelude.{IsTrue, ℕ}
 use Rattle.mps_base.specs.Address.{Address, grain_of, word_of, words_of_grain}

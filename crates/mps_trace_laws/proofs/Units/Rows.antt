@@ -1,4 +1,4 @@
--- Rows of units, in words, are rows of units of the abstract collector.
+-- Sequences of units, in words, are sequences of units of the abstract collector.
 use Rattle.std.proofs.Common.{◌≡◌, ◌∙◌, ℕ, ◌+◌, sym, ap, subst, List, [], ◌++◌, Option, arith}
 use Rattle.std.proofs.lemmas.List.{append_assoc, append-nil}
 use Rattle.mps_base.specs.Address.{Address}
@@ -18,7 +18,6 @@ use Rattle.mps_trace.specs.Unit.{UnitTo, scans, examines, posts, splats, reclaim
 use Rattle.mps_trace.specs.declared.running.Running.{Running as RunningState}
 use Rattle.mps_trace_laws.specs.Units.Standing.{UnitStands}
 use Rattle.mps_trace_laws.specs.Units.Laws.{HasSegmentsOf, HasFinalsOf, AreScansDone, IsTracedUnitDone, AreTracedUnitsDone, AreLastTracedUnitsDone}
-use Rattle.std.proofs.lemmas.Bool.{true≢false}
 use Rattle.mps_trace_laws.proofs.Units.Splatting.{splats_done}
 use Rattle.mps_trace_laws.proofs.Units.Posted.{examination_done, post_done}
 use Rattle.mps_trace_laws.proofs.Units.Reclaiming.{a_reclaim_is_done, the_last_unit_is_done}
@@ -76,7 +75,7 @@ module _ {F : Type 0} (layout : F → Layout) (formats : List (Option (Policy F)
       let before = row_done x f run y stands v f' run' count units in
       one_more x v z f' f'' run' run'' y count before (unit_done v z f' f'' run' run'' before.after before.stands unit)
 
--- where scans are units of the abstract collector, rows of units are
+-- where scans are units of the abstract collector, sequences of units are
 pub units_are_done : {F : Type 0}
     → (layout : F → Layout) (formats : List (Option (Policy F))) (of : ChainsState) (at_flip : List (Option Address)) (x z : Traced)
     (f f' : FinalsState) (run run' : RunningState) (y : Collecting) (count : ℕ) → AreScansDone layout formats of at_flip

@@ -1,10 +1,9 @@
 -- A scan of a grey block is a unit of the abstract collector, and each grey block can be scanned.
-use Rattle.std.proofs.Common.{◌≡◌, ◌∙◌, ℕ, true, false, refl, sym, ap, subst, List, [], Option, Some, inl, inr, arith}
+use Rattle.std.proofs.Common.{◌≡◌, ◌∙◌, ℕ, true, false, sym, ap, subst, List, [], Option, Some, inl, inr, arith}
 use Rattle.std.proofs.lemmas.Bool.{cases_Bool, false≢true, or_right}
-use Rattle.std.specs.Prelude.{◌==◌, Contains, ◌||◌, length, map, slice_get}
+use Rattle.std.specs.Prelude.{◌||◌, length, map, slice_get}
 use Rattle.std.specs.Option.{option_map_or}
 use Rattle.mps_base.specs.Address.{Address, Id, Word, word_of, address_of_word}
-use Rattle.mps_base.specs.declared.moves.Move.{Move}
 use Rattle.mps_extents.specs.Table.{bit}
 use Rattle.mps_format.specs.Layout.{Layout}
 use Rattle.mps_trace.specs.GenState.{ChainsState}
@@ -13,11 +12,9 @@ use Rattle.mps_model.specs.Accessing.{address_or_null}
 use Rattle.mps_model.specs.Graph.{Graph, Cell, ReferenceCell, Body, Automatic, Manual, Object, contains, entry_at, targets, targets_of, targets_of_body, targets_of_cells, target_of_cell, is_automatic, is_automatic_body, is_weak_object}
 use Rattle.mps_model.specs.World.{object_is}
 use Rattle.mps_abstract.specs.Colours.{is_grey}
-use Rattle.mps_abstract.specs.Collecting.{Collecting, Running, is_tracing_band, is_reclaiming_band}
-use Rattle.mps_abstract.specs.Fixing.{Fixes, fixes_no_more, passes, keeps}
+use Rattle.mps_abstract.specs.Collecting.{Collecting, is_tracing_band, is_reclaiming_band}
 use Rattle.mps_abstract.specs.Units.{scans, collecting_after_scan}
 use Rattle.mps_abstract.proofs.Addresses.{address_of-live}
-use Rattle.mps_abstract.proofs.Lists.{contains_here, contains_later}
 use Rattle.mps_abstract.proofs.UnitScans.{scans_shown, targets_may_be_fixed}
 use Rattle.mps_abstract.proofs.WholeCollections.WholePaths.{fixed_same}
 use Rattle.mps_abstract.proofs.Calls.ClientLists.{among_entries, map-slice_get}
@@ -37,9 +34,9 @@ use Rattle.mps_abstract.proofs.KeptPlaces.{running_may_keep, fixes_stay}
 use Rattle.mps_trace.specs.State.{FinalsState}
 use Rattle.mps_trace_laws.specs.Units.Finals.{AreDue}
 use Rattle.mps_trace_laws.proofs.Units.Finals.{finals_stay}
-use Rattle.mps_trace_laws.proofs.Units.Entering.{held_in_order, marks_tell}
+use Rattle.mps_trace_laws.proofs.Units.Entering.{held_in_order, marks_show}
 use Rattle.mps_trace_laws.proofs.Units.Still.{IsStill, still, unreserved_still}
-use Rattle.mps_trace_laws.specs.Units.Standing.{AreCondemnedUnreserved, AreFinalsOf, StandsTracing, UnitStands, AreObjectsKnown, tracing, reclaiming}
+use Rattle.mps_trace_laws.specs.Units.Standing.{AreCondemnedUnreserved, AreFinalsOf, StandsTracing, UnitStands, tracing, reclaiming}
 use Rattle.mps_trace_laws.specs.Units.Laws.{IsTracedUnitDone, AreScansDone}
 use Rattle.mps_format.specs.declared.pool.Policy.{Policy}
 use Rattle.mps_base.specs.Trail.{Moves}
@@ -148,7 +145,7 @@ module _ {F : Type 0} (layout : F
     -- its object isn't weak, so it isn't scanned in the weak band
     strong : object_is is_weak_object y.world g.id ≡ false
     strong =
-        (marks_tell layout formats of at_flip x y stands.running st).strong g.id (address_of_word one.word) g.there
+        (marks_show layout formats of at_flip x y stands.running st).strong g.id (address_of_word one.word) g.there
         (ap (bit x.segs.marks.exact) (let same : word_of (address_of_word one.word) ≡ one.word = omega arith in same) ∙ one.grey)
 
     tracing_band : is_tracing_band y.band ≡ true

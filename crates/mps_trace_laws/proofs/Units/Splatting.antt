@@ -1,5 +1,5 @@
 -- A scan of a weak grey block is a unit of the abstract collector, and each weak grey block can be scanned.
-use Rattle.std.proofs.Common.{◌≡◌, ◌∙◌, ℕ, ◌+◌, ◌-◌, ◌<◌, ◌≤◌, Bool, true, false, refl, sym, ap, subst, List, [], ◌++◌, length, map, Option, Some, arith}
+use Rattle.std.proofs.Common.{◌≡◌, ◌∙◌, ℕ, ◌+◌, ◌-◌, ◌<◌, ◌≤◌, true, false, refl, sym, ap, subst, List, ◌++◌, map, Option, Some, arith}
 use Rattle.std.proofs.lemmas.Bool.{or_right}
 use Rattle.std.specs.Prelude.{◌||◌, if◌then◌else◌, option_map, slice_get}
 use Rattle.std.specs.Option.{option_map_or}
@@ -20,9 +20,9 @@ use Rattle.mps_trace.specs.declared.running.Band.TheVariants as band
 use Rattle.mps_trace.specs.declared.running.Running.{Running as RunningState}
 use Rattle.mps_model.specs.Collection.{Collection}
 use Rattle.mps_model.specs.Flip.{at_address}
-use Rattle.mps_model.specs.Graph.{Object, is_automatic, is_weak_object, size_of}
+use Rattle.mps_model.specs.Graph.{Object, is_weak_object, size_of}
 use Rattle.mps_model.specs.Units.{splats_of}
-use Rattle.mps_model.specs.World.{World, is_copying_object, is_copying_pool, live_ids, object_is}
+use Rattle.mps_model.specs.World.{World, is_copying_pool, live_ids}
 use Rattle.mps_abstract.specs.Colours.{Colours, blackened, is_to_scan}
 use Rattle.mps_abstract.specs.Collecting.{Collecting, IsDrainedIn}
 use Rattle.mps_abstract.specs.Collecting as abstract

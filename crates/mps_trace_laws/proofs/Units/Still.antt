@@ -1,10 +1,9 @@
 -- What fixes leave of a world between two units: its objects and pools, and the segments that were held.
 use Rattle.std.proofs.Common.{◌≡◌, ◌∙◌, true, refl, sym, ap, subst, List, Option, Some}
 use Rattle.std.specs.Prelude.{◌==◌, Contains}
-use Rattle.mps_base.specs.Address.{Address, Id, grain_of}
+use Rattle.mps_base.specs.Address.{Address, Id}
 use Rattle.mps_base.specs.Segment.{Segment}
 use Rattle.mps_base.specs.declared.moves.Move.{Move}
-use Rattle.mps_extents.specs.Table.{bit}
 use Rattle.mps_format.specs.Layout.{Layout}
 use Rattle.mps_format.specs.declared.pool.Policy.{Policy}
 use Rattle.mps_seg.specs.Segs.{SegsState}

@@ -1,6 +1,6 @@
 -- What the segments of an arena at rest represent before a full flip, and what a collector has to know of pools then.
 use Rattle.std.specs.Prelude.{◌≡◌, ℕ, ◌+◌, ◌≤◌, false, IsTrue, [], length}
-use Rattle.mps_base.specs.Address.{Id, Grain}
+use Rattle.mps_base.specs.Address.{Grain}
 use Rattle.mps_base.specs.Generation.{target_generation}
 use Rattle.mps_base.specs.Run.{in_order}
 use Rattle.mps_base.specs.Trail.{Moves}

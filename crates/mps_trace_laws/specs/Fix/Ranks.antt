@@ -28,13 +28,13 @@ abbrev pub GreyingKeepsRanks : Type 0
 GreyingKeepsRanks = (s : SegsState) (at : Address) → address_of_word (word_of at) ≡ at → AreMarksRanked s → AreMarksRanked (greying s at)
 
 -- if no block has an exact mark nothing but weak objects is grey, and an object whose block has one isn't weak
-pub record DoMarksTell (s : SegsState) (y : Collecting) : Type 0 where
+pub record DoMarksShow (s : SegsState) (y : Collecting) : Type 0 where
   pub drained : IsDrained s → AreColoursDrained (object_is is_weak_object y.world) y.colours
   pub strong : (id : Id) (at : Address) → entry_at y.world.addresses id ≡ Some at → bit s.marks.exact (word_of at) ≡ true
       → object_is is_weak_object y.world id ≡ false
 
-abbrev pub RankedMarksTell : Type 0
-RankedMarksTell =
+abbrev pub RankedMarksShow : Type 0
+RankedMarksShow =
     (s : SegsState) (set : Setting) (y : Collecting) (automatic : Id → Bool) → AreMarksRanked s → AreObjectsRanked s y.world
     → MarksStand set (memory_in s).kept (memory_in s).grey y.world.addresses y.colours
-    → AreGreyKept automatic (is_live y.world) y.running.condemned y.colours → DoMarksTell s y
+    → AreGreyKept automatic (is_live y.world) y.running.condemned y.colours → DoMarksShow s y

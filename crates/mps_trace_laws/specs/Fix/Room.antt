@@ -1,5 +1,5 @@
 -- How many moves a collection may take from here on.
-use Rattle.std.specs.Prelude.{◌≡◌, ℕ, ◌+◌, ◌-◌, ◌*◌, false, true, if◌then◌else◌, Option, List, [], ◌∷◌, slice_get, count_by, refl}
+use Rattle.std.specs.Prelude.{◌≡◌, ℕ, ◌+◌, ◌-◌, ◌*◌, false, true, if◌then◌else◌, List, [], ◌∷◌, slice_get, count_by, refl}
 use Rattle.std.specs.List.{sum_by}
 use Rattle.std.specs.Option.{option_map_or}
 use Rattle.mps_base.specs.Address.{Id}

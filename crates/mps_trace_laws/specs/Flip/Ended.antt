@@ -5,7 +5,6 @@ use Rattle.mps_base.specs.Run.{Run, in_order}
 use Rattle.mps_buffer.specs.declared.point.Held.{Held}
 use Rattle.mps_buffer.specs.declared.point.Point.{Point}
 use Rattle.mps_buffer.specs.Points.{run_of_held}
-use Rattle.mps_model.specs.World.{extents_of, reserved_extents}
 use Rattle.mps_seg.specs.Segs.{SegsState, new_segments}
 
 -- the run of a reservation that still covers its words

@@ -1,11 +1,8 @@
 -- What a collector does with one address and with one reference word, in words and in ids.
-use Rattle.std.specs.Prelude.{◌≡◌, ◌≢◌, ℕ, ◌+◌, ◌<◌, ◌≤◌, Bool, true, false, ◌==◌, IsTrue, Option, Some, None, List, [], ◌∷◌, slice_get, slice_set, slice_index, length, drop, refl}
-use Rattle.std.proofs.Common.{arith, lit<}
+use Rattle.std.specs.Prelude.{◌≡◌, ◌≢◌, ℕ, ◌+◌, ◌<◌, ◌≤◌, Bool, true, false, ◌==◌, IsTrue, Option, Some, None, List, [], ◌∷◌, slice_get, slice_set, slice_index, refl}
 use Rattle.mps_base.specs.Address.{Address, Id, Word, word_of}
 use Rattle.mps_base.specs.Run.{Run, with_run, without_run}
 use Rattle.mps_format.specs.Layout.{Layout, IsBlockSize}
-use Rattle.mps_format.specs.Blocks.{BeginsForwarded}
-use Rattle.mps_format.specs.Front.{front_layout}
 use Rattle.mps_model.specs.Graph.{Object, Reservation, entry_at, is_automatic}
 use Rattle.mps_model.specs.World.{extent}
 use Rattle.mps_abstract.specs.Colours.{Colours, is_white, keeping}

@@ -1,5 +1,5 @@
 -- What the segments of an arena give of words: those that nothing covers are free, and those of a segment are home to its pool.
-use Rattle.std.specs.Prelude.{◌≡◌, ◌+◌, ◌<◌, ◌≤◌, List, [], ◌∷◌, map, refl}
+use Rattle.std.specs.Prelude.{◌≡◌, ◌+◌, ◌≤◌, List, [], ◌∷◌, map, refl}
 use Rattle.std.specs.List.{AllByRecursion}
 use Rattle.std.proofs.Common.{arith, lit≤, lit<}
 use Rattle.mps_base.specs.Address.{address_of_grain, grain_of, max_grains}

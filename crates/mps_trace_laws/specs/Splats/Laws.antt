@@ -19,7 +19,7 @@ use Rattle.mps_trace_laws.specs.Image.Image.{CellSet, AreShaped, black_cells}
 use Rattle.mps_trace_laws.specs.Fix.Tracing.{StateStands, TracingStands}
 use Rattle.mps_trace_laws.specs.Fix.Scanning.{IsToBeScanned}
 
--- the run over all its references is a row of splats, by the moves of the trail, and the state stands after it, with all cells fixed
+-- the run over all its references is a sequence of splats, by the moves of the trail, and the state stands after it, with all cells fixed
 pub record AreSplatsDone {F : Type 0} (layout : F → Layout) (formats : List (Option (Policy F))) (of : ChainsState)
     (at_flip : List (Option Address)) (done : CellSet) (x z : Traced) (y : Collecting) (holder : Id) (at : Addr) (size : ℕ) : Type 0
   where
@@ -53,7 +53,7 @@ ASplatRunIsSplats F =
     → HasNoReference (pool_layout y.world o.pool) (head_of_body o.body) from
     → AreSplatsDone layout formats of at_flip done x z y holder at (size_of o)
 
--- the scan of a weak block is a row of splats, after which its object is black
+-- the scan of a weak block is a sequence of splats, after which its object is black
 pub record IsSplatScan {F : Type 0} (layout : F → Layout) (formats : List (Option (Policy F))) (of : ChainsState)
     (at_flip : List (Option Address)) (x z : Traced) (y : Collecting) (holder : Id) (at : Addr) (size : ℕ) : Type 0 where
   pub cells : List ℕ

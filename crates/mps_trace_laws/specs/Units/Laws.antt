@@ -27,7 +27,7 @@ HasSegmentsOf s w = AreSegmentsOf s w.grains w.limit w.segments
 abbrev pub HasFinalsOf : FinalsState → World → Type 0
 HasFinalsOf f w = AreFinalsAtRest w.addresses w.graph.registered w.graph.messages f
 
--- a unit of the abstract collector, which tells the same moves and after which the state stands for it
+-- a unit of the abstract collector, of the same moves, after which the state stands for it
 pub record IsTracedUnitDone {F : Type 0} (layout : F → Layout) (formats : List (Option (Policy F))) (of : ChainsState)
     (at_flip : List (Option Address)) (x : Traced) (y : Collecting) (z : Traced) (f' : FinalsState) (run' : RunningState) : Type 0 where
   pub moves : List Move
@@ -36,7 +36,7 @@ pub record IsTracedUnitDone {F : Type 0} (layout : F → Layout) (formats : List
   pub stands : UnitStands layout formats of at_flip z f' run' after
   pub trail : z.moves.moves ≡ x.moves.moves ++ moves
 
--- its last unit, which tells the same moves and after which the segments stand for a world at rest
+-- its last unit, of the same moves, after which the segments stand for a world at rest
 pub record IsLastTracedUnitDone (x : Traced) (y : Collecting) (z : Traced) (f : FinalsState) : Type 0 where
   pub moves : List Move
   pub last : IsLastUnit y moves
@@ -46,7 +46,7 @@ pub record IsLastTracedUnitDone (x : Traced) (y : Collecting) (z : Traced) (f : 
   pub finals : HasFinalsOf f (world_after_moves y.world moves)
   pub trail : z.moves.moves ≡ x.moves.moves ++ moves
 
--- ---- rows of units
+-- ---- sequences of units
 
 -- each scan of a grey block is a unit of the abstract collector
 abbrev pub AreScansDone : {F : Type 0} → (F → Layout) → List (Option (Policy F)) → ChainsState → List (Option Address) → Type 0
