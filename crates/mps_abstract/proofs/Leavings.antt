@@ -83,7 +83,7 @@ fixes_move {x} (keeps {id = id} {ids} {these} {those} {c} white keep rest) may l
     (fixes_move rest (keep_may x may id there these c keep)
     (λ n h. keep_live x may id there these c keep n ∙ live n (contains_later id ids n h)))
 
-splats_move : {holder : Id} {x y : Collecting} {cells : List ℕ} → Splats holder x cells y → IsButCollected x.world y.world
+pub splats_move : {holder : Id} {x y : Collecting} {cells : List ℕ} → Splats holder x cells y → IsButCollected x.world y.world
 splats_move {x = x} (splats_no_more done) = same_world x.world
 splats_move {holder} {x} (splats_cell {cell = cell} refers white rest) =
     moved_on (record {

@@ -35,5 +35,6 @@ pub mod LeftRightly
 pub mod WholeCollections
 pub mod KeptPlaces
 pub mod Leavings
+pub mod BarrierLeavings
 pub mod Calls
 pub mod FlipActs

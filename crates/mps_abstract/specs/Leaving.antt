@@ -1,4 +1,4 @@
--- What units leave of the world, for every kind of pool.
+-- What units and a read barrier leave of the world, for every kind of pool.
 use Rattle.std.specs.Prelude.{◌≡◌, ℕ, Option, None, List, []}
 use Rattle.mps_base.specs.Address.{Id, Address}
 use Rattle.mps_base.specs.Segment.{Segment}
@@ -8,7 +8,7 @@ use Rattle.mps_model.specs.Collection.{Collection}
 use Rattle.mps_model.specs.World.{World, Tail}
 use Rattle.mps_model.specs.Effect.{world_after_moves}
 use Rattle.mps_abstract.specs.Collecting.{Collecting, Running}
-use Rattle.mps_abstract.specs.Units.{GoesOn, Ends}
+use Rattle.mps_abstract.specs.Units.{GoesOn, Ends, BarrierDone}
 
 -- a world is another one, but for objects, registrations, messages and pairs of dependents, for where objects lie, in which segments,
 -- for tails and for the collection
@@ -41,3 +41,8 @@ abbrev pub UnitsLeaveTheRest : Type 0
 UnitsLeaveTheRest =
     ((x y : Collecting) (count : ℕ) (ms : List Move) → Running x → GoesOn x count ms y → IsButCollected x.world y.world)
     × ((x : Collecting) (count : ℕ) (ms : List Move) → Running x → Ends x count ms → EndsCollected x.world (world_after_moves x.world ms))
+
+-- and so does a read barrier
+abbrev pub ABarrierLeavesTheRest : Type 0
+ABarrierLeavesTheRest =
+    (s : Segment) (x y : Collecting) (ms : List Move) → Running x → BarrierDone s x ms y → IsButCollected x.world y.world

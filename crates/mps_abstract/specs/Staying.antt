@@ -1,11 +1,12 @@
 -- What stays where it is over the steps of a collection.
 use Rattle.std.specs.Prelude.{◌≡◌, ℕ, false, List}
 use Rattle.mps_base.specs.Address.{Id}
+use Rattle.mps_base.specs.Segment.{Segment}
 use Rattle.mps_base.specs.declared.moves.Move.{Move}
 use Rattle.mps_model.specs.Effect.{world_after_moves}
 use Rattle.mps_model.specs.World.{World, address_of}
 use Rattle.mps_abstract.specs.Collecting.{Collecting, Running, is_white_in}
-use Rattle.mps_abstract.specs.Units.{IsUnit, GoesOn, Ends}
+use Rattle.mps_abstract.specs.Units.{IsUnit, GoesOn, Ends, BarrierDone}
 
 -- what isn't white stays so, and where it is
 pub record StaysInPlace (x y : Collecting) : Type 0 where
@@ -22,3 +23,7 @@ AKeptObjectStays =
     ((x y : Collecting) (ms : List Move) → Running x → IsUnit x ms y → StaysInPlace x y)
     × ((x y : Collecting) (count : ℕ) (ms : List Move) → Running x → GoesOn x count ms y → StaysInPlace x y)
     × ((x : Collecting) (count : ℕ) (ms : List Move) → Running x → Ends x count ms → EndsInPlace x (world_after_moves x.world ms))
+
+-- and over a read barrier
+abbrev pub AKeptObjectStaysAtABarrier : Type 0
+AKeptObjectStaysAtABarrier = (s : Segment) (x y : Collecting) (ms : List Move) → Running x → BarrierDone s x ms y → StaysInPlace x y

@@ -7,8 +7,8 @@ mod flips;
 mod whole;
 
 ghost use Rattle.mps_abstract.specs.DueLaws.{RunningIsLegal, WorkIsDue};
-ghost use Rattle.mps_abstract.specs.Leaving.{UnitsLeaveTheRest};
-ghost use Rattle.mps_abstract.specs.Staying.{AKeptObjectStays};
+ghost use Rattle.mps_abstract.specs.Leaving.{UnitsLeaveTheRest, ABarrierLeavesTheRest};
+ghost use Rattle.mps_abstract.specs.Staying.{AKeptObjectStays, AKeptObjectStaysAtABarrier};
 ghost use Rattle.mps_abstract.specs.Laws.{ReachableIsKept, AUnitKeepsRunning, UnitsRunOut, ABarrierKeepsRunning};
 
 pub use clients::clients_keep_running;
@@ -58,4 +58,10 @@ pub fn a_kept_object_stays()
 /// world.
 pub fn units_leave_the_rest()
     ensures { UnitsLeaveTheRest }
+{}
+
+/// A read barrier changes nothing of a world but what units change. What isn't white stays so over it, and where it lies.
+pub fn a_barrier_leaves_the_rest()
+    ensures rest { ABarrierLeavesTheRest }
+    ensures in_place { AKeptObjectStaysAtABarrier }
 {}
