@@ -1,9 +1,11 @@
+pub mod Accessed
 pub mod AreaWords
 pub mod Beginning
 pub mod Collected
 pub mod Condemning
 pub mod Ending
 pub mod Fixed
+pub mod Held
 pub mod Keeping
 pub mod Known
 pub mod Nailing

@@ -1,3 +1,4 @@
+pub mod Access
 pub mod Begin
 pub mod Condemned
 pub mod Examine

@@ -2,6 +2,7 @@
 //! pools, as its calls, its manual blocks and its collector know them.
 #![tactic(auto)]
 
+mod access;
 mod begin;
 mod collect;
 mod collection;

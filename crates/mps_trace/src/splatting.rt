@@ -61,7 +61,7 @@ impl<F: Format> Trace<F> {
 
     /// Scans the weak block at `at`: its references to white blocks become null, the others lead to where their blocks lie now, and it is
     /// grey no longer.
-    fn splat(&self, segs: &mut Segs, trail: &mut Trail, at: Addr)
+    pub(crate) fn splat(&self, segs: &mut Segs, trail: &mut Trail, at: Addr)
         requires { CanSplat F.layout self.now segs.old trail.old at }
         ensures { Splatted F.layout self.now.formats (traced self.now segs.old trail.old) at (traced self.now segs.new trail.new) }
     {
