@@ -22,6 +22,7 @@ pub mod CellLists
 pub mod ScanRun
 pub mod Scanned
 pub mod CanScan
+pub mod Referring
 pub mod Housed
 pub mod Ranks
 pub mod RankedMarks

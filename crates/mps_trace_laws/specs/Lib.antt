@@ -7,3 +7,4 @@ pub mod Roots
 pub mod Fix
 pub mod Units
 pub mod Splats
+pub mod Barrier

@@ -5,6 +5,7 @@
 ghost use Rattle.mps_trace_laws.specs.Fix.Finding.{AnObjectIsFound};
 ghost use Rattle.mps_trace_laws.specs.Fix.Steps.{AFixIsAStep};
 ghost use Rattle.mps_trace_laws.specs.Fix.Scanning.{AScanIsAScan};
+ghost use Rattle.mps_trace_laws.specs.Barrier.Laws.{AnAccessIsABarrier, AnAccessCanBeDone};
 ghost use Rattle.mps_trace_laws.specs.Reclaim.Laws.{AReclaimIsAUnit};
 ghost use Rattle.mps_trace_laws.specs.Begin.Begun.{ACollectionBegins};
 ghost use Rattle.mps_trace_laws.specs.Begin.MovesOfObjects.{RoomIsEnough};
@@ -25,6 +26,12 @@ pub fn a_fix_is_a_step<F>()
 /// A scan of a block fixes what its object refers to, in the abstract collector, and the object is black then.
 pub fn a_scan_is_a_scan<F>()
     ensures { AScanIsAScan F }
+{}
+
+/// What `access` does with a segment while objects are traced is the read barrier of the abstract collector there, and can be done.
+pub fn an_access_is_a_barrier<F>()
+    ensures barrier { AnAccessIsABarrier F }
+    ensures ready { AnAccessCanBeDone F }
 {}
 
 /// The reclaim of the next condemned segment is a unit of the abstract collector, and the segments stand for the world after it.

@@ -23,7 +23,7 @@ use Rattle.mps_amc.specs.Amc.{placement_of_copy, segs_fixed, with_place}
 use Rattle.mps_trace.specs.GenState.{ChainsState}
 use Rattle.mps_laws.proofs.Positions.Segments.{IsAmong, among_cases, among_with, found_among}
 use Rattle.mps_trace.specs.Trace.{Traced, KeepsTo, FixesTo, moves, marks, finds, keeps, target_of}
-use Rattle.mps_trace.specs.Scan.{FixesCell, is_null, leads, ScansTo, begins, goes_on, word_at, ScansOne}
+use Rattle.mps_trace.specs.Scan.{FixesCell, is_null, leads, ScansTo, begins, goes_on, word_at, Scanned, ScansOne}
 use Rattle.mps_trace_laws.specs.Fix.Ranks.{AreMarksRanked}
 use Rattle.mps_trace_laws.specs.Image.SegmentWords.{AreSegmentsInOrder}
 use Rattle.mps_trace_laws.proofs.Fix.Hands.{contains_among}
@@ -304,14 +304,12 @@ keeps_ranks layout formats of {x} {z} kept order ranked =
     (kept_ranked all order layout formats of kept (all_of_them all) (ranked_among all order x.segs but ranked))
 
 -- and so they are after a scan
-pub scan_keeps_ranks : {F : Type 0}
-    → (layout : F → Layout) (formats : List (Option (Policy F))) (of : ChainsState) (x z : Traced) → ScansOne layout formats of x z
-    → AreSegmentsInOrder z.segs.segments → AreMarksRanked x.segs → AreMarksRanked z.segs
-scan_keeps_ranks layout formats of x z one order ranked =
-    let is = one.scanned in
+pub scanned_keeps_ranks : {F : Type 0}
+    → (layout : F → Layout) (formats : List (Option (Policy F))) (of : ChainsState) (x z : Traced) (at : Addr)
+    → Scanned layout formats of x at z → AreSegmentsInOrder z.segs.segments → AreMarksRanked x.segs → AreMarksRanked z.segs
+scanned_keeps_ranks layout formats of x z at is order ranked =
     let all = z.segs.segments in
     let f = layout is.format.format in
-    let at = Rattle.mps_seg.specs.Segs.at_word one.word in
     let last = subst (λ ss. AreAllButExact ss all) (ap (λ (w : Traced). w.segs.segments) is.black) (all_of_them all) in
     let but = run_but all order layout formats of f at _ is.all.run last in
     let now = run_ranked all order layout formats of f at _ is.all.run last (ranked_among all order x.segs but ranked) in
@@ -319,3 +317,9 @@ scan_keeps_ranks layout formats of x z one order ranked =
       exact = λ n set. now.exact n (was_set is.before.segs.marks.exact (word_of at.0) n set);
       weak = λ n set. now.weak n (was_set is.before.segs.marks.weak (word_of at.0) n set);
     }))
+
+pub scan_keeps_ranks : {F : Type 0}
+    → (layout : F → Layout) (formats : List (Option (Policy F))) (of : ChainsState) (x z : Traced) → ScansOne layout formats of x z
+    → AreSegmentsInOrder z.segs.segments → AreMarksRanked x.segs → AreMarksRanked z.segs
+scan_keeps_ranks layout formats of x z one order ranked =
+    scanned_keeps_ranks layout formats of x z (Rattle.mps_seg.specs.Segs.at_word one.word) one.scanned order ranked

@@ -1,0 +1,2 @@
+-- The read barrier: that of the abstract collector.
+pub mod Laws
