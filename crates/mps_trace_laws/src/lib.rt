@@ -10,6 +10,7 @@ ghost use Rattle.mps_trace_laws.specs.Reclaim.Laws.{AReclaimIsAUnit};
 ghost use Rattle.mps_trace_laws.specs.Begin.Begun.{ACollectionBegins};
 ghost use Rattle.mps_trace_laws.specs.Begin.MovesOfObjects.{RoomIsEnough};
 ghost use Rattle.mps_trace_laws.specs.Splats.Laws.{ASplatScanIsAScan};
+ghost use Rattle.mps_trace_laws.specs.Steps.Laws.{UnitsInWordsAreUnits, UnitsToTheEndAreUnits, UnitsInWordsRunOut, UnitsCanBeDone};
 ghost use Rattle.mps_trace_laws.specs.Units.Examining.{ExaminationsAreUnits, PostsAreUnits};
 
 /// What is found at an address that means an object is where it lies now, and nothing is found exactly if it is white.
@@ -63,4 +64,13 @@ pub fn a_splat_scan_is_a_scan<F>()
 /// splatted.
 pub fn room_is_enough()
     ensures { RoomIsEnough }
+{}
+
+/// N units, as `finish` does them, are n units of the abstract collector, and fewer than it has left, or those to its end. They can be
+/// done.
+pub fn a_step_is_units<F>()
+    ensures goes_on { UnitsInWordsAreUnits F }
+    ensures ended { UnitsToTheEndAreUnits F }
+    ensures fewer { UnitsInWordsRunOut F }
+    ensures ready { UnitsCanBeDone F }
 {}

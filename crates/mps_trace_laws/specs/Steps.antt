@@ -1,0 +1,2 @@
+-- Sequences of units, as a call asks for them.
+pub mod Laws
