@@ -1,6 +1,6 @@
 -- The grey words of a segment: the lowest one, and that there is none.
 use Rattle.std.proofs.Common.{◌≡◌, ◌∙◌, ℕ, zero, suc, ◌+◌, ◌-◌, ◌<◌, ◌≤◌, Bool, true, false, refl, sym, ap, List, Option, Some, None, inl, inr, arith}
-use Rattle.std.proofs.lemmas.Bool.{cases_Bool, cond-true, cond-false, false≢true, and_from, and_parts, le-leb, lt-ltb, leb-true, ltb-true}
+use Rattle.std.proofs.lemmas.Bool.{cases_Bool, cond-true, cond-false, and_from, and_parts, le-leb, lt-ltb, leb-true, ltb-true}
 use Rattle.std.proofs.lemmas.Option.{none-some, same_Some}
 use Rattle.std.specs.Prelude.{option_map, nat_le, nat_lt}
 use Rattle.mps_base.specs.Address.{Address, Word, word_of, address_of_word, address_of_grain, grain_of}

@@ -3,7 +3,7 @@ use Rattle.std.proofs.Common.{◌≡◌, ◌∙◌, ℕ, ◌+◌, ◌-◌, ◌*�
 use Rattle.std.proofs.lemmas.Bool.{cases_Bool, eqb-true}
 use Rattle.std.proofs.lemmas.List.{set-set, get_or-set_same}
 use Rattle.std.specs.Prelude.{IsTrue, ◌==◌, find, slice_get, slice_set}
-use Rattle.mps_base.specs.Address.{Address, Id, Word, word_of, grain_of, address_of_word, address_of_grain, grains_needed}
+use Rattle.mps_base.specs.Address.{Address, Id, word_of, grain_of, address_of_word, address_of_grain, grains_needed}
 use Rattle.mps_base.specs.Placement.{Place, NewSegment}
 use Rattle.mps_base.specs.Run.{Covers}
 use Rattle.mps_base.specs.Segment.{Segment, segment_over, words_of_segment, is_in_segment}
@@ -11,18 +11,18 @@ use Rattle.mps_base.specs.Trail.{Moves}
 use Rattle.mps_base.specs.declared.address.Addr.{Addr}
 use Rattle.mps_base.specs.declared.names.Rank.TheVariants.{Exact}
 use Rattle.mps_format.specs.Layout.{Layout}
-use Rattle.mps_seg.specs.Segs.{SegsState, moves_after}
+use Rattle.mps_seg.specs.Segs.{SegsState}
 use Rattle.mps_seg.specs.Collecting.{is_condemned_at}
 use Rattle.mps_seg.specs.declared.buffer.Buffer.{Buffer}
-use Rattle.mps_amc.specs.Moving.{moved_to, kept_in_place, size_at}
+use Rattle.mps_amc.specs.Moving.{moved_to, kept_in_place}
 use Rattle.mps_amc.specs.Moving as moving
-use Rattle.mps_amc.specs.Amc.{AmcState, HasTail, tails_of, IsFixed, placement_of_copy, answer_of_fix, segs_fixed, moves_fixed, tails_after, with_place, AreWordsFixed}
+use Rattle.mps_amc.specs.Amc.{AmcState, HasTail, tails_of, placement_of_copy}
 use Rattle.mps_amc.specs.Amc as amc
 use Rattle.mps_amc.proofs.Tails.{tail_written}
 use Rattle.mps_trace.specs.GenState.{ChainsState}
 use Rattle.mps_laws.proofs.Positions.Segments.{found_among, of_in_segment}
 use Rattle.mps_model.specs.Graph.{Object, entry_at, size_of}
-use Rattle.mps_model.specs.World.{World, is_copying_pool, is_copying_object, target_generation_for, segment_at, address_of}
+use Rattle.mps_model.specs.World.{World, is_copying_pool, is_copying_object, target_generation_for, address_of}
 use Rattle.mps_model.specs.Placement.{ForMove, placement_of}
 use Rattle.mps_model.specs.LegalMove.{has_no_room}
 use Rattle.mps_abstract.specs.Colours.{IsUnoccupied}

@@ -24,7 +24,7 @@ use Rattle.mps_abstract.specs.Collecting.{Collecting, is_white_in}
 use Rattle.mps_abstract.specs.Fixing.{Keeps, passes, keeps, moves_to_place, moves_to_segment, stays, moved_to, stays_at, new_segment, IsUnused, kept_by, marks}
 use Rattle.mps_abstract.proofs.Addresses.{id_at-live, live_is_listed}
 use Rattle.mps_trace_laws.specs.Image.Image.{CellSet}
-use Rattle.mps_trace_laws.specs.Image.Fixing.{FixesOne, address_moved}
+use Rattle.mps_trace_laws.specs.Image.Fixing.{FixesOne}
 use Rattle.mps_trace_laws.specs.Image.Fixing as fixing
 use Rattle.mps_trace_laws.proofs.Image.Entries.{entry_at-set_same}
 use Rattle.mps_trace_laws.proofs.Image.Marked.{kept_not_white}

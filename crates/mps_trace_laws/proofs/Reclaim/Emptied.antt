@@ -1,6 +1,6 @@
 -- Whether nothing is left in a segment, in the arena and in the model.
 use Rattle.std.proofs.Common.{◌≡◌, ◌∙◌, ◌<◌, ◌≤◌, true, false, refl, sym, ap, List, [], ◌∷◌, inl, inr, arith}
-use Rattle.std.proofs.lemmas.Bool.{and_from, and_left, and_right, or_left, le-leb, lt-ltb, lt-leb, le-ltb, cases_Bool}
+use Rattle.std.proofs.lemmas.Bool.{and_from, and_left, and_right, or_left, le-leb, lt-ltb, lt-leb, le-ltb}
 use Rattle.std.specs.Prelude.{nat_le, nat_lt, ◌||◌, ◌≢◌}
 use Rattle.std.specs.List.{list_any}
 use Rattle.mps_base.specs.Address.{Word, word_of, address_of_word, address_of_grain, grain_of}

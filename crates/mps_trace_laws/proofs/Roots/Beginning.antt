@@ -1,5 +1,5 @@
 -- All slots and then all messages are fixed at a flip: steps of the abstract collector.
-use Rattle.std.proofs.Common.{◌≡◌, ◌∙◌, ℕ, ◌<◌, ◌≤◌, sym, ap, refl, List, [], ◌∷◌, ◌++◌, length, map, Option, Some, None, subst, arith}
+use Rattle.std.proofs.Common.{◌≡◌, ◌∙◌, ℕ, ◌<◌, sym, ap, refl, List, [], ◌∷◌, ◌++◌, length, map, Option, Some, subst, arith}
 use Rattle.std.proofs.lemmas.List.{append-nil}
 use Rattle.std.proofs.lemmas.Option.{none-some}
 use Rattle.std.specs.Prelude.{slice_get, slice_index_or, take}

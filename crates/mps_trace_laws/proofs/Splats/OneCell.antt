@@ -11,7 +11,7 @@ use Rattle.mps_model.specs.LegalMove.{target_in_cell}
 use Rattle.mps_abstract.specs.Colours.{Colours, is_white}
 use Rattle.mps_abstract.specs.Collecting.{Collecting}
 use Rattle.mps_trace_laws.specs.Image.Memory.{Setting, Memory, Lies, all_cells}
-use Rattle.mps_trace_laws.specs.Image.Image.{CellSet, with_cell, ImageStands, AreShaped, is_white_over}
+use Rattle.mps_trace_laws.specs.Image.Image.{CellSet, with_cell, ImageStands, AreShaped}
 use Rattle.mps_trace_laws.specs.Image.Changes.{setting_with_objects, memory_with_word}
 use Rattle.mps_trace_laws.specs.Image.Fixing.{Target}
 use Rattle.mps_trace_laws.proofs.Image.References as references

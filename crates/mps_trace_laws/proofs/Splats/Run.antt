@@ -12,7 +12,7 @@ use Rattle.mps_base.specs.declared.moves.Move.TheVariants.{Splat}
 use Rattle.mps_format.specs.Layout.{Layout}
 use Rattle.mps_trace.specs.GenState.{ChainsState}
 use Rattle.mps_seg.specs.Collecting.{first_grain_over}
-use Rattle.mps_model.specs.Graph.{Cell, HeadCell, NumberCell, ReferenceCell, Automatic, Body, Object, entries, entry_at, size_of, size_of_body, target_of_cell, targets_of_cells, targets_of_body, is_reference_cell, is_automatic, contains}
+use Rattle.mps_model.specs.Graph.{Cell, HeadCell, ReferenceCell, Automatic, Object, entry_at, size_of, size_of_body, is_reference_cell, is_automatic}
 use Rattle.mps_model.specs.Checked.{head_of_body}
 use Rattle.mps_model.specs.Units.{splats_of}
 use Rattle.mps_abstract.specs.Colours.{Colours}

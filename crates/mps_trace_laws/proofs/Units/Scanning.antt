@@ -1,7 +1,7 @@
 -- A scan of a grey block is a unit of the abstract collector, and each grey block can be scanned.
 use Rattle.std.proofs.Common.{◌≡◌, ◌∙◌, ℕ, true, false, sym, ap, subst, List, [], Option, Some, inl, inr, arith}
 use Rattle.std.proofs.lemmas.Bool.{cases_Bool, false≢true, or_right}
-use Rattle.std.specs.Prelude.{◌||◌, length, map, slice_get}
+use Rattle.std.specs.Prelude.{◌||◌, length}
 use Rattle.std.specs.Option.{option_map_or}
 use Rattle.mps_base.specs.Address.{Address, Id, Word, word_of, address_of_word}
 use Rattle.mps_extents.specs.Table.{bit}
@@ -9,7 +9,7 @@ use Rattle.mps_format.specs.Layout.{Layout}
 use Rattle.mps_trace.specs.GenState.{ChainsState}
 use Rattle.mps_seg.specs.Segs.{at_word, SegsState}
 use Rattle.mps_model.specs.Accessing.{address_or_null}
-use Rattle.mps_model.specs.Graph.{Graph, Cell, ReferenceCell, Body, Automatic, Manual, Object, contains, entry_at, targets, targets_of, targets_of_body, targets_of_cells, target_of_cell, is_automatic, is_automatic_body, is_weak_object}
+use Rattle.mps_model.specs.Graph.{Graph, Object, contains, entry_at, targets, targets_of, is_automatic, is_weak_object}
 use Rattle.mps_model.specs.World.{object_is}
 use Rattle.mps_abstract.specs.Colours.{is_grey}
 use Rattle.mps_abstract.specs.Collecting.{Collecting, is_tracing_band, is_reclaiming_band}
@@ -17,15 +17,14 @@ use Rattle.mps_abstract.specs.Units.{scans, collecting_after_scan}
 use Rattle.mps_abstract.proofs.Addresses.{address_of-live}
 use Rattle.mps_abstract.proofs.UnitScans.{scans_shown, targets_may_be_fixed}
 use Rattle.mps_abstract.proofs.WholeCollections.WholePaths.{fixed_same}
-use Rattle.mps_abstract.proofs.Calls.ClientLists.{among_entries, map-slice_get}
 use Rattle.mps_trace_laws.specs.Image.Image.{black_cells}
-use Rattle.mps_trace_laws.specs.Image.Memory.{all_cells}
 use Rattle.mps_trace.specs.Scan.{ScansOne, CanScanGrey}
 use Rattle.mps_trace.specs.Trace.{Traced, traced, TraceState}
 use Rattle.mps_trace.specs.declared.running.Running.{Running as RunningState}
 use Rattle.mps_trace_laws.specs.Fix.Housed.{AreHoused, AreLive}
 use Rattle.mps_trace_laws.specs.Fix.Ranks.{AreMarksRanked}
 use Rattle.mps_trace_laws.specs.Fix.Scanning.{IsToBeScanned, IsScan}
+use Rattle.mps_trace_laws.proofs.Fix.Referring.{body_refers}
 use Rattle.mps_trace_laws.proofs.Fix.CanScan.{object_can_be_scanned}
 use Rattle.mps_trace_laws.proofs.Fix.Housed.{fixes_keep_housed}
 use Rattle.mps_trace_laws.proofs.Fix.Ranks.{scan_keeps_ranks}
@@ -47,16 +46,6 @@ pub record IsGreyAt (y : Collecting) (n : Word) : Type 0 where
   pub id : Id
   pub there : entry_at y.world.addresses id ≡ Some (address_of_word n)
   pub grey : is_grey y.colours id ≡ true
-
-cells_refer : (cells : List Cell) (i t tag : ℕ) → slice_get cells i ≡ Some (ReferenceCell (Some t) tag)
-    → contains (targets_of_cells cells) t ≡ true
-cells_refer cells i t tag e =
-    among_entries (map target_of_cell cells) i t (map-slice_get target_of_cell cells i (ReferenceCell (Some t) tag) e)
-
-body_refers : (b : Body) (i t tag : ℕ) → slice_get (all_cells b) i ≡ Some (ReferenceCell (Some t) tag) → is_automatic_body b ≡ true
-    → contains (targets_of_body b) t ≡ true
-body_refers (Automatic head cells is_weak) i t tag e automatic = cells_refer cells i t tag e
-body_refers (Manual words) i t tag e automatic = absurd (false≢true automatic)
 
 -- ---- a grey object
 

@@ -1,7 +1,7 @@
 -- A scan of a weak grey block is a unit of the abstract collector, and each weak grey block can be scanned.
 use Rattle.std.proofs.Common.{◌≡◌, ◌∙◌, ℕ, ◌+◌, ◌-◌, ◌<◌, ◌≤◌, true, false, refl, sym, ap, subst, List, ◌++◌, map, Option, Some, arith}
 use Rattle.std.proofs.lemmas.Bool.{or_right}
-use Rattle.std.specs.Prelude.{◌||◌, if◌then◌else◌, option_map, slice_get}
+use Rattle.std.specs.Prelude.{if◌then◌else◌, option_map, slice_get}
 use Rattle.std.specs.Option.{option_map_or}
 use Rattle.mps_base.specs.Address.{Address, Id, Word, address_of_word}
 use Rattle.mps_base.specs.Trail.{Moves}
