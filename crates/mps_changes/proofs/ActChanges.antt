@@ -3,26 +3,28 @@ use Rattle.std.proofs.Common.{◌≡◌, ℕ, ◌+◌, Bool, true, false, refl, 
 use Rattle.std.proofs.Common.{arith}
 use Rattle.std.proofs.Math.Nat.{mod-lt}
 use Rattle.std.proofs.lemmas.Bool.{lt-ltb, true≢false}
-use Rattle.std.specs.Prelude.{◌%◌, ◌&&◌, if◌then◌else◌, is_none, is_some, nat_le, nat_lt, not, slice_get, slice_set}
+use Rattle.std.specs.Prelude.{◌%◌, ◌&&◌, if◌then◌else◌, is_none, is_some, count_by, nat_le, nat_lt, not, slice_get, slice_set}
+use Rattle.std.specs.List.{list_any}
 use Rattle.mps_base.specs.Staleness.{is_stale}
 use Rattle.mps_base.specs.declared.names.Name.{Name}
 use Rattle.mps_base.specs.declared.refusal.Refusal.TheVariants as refusal
 use Rattle.mps_model.specs.declared.call.Call.{Call}
 use Rattle.mps_model.specs.declared.call.Call.TheVariants as call
 use Rattle.mps_model.specs.declared.reply.Reply.TheVariants as reply
-use Rattle.mps_model.specs.Graph.{Graph, Object, Cell, NumberCell, AreaWord, PlainWord, Point, Reservation, dependent_in, is_taken, position_of_first, thing_named, with_target_cell}
+use Rattle.mps_model.specs.Graph.{Graph, Object, Cell, NumberCell, AreaWord, PlainWord, Point, Reservation, dependent_in, TransformThing, is_taken, position_of_first, thing_named, with_target_cell}
 use Rattle.mps_model.specs.Dependents.{may_depend, most_dependents}
 use Rattle.mps_model.specs.Tagging.{tag_count}
-use Rattle.mps_model.specs.World.{World, Pool, Dependency, Unclamped, Clamped, Parked, block_of_word, id_at, is_automatic_kind, is_running}
-use Rattle.mps_model.specs.Checked.{Act, Checked, Found, Numbered, block_place_in, cells_of_body, chain_named, dependency_named, done, label_named, tag_at, number_at, object_in, point_named, pool_named, reference_at, refuse_when, required, says, slot_in, tells, with_graph, word_in}
+use Rattle.mps_model.specs.Transforms.{has_live_reservation, is_blocked, is_old, most_pairs, most_transforms, pairs_of, world_substituted}
+use Rattle.mps_model.specs.World.{World, Pool, Dependency, Unclamped, Clamped, block_of_word, id_at, is_automatic_kind, is_parked, is_running, pairs_in}
+use Rattle.mps_model.specs.Checked.{Act, Checked, Found, Numbered, block_place_in, cells_of_body, chain_named, dependency_named, done, label_named, transform_named, tag_at, number_at, object_in, point_named, pool_named, reference_at, refuse_when, required, says, slot_in, tells, with_graph, word_in}
 use Rattle.mps_model.specs.Making.{graph_without_root, is_block_size, live_points, make_pool, may_have_point, most_chains, most_dependencies, most_labels, most_points, most_pools, refuse_at_limit, refuse_root, refuse_taken}
 use Rattle.mps_model.specs.Placement.{ForAlloc, ForReserve, placement_of}
 use Rattle.mps_model.specs.Allocating.{Reserving, allows_size, block_in, check_reserve, refuse_without_place, with_reservation, with_reserved_cells, words_at, world_committed}
 use Rattle.mps_model.specs.Accessing.{Poked, AsBlock, AsMarked, AsNumber, act_poke_in, act_poked, held_in, poked, same_target}
 use Rattle.mps_model.specs.Collecting.{act_message_in, most_registrations}
 use Rattle.mps_model.specs.Reply.{act}
-use Rattle.mps_changes.proofs.Checks.{with_value, after_check, andthen, checked, unless, required-is, without_root}
-use Rattle.mps_changes.specs.Change.{ForAct, accepted, refused, changes_points, Now, Before, makes_pool, is_kind_made, GotNull, FromSlot, FromCell, FromWord, ShownPlain, ShownPinned, ShownPoked, IsWritten, WritesReference, WritesNumber, WritesTag, ArenaMade, LimitIs, ChainMade, StateIs, DependencyMade, DependencyIs, LabelMade, Linked, Unlinked, Change, Unchanged, Aside, SlotIs, WordIs, MessageTaken, TableMade, AreaMade, BlocksMade, TableDropped, AreaDropped, CellsAre, BlockWordIs, PlaceEmptied, Allocated, PoolMade, PointMade, PointDropped, Opened, Written, Closed, Committed, Registered, Unregistered}
+use Rattle.mps_changes.proofs.Checks.{with_value, after_check, andthen, checked, unless, required-is, transform_named-is, without_root}
+use Rattle.mps_changes.specs.Change.{ForAct, accepted, refused, changes_points, Now, Before, makes_pool, is_kind_made, GotNull, FromSlot, FromCell, FromWord, ShownPlain, ShownPinned, ShownPoked, IsWritten, WritesReference, WritesNumber, WritesTag, ArenaMade, LimitIs, ChainMade, StateIs, ParkedAnew, ParkedOn, DependencyMade, DependencyIs, LabelMade, Linked, Unlinked, TransformMade, PairAdded, TransformDropped, Change, Unchanged, Aside, SlotIs, WordIs, MessageTaken, TableMade, AreaMade, BlocksMade, TableDropped, AreaDropped, CellsAre, BlockWordIs, PlaceEmptied, Allocated, PoolMade, PointMade, PointDropped, Opened, Written, Closed, Committed, Substituted, Registered, Unregistered}
 
 not_not : (b : Bool) → not b ≡ false → b ≡ true
 not_not true h = refl
@@ -86,6 +88,15 @@ module _ (marked : Bool) (judged v : World) where
       → Change marked c judged v (with_graph v g)
   drops {c} name g e = without_root (λ h. Change marked c judged v (with_graph v h)) v.graph name (thing_named v.graph name) g e
       (TableDropped name) (AreaDropped name)
+
+  applies : (name : Name) (n : ℕ) → thing_named v.graph name ≡ Some (TransformThing n) → is_parked v ≡ true
+      → Leads (call.TransformApply name)
+      (if is_blocked v (pairs_of v.state n) then says reply.No v else says reply.Yes (world_substituted v name n))
+  applies name n is parked = by_case (is_blocked v (pairs_of v.state n))
+    where
+      by_case : (b : Bool) → Leads (call.TransformApply name) (if b then says reply.No v else says reply.Yes (world_substituted v name n))
+      by_case true = accepted Unchanged
+      by_case false = accepted (Substituted name n refl is parked)
 
   pub act_changes_so : (c : Call) → Leads c (act marked judged v c)
   act_changes_so (call.Arena grains limit) = accepted (Aside _ (ArenaMade grains limit refl))
@@ -233,6 +244,29 @@ module _ (marked : Bool) (judged v : World) where
       andthen (slot_in v holder) (λ (from : Found (Option ℕ)). andthen (object_in v from.value) (λ (weak : Numbered Object).
       after_check (required (dependent_in v.graph.dependents weak.number) refusal.NotLinked)
       (accepted (Aside _ (Unlinked weak.number)))))
+  act_changes_so (call.Transform transform) =
+      after_check (refuse_taken v transform)
+      (after_check (refuse_at_limit (count_by (λ is_there. is_there) v.graph.transforms) most_transforms)
+      (accepted (Aside _ (TransformMade transform))))
+  act_changes_so (call.TransformAdd transform old new) =
+      andthen (transform_named v transform) (λ (n : ℕ).
+      with_value (slot_in v old) (λ (from : Found (Option ℕ)) e.
+      with_value (slot_in v new) (λ (to : Found (Option ℕ)) f.
+      with_value (object_in v from.value) (λ (first : Numbered Object) g.
+      with_value (object_in v to.value) (λ (second : Numbered Object) h.
+      unless (not (is_parked v)) refusal.NotParked (λ parked.
+      after_check (refuse_when (is_old (pairs_of v.state n) first.number) refusal.OldTwice)
+      (after_check (refuse_at_limit (length (pairs_in v.state)) most_pairs)
+      (accepted (Aside _ (PairAdded n first second (record { slot = old; from = from; there = e; is = g })
+      (record { slot = new; from = to; there = f; is = h }) (not_not (is_parked v) parked)))))))))))
+  act_changes_so (call.TransformApply transform) =
+      with_value (transform_named v transform) (λ (n : ℕ) e.
+      unless (not (is_parked v)) refusal.NotParked (λ parked.
+      after_check (refuse_when (list_any has_live_reservation v.graph.points) refusal.Open)
+      (applies transform n (transform_named-is v transform n e) (not_not (is_parked v) parked))))
+  act_changes_so (call.TransformDrop transform) =
+      with_value (transform_named v transform) (λ (n : ℕ) e.
+      accepted (Aside _ (TransformDropped transform n (transform_named-is v transform n e))))
   act_changes_so (call.Peek word) = andthen (word_in v word) (λ (at : Found AreaWord). accepted Unchanged)
   act_changes_so (call.Pin word slot) =
       with_value (word_in v word) (λ (at : Found AreaWord) e.
@@ -245,16 +279,16 @@ module _ (marked : Bool) (judged v : World) where
       with_value (held_in at.value) (λ (id : ℕ) g.
       accepted (SlotIs into (Some id) (Now slot e) (FromWord word at id f g)))))
   act_changes_so call.Start =
-      after_check (refuse_when (is_running judged) refusal.Running) (accepted (Aside _ (StateIs Unclamped)))
+      after_check (refuse_when (is_running judged) refusal.Running) (accepted (Aside _ (StateIs Unclamped refl)))
   act_changes_so (call.StartChain chain generation) =
       andthen (chain_named judged chain) (λ (on : Numbered (List ℕ)).
       after_check (refuse_when (nat_le (length on.value) generation) refusal.BadIndex)
-      (after_check (refuse_when (is_running judged) refusal.Running) (accepted (Aside _ (StateIs Unclamped)))))
+      (after_check (refuse_when (is_running judged) refusal.Running) (accepted (Aside _ (StateIs Unclamped refl)))))
   act_changes_so (call.Step units) = accepted Unchanged
-  act_changes_so call.Collect = accepted (Aside _ (StateIs Parked))
-  act_changes_so call.Clamp = accepted (Aside _ (StateIs Clamped))
-  act_changes_so call.Park = accepted (Aside _ (StateIs Parked))
-  act_changes_so call.Release = accepted (Aside _ (StateIs Unclamped))
+  act_changes_so call.Collect = accepted (Aside _ (ParkedAnew refl))
+  act_changes_so call.Clamp = accepted (Aside _ (StateIs Clamped refl))
+  act_changes_so call.Park = accepted (Aside _ (ParkedOn refl))
+  act_changes_so call.Release = accepted (Aside _ (StateIs Unclamped refl))
   act_changes_so (call.Finalize slot) =
       with_value (slot_in v slot) (λ (from : Found (Option ℕ)) e.
       with_value (object_in v from.value) (λ (object : Numbered Object) f.

@@ -1,13 +1,13 @@
 -- The checks of calls, one after the other: what each found holds of what comes after it.
 use Rattle.std.proofs.Common.{◌≡◌, ℕ, Bool, true, false, refl, ap, Option, Some, None, Ok, Err, subst}
 use Rattle.std.proofs.lemmas.Option.{none-some, same_Some}
-use Rattle.std.specs.Prelude.{slice_get, slice_set}
+use Rattle.std.specs.Prelude.{option_and_then, slice_get, slice_set}
 use Rattle.mps_base.specs.declared.names.Name.{Name}
 use Rattle.mps_base.specs.declared.refusal.Refusal.{Refusal}
 use Rattle.mps_base.specs.declared.refusal.Refusal.TheVariants as refusal
-use Rattle.mps_model.specs.Graph.{Graph, Point, Thing, ChainThing, PoolThing, TableThing, AreaThing, BlocksThing, PointThing, DependencyThing, TransformThing, CacheThing, LabelThing, entry_at, without_name}
+use Rattle.mps_model.specs.Graph.{Graph, Point, Thing, ChainThing, PoolThing, TableThing, AreaThing, BlocksThing, PointThing, DependencyThing, TransformThing, CacheThing, LabelThing, entry_at, thing_named, without_name}
 use Rattle.mps_model.specs.World.{World, Pool}
-use Rattle.mps_model.specs.Checked.{Act, Checked, Numbered, ◌>>=◌, ◌>>◌, as_point, as_pool, number_named, numbered, required, refuse_when, point_named, pool_named}
+use Rattle.mps_model.specs.Checked.{Act, Checked, Numbered, ◌>>=◌, ◌>>◌, as_point, as_pool, as_transform, number_named, numbered, required, refuse_when, point_named, pool_named, transform_named}
 use Rattle.mps_model.specs.Making.{graph_without_root}
 use Rattle.mps_changes.specs.Change.{ForAct, accepted, refused}
 
@@ -72,6 +72,24 @@ point_named-is w name p e = named_by (number_named w name as_point) (λ n. entry
 
 pub pool_named-is : (w : World) (name : Name) (p : Numbered Pool) → pool_named w name ≡ Ok p → slice_get w.pools p.number ≡ Some p.value
 pool_named-is w name p e = (named_by (number_named w name as_pool) (λ n. slice_get w.pools n) p e).1
+
+transform_thing : (o : Option Thing) (n : ℕ) → required (option_and_then as_transform o) refusal.BadName ≡ Ok n
+    → o ≡ Some (TransformThing n)
+transform_thing None n e = absurd cc
+transform_thing (Some (TransformThing m)) n e = let same : m ≡ n = cc in ap (λ k. Some (TransformThing k)) same
+transform_thing (Some (ChainThing m)) n e = absurd cc
+transform_thing (Some (PoolThing m)) n e = absurd cc
+transform_thing (Some (TableThing m)) n e = absurd cc
+transform_thing (Some (AreaThing m)) n e = absurd cc
+transform_thing (Some (BlocksThing m)) n e = absurd cc
+transform_thing (Some (PointThing m)) n e = absurd cc
+transform_thing (Some (DependencyThing m)) n e = absurd cc
+transform_thing (Some (CacheThing m)) n e = absurd cc
+transform_thing (Some (LabelThing m)) n e = absurd cc
+
+pub transform_named-is : (w : World) (name : Name) (n : ℕ) → transform_named w name ≡ Ok n
+    → thing_named w.graph name ≡ Some (TransformThing n)
+transform_named-is w name n e = transform_thing (thing_named w.graph name) n e
 
 -- of an act after a check whose value it uses
 pub andthen : {A : Type 0} {Holds : World → Type 0} (x : Checked A) {f : A → Checked Act} → ((a : A) → ForAct Holds (f a))

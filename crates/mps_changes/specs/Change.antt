@@ -1,6 +1,6 @@
 -- What a call of the client may change of a world, as data: one case for each way, with what the call's checks found. Which call makes
 -- which change is said by one walk over all calls (`ActChanges`); facts of the worlds after calls then go by cases over changes.
-use Rattle.std.specs.Prelude.{◌≡◌, ◌⊎◌, ℕ, Bool, true, false, nat_lt, length, List, ◌∷◌, Option, Some, None, option_map, Ok, Err, slice_set}
+use Rattle.std.specs.Prelude.{◌≡◌, ◌⊎◌, ℕ, Bool, true, false, nat_lt, length, List, [], ◌∷◌, Option, Some, None, option_map, Ok, Err, slice_set}
 use Rattle.mps_base.specs.declared.refusal.Refusal.{Refusal}
 use Rattle.mps_model.specs.Reply.{act}
 use Rattle.mps_base.specs.Address.{Address}
@@ -9,8 +9,8 @@ use Rattle.mps_base.specs.declared.names.Rank.{Rank}
 use Rattle.mps_base.specs.declared.names.Slot.{Slot}
 use Rattle.mps_model.specs.declared.call.Call.{Call}
 use Rattle.mps_model.specs.declared.call.Call.TheVariants as call
-use Rattle.mps_model.specs.Graph.{ChainThing, TableThing, AreaThing, DependencyThing, thing_named, is_taken, with_tag_cell, without_holder, Object, Cell, NumberCell, AreaWord, PlainWord, Hold, Point, Reservation, with_last, with_target_cell, graph_with_cells, position_of_first, without_first, without_name}
-use Rattle.mps_model.specs.World.{World, Pool, PoolKind, Collected, OneSize, AnySize, ArenaState, Dependency, is_automatic_kind, block_of_word}
+use Rattle.mps_model.specs.Graph.{ChainThing, TableThing, AreaThing, DependencyThing, TransformThing, thing_named, is_taken, with_tag_cell, without_holder, Object, Cell, NumberCell, AreaWord, PlainWord, Hold, Point, Reservation, with_last, with_target_cell, graph_with_cells, position_of_first, without_first, without_name}
+use Rattle.mps_model.specs.World.{World, Pool, PoolKind, Collected, OneSize, AnySize, ArenaState, Parked, Dependency, is_automatic_kind, is_parked, is_parked_state, pairs_in, block_of_word}
 use Rattle.mps_model.specs.Checked.{Act, Checked, Found, Numbered, block_place_in, cells_of_body, named, number_at, object_in, point_named, pool_named, reference_at, slot_in, with_graph, word_in}
 use Rattle.mps_model.specs.Making.{graph_with_area, graph_with_blocks, graph_with_table, is_block_size, may_have_point, with_point, with_pool, without_point}
 use Rattle.mps_model.specs.Allocating.{Reserving, allows_size, check_reserve, graph_allocated, graph_with_word, with_block_place, with_reservation, with_reserved, with_slot, world_committed}
@@ -18,6 +18,7 @@ use Rattle.mps_model.specs.Accessing.{AsBlock, held_in, hold_of, poked, with_wor
 use Rattle.mps_model.specs.Tagging.{tag_count}
 use Rattle.mps_model.specs.Labelling.{graph_with_label}
 use Rattle.mps_model.specs.Dependents.{graph_with_dependents, may_depend, with_dependent}
+use Rattle.mps_model.specs.Transforms.{graph_with_transform, with_pair, without_transform, world_substituted}
 use Rattle.mps_model.specs.Dependency.{with_dependency}
 use Rattle.mps_model.specs.Collecting.{with_state, without_registration}
 
@@ -59,7 +60,12 @@ changes_points _ = false
 -- a world with what no object, root or collection of another knows of
 abbrev pub with_aside : (v u : World) → World
 with_aside v u = record v {
-  graph = record v.graph { names = u.graph.names; labels = u.graph.labels; dependents = u.graph.dependents };
+  graph = record v.graph {
+    names = u.graph.names;
+    labels = u.graph.labels;
+    dependents = u.graph.dependents;
+    transforms = u.graph.transforms;
+  };
   grains = u.grains;
   limit = u.limit;
   chains = u.chains;
@@ -126,7 +132,9 @@ module _ (marked : Bool) (c : Call) (judged v : World) where
       graph = named v.graph name (ChainThing (length v.chains));
       chains = with_last v.chains capacities;
     })
-    StateIs : (state : ArenaState) → AsideIs (with_state v state)
+    StateIs : (state : ArenaState) → is_parked_state state ≡ false → AsideIs (with_state v state)
+    ParkedAnew : c ≡ call.Collect → AsideIs (with_state v (Parked []))
+    ParkedOn : c ≡ call.Park → AsideIs (with_state v (Parked (pairs_in v.state)))
     DependencyMade : (name : Name) (d : Dependency) → changes_dependencies c ≡ true → AsideIs (record v {
       graph = named v.graph name (DependencyThing (length v.dependencies));
       dependencies = with_last v.dependencies d;
@@ -138,6 +146,11 @@ module _ (marked : Bool) (c : Call) (judged v : World) where
         → may_depend v holder.value dependent.value ≡ true
         → AsideIs (with_graph v (graph_with_dependents v.graph (with_dependent v.graph.dependents holder.number dependent.number)))
     Unlinked : (holder : ℕ) → AsideIs (with_graph v (graph_with_dependents v.graph (without_holder v.graph.dependents holder)))
+    TransformMade : (name : Name) → AsideIs (with_graph v (graph_with_transform v.graph name))
+    PairAdded : (transform : ℕ) (old new : Numbered Object) → IsInSlot v old → IsInSlot v new → is_parked v ≡ true
+        → AsideIs (with_state v (Parked (with_pair (pairs_in v.state) transform old.number new.number)))
+    TransformDropped : (name : Name) (transform : ℕ) → thing_named v.graph name ≡ Some (TransformThing transform)
+        → AsideIs (without_transform v name transform)
 
   -- the worlds that the call may leave
   pub data Change : World → Type 0 where
@@ -185,6 +198,9 @@ module _ (marked : Bool) (c : Call) (judged v : World) where
     Committed : (name : Name) (target : Slot) (p : Numbered Point) (r : Reservation) (slot : Found (Option ℕ))
         → c ≡ call.Commit name target → point_named v name ≡ Ok p → slot_in v target ≡ Ok slot → p.value.reservation ≡ Some r
         → r.is_doomed ≡ false → Change (world_committed v p r slot)
+    -- transforms
+    Substituted : (name : Name) (transform : ℕ) → c ≡ call.TransformApply name
+        → thing_named v.graph name ≡ Some (TransformThing transform) → is_parked v ≡ true → Change (world_substituted v name transform)
     -- finalization
     Registered : (object : Numbered Object) (held : IsInSlot v object) → c ≡ call.Finalize held.slot
         → Change (with_graph v (record v.graph { registered = with_last v.graph.registered object.number }))

@@ -14,8 +14,8 @@ use Rattle.mps_refinement.specs.Collecting.{is_empty}
 abbrev pub can_collect_world : World → Bool
 can_collect_world w = list_all (λ (p : Pool). not (is_weak_kind p.kind)) w.pools && is_empty w.graph.registered
 
--- whether the form of a call is built: all but chains of generations, what begins or drives a collection by steps, tags, labels and
--- dependents; a collection of everything is if it can be done
+-- whether the form of a call is built: all but chains of generations, what begins or drives a collection by steps, tags, labels,
+-- dependents and transforms; a collection of everything is if it can be done
 abbrev pub is_built : (collects : Bool) → Call → Bool
 is_built collects (call.Chain chain count capacities) = false
 is_built collects (call.PoolOnChain pool kind format chain) = false
@@ -29,6 +29,10 @@ is_built collects (call.Intern label) = false
 is_built collects (call.Label slot label) = false
 is_built collects (call.Depend holder dependent) = false
 is_built collects (call.Undepend holder) = false
+is_built collects (call.Transform transform) = false
+is_built collects (call.TransformAdd transform old new) = false
+is_built collects (call.TransformApply transform) = false
+is_built collects (call.TransformDrop transform) = false
 is_built collects _ = true
 
 -- whether a heap answers it: it is built, and doesn't make the arena

@@ -3,14 +3,13 @@ use Rattle.std.proofs.Common.{◌≡◌, ◌⊎◌, inl, inr, ℕ, zero, suc, Bo
 use Rattle.std.proofs.lemmas.Bool.{true≢false, and_from, eq-eqb, eqb-true, or_left, or_right, or_parts, or_from}
 use Rattle.std.proofs.lemmas.List.Folds.{list_any-append}
 use Rattle.std.proofs.lemmas.Option.{none-some, same_Some, slice_get-map}
-use Rattle.std.specs.Prelude.{IsTrue, MatchBool, not, ◌&&◌, ◌||◌, ◌==◌, if◌then◌else◌, filter, is_some, option_and_then, option_map, slice_get}
+use Rattle.std.specs.Prelude.{IsTrue, not, ◌&&◌, ◌||◌, ◌==◌, if◌then◌else◌, filter, option_and_then, option_map, slice_get}
 use Rattle.std.specs.Option.{option_map_or}
 use Rattle.std.specs.List.{list_all, list_any, flat_map}
 use Rattle.mps_base.specs.Segment.{Segment, words_of_segment}
 use Rattle.mps_base.specs.declared.moves.Move.{Move}
 use Rattle.mps_base.specs.declared.moves.Move.TheVariants as moves
 use Rattle.mps_model.proofs.Appending.{IsLegalFrom-later}
-use Rattle.mps_model.proofs.Cutting.{world_after_moves-append}
 use Rattle.mps_model.proofs.Reaching.{PathLeads-holds, list_all-contains}
 use Rattle.mps_model.specs.declared.call.Call.TheVariants as call
 use Rattle.mps_model.specs.Step.{Step}
@@ -19,11 +18,9 @@ use Rattle.mps_model.specs.Collection.{Collection}
 use Rattle.mps_model.specs.World.{World, Parked, empty_world_of, id_at, is_copying_pool, is_live, is_running, live_ids, object_is, with_tail}
 use Rattle.mps_model.specs.Checked.{cells_of_body}
 use Rattle.mps_model.specs.Collecting.{with_state}
-use Rattle.mps_model.specs.Effect.{Everything, where_one, world_after_move, world_after_moves, holding, segment_of_move, without_object, with_collection, reclaiming, segment_base_of}
+use Rattle.mps_model.specs.Effect.{where_one, world_after_move, world_after_moves, holding, segment_of_move, without_object, with_collection, reclaiming, segment_base_of}
 use Rattle.mps_model.specs.LegalMove.{AreLegalMoves, ForOne, IsLegalMove, IsLegalSplat, first_move}
-use Rattle.mps_model.specs.Flip.{flip_act}
-use Rattle.mps_model.specs.Units.{AreUnitsToEnd}
-use Rattle.mps_model.specs.History.{AreMovesOf, AreMovesOfCollect, FinishesCollection, HeldAreLive, moves_of_collector, remembering, with_client_remembered, world_after, world_after_call}
+use Rattle.mps_model.specs.History.{AreMovesOf, HeldAreLive, moves_of_collector, with_client_remembered, world_after, world_after_call}
 use Rattle.mps_laws.specs.Replay.{reached}
 use Rattle.mps_laws.proofs.LegalHistories.{IsAnswered}
 use Rattle.mps_laws.proofs.Reading.{contains-append_left, contains-append_right, held_is_live}
@@ -32,6 +29,7 @@ use Rattle.mps_client_laws.specs.Objects.{Identity, identity_of, identity_at, ce
 use Rattle.mps_client_laws.specs.Collecting.{held_ids, is_dependent, lasting_targets, CollectLeavesWhatIsReached}
 use Rattle.mps_client_laws.proofs.WritesOfMoves.{move_leaves_objects, moves_leave_objects}
 use Rattle.mps_client_laws.proofs.ReadingBack.{accepted_is_answered}
+use Rattle.mps_laws.proofs.Parked.{collect_ends, remembered_runs}
 
 -- ---- what moves leave of roots
 
@@ -303,36 +301,11 @@ targets_kept before after from to keeps h = by_object (object_at before from) re
 
 -- ---- the end of a `collect`
 
-not_false : (b : Bool) → not b ≡ true → b ≡ false
-not_false true h = absurd (true≢false (sym h))
-not_false false h = refl
-
-finished : (w : World) (ms : List Move) → FinishesCollection w ms → is_running (world_after_moves w ms) ≡ false
-finished w ms ends = by_case (is_running w) refl ends
-  where
-    by_case : (b : Bool) → is_running w ≡ b
-        → MatchBool b (AreUnitsToEnd w ms) (ms ≡ []) → is_running (world_after_moves w ms) ≡ false
-    by_case true e ends = not_false (is_running (world_after_moves w ms)) ends.1
-    by_case false e none = ap (λ ms. is_running (world_after_moves w ms)) none ∙ e
-
-collect_ends : (w : World) (ms : List Move) → AreMovesOfCollect w ms → is_running (world_after_moves w ms) ≡ false
-collect_ends w ms due =
-    let v = world_after_moves w due.earlier in
-    ap (λ ms. is_running (world_after_moves w ms)) due.both
-    ∙ ap is_running (world_after_moves-append w due.earlier due.full)
-    ∙ ap (λ ms. is_running (world_after_moves v ms)) due.is_full.whole
-    ∙ ap is_running (world_after_moves-append v (flip_act v Everything) due.is_full.later)
-    ∙ finished (world_after_moves v (flip_act v Everything)) due.is_full.later due.is_full.later_ends
-
-remembered_runs : (held : List ℕ) (c : Option Collection) → is_some (option_map (remembering held) c) ≡ is_some c
-remembered_runs held None = refl
-remembered_runs held (Some c) = refl
-
 module _ (w : World) (s : Step) (answered : IsAnswered w s) (is : s.call ≡ call.Collect) where
   abbrev moved : World
   moved = world_after_moves w s.moves
 
-  pub after_is : world_after w s ≡ with_client_remembered (with_state moved Parked)
+  pub after_is : world_after w s ≡ with_client_remembered (with_state moved (Parked []))
   after_is = answered.after ∙ ap (λ c. world_after_call w c s.moves s.answer) is
 
   pub after_graph : (world_after w s).graph ≡ moved.graph

@@ -11,6 +11,7 @@ pub mod ReservesPassing
 pub mod RefusedSteps
 pub mod Addresses
 pub mod Slots
+pub mod Substituted
 pub mod SlotsOfCalls
 pub mod SlotsStay
 pub mod Collecting

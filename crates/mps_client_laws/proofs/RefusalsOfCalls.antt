@@ -1,6 +1,6 @@
 -- Which refusals each call may have: one walk over all calls and their checks.
 use Rattle.std.proofs.Common.{ℕ, ◌+◌, Bool, true, false, refl, List, [], ◌∷◌, length, Option, Some, None, Ok, Err}
-use Rattle.std.specs.Prelude.{◌&&◌, if◌then◌else◌, is_none, is_some, nat_le, nat_lt, not, slice_get}
+use Rattle.std.specs.Prelude.{◌&&◌, if◌then◌else◌, is_none, is_some, nat_le, nat_lt, not, slice_get, count_by}
 use Rattle.mps_base.specs.Staleness.{is_stale}
 use Rattle.mps_base.specs.declared.names.Name.{Name}
 use Rattle.mps_base.specs.declared.names.Slot.{Slot}
@@ -10,9 +10,9 @@ use Rattle.mps_model.specs.declared.call.Call.{Call}
 use Rattle.mps_model.specs.declared.call.Call.TheVariants as call
 use Rattle.mps_model.specs.declared.reply.Reply.TheVariants as reply
 use Rattle.mps_model.specs.Graph.{AreaWord, PlainWord, Hold, Graph, Object, Point, Reservation, dependent_in, entry_at, is_taken, position_of_first, thing_named}
-use Rattle.mps_model.specs.World.{World, Pool, Dependency, block_of_word, committed, id_at, is_automatic_kind, is_running, pool_at}
+use Rattle.mps_model.specs.World.{World, Pool, Dependency, block_of_word, committed, id_at, is_automatic_kind, is_running, pool_at, is_parked, pairs_in}
 use Rattle.mps_model.specs.Placement.{ForReserve, placement_of}
-use Rattle.mps_model.specs.Checked.{Act, Checked, Found, Numbered, ◌>>=◌, ◌>>◌, as_area, as_blocks, as_chain, as_dependency, as_label, as_point, as_pool, as_table, block_place_in, cells_of_body, chain_named, dependency_named, done, label_named, number_named, point_named, pool_named, says, slot_in, tells, with_graph, word_in}
+use Rattle.mps_model.specs.Checked.{Act, Checked, Found, Numbered, ◌>>=◌, ◌>>◌, as_area, as_blocks, as_chain, as_dependency, as_label, as_point, as_pool, as_table, block_place_in, cells_of_body, chain_named, dependency_named, done, label_named, number_named, point_named, pool_named, says, slot_in, tells, with_graph, word_in, as_transform, transform_named}
 use Rattle.mps_model.specs.Making.{graph_without_root, is_block_size, live_points, live_roots, live_slots, make_pool, may_have_point, most_chains, most_dependencies, most_labels, most_points, most_pools, most_roots, most_slots, refuse_at_limit, refuse_root, refuse_taken}
 use Rattle.mps_model.specs.Allocating.{Reserving, allows_size, block_in, check_reserve, refuse_without_place, takes_head, with_reservation, with_reserved, words_at, world_committed, address_of_placement}
 use Rattle.mps_model.specs.Accessing.{Poked, AsBlock, AsMarked, AsNumber, act_poke_in, act_poked, held_in, poked, same_target}
@@ -22,6 +22,8 @@ use Rattle.mps_model.specs.Reply.{act}
 use Rattle.mps_client_laws.specs.Refusals.{no_run, over_limit, refusals_of, words_of_checked}
 use Rattle.mps_client_laws.proofs.Failing.{IsOf, first, second, third, fourth, fifth, sixth, seventh, Fails, passes, fails, Comes, answered, is_refusal, value_then, check_then, checks, checked, required_fails, when_fails, entry_fails, named_fails, object_fails, number_fails, reference_fails, tag_fails}
 use Rattle.mps_client_laws.proofs.Room.{alloc_fails, reserve_fails}
+use Rattle.mps_model.specs.Transforms.{has_live_reservation, is_blocked, is_old, most_pairs, most_transforms, pairs_of, world_substituted}
+use Rattle.std.specs.List.{list_any}
 
 -- ---- what is named
 
@@ -51,6 +53,9 @@ module _ {whys : List Refusal} (w : World) where
 
     label_fails : Fails whys (label_named w name)
     label_fails = named_fails (number_named w name as_label) (slice_get w.graph.labels) is
+
+    transform_fails : Fails whys (transform_named w name)
+    transform_fails = required_fails (number_named w name as_transform) refusal.BadName is
 
   taken_fails : (name : Name) → IsOf refusal.NameTaken whys → Fails whys (refuse_taken w name)
   taken_fails name is = when_fails (is_taken w.graph name) refusal.NameTaken is
@@ -114,6 +119,11 @@ module _ {whys : List Refusal} (v : World) where
   takes_message : (into : Found (Option ℕ)) (ids : List ℕ) → Comes whys (act_message_in v into ids)
   takes_message into [] = answered refl
   takes_message into (id ∷ ids) = answered refl
+
+  applies : (transform : Name) (n : ℕ) (b : Bool)
+      → Comes whys (if b then says reply.No v else says reply.Yes (world_substituted v transform n))
+  applies transform n true = answered refl
+  applies transform n false = answered refl
 
   steps_on : (b : Bool) → Comes whys (says (if b then reply.More else reply.Idle) v)
   steps_on true = answered refl
@@ -267,6 +277,25 @@ module _ (marked : Bool) (judged v : World) where
       value_then (slot_fails v holder first second) (λ (from : Found (Option ℕ)).
       value_then (object_fails v from.value third) (λ (weak : Numbered Object).
       check_then (required_fails (dependent_in v.graph.dependents weak.number) refusal.NotLinked fourth) (answered refl)))
+  refusals_of_act (call.Transform transform) =
+      check_then (taken_fails v transform first)
+      (check_then (limit_fails v (count_by (λ is_there. is_there) v.graph.transforms) most_transforms second) (answered refl))
+  refusals_of_act (call.TransformAdd transform old new) =
+      value_then (transform_fails v transform first) (λ (n : ℕ).
+      value_then (slot_fails v old first second) (λ (from : Found (Option ℕ)).
+      value_then (slot_fails v new first second) (λ (to : Found (Option ℕ)).
+      value_then (object_fails v from.value third) (λ (one : Numbered Object).
+      value_then (object_fails v to.value third) (λ (other : Numbered Object).
+      check_then (when_fails (not (is_parked v)) refusal.NotParked fourth)
+      (check_then (when_fails (is_old (pairs_of v.state n) one.number) refusal.OldTwice fifth)
+      (check_then (limit_fails v (length (pairs_in v.state)) most_pairs sixth) (answered refl))))))))
+  refusals_of_act (call.TransformApply transform) =
+      value_then (transform_fails v transform first) (λ (n : ℕ).
+      check_then (when_fails (not (is_parked v)) refusal.NotParked second)
+      (check_then (when_fails (list_any has_live_reservation v.graph.points) refusal.Open third)
+      (applies v transform n (is_blocked v (pairs_of v.state n)))))
+  refusals_of_act (call.TransformDrop transform) =
+      value_then (transform_fails v transform first) (λ (n : ℕ). answered refl)
   refusals_of_act (call.Poke word value) =
       value_then (word_fails v word first second) (λ (at : Found AreaWord). pokes v marked value at (block_of_word v value))
   refusals_of_act (call.Peek word) = value_then (word_fails v word first second) (λ (at : Found AreaWord). answered refl)

@@ -11,14 +11,14 @@ use Rattle.mps_model.specs.declared.call.Call.{Call}
 use Rattle.mps_model.specs.declared.call.Call.TheVariants as call
 use Rattle.mps_model.specs.Answer.{is_block, is_unsupported}
 use Rattle.mps_model.specs.Step.{Step, History}
-use Rattle.mps_model.specs.Graph.{AreaThing, NamedThing, Point, PointThing, Reservation, TableThing, Thing, empty_graph, entry_at, thing_in, thing_named, with_last, without_name}
+use Rattle.mps_model.specs.Graph.{AreaThing, NamedThing, Point, PointThing, Reservation, TableThing, Thing, empty_graph, entry_at, thing_in, thing_named, with_last, without_name, TransformThing}
 use Rattle.mps_model.specs.World.{World, pool_at}
 use Rattle.mps_model.specs.Checked.{Numbered, as_point, number_named, point_named, refuse_when, required}
 use Rattle.mps_model.specs.Allocating.{Reserving, check_reserve, takes_head}
 use Rattle.mps_model.specs.Accessing.{same_target}
 use Rattle.mps_model.specs.Reply.{act, world_from}
 use Rattle.mps_model.specs.History.{IsAnsweredStep, IsLegalFrom, IsLegalStep, judged_world, moved_world, world_after, world_after_call, world_after_steps}
-use Rattle.mps_changes.specs.Change.{AsideIs, Change, Aside, ChainMade, TableMade, AreaMade, BlocksMade, TableDropped, AreaDropped, Closed, Committed, DependencyMade, LabelMade, Opened, PointDropped, PointMade, PoolMade, Written}
+use Rattle.mps_changes.specs.Change.{AsideIs, Change, Aside, ChainMade, TableMade, AreaMade, BlocksMade, TableDropped, AreaDropped, Closed, Committed, DependencyMade, LabelMade, Opened, PointDropped, PointMade, PoolMade, Written, Substituted, TransformDropped, TransformMade}
 use Rattle.mps_changes.proofs.ActChanges.{of_changes}
 use Rattle.mps_changes.proofs.Checks.{for_world, point_named-is}
 use Rattle.mps_changes.proofs.Lookups.{entry_at-set_other, entry_within}
@@ -140,6 +140,9 @@ module _ (marked : Bool) (c : Call) (judged v : World) (point : Name) (n : ℕ) 
   named_aside _ (ChainMade name capacities) = named_kept v.graph.names _ point (PointThing n) h.named
   named_aside _ (DependencyMade name d e) = named_kept v.graph.names _ point (PointThing n) h.named
   named_aside _ (LabelMade name e free) = named_kept v.graph.names _ point (PointThing n) h.named
+  named_aside _ (TransformMade name) = named_kept v.graph.names _ point (PointThing n) h.named
+  named_aside _ (TransformDropped name k is) =
+      unnamed_kept v.graph.names name point (not_named name (TransformThing k) is refl) ∙ h.named
   named_aside _ _ = h.named
 
   module _ (elsewhere : commits_at v c point ≡ false)
@@ -179,6 +182,8 @@ module _ (marked : Bool) (c : Call) (judged v : World) (point : Name) (n : ℕ) 
     change_later u (Closed name target q s e is has ended) = other_point u q.number _ (commits_not elsewhere name target q e is) refl refl
     change_later u (Committed name target q s slot e is found has lives) =
         other_point u q.number _ (commits_not elsewhere name target q e is) refl refl
+    change_later u (Substituted name k e is parked) =
+        one_unnamed u name (not_named name (TransformThing k) is refl) refl h.there
     change_later u _ = same u refl refl
 
     pub act_later : IsLater (world_from v (act marked judged v c))

@@ -1,5 +1,5 @@
 -- What each call writes of slots and names: one walk over all calls and their checks.
-use Rattle.std.proofs.Common.{◌≡◌, ℕ, ◌+◌, Bool, true, false, refl, ap, List, [], ◌∷◌, length, Option, Some, None, Ok}
+use Rattle.std.proofs.Common.{◌≡◌, ℕ, ◌+◌, Bool, true, false, refl, ap, List, [], ◌∷◌, length, Option, Some, None, Ok, sym}
 use Rattle.std.specs.Prelude.{◌&&◌, if◌then◌else◌, is_none, is_some, nat_le, nat_lt, not, slice_get, slice_set}
 use Rattle.mps_base.specs.Staleness.{is_stale}
 use Rattle.mps_base.specs.declared.names.Name.{Name}
@@ -10,7 +10,7 @@ use Rattle.mps_model.specs.declared.call.Call.TheVariants as call
 use Rattle.mps_model.specs.declared.reply.Reply.TheVariants as reply
 use Rattle.mps_model.specs.Dependents.{may_depend, most_dependents}
 use Rattle.mps_model.specs.Graph.{Graph, Object, Cell, NumberCell, AreaWord, Point, Reservation, dependent_in, is_taken, position_of_first, thing_named, with_last, with_target_cell}
-use Rattle.mps_model.specs.World.{World, committed, Pool, Dependency, block_of_word, id_at, is_automatic_kind, is_running}
+use Rattle.mps_model.specs.World.{World, committed, Pool, Dependency, block_of_word, id_at, is_automatic_kind, is_running, TransformPair, is_parked, pairs_in}
 use Rattle.mps_model.specs.Checked.{Act, Checked, Found, Numbered, block_place_in, cells_of_body, chain_named, dependency_named, done, label_named, tag_at, number_at, object_in, point_named, pool_named, reference_at, refuse_when, required, says, slot_in, tells, with_graph, word_in}
 use Rattle.mps_model.specs.Making.{graph_without_root, is_block_size, live_points, make_pool, may_have_point, most_chains, most_dependencies, most_labels, most_points, most_pools, refuse_at_limit, refuse_root, refuse_taken}
 use Rattle.mps_model.specs.Placement.{ForAlloc, ForReserve, placement_of}
@@ -18,14 +18,18 @@ use Rattle.mps_model.specs.Allocating.{Reserving, allows_size, block_in, check_r
 use Rattle.mps_model.specs.Accessing.{Poked, AsBlock, AsMarked, AsNumber, act_poke_in, act_poked, held_in, poked, same_target}
 use Rattle.mps_model.specs.Collecting.{act_message_in, most_registrations}
 use Rattle.mps_model.specs.Reply.{act}
-use Rattle.mps_changes.proofs.Checks.{with_value, after_check, andthen, point_named-is, required-is, without_root}
+use Rattle.mps_changes.proofs.Checks.{with_value, after_check, andthen, point_named-is, required-is, without_root, transform_named-is}
 use Rattle.mps_changes.specs.Change.{ForAct, accepted}
 use Rattle.std.proofs.Common.{◌⊎◌, inl, inr}
-use Rattle.std.specs.Prelude.{option_and_then}
+use Rattle.std.specs.Prelude.{count_by, map, option_and_then}
 use Rattle.std.proofs.lemmas.Option.{none-some}
 use Rattle.mps_model.specs.Graph.{NamedThing, Slots, Thing, TableThing, without_name}
-use Rattle.mps_model.specs.Checked.{as_point, as_table, number_named}
+use Rattle.mps_model.specs.Checked.{as_point, as_table, as_transform, number_named, transform_named}
 use Rattle.mps_client_laws.specs.Slots.{slot_written_by}
+use Rattle.mps_model.specs.Transforms.{has_live_reservation, is_blocked, is_old, most_pairs, most_transforms, pairs_of, world_substituted, slots_substituted}
+use Rattle.std.specs.List.{list_any}
+use Rattle.std.specs.Option.{option_map_or}
+use Rattle.mps_client_laws.specs.Objects.{pairs_named}
 
 -- what names stand for after a call
 pub data Names (c : Call) (v u : World) : Type 0 where
@@ -44,6 +48,8 @@ pub data Tables (c : Call) (judged v u : World) : Type 0 where
       → u.graph.tables ≡ slice_set v.graph.tables into.number (Some (slice_set into.list into.index x)) → Tables c judged v u
   ATable : (name : Name) (n : ℕ) → c ≡ call.DropRoot name → number_named v name as_table ≡ Some n
       → u.graph.tables ≡ slice_set v.graph.tables n None → Tables c judged v u
+  ReplacedSlots : (transform : Name) (pairs : List TransformPair) → c ≡ call.TransformApply transform → pairs ≡ pairs_named v transform
+      → u.graph.tables ≡ map (slots_substituted pairs) v.graph.tables → Tables c judged v u
 
 pub record WritesSlots (c : Call) (judged v u : World) : Type 0 where
   pub names : Names c v u
@@ -121,6 +127,24 @@ module _ (marked : Bool) (judged v : World) where
   no_table n None e = refl
   no_table n (Some (TableThing m)) e = absurd (none-some n e)
   no_table n (Some _) e = refl
+
+  -- the name of a transform is that of no table
+  no_table_of_transform : (transform : Name) (n : ℕ) → transform_named v transform ≡ Ok n → number_named v transform as_table ≡ None
+  no_table_of_transform transform n e = ap (option_and_then as_table) (transform_named-is v transform n e)
+
+  applies : (transform : Name) (n : ℕ) → transform_named v transform ≡ Ok n
+      → Leads (call.TransformApply transform)
+      (if is_blocked v (pairs_of v.state n) then says reply.No v else says reply.Yes (world_substituted v transform n))
+  applies transform n e = by_case (is_blocked v (pairs_of v.state n))
+    where
+      by_case : (b : Bool) → Leads (call.TransformApply transform)
+          (if b then says reply.No v else says reply.Yes (world_substituted v transform n))
+      by_case true = accepted (same refl refl)
+      by_case false = accepted (record {
+        names = OneUnnamed transform (inl (no_table_of_transform transform n e)) refl;
+        tables = ReplacedSlots transform (pairs_of v.state n) refl (sym (ap (λ o. option_map_or (pairs_of v.state) o [])
+            (required-is (number_named v transform as_transform) refusal.BadName n e))) refl;
+      })
 
   pub slots_of_act : (c : Call) → Leads c (act marked judged v c)
   slots_of_act (call.Arena grains limit) = accepted (same refl refl)
@@ -248,6 +272,26 @@ module _ (marked : Bool) (judged v : World) where
   slots_of_act (call.Undepend holder) =
       andthen (slot_in v holder) (λ (from : Found (Option ℕ)). andthen (object_in v from.value) (λ (weak : Numbered Object).
       after_check (required (dependent_in v.graph.dependents weak.number) refusal.NotLinked) (accepted (same refl refl))))
+  slots_of_act (call.Transform transform) =
+      after_check (refuse_taken v transform)
+      (after_check (refuse_at_limit (count_by (λ is_there. is_there) v.graph.transforms) most_transforms)
+      (accepted (named_one _ refl refl)))
+  slots_of_act (call.TransformAdd transform old new) =
+      andthen (transform_named v transform) (λ (n : ℕ).
+      andthen (slot_in v old) (λ (from : Found (Option ℕ)). andthen (slot_in v new) (λ (to : Found (Option ℕ)).
+      andthen (object_in v from.value) (λ (one : Numbered Object). andthen (object_in v to.value) (λ (other : Numbered Object).
+      after_check (refuse_when (not (is_parked v)) refusal.NotParked)
+      (after_check (refuse_when (is_old (pairs_of v.state n) one.number) refusal.OldTwice)
+      (after_check (refuse_at_limit (length (pairs_in v.state)) most_pairs) (accepted (same refl refl)))))))))
+  slots_of_act (call.TransformApply transform) =
+      with_value (transform_named v transform) (λ (n : ℕ) e.
+      after_check (refuse_when (not (is_parked v)) refusal.NotParked)
+      (after_check (refuse_when (list_any has_live_reservation v.graph.points) refusal.Open) (applies transform n e)))
+  slots_of_act (call.TransformDrop transform) =
+      with_value (transform_named v transform) (λ (n : ℕ) e. accepted (record {
+        names = OneUnnamed transform (inl (no_table_of_transform transform n e)) refl;
+        tables = AsBefore refl;
+      }))
   slots_of_act (call.Peek word) = andthen (word_in v word) (λ (at : Found AreaWord). accepted (same refl refl))
   slots_of_act (call.Pin word slot) =
       andthen (word_in v word) (λ (at : Found AreaWord). andthen (slot_in v slot) (λ (from : Found (Option ℕ)).

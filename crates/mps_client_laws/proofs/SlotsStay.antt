@@ -1,8 +1,8 @@
 -- A slot that no step writes has what it had.
 use Rattle.std.proofs.Common.{◌≡◌, ◌⊎◌, inl, inr, ℕ, Bool, true, false, refl, sym, ◌∙◌, ap, subst, List, [], ◌∷◌, Option, Some, None, Ok, Err}
 use Rattle.std.proofs.lemmas.Bool.{true≢false, and_parts, and_from, eq-eqb, cases_eq, or_parts}
-use Rattle.std.proofs.lemmas.Option.{none-some, same_Some}
-use Rattle.std.specs.Prelude.{not, ◌||◌, ◌==◌, if◌then◌else◌, option_and_then, slice_get, slice_set}
+use Rattle.std.proofs.lemmas.Option.{none-some, same_Some, slice_get-map}
+use Rattle.std.specs.Prelude.{not, ◌||◌, ◌==◌, if◌then◌else◌, map, option_and_then, option_map, slice_get, slice_set}
 use Rattle.std.specs.Option.{option_map_or}
 use Rattle.mps_base.specs.Name.{same_name}
 use Rattle.mps_base.specs.declared.moves.Move.{Move}
@@ -13,19 +13,24 @@ use Rattle.mps_model.specs.declared.call.Call.TheVariants as call
 use Rattle.mps_model.specs.Answer.{is_block, is_unsupported}
 use Rattle.mps_model.specs.Step.{Step}
 use Rattle.mps_model.specs.Graph.{NamedThing, Slots, Thing, entry_at, thing_in, with_last, without_name, empty_graph}
-use Rattle.mps_model.specs.World.{World, empty_world}
+use Rattle.mps_model.specs.World.{World, TransformPair, empty_world}
 use Rattle.mps_model.specs.Checked.{Act, Checked, Found, as_table, number_named, slot_in}
 use Rattle.mps_model.specs.Accessing.{same_target}
 use Rattle.mps_model.specs.Reply.{act, world_from}
 use Rattle.mps_model.specs.History.{judged_world, moved_world, moves_of_poll, world_after, world_after_call}
 use Rattle.mps_changes.specs.Change.{ForAct, accepted, refused}
-use Rattle.mps_laws.proofs.Lookups.{entry_at-set_other, entry_within, slice_get-set_other}
+use Rattle.mps_laws.proofs.Lookups.{entry_at-set_other, entry_is_there, entry_within, slice_get-set_other}
 use Rattle.mps_laws.proofs.Entries.{entry_at-written, entry_at-append}
 use Rattle.mps_laws.proofs.Naming.{same_name_equal}
 use Rattle.mps_laws.proofs.Reading.{slot_is, slot_in_is}
 use Rattle.mps_client_laws.specs.Slots.{SlotsStay, drops_table, is_same_slot, leave_slot, slot_value, slot_written_by, value_found, writes_slot}
-use Rattle.mps_client_laws.proofs.SlotsOfCalls.{WritesSlots, Names, AsNamed, OneNamed, OneUnnamed, Tables, AsBefore, OneMore, ASlot, ATable, slots_of_act}
-use Rattle.mps_client_laws.proofs.WritesOfMoves.{moved_world_leaves, moves_leave_objects}
+use Rattle.mps_client_laws.proofs.SlotsOfCalls.{WritesSlots, Names, AsNamed, OneNamed, OneUnnamed, Tables, AsBefore, OneMore, ASlot, ATable, ReplacedSlots, slots_of_act}
+use Rattle.mps_client_laws.proofs.WritesOfMoves.{moved_world_leaves, moves_leave_objects, same_replaced}
+use Rattle.mps_client_laws.proofs.Substituted.{target_stays}
+use Rattle.mps_client_laws.specs.Objects.{pairs_named, replaces}
+use Rattle.mps_laws.specs.Held.{target_found, target_of_slot}
+use Rattle.mps_laws.proofs.SameArena.{moved_alone}
+use Rattle.mps_model.specs.Transforms.{is_old, slots_substituted, target_substituted}
 
 -- ---- names
 
@@ -107,13 +112,27 @@ module _ (c : Call) (judged v : World) (slot : Slot) (value : Option ℕ) (same_
   same_number these those n e f = ap (λ t. same_target t those) e ∙ ap (same_target (Some n)) f ∙ eq-eqb n n refl
 
   not_written : option_map_or (is_same_slot v slot) (slot_written_by c) false ≡ false
-  not_written = (or_parts (option_map_or (is_same_slot v slot) (slot_written_by c) false) (drops_table v c slot) unwritten).0
+  not_written = (or_parts (option_map_or (is_same_slot v slot) (slot_written_by c) false)
+      (drops_table v c slot || replaces v c (target_of_slot v slot)) unwritten).0
+
+  neither : (drops_table v c slot ≡ false) × (replaces v c (target_of_slot v slot) ≡ false)
+  neither = or_parts (drops_table v c slot) (replaces v c (target_of_slot v slot))
+      (or_parts (option_map_or (is_same_slot v slot) (slot_written_by c) false)
+      (drops_table v c slot || replaces v c (target_of_slot v slot)) unwritten).1
 
   not_dropped : (name : Name) → c ≡ call.DropRoot name → number_named v name as_table ≡ Some s.number → ⊥
   not_dropped name is number =
       true≢false (sym (same_number (number_named v slot.name as_table) (number_named v name as_table) s.number number_of_slot number)
-      ∙ sym (ap (λ d. drops_table v d slot) is)
-      ∙ (or_parts (option_map_or (is_same_slot v slot) (slot_written_by c) false) (drops_table v c slot) unwritten).1)
+      ∙ sym (ap (λ d. drops_table v d slot) is) ∙ neither.0)
+
+  -- a transform that is applied doesn't replace what the slot has
+  not_replaced : (transform : Name) (pairs : List TransformPair) → c ≡ call.TransformApply transform → pairs ≡ pairs_named v transform
+      → target_substituted pairs value ≡ value
+  not_replaced transform pairs is pairs_are =
+      target_stays pairs value (ap (λ ps. option_map_or (is_old ps) value false) pairs_are
+      ∙ ap (replaces v (call.TransformApply transform)) (sym (ap target_found
+      (slot_in_is v slot s.number s.table value number_of_slot s.there s.at)))
+      ∙ ap (λ d. replaces v d (target_of_slot v slot)) (sym is) ∙ neither.1)
 
   named_after : (u : World) → Names c v u → thing_in u.graph.names slot.name ≡ Some s.thing
   named_after u (AsNamed e) = ap (λ ns. thing_in ns slot.name) e ∙ s.named
@@ -187,6 +206,14 @@ module _ (c : Call) (judged v : World) (slot : Slot) (value : Option ℕ) (same_
       ])
   table_after u (ATable name n is number e) =
       subst IsTable (sym e) (other_table n None (λ same. not_dropped name is (number ∙ ap Some same)))
+  table_after u (ReplacedSlots transform pairs is pairs_are e) =
+      subst IsTable (sym e) (
+        map (target_substituted pairs) s.table,
+        ap (option_and_then (λ entry. entry)) (slice_get-map (slots_substituted pairs) v.graph.tables s.number
+            ∙ ap (option_map (slots_substituted pairs)) (entry_is_there v.graph.tables s.number s.table s.there)),
+        slice_get-map (target_substituted pairs) s.table slot.index ∙ ap (option_map (target_substituted pairs)) s.at
+            ∙ ap (λ x. Some x) (not_replaced transform pairs is pairs_are),
+      )
 
   stands_after : (u : World) → WritesSlots c judged v u → Stands u.graph.names u.graph.tables slot value
   stands_after u writes =
@@ -211,10 +238,16 @@ same_drops : (v w : World) (c : Call) (slot : Slot) → v.graph.names ≡ w.grap
 same_drops v w (call.DropRoot root) slot names = ap (λ ns. drops_table (of_names ns) (call.DropRoot root) slot) names
 same_drops v w _ slot names = refl
 
-same_slots_written : (v w : World) (c : Call) (slot : Slot) → v.graph.names ≡ w.graph.names → writes_slot v c slot ≡ writes_slot w c slot
-same_slots_written v w c slot names =
-    ap (λ ns. option_map_or (is_same_slot (of_names ns) slot) (slot_written_by c) false || drops_table v c slot) names
-    ∙ ap (λ b. option_map_or (is_same_slot w slot) (slot_written_by c) false || b) (same_drops v w c slot names)
+same_slots_written : (v w : World) (c : Call) (slot : Slot) → v.graph.names ≡ w.graph.names → v.graph.tables ≡ w.graph.tables
+    → v.state ≡ w.state → writes_slot v c slot ≡ writes_slot w c slot
+same_slots_written v w c slot names tables state =
+    ap (λ ns. option_map_or (is_same_slot (of_names ns) slot) (slot_written_by c) false
+    || (drops_table v c slot || replaces v c (target_of_slot v slot))) names
+    ∙ ap (λ b. option_map_or (is_same_slot w slot) (slot_written_by c) false || (b || replaces v c (target_of_slot v slot)))
+    (same_drops v w c slot names)
+    ∙ ap (λ b. option_map_or (is_same_slot w slot) (slot_written_by c) false || (drops_table w c slot || b))
+    (same_replaced v w c (target_of_slot v slot) names state
+    ∙ ap (replaces w c) (Rattle.mps_client_laws.proofs.WritesOfMoves.same_target v w slot names tables))
 
 -- where a call is judged, names and tables are as before it
 judged_leaves : (w : World) (c : Call) (ms : List Move)
@@ -243,7 +276,7 @@ slot_after_step w s slot value unwritten there = by_case (is_unsupported s.answe
     by_act names tables now _ (accepted {a} writes) =
         let before = judged_leaves w s.call s.moves in
         stood a.world slot value (stands_after s.call judged moved slot value (before.0 ∙ sym names) (before.1 ∙ sym tables)
-        (same_slots_written moved w s.call slot names ∙ unwritten) now a.world writes)
+        (same_slots_written moved w s.call slot names tables (moved_alone w s.call s.moves).state ∙ unwritten) now a.world writes)
     by_act names tables now _ refused = stood moved slot value now
 
     by_case : (b : Bool) → slot_value (if b then w else world_after_call w s.call s.moves s.answer) slot ≡ Some value

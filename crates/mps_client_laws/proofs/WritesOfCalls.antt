@@ -1,7 +1,7 @@
 -- What each call writes of objects: the one walk over all calls and their checks.
-use Rattle.std.proofs.Common.{◌≡◌, ℕ, ◌+◌, Bool, true, false, refl, ap, ◌∙◌, List, [], ◌∷◌, length, Option, Some, None, Ok}
+use Rattle.std.proofs.Common.{◌≡◌, ℕ, ◌+◌, Bool, true, false, refl, ap, ◌∙◌, List, [], ◌∷◌, length, Option, Some, None, Ok, sym}
 use Rattle.std.proofs.lemmas.Bool.{and_from, eq-eqb}
-use Rattle.std.specs.Prelude.{◌&&◌, ◌==◌, ◌%◌, if◌then◌else◌, is_none, is_some, nat_le, nat_lt, not, slice_get, slice_set}
+use Rattle.std.specs.Prelude.{◌&&◌, ◌==◌, ◌%◌, if◌then◌else◌, is_none, is_some, nat_le, nat_lt, not, slice_get, slice_set, count_by}
 use Rattle.mps_base.specs.Staleness.{is_stale}
 use Rattle.mps_base.specs.declared.names.Name.{Name}
 use Rattle.mps_base.specs.declared.names.Slot.{Slot}
@@ -12,8 +12,8 @@ use Rattle.mps_model.specs.declared.reply.Reply.TheVariants as reply
 use Rattle.mps_model.specs.Graph.{Graph, Object, Cell, NumberCell, AreaWord, Point, Reservation, dependent_in, is_taken, position_of_first, thing_named, with_last, with_tag_cell, with_target_cell, graph_with_cells}
 use Rattle.mps_model.specs.Tagging.{tag_count}
 use Rattle.mps_model.specs.Dependents.{may_depend, most_dependents}
-use Rattle.mps_model.specs.World.{World, committed, Pool, Dependency, block_of_word, id_at, is_automatic_kind, is_running}
-use Rattle.mps_model.specs.Checked.{Act, Checked, Found, Numbered, block_place_in, cells_of_body, chain_named, dependency_named, done, label_named, tag_at, number_at, object_in, point_named, pool_named, reference_at, refuse_when, required, says, slot_in, tells, with_graph, word_in}
+use Rattle.mps_model.specs.World.{World, committed, Pool, Dependency, block_of_word, id_at, is_automatic_kind, is_running, TransformPair, is_parked, pairs_in}
+use Rattle.mps_model.specs.Checked.{Act, Checked, Found, Numbered, block_place_in, cells_of_body, chain_named, dependency_named, done, label_named, tag_at, number_at, object_in, point_named, pool_named, reference_at, refuse_when, required, says, slot_in, tells, with_graph, word_in, as_transform, number_named, transform_named}
 use Rattle.mps_model.specs.Making.{graph_without_root, is_block_size, live_points, make_pool, may_have_point, most_chains, most_dependencies, most_labels, most_points, most_pools, refuse_at_limit, refuse_root, refuse_taken}
 use Rattle.mps_model.specs.Placement.{ForAlloc, ForReserve, placement_of}
 use Rattle.mps_model.specs.Allocating.{Reserving, allows_size, block_in, check_reserve, committed_object, graph_with_word, refuse_without_place, with_reservation, with_reserved_cells, words_at, world_committed}
@@ -24,8 +24,11 @@ use Rattle.mps_changes.proofs.Checks.{with_value, after_check, andthen, required
 use Rattle.mps_changes.specs.Change.{ForAct, accepted}
 use Rattle.mps_laws.specs.Held.{target_of_slot, target_found}
 use Rattle.mps_laws.proofs.FoundBy.{object_found}
-use Rattle.mps_client_laws.specs.Objects.{writes_cell, writes_word, is_this, block_of_place}
+use Rattle.mps_client_laws.specs.Objects.{writes_cell, writes_word, is_this, block_of_place, pairs_named}
 use Rattle.mps_client_laws.proofs.Cells.{WritesOneCell, number_is_one_cell, target_is_one_cell, tag_is_one_cell}
+use Rattle.mps_model.specs.Transforms.{has_live_reservation, is_blocked, is_old, most_pairs, most_transforms, pairs_of, world_substituted, graph_substituted}
+use Rattle.std.specs.List.{list_any}
+use Rattle.std.specs.Option.{option_map_or}
 
 -- the objects after a call
 pub data Writes (c : Call) (v u : World) : Type 0 where
@@ -34,6 +37,8 @@ pub data Writes (c : Call) (v u : World) : Type 0 where
   ACell : (id k : ℕ) (change : List Cell → List Cell) → WritesOneCell k change → writes_cell v c id k ≡ true
       → u.graph.objects ≡ (graph_with_cells v.graph id change).objects → Writes c v u
   AWord : (id k value : ℕ) → writes_word v c id k ≡ true → u.graph.objects ≡ (graph_with_word v.graph id k value).objects → Writes c v u
+  Replaced : (transform : Name) (pairs : List TransformPair) → c ≡ call.TransformApply transform → pairs ≡ pairs_named v transform
+      → u.graph.objects ≡ (graph_substituted v.graph pairs).objects → Writes c v u
 
 is_this-same : (id : ℕ) (target : Option ℕ) → target ≡ Some id → is_this id target ≡ true
 is_this-same id target e = ap (is_this id) e ∙ eq-eqb id id refl
@@ -102,6 +107,18 @@ module _ (marked : Bool) (judged v : World) where
       → Writes c v (with_graph v g)
   drops {c} name g e = without_root (λ h. Writes c v (with_graph v h)) v.graph name (thing_named v.graph name) g e
       (λ n is. same refl) (λ n is. same refl)
+
+  applies : (transform : Name) (n : ℕ) → transform_named v transform ≡ Ok n
+      → Leads (call.TransformApply transform)
+      (if is_blocked v (pairs_of v.state n) then says reply.No v else says reply.Yes (world_substituted v transform n))
+  applies transform n e = by_case (is_blocked v (pairs_of v.state n))
+    where
+      by_case : (b : Bool) → Leads (call.TransformApply transform)
+          (if b then says reply.No v else says reply.Yes (world_substituted v transform n))
+      by_case true = accepted (same refl)
+      by_case false =
+          accepted (Replaced transform (pairs_of v.state n) refl (sym (ap (λ o. option_map_or (pairs_of v.state) o [])
+          (required-is (number_named v transform as_transform) refusal.BadName n e))) refl)
 
   pub writes_of_act : (c : Call) → Leads c (act marked judged v c)
   writes_of_act (call.Arena grains limit) = accepted (same refl)
@@ -230,6 +247,22 @@ module _ (marked : Bool) (judged v : World) where
   writes_of_act (call.Undepend holder) =
       andthen (slot_in v holder) (λ (from : Found (Option ℕ)). andthen (object_in v from.value) (λ (weak : Numbered Object).
       after_check (required (dependent_in v.graph.dependents weak.number) refusal.NotLinked) (accepted (same refl))))
+  writes_of_act (call.Transform transform) =
+      after_check (refuse_taken v transform)
+      (after_check (refuse_at_limit (count_by (λ is_there. is_there) v.graph.transforms) most_transforms) (accepted (same refl)))
+  writes_of_act (call.TransformAdd transform old new) =
+      andthen (transform_named v transform) (λ (n : ℕ).
+      andthen (slot_in v old) (λ (from : Found (Option ℕ)). andthen (slot_in v new) (λ (to : Found (Option ℕ)).
+      andthen (object_in v from.value) (λ (one : Numbered Object). andthen (object_in v to.value) (λ (other : Numbered Object).
+      after_check (refuse_when (not (is_parked v)) refusal.NotParked)
+      (after_check (refuse_when (is_old (pairs_of v.state n) one.number) refusal.OldTwice)
+      (after_check (refuse_at_limit (length (pairs_in v.state)) most_pairs) (accepted (same refl)))))))))
+  writes_of_act (call.TransformApply transform) =
+      with_value (transform_named v transform) (λ (n : ℕ) e.
+      after_check (refuse_when (not (is_parked v)) refusal.NotParked)
+      (after_check (refuse_when (list_any has_live_reservation v.graph.points) refusal.Open) (applies transform n e)))
+  writes_of_act (call.TransformDrop transform) =
+      with_value (transform_named v transform) (λ (n : ℕ) e. accepted (same refl))
   writes_of_act (call.Peek word) = andthen (word_in v word) (λ (at : Found AreaWord). accepted (same refl))
   writes_of_act (call.Pin word slot) =
       andthen (word_in v word) (λ (at : Found AreaWord). andthen (slot_in v slot) (λ (from : Found (Option ℕ)).

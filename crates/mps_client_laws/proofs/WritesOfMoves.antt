@@ -12,15 +12,15 @@ use Rattle.mps_base.specs.declared.moves.Move.{Move}
 use Rattle.mps_base.specs.declared.moves.Move.TheVariants as moves
 use Rattle.mps_model.specs.declared.call.Call.{Call}
 use Rattle.mps_model.specs.declared.call.Call.TheVariants as call
-use Rattle.mps_model.specs.Graph.{Graph, Object, Body, Automatic, Manual, Cell, HeadCell, NumberCell, ReferenceCell, NamedThing, Slots, body_with_cells, dependent_in, is_reference_cell, retargeted, object_with_cells, with_target_cell, is_automatic, empty_graph}
-use Rattle.mps_model.specs.World.{World, id_at, is_copying_pool, with_tail, object_is, empty_world}
+use Rattle.mps_model.specs.Graph.{Graph, Object, Body, Automatic, Manual, Cell, HeadCell, NumberCell, ReferenceCell, NamedThing, Slots, body_with_cells, dependent_in, is_reference_cell, retargeted, object_with_cells, with_target_cell, is_automatic, empty_graph, target_of_cell}
+use Rattle.mps_model.specs.World.{World, id_at, is_copying_pool, with_tail, object_is, empty_world, ArenaState}
 use Rattle.mps_model.specs.Effect.{where_one, after_splat, world_after_move, world_after_moves, holding, segment_of_move, graph_nulled, graph_splatted, without_object, with_collection, reclaiming, segment_base_of}
 use Rattle.mps_model.specs.Policy.{units_asked}
 use Rattle.mps_model.specs.History.{after_its_moves, after_own_segment, asking, moved_world, moves_of_poll, own_segment, with_segment_for_point, with_buffer, rank_of_point}
 use Rattle.mps_model.specs.Checked.{cells_of_body}
 use Rattle.mps_laws.proofs.Entries.{slice_get-written}
 use Rattle.mps_laws.specs.Held.{target_of_slot}
-use Rattle.mps_client_laws.specs.Objects.{identity_of, cell_at, word_at, cells_nulled, cells_splatted, is_cell, reference_cell_of, moves_leave_cell, writes_cell, writes_word, is_this, block_of_place}
+use Rattle.mps_client_laws.specs.Objects.{identity_of, cell_at, word_at, cells_nulled, cells_splatted, is_cell, reference_cell_of, moves_leave_cell, writes_cell, writes_word, is_this, block_of_place, replaces}
 use Rattle.mps_client_laws.proofs.Cells.{this_is_changed, target_is_one_cell, identities_stay, cells_keep_identity, other_cells_stay, words_beside_cells}
 
 -- ---- what one move leaves
@@ -321,15 +321,29 @@ same_block v w place names blocks =
     ap (λ ns. block_of_place (of_lists ns [] v.graph.blocks) place) names
     ∙ ap (λ bs. block_of_place (of_lists w.graph.names [] bs) place) blocks
 
+-- a world of these names and this state
+abbrev of_state : List NamedThing → ArenaState → World
+of_state names state = record empty_world { graph = record empty_graph { names = names }; state = state }
+
+pub same_replaced : (v w : World) (c : Call) (target : Option ℕ) → v.graph.names ≡ w.graph.names → v.state ≡ w.state
+    → replaces v c target ≡ replaces w c target
+same_replaced v w (call.TransformApply transform) target names state =
+    ap (λ ns. replaces (of_state ns v.state) (call.TransformApply transform) target) names
+    ∙ ap (λ s. replaces (of_state w.graph.names s) (call.TransformApply transform) target) state
+same_replaced v w _ target names state = refl
+
 pub same_cells_written : (v w : World) (c : Call) (id k : ℕ) → v.graph.names ≡ w.graph.names → v.graph.tables ≡ w.graph.tables
-    → writes_cell v c id k ≡ writes_cell w c id k
-same_cells_written v w (call.Put target cell source) id k names tables =
+    → v.state ≡ w.state → cell_at v.graph id k ≡ cell_at w.graph id k → writes_cell v c id k ≡ writes_cell w c id k
+same_cells_written v w (call.Put target cell source) id k names tables state cells =
     ap (λ t. is_this id t && cell == k) (same_target v w target names tables)
-same_cells_written v w (call.SetNumber slot cell value) id k names tables =
+same_cells_written v w (call.SetNumber slot cell value) id k names tables state cells =
     ap (λ t. is_this id t && cell == k) (same_target v w slot names tables)
-same_cells_written v w (call.SetTag slot cell tag) id k names tables =
+same_cells_written v w (call.SetTag slot cell tag) id k names tables state cells =
     ap (λ t. is_this id t && cell == k) (same_target v w slot names tables)
-same_cells_written v w _ id k names tables = refl
+same_cells_written v w (call.TransformApply transform) id k names tables state cells =
+    ap (λ o. replaces v (call.TransformApply transform) (option_and_then target_of_cell o)) cells
+    ∙ same_replaced v w (call.TransformApply transform) (option_and_then target_of_cell (cell_at w.graph id k)) names state
+same_cells_written v w _ id k names tables state cells = refl
 
 pub same_words_written : (v w : World) (c : Call) (id k : ℕ) → v.graph.names ≡ w.graph.names → v.graph.blocks ≡ w.graph.blocks
     → writes_word v c id k ≡ writes_word w c id k

@@ -3,6 +3,7 @@ use Rattle.std.specs.Prelude.{◌≡◌, ℕ, Bool, true, false, not, ◌&&◌, 
 use Rattle.std.specs.List.{list_any}
 use Rattle.std.specs.Option.{option_map_or}
 use Rattle.mps_base.specs.Address.{Id}
+use Rattle.mps_base.specs.declared.names.Name.{Name}
 use Rattle.mps_base.specs.declared.names.Slot.{Slot}
 use Rattle.mps_base.specs.declared.moves.Move.{Move}
 use Rattle.mps_base.specs.declared.moves.Move.TheVariants as moves
@@ -11,9 +12,10 @@ use Rattle.mps_model.specs.declared.call.Call.TheVariants as call
 use Rattle.mps_model.specs.declared.reply.Reply.TheVariants as reply
 use Rattle.mps_model.specs.Answer.{Replied}
 use Rattle.mps_model.specs.Step.{Step, History}
-use Rattle.mps_model.specs.Graph.{Graph, Object, Automatic, Manual, Cell, HeadCell, NumberCell, ReferenceCell, TableThing, BlocksThing, object_at, size_of, is_automatic, is_weak_object, is_reference_cell, dependent_in, empty_graph}
-use Rattle.mps_model.specs.World.{World, id_at, empty_world}
-use Rattle.mps_model.specs.Checked.{block_place_in, cells_of_body, head_of_body, words_of_body}
+use Rattle.mps_model.specs.Graph.{Graph, Object, Automatic, Manual, Cell, HeadCell, NumberCell, ReferenceCell, TableThing, BlocksThing, object_at, size_of, is_automatic, is_weak_object, is_reference_cell, target_of_cell, dependent_in, TransformThing, empty_graph}
+use Rattle.mps_model.specs.World.{World, Parked, TransformPair, id_at, empty_world}
+use Rattle.mps_model.specs.Checked.{as_transform, number_named, block_place_in, cells_of_body, head_of_body, words_of_body}
+use Rattle.mps_model.specs.Transforms.{is_old, pairs_of}
 use Rattle.mps_model.specs.Effect.{world_after_move}
 use Rattle.mps_model.specs.History.{world_after, world_after_steps}
 use Rattle.mps_laws.specs.Held.{target_found, target_of_slot, letter, slot_of_t}
@@ -65,11 +67,22 @@ block_of_place w place = target_found (block_place_in w place)
 abbrev pub is_this : (id : Id) → Option ℕ → Bool
 is_this id target = option_map_or (λ other. other == id) target false
 
+-- the pairs of a transform by its name
+abbrev pub pairs_named : World → (transform : Name) → List TransformPair
+pairs_named w transform = option_map_or (pairs_of w.state) (number_named w transform as_transform) []
+
+-- whether a call is one that replaces references to this object, if it is accepted: the old one of a pair of the transform that it applies
+abbrev pub replaces : World → Call → (target : Option ℕ) → Bool
+replaces w (call.TransformApply transform) target = option_map_or (is_old (pairs_named w transform)) target false
+replaces w _ target = false
+
 -- whether a call is one that writes cell k of this object, if it is accepted
 abbrev pub writes_cell : World → Call → (id : Id) → (k : ℕ) → Bool
 writes_cell w (call.Put target cell source) id k = is_this id (target_of_slot w target) && cell == k
 writes_cell w (call.SetNumber slot cell value) id k = is_this id (target_of_slot w slot) && cell == k
 writes_cell w (call.SetTag slot cell tag) id k = is_this id (target_of_slot w slot) && cell == k
+writes_cell w (call.TransformApply transform) id k =
+    replaces w (call.TransformApply transform) (option_and_then target_of_cell (cell_at w.graph id k))
 writes_cell w _ id k = false
 
 -- whether a call is one that writes word k of this block, if it is accepted
@@ -206,3 +219,25 @@ store_leaves_another_word = refl
 
 pub a_stored_word : word_at (world_after two_objects (stepping (call.Store place_of_b 1 4) [])).graph 2 1 ≡ Some 4
 a_stored_word = refl
+
+-- a parked arena in which a transform of the name x replaces the object 0 by the object 1
+abbrev pub with_a_transform : World
+with_a_transform = record two_objects {
+  graph = record two_objects.graph {
+    names = two_objects.graph.names ++ record { name = letter 120; thing = TransformThing 0 } ∷ [];
+    transforms = true ∷ [];
+  };
+  state = Parked (record { transform = 0; old = 0; new = 1 } ∷ []);
+}
+
+abbrev pub applying : Step
+applying = record { line = 1; call = call.TransformApply (letter 120); moves = []; answer = Replied reply.Yes }
+
+pub a_transform_writes_references_to_an_old_object : leave_cell with_a_transform (applying ∷ []) 1 1 ≡ false
+a_transform_writes_references_to_an_old_object = refl
+
+pub a_transform_leaves_other_references : leave_cell with_a_transform (applying ∷ []) 0 1 ≡ true
+a_transform_leaves_other_references = refl
+
+pub a_replaced_reference : cell_at (world_after with_a_transform applying).graph 1 1 ≡ Some (ReferenceCell (Some 1) 3)
+a_replaced_reference = refl

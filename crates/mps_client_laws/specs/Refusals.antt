@@ -21,6 +21,7 @@ use Rattle.mps_model.specs.Policy.{polls, units_asked}
 use Rattle.mps_model.specs.History.{IsLegalStep, asking, judged_world, with_client_remembered, world_after}
 use Rattle.mps_laws.specs.Held.{letter, slot_of_t}
 use Rattle.mps_client_laws.specs.Objects.{two_objects}
+use Rattle.mps_model.specs.Transforms.{most_pairs, most_transforms}
 
 -- ---- the refusals of each call
 
@@ -104,6 +105,12 @@ refusals_of w (call.Label slot label) = refusal.BadName ∷ refusal.BadIndex ∷
 refusals_of w (call.Depend holder dependent) =
     refusal.BadName ∷ refusal.BadIndex ∷ refusal.NullRef ∷ refusal.WrongPool ∷ refusal.TooMany most_dependents ∷ []
 refusals_of w (call.Undepend holder) = refusal.BadName ∷ refusal.BadIndex ∷ refusal.NullRef ∷ refusal.NotLinked ∷ []
+-- transforms
+refusals_of w (call.Transform transform) = refusal.NameTaken ∷ refusal.TooMany most_transforms ∷ []
+refusals_of w (call.TransformAdd transform old new) =
+    refusal.BadName ∷ refusal.BadIndex ∷ refusal.NullRef ∷ refusal.NotParked ∷ refusal.OldTwice ∷ refusal.TooMany most_pairs ∷ []
+refusals_of w (call.TransformApply transform) = refusal.BadName ∷ refusal.NotParked ∷ refusal.Open ∷ []
+refusals_of w (call.TransformDrop transform) = refusal.BadName ∷ []
 -- areas
 refusals_of w (call.Poke word value) = refusal.BadName ∷ refusal.BadIndex ∷ []
 refusals_of w (call.Peek word) = refusal.BadName ∷ refusal.BadIndex ∷ []

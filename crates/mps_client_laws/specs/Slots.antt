@@ -16,7 +16,7 @@ use Rattle.mps_model.specs.Accessing.{same_target}
 use Rattle.mps_model.specs.History.{IsLegalHistoryOf, world_after, world_after_steps}
 use Rattle.mps_laws.specs.Held.{target_of_slot, letter, slot_of_t}
 use Rattle.mps_laws.specs.Replay.{reached}
-use Rattle.mps_client_laws.specs.Objects.{two_objects, stepping}
+use Rattle.mps_client_laws.specs.Objects.{replaces, two_objects, stepping, with_a_transform, applying}
 
 -- ---- a slot that isn't written
 
@@ -48,11 +48,13 @@ abbrev pub drops_table : World → Call → Slot → Bool
 drops_table w (call.DropRoot root) slot = same_target (number_named w slot.name as_table) (number_named w root as_table)
 drops_table w _ slot = false
 
--- whether a call writes this slot or drops its table, if it is accepted
+-- whether a call writes this slot, drops its table, or replaces the object to which it refers, if it is accepted
 abbrev pub writes_slot : World → Call → Slot → Bool
-writes_slot w c slot = option_map_or (is_same_slot w slot) (slot_written_by c) false || drops_table w c slot
+writes_slot w c slot =
+    option_map_or (is_same_slot w slot) (slot_written_by c) false
+    || (drops_table w c slot || replaces w c (target_of_slot w slot))
 
--- none of these steps writes this slot or drops its table
+-- none of these steps writes this slot, drops its table or replaces the object to which it refers
 abbrev pub leave_slot : World → History → Slot → Bool
 leave_slot w [] slot = true
 leave_slot w (s ∷ ss) slot = not (writes_slot w s.call slot) && leave_slot (world_after w s) ss slot
@@ -125,3 +127,9 @@ another_root_that_is_dropped = refl
 
 pub no_slot_has_no_value : slot_value two_objects (slot_of_t 2) ≡ None
 no_slot_has_no_value = refl
+
+pub a_transform_writes_slots_of_an_old_object : leave_slot with_a_transform (applying ∷ []) (slot_of_t 0) ≡ false
+a_transform_writes_slots_of_an_old_object = refl
+
+pub a_transform_leaves_other_slots : leave_slot with_a_transform (applying ∷ []) (slot_of_t 1) ≡ true
+a_transform_leaves_other_slots = refl

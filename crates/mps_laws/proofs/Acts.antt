@@ -14,18 +14,20 @@ use Rattle.mps_model.specs.Checked.{with_graph}
 use Rattle.mps_model.specs.Making.{is_weak_rank, may_have_point}
 use Rattle.mps_model.specs.Allocating.{body_with_word, graph_with_word}
 use Rattle.mps_model.specs.Reply.{act}
+use Rattle.mps_model.specs.Transforms.{graph_substituted, pairs_of}
 use Rattle.mps_laws.proofs.Lookups.{map-slice_set, map-with_last, slice_set-same, length-slice_set, entry_is_there}
 use Rattle.mps_laws.proofs.Positions.Occupancy.{Occupancy, PointShape, shape_of, shape_of_point, reserved_words, occupancy_of}
 use Rattle.mps_laws.proofs.Positions.LaidOut.{IsLaidOut, IsRightPointShape}
 use Rattle.mps_laws.proofs.Positions.LegalMoves.{condemned_kept, cells_kept, shapes_written}
 use Rattle.mps_laws.proofs.Positions.Making.{pool_laid_out, point_laid_out, dropped_laid_out}
 use Rattle.mps_laws.proofs.Sound.PoolKinds.{kind_of_pool}
+use Rattle.mps_laws.proofs.Sound.Substituting.{shapes_substituted}
 use Rattle.mps_changes.proofs.ActChanges.{of_changes, but}
 pub use Rattle.mps_changes.specs.Change.{ForAct, accepted, refused, is_placing}
 pub use Rattle.mps_changes.proofs.Checks.{without_root, with_value, after_check, unless, for_world, required-is, named_by, point_named-is, pool_named-is}
 use Rattle.mps_changes.proofs.AsideFacts.{aside_is}
 use Rattle.mps_changes.proofs.Written.{written_length}
-use Rattle.mps_changes.specs.Change.{makes_arena, Change, Aside, CellsAre, BlockWordIs, Allocated, PoolMade, PointMade, PointDropped, Opened, Written, Closed, Committed, Unregistered}
+use Rattle.mps_changes.specs.Change.{makes_arena, Change, Aside, CellsAre, BlockWordIs, Allocated, PoolMade, PointMade, PointDropped, Opened, Written, Closed, Committed, Substituted, Unregistered}
 
 -- ---- what may change
 
@@ -150,6 +152,9 @@ module _ (limit : ℕ) {c : Call} {v : World} where
       ∙ ap (λ o. Some (record { pool = p.value.pool; rank = p.value.rank; reserved = reserved_words o })) (sym has))))
   change_lies h (Closed name target p r e there has ended) = but is_placing e refl h
   change_lies h (Committed name target p r slot e there found has lives) = but is_placing e refl h
+  change_lies h (Substituted name transform e is parked) =
+      let pairs = pairs_of v.state transform in
+      nothing (shapes_kept limit v (graph_substituted v.graph pairs) (shapes_substituted pairs v.graph.objects) refl)
   change_lies h (Unregistered slot from object position e there is at) =
       nothing (ap (λ x. record (occupancy_of v) { condemned = x })
       (condemned_kept (without_registration position) (λ x. refl) v.collection))

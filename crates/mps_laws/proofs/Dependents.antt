@@ -22,9 +22,10 @@ use Rattle.mps_model.specs.Allocating.{committed_object, graph_with_word, reserv
 use Rattle.mps_model.specs.Dependents.{may_depend, with_dependent}
 use Rattle.mps_model.specs.Effect.{after_free, after_moved, after_post, after_segment, after_splat, holding, placing, reclaiming, segment_base_of, segment_of_move, where_one, with_collection, without_object, world_after_move, world_after_moves}
 use Rattle.mps_model.specs.Policy.{units_asked}
+use Rattle.mps_model.specs.Transforms.{graph_substituted, pairs_of}
 use Rattle.mps_model.specs.Reply.{act, world_from}
 use Rattle.mps_model.specs.History.{HeldAreLive, IsLegalStep, after_own_segment, asking, judged_world, moved_world, moves_of_poll, own_segment, world_after, world_after_call}
-use Rattle.mps_changes.specs.Change.{AsideIs, Linked, Unlinked, Change, Aside, CellsAre, BlockWordIs, Allocated, PoolMade, Committed, ForAct, accepted, refused, IsInSlot}
+use Rattle.mps_changes.specs.Change.{AsideIs, Linked, Unlinked, Change, Aside, CellsAre, BlockWordIs, Allocated, PoolMade, Committed, Substituted, ForAct, accepted, refused, IsInSlot}
 use Rattle.mps_changes.proofs.ActChanges.{act_changes_so}
 use Rattle.mps_laws.proofs.Acts.{word_kept}
 use Rattle.mps_changes.proofs.Written.{written_length}
@@ -39,6 +40,7 @@ use Rattle.mps_laws.proofs.Positions.Occupancy.{Shape, shape_of}
 use Rattle.mps_laws.proofs.Sound.SoundGraph.{All, PassesOrNull, each-weaker}
 use Rattle.mps_laws.proofs.Sound.SoundActs.{table_passes}
 use Rattle.mps_laws.proofs.Sound.SoundHistories.{slots_held}
+use Rattle.mps_laws.proofs.Sound.Substituting.{shapes_substituted}
 
 abbrev pub ArePaired : World → Type 0
 ArePaired w = list_all (is_right_pair w) w.graph.dependents ≡ true
@@ -294,6 +296,10 @@ module _ (v : World) (h : ArePaired v) where
       (map-with_last shape_of v.graph.objects (committed_object p.value r)) refl refl refl
   change_paired {u = u} live (PoolMade name p e made) =
       all_still v u (λ i s f. f) (λ n q f. slice_get-kept v.pools p q n f) (λ j alive. alive) refl h
+  change_paired live (Substituted name transform e is parked) =
+      all_still v (with_graph v (graph_substituted v.graph (pairs_of v.state transform)))
+      (λ i s f. ap (λ ss. slice_get ss i) (shapes_substituted (pairs_of v.state transform) v.graph.objects) ∙ f) (λ n p f. f)
+      (λ j alive. alive) refl h
   change_paired live _ = h
 
   act_paired : {marked : Bool} {c : Call} {judged : World} (x : Checked Act) → ForAct (Change marked c judged v) x
@@ -303,8 +309,8 @@ module _ (v : World) (h : ArePaired v) where
 
 -- ---- steps
 
-pub pairs_after : (w : World) (s : Step) → ArePaired w → IsLegalStep w s → ArePaired (world_after w s)
-pairs_after w s h legal =
+pub dependents_after : (w : World) (s : Step) → ArePaired w → IsLegalStep w s → ArePaired (world_after w s)
+dependents_after w s h legal =
     elim (legal_step w s legal) [
       | inl same ↦ subst ArePaired (sym same) h
       | inr answered ↦

@@ -39,17 +39,17 @@ use Rattle.mps_laws.proofs.Positions.Places.{is_moving, commit_moves_none, alloc
 
 -- ---- moves without a flip
 
-abbrev HasNone : List Move → Type 0
+abbrev pub HasNone : List Move → Type 0
 HasNone ms = list_any is_flip ms ≡ false
 
-both_none : (xs ys : List Move) → HasNone xs → HasNone ys → HasNone (xs ++ ys)
+pub both_none : (xs ys : List Move) → HasNone xs → HasNone ys → HasNone (xs ++ ys)
 both_none xs ys first second = list_any-append is_flip xs ys ∙ ap (λ b. b || list_any is_flip ys) first ∙ second
 
-no_moves : (ms : List Move) → ms ≡ [] → HasNone ms
+pub no_moves : (ms : List Move) → ms ≡ [] → HasNone ms
 no_moves ms is = ap (list_any is_flip) is
 
 -- moves of which none moves a block or flips
-none_moving : (ms : List Move) → list_any is_moving ms ≡ false → HasNone ms
+pub none_moving : (ms : List Move) → list_any is_moving ms ≡ false → HasNone ms
 none_moving [] none = refl
 none_moving (m ∷ ms) none =
     let parts = or_parts (is_moving m) (list_any is_moving ms) none in
@@ -60,7 +60,7 @@ none_moving (m ∷ ms) none =
     first _ none = refl
 
 -- moves that are due where a test holds, and else none
-where_due : {Due : Type 0} (b : Bool) (ms : List Move) → (Due → HasNone ms) → MatchBool b Due (ms ≡ []) → HasNone ms
+pub where_due : {Due : Type 0} (b : Bool) (ms : List Move) → (Due → HasNone ms) → MatchBool b Due (ms ≡ []) → HasNone ms
 where_due true ms each due = each due
 where_due false ms each due = no_moves ms due
 
@@ -121,11 +121,11 @@ units_none w count ms none_yet = refl
 units_none w count ms (one_more {count = before} {done = done} {piece = piece} earlier runs unit) =
     both_none done piece (units_none w before done earlier) (piece_none (world_after_moves w done) piece unit)
 
-are_units_none : (w : World) (count : ℕ) (ms : List Move) → AreUnits w count ms → HasNone ms
+pub are_units_none : (w : World) (count : ℕ) (ms : List Move) → AreUnits w count ms → HasNone ms
 are_units_none w count ms (inl done) = units_none w count ms done
 are_units_none w count ms (inr (fewer, less, done, ends)) = units_none w fewer ms done
 
-finished_none : (w : World) (ms : List Move) → FinishesCollection w ms → HasNone ms
+pub finished_none : (w : World) (ms : List Move) → FinishesCollection w ms → HasNone ms
 finished_none w ms finishes = where_due (is_running w) ms (λ to_end. units_none w to_end.0.0 ms to_end.0.1) finishes
 
 -- ---- the read barrier
@@ -144,7 +144,7 @@ barrier_none : (w : World) (s : Segment) (ms : List Move) → IsBarrier w s ms �
 barrier_none w s ms (inl done) = scans_none w ms done
 barrier_none w s ms (inr all) = splats_in_none s ms all
 
-get_none : (w : World) (o : Option Segment) (ms : List Move) → ForOne o (λ s. IsBarrier w s ms) → HasNone ms
+pub get_none : (w : World) (o : Option Segment) (ms : List Move) → ForOne o (λ s. IsBarrier w s ms) → HasNone ms
 get_none w None ms is = absurd is
 get_none w (Some s) ms is = barrier_none w s ms is
 

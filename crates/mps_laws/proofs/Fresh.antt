@@ -213,7 +213,7 @@ pub known_at_first : (formats : ℕ → Layout) → IsKnown (empty_world_of form
 known_at_first formats = record {
   accounted = tt;
   settled = λ id h. tt;
-  held = record { client = refl; blocks = refl; referred = refl };
+  held = record { client = refl; blocks = refl; referred = refl; transforms = refl };
 }
 
 module _ (IsGood : World → Type 0) (first_good : (formats : ℕ → Layout) → IsGood (empty_world_of formats))

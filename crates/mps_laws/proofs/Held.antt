@@ -9,7 +9,7 @@ use Rattle.mps_laws.specs.Replay.{reached}
 use Rattle.mps_laws.proofs.LegalHistories.{IsAnswered, kept_by_steps, IsLegalFrom-first}
 
 pub held_at_first : (formats : ℕ → Layout) → HeldAreLive (empty_world_of formats)
-held_at_first formats = record { client = refl; blocks = refl; referred = refl }
+held_at_first formats = record { client = refl; blocks = refl; referred = refl; transforms = refl }
 
 held_after_step : (w : World) (s : Step) → HeldAreLive w → Unit {0} → IsAnswered w s → HeldAreLive (world_after w s)
 held_after_step w s held kind answered = answered.answered.held_are_live

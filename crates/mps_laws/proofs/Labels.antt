@@ -14,7 +14,7 @@ use Rattle.mps_model.specs.WellFormed.{is_label, are_labels}
 use Rattle.mps_model.specs.Checked.{as_point}
 use Rattle.mps_model.specs.Reply.{act, world_from}
 use Rattle.mps_model.specs.History.{judged_world, moved_world, with_client_remembered, world_after}
-use Rattle.mps_changes.specs.Change.{AsideIs, ChainMade, DependencyMade, LabelMade, Change, Aside, TableMade, AreaMade, BlocksMade, TableDropped, AreaDropped, PoolMade, PointMade, PointDropped}
+use Rattle.mps_changes.specs.Change.{AsideIs, ChainMade, DependencyMade, LabelMade, TransformMade, TransformDropped, Change, Aside, TableMade, AreaMade, BlocksMade, TableDropped, AreaDropped, PoolMade, PointMade, PointDropped, Substituted}
 use Rattle.mps_changes.proofs.ActChanges.{of_changes}
 use Rattle.mps_laws.proofs.Acts.{for_world, point_named-is}
 use Rattle.mps_laws.proofs.Lookups.{slice_get-at_last, slice_get-after_last, slice_get-last}
@@ -109,6 +109,8 @@ module _ (v : World) (named : AreNamed v.graph) where
   aside_named (ChainMade name capacities) = one_more _
   aside_named (DependencyMade name d is) = one_more _
   aside_named (LabelMade name is free) = label_made name free
+  aside_named (TransformMade name) = one_more _
+  aside_named (TransformDropped name transform is) = one_less name (TransformThing transform) is refl
   aside_named _ = named
 
   change_named : {marked : Bool} {c : Call} {judged u : World} → Change marked c judged v u → AreNamed u.graph
@@ -135,6 +137,7 @@ module _ (v : World) (named : AreNamed v.graph) where
       of_thing (Some (TransformThing number)) f g = absurd (none-some p.number g)
       of_thing (Some (CacheThing number)) f g = absurd (none-some p.number g)
       of_thing (Some (LabelThing number)) f g = absurd (none-some p.number g)
+  change_named (Substituted name transform e is parked) = one_less name (TransformThing transform) is refl
   change_named _ = named
 
 -- after any step

@@ -12,12 +12,14 @@ use Rattle.mps_model.specs.World.{World}
 use Rattle.mps_model.specs.Allocating.{body_with_word, graph_with_word, reserved_address, committed_object}
 use Rattle.mps_model.specs.Collecting.{without_registration}
 use Rattle.mps_model.specs.Reply.{act}
+use Rattle.mps_model.specs.Transforms.{pairs_of}
 pub use Rattle.mps_changes.specs.Change.{ForAct, accepted, refused, changes_dependencies, changes_points}
 pub use Rattle.mps_changes.proofs.Checks.{andthen}
 use Rattle.mps_changes.proofs.AsideFacts.{aside_is}
-use Rattle.mps_changes.specs.Change.{Change, Aside, CellsAre, BlockWordIs, Allocated, PoolMade, PointMade, PointDropped, Opened, Written, Closed, Committed, Unregistered}
+use Rattle.mps_changes.specs.Change.{Change, Aside, CellsAre, BlockWordIs, Allocated, PoolMade, PointMade, PointDropped, Opened, Written, Closed, Committed, Substituted, Unregistered}
 use Rattle.mps_changes.proofs.ActChanges.{of_changes, but}
 use Rattle.mps_laws.proofs.Entries.{GoesOn}
+use Rattle.mps_laws.proofs.Sound.Substituting.{owners_substituted}
 use Rattle.mps_model.specs.Effect.{graph_nulled, graph_splatted}
 use Rattle.mps_model.proofs.Nulled.{splatted_holds}
 
@@ -155,6 +157,8 @@ module _ {c : Call} {v : World} where
     points = λ h. but changes_points e refl h;
     objects = λ h. but makes_objects e refl h;
   }
+  change_leaves (Substituted name transform e is parked) =
+      kept refl refl (owners_substituted (pairs_of v.state transform) v.graph.objects) refl refl refl refl
   change_leaves (Unregistered slot from object position e there is at) = record {
     addresses = same v.addresses v.addresses refl;
     pools = same v.pools v.pools refl;

@@ -22,6 +22,7 @@ pub mod QuietSteps
 pub mod Naming
 pub mod Labels
 pub mod Dependents
+pub mod Parked
 pub mod WellFormed
 pub mod WellFormedHistories
 pub mod MadeAgain

@@ -10,7 +10,7 @@ use Rattle.mps_model.specs.Answer.{Answer, refused, is_block, is_unsupported}
 use Rattle.mps_model.specs.Step.{Step}
 use Rattle.mps_model.specs.Graph.{ids_of_client, targets}
 use Rattle.mps_model.specs.Collection.{Collection}
-use Rattle.mps_model.specs.World.{World, is_live, live_ids}
+use Rattle.mps_model.specs.World.{World, is_live, live_ids, ids_in_pairs}
 use Rattle.mps_model.specs.Checked.{Act, Checked}
 use Rattle.mps_model.specs.LegalMove.{AreLegalMoves}
 use Rattle.mps_model.specs.Reply.{act, answer_from, world_from}
@@ -52,6 +52,7 @@ module _ (w : World) where
       blocks = s.live.blocks;
       referred = ap (λ b. b || list_all (is_live w) (flat_map (targets w.graph) (live_ids w))) (remembered_runs w.collection)
           ∙ s.live.referred;
+      transforms = ap (λ b. b || list_all (is_live w) (ids_in_pairs w.state)) (remembered_runs w.collection) ∙ s.live.transforms;
     };
     kept = remembered_kept w.collection ∙ s.kept;
     units = remembered_units w.collection ∙ s.units;

@@ -35,9 +35,10 @@ pub record IsLeftAlone (before after : World) : Type 0 where
   pub labels : after.graph.labels ≡ before.graph.labels
   pub pools : after.pools ≡ before.pools
   pub shapes : map shape_of after.graph.objects ≡ map shape_of before.graph.objects
+  pub state : after.state ≡ before.state
 
 left_alone : {w : World} → IsLeftAlone w w
-left_alone = record { grains = refl; formats = refl; names = refl; labels = refl; pools = refl; shapes = refl }
+left_alone = record { grains = refl; formats = refl; names = refl; labels = refl; pools = refl; shapes = refl; state = refl }
 
 then_same : (u v w : World) → IsLeftAlone u v → IsLeftAlone v w → IsLeftAlone u w
 then_same u v w first second = record {
@@ -47,6 +48,7 @@ then_same u v w first second = record {
   labels = second.labels ∙ first.labels;
   pools = second.pools ∙ first.pools;
   shapes = second.shapes ∙ first.shapes;
+  state = second.state ∙ first.state;
 }
 
 -- ---- moves
@@ -59,30 +61,31 @@ free_same : (w : World) (id at : ℕ) → IsLeftAlone w (after_free w id at)
 free_same w id at =
     elim (object_is is_automatic w id) as (λ b. IsLeftAlone w (if b then with_collection (without_object w id)
     (reclaiming (segment_base_of w at)) else without_object w id)) [
-      | true ↦ record { grains = refl; formats = refl; names = refl; labels = refl; pools = refl; shapes = refl }
-      | false ↦ record { grains = refl; formats = refl; names = refl; labels = refl; pools = refl; shapes = refl }
+      | true ↦ record { grains = refl; formats = refl; names = refl; labels = refl; pools = refl; shapes = refl; state = refl }
+      | false ↦ record { grains = refl; formats = refl; names = refl; labels = refl; pools = refl; shapes = refl; state = refl }
     ]
 
 segment_same : (w : World) (s : Segment) → IsLeftAlone w (after_segment w s)
 segment_same w s =
     elim (is_copying_pool w s.pool) as (λ b. IsLeftAlone w (if b then with_tail (holding w s) s.pool s.generation (words_of_segment s)
     else holding w s)) [
-      | true ↦ record { grains = refl; formats = refl; names = refl; labels = refl; pools = refl; shapes = refl }
-      | false ↦ record { grains = refl; formats = refl; names = refl; labels = refl; pools = refl; shapes = refl }
+      | true ↦ record { grains = refl; formats = refl; names = refl; labels = refl; pools = refl; shapes = refl; state = refl }
+      | false ↦ record { grains = refl; formats = refl; names = refl; labels = refl; pools = refl; shapes = refl; state = refl }
     ]
 
 move_same : (w : World) (m : Move) → IsLeftAlone w (world_after_move w m)
 move_same w (moves.Seg base grains pool generation) = segment_same w (segment_of_move base.0 grains pool generation)
-move_same w (moves.Unseg base) = record { grains = refl; formats = refl; names = refl; labels = refl; pools = refl; shapes = refl }
+move_same w (moves.Unseg base) =
+    record { grains = refl; formats = refl; names = refl; labels = refl; pools = refl; shapes = refl; state = refl }
 move_same w (moves.Flip zones chain generation) =
-    record { grains = refl; formats = refl; names = refl; labels = refl; pools = refl; shapes = refl }
-move_same w moves.End = record { grains = refl; formats = refl; names = refl; labels = refl; pools = refl; shapes = refl }
+    record { grains = refl; formats = refl; names = refl; labels = refl; pools = refl; shapes = refl; state = refl }
+move_same w moves.End = record { grains = refl; formats = refl; names = refl; labels = refl; pools = refl; shapes = refl; state = refl }
 move_same w (moves.Moved from to) =
     one_same w (id_at w from.0) (λ id. after_moved w id to.0) (λ id.
-    record { grains = refl; formats = refl; names = refl; labels = refl; pools = refl; shapes = refl })
+    record { grains = refl; formats = refl; names = refl; labels = refl; pools = refl; shapes = refl; state = refl })
 move_same w (moves.Stay at) =
     one_same w (id_at w at.0) (λ id. with_collection w (placing id)) (λ id.
-    record { grains = refl; formats = refl; names = refl; labels = refl; pools = refl; shapes = refl })
+    record { grains = refl; formats = refl; names = refl; labels = refl; pools = refl; shapes = refl; state = refl })
 move_same w (moves.Splat holder cell) =
     one_same w (id_at w holder.0) (λ id. after_splat w id cell) (λ id. record {
       grains = refl;
@@ -91,10 +94,11 @@ move_same w (moves.Splat holder cell) =
       labels = refl;
       pools = refl;
       shapes = splatted_kept w.graph id cell;
+      state = refl;
     })
 move_same w (moves.Post at) =
     one_same w (id_at w at.0) (after_post w) (λ id.
-    record { grains = refl; formats = refl; names = refl; labels = refl; pools = refl; shapes = refl })
+    record { grains = refl; formats = refl; names = refl; labels = refl; pools = refl; shapes = refl; state = refl })
 move_same w (moves.Commit at words pool) = left_alone
 move_same w (moves.Alloc at words pool) = left_alone
 move_same w (moves.Free at) = one_same w (id_at w at.0) (λ id. after_free w id at.0) (λ id. free_same w id at.0)
@@ -106,13 +110,13 @@ moves_same w (m ∷ ms) =
 
 asked_same : (units : Option ℕ) (w : World) → IsLeftAlone w (asking units w)
 asked_same None w = left_alone
-asked_same (Some units) w = record { grains = refl; formats = refl; names = refl; labels = refl; pools = refl; shapes = refl }
+asked_same (Some units) w = record { grains = refl; formats = refl; names = refl; labels = refl; pools = refl; shapes = refl; state = refl }
 
 own_same : (w : World) (ms : List Move) (number : Option ℕ) → IsLeftAlone w (after_own_segment w ms number)
 own_same w ms number =
     own_segment_taken (IsLeftAlone w) w left_alone
-    (λ s. record { grains = refl; formats = refl; names = refl; labels = refl; pools = refl; shapes = refl })
-    (λ s n r. record { grains = refl; formats = refl; names = refl; labels = refl; pools = refl; shapes = refl }) ms number
+    (λ s. record { grains = refl; formats = refl; names = refl; labels = refl; pools = refl; shapes = refl; state = refl })
+    (λ s n r. record { grains = refl; formats = refl; names = refl; labels = refl; pools = refl; shapes = refl; state = refl }) ms number
 
 -- the moves of a call
 pub moved_alone : (w : World) (c : Call) (ms : List Move) → IsLeftAlone w (moved_world w c ms)

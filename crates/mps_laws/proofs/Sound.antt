@@ -6,6 +6,7 @@ pub mod PoolsThere
 pub mod SoundEffects
 pub mod SoundChanges
 pub mod SoundGraph
+pub mod Substituting
 pub mod SoundActs
 pub mod SoundSteps
 pub mod SoundMoves

@@ -3,17 +3,18 @@ use Rattle.std.proofs.Common.{◌≡◌, ◌∙◌, ℕ, zero, suc, ◌+◌, ◌
 use Rattle.std.proofs.lemmas.Bool.{cases_Bool, false≢true, and_parts, and_from, le-leb, lt-ltb, ltb-true, eq-eqb, eqb-true, or_left, or_right}
 use Rattle.std.proofs.lemmas.Option.{slice_get-map}
 use Rattle.std.proofs.lemmas.List.{length-map}
-use Rattle.std.specs.Prelude.{map, slice_get, option_map, option_and_then, ◌==◌, ◌||◌, nat_le, nat_lt, if◌then◌else◌, is_some}
+use Rattle.std.specs.Prelude.{map, slice_get, option_map, option_and_then, ◌==◌, ◌&&◌, ◌||◌, not, nat_le, nat_lt, if◌then◌else◌, is_some}
 use Rattle.std.specs.Option.{option_map_or}
 use Rattle.std.specs.List.{list_all}
 use Rattle.mps_base.specs.Segment.{Segment}
 use Rattle.mps_base.specs.Run.{Run}
 use Rattle.mps_model.specs.Graph.{LabelThing, Point, Reservation, AreaWord, PlainWord, Hold, entry_at, held_by_word, holds_of, ids_in_slots, ids_in_holds, ids_in_reservations, ids_of_client}
-use Rattle.mps_model.specs.World.{World, PointMemory, extent, is_live, is_live_and, is_copying_object, is_word_in, pool_at, shown_word, words_of}
+use Rattle.mps_model.specs.World.{World, PointMemory, extent, ids_in_pairs, is_live, is_live_and, is_parked, is_running, is_copying_object, is_word_in, pool_at, shown_word, words_of}
 use Rattle.mps_model.specs.Making.{is_weak_rank}
-use Rattle.mps_model.specs.WellFormed.{IsWellFormed, are_right_cells, is_home, is_right_at_hand, is_right_object, is_right_point, is_right_reservation, are_right_points, is_right_word, are_right_words}
+use Rattle.mps_model.specs.WellFormed.{IsWellFormed, is_live_automatic, are_right_cells, is_home, is_right_at_hand, is_right_object, is_right_point, is_right_reservation, are_right_points, is_right_word, are_right_words}
 use Rattle.mps_laws.proofs.Dependents.{ArePaired}
 use Rattle.mps_laws.proofs.Labels.{AreNamed, labels_from}
+use Rattle.mps_laws.proofs.Parked.{RestsWhenParked}
 use Rattle.mps_laws.proofs.Lookups.{entry_is_there}
 use Rattle.mps_laws.proofs.Positions.Occupancy.{Occupancy, OfReservation, OfBuffer, PointShape, shape_of_point, reserved_words, occupancy_of, run_of, run_of_reservation, run_of_reserved, run_of_buffer, pool_of_occupant, rank_of_occupant}
 use Rattle.mps_laws.proofs.Positions.LaidOut.{Home}
@@ -157,9 +158,13 @@ module _ (w : World) (s : IsSoundGraph w) (live : ClientIsLive w) where
 
 -- ---- a world that is laid out, whose graph is sound
 
+not_both : (a b : Bool) → (a ≡ true → b ≡ false) → not (a && b) ≡ true
+not_both true b h = ap not (h refl)
+not_both false b h = refl
+
 pub well_formed : (w : World) → HasLayout (w.grains + 1) w → IsSoundGraph w → AreNamed w.graph → ArePaired w → ClientIsLive w
-    → IsWellFormed w
-well_formed w laid s named paired live = record {
+    → RestsWhenParked w → All (is_live_automatic w) (ids_in_pairs w.state) → IsWellFormed w
+well_formed w laid s named paired live rests pairs = record {
   segments =
       and_from (list_all (Rattle.mps_model.specs.WellFormed.is_right_segment w) w.segments)
       (Rattle.mps_model.specs.WellFormed.are_apart (map Rattle.mps_base.specs.Segment.grains_of_segment w.segments))
@@ -180,4 +185,6 @@ well_formed w laid s named paired live = record {
       labels_from w.graph 0 w.graph.labels (λ number label e.
       named number label e ∙ ap (λ n. Some (LabelThing n)) (let same : number ≡ 0 + number = omega arith in same));
   dependents = paired;
+  parked = not_both (is_parked w) (is_running w) rests;
+  transforms = pairs;
 }

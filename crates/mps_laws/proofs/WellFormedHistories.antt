@@ -1,17 +1,19 @@
 -- Each legal step keeps the arena's grains, but for the one that makes the arena; so the worlds of a legal history are well-formed.
 use Rattle.std.proofs.Common.{None, ◌≡◌, ◌∙◌, ◌⊎◌, ℕ, ◌+◌, Bool, true, false, refl, sym, ap, List, [], ◌∷◌, subst, inl, inr, arith, max}
 use Rattle.std.proofs.lemmas.Bool.{false≢true, true≢false}
-use Rattle.std.specs.Prelude.{MatchBool, not, if◌then◌else◌}
-use Rattle.std.specs.List.{list_any}
+use Rattle.std.specs.Prelude.{MatchBool, not, ◌||◌, if◌then◌else◌}
+use Rattle.std.specs.List.{list_all, list_any}
 use Rattle.mps_base.specs.declared.moves.Move.{Move}
 use Rattle.mps_model.specs.Layout.{Layout}
 use Rattle.mps_model.specs.declared.call.Call.{Call}
 use Rattle.mps_model.specs.declared.call.Call.TheVariants as call
 use Rattle.mps_model.specs.Answer.{Answer, is_block, is_unsupported}
-use Rattle.mps_model.specs.World.{World, empty_world_of}
+use Rattle.mps_model.specs.World.{World, Unclamped, empty_world_of, ids_in_pairs, is_live, is_parked}
+use Rattle.mps_model.specs.WellFormed.{is_live_automatic}
+use Rattle.mps_model.specs.Collecting.{with_state}
 use Rattle.mps_model.specs.Reply.{act, world_from}
 use Rattle.mps_model.specs.Step.{Step, History}
-use Rattle.mps_model.specs.History.{IsLegalHistoryOf, IsLegalStep, IsLegalFrom, judged_world, moved_world, world_after, world_after_call, world_after_steps}
+use Rattle.mps_model.specs.History.{HeldAreLive, IsLegalHistoryOf, IsLegalStep, IsLegalFrom, judged_world, moved_world, world_after, world_after_call, world_after_steps}
 use Rattle.mps_changes.specs.Change.{makes_arena}
 use Rattle.mps_laws.specs.Replay.{reached}
 use Rattle.mps_laws.proofs.Replays.ReplayOfMoves.{moves_replayed}
@@ -21,7 +23,10 @@ use Rattle.mps_model.specs.Effect.{world_after_moves}
 use Rattle.mps_laws.specs.WellFormed.{is_arena_made_once, ReachedWorldsAreWellFormed, WorldsInStepsAreWellFormed}
 use Rattle.mps_laws.proofs.Positions.LegalMoves.{HasLayout}
 use Rattle.mps_model.specs.Graph.{empty_graph}
-use Rattle.mps_laws.proofs.Dependents.{ArePaired, moves_paired, pairs_after}
+use Rattle.mps_laws.proofs.Dependents.{ArePaired, moves_paired, dependents_after}
+use Rattle.mps_laws.proofs.Held.{held_at_first}
+use Rattle.mps_laws.proofs.LegalHistories.{legal_step}
+use Rattle.mps_laws.proofs.Parked.{RestsWhenParked, none_there, pairs_after, step_rests}
 use Rattle.mps_laws.proofs.SameArena.{moved_alone}
 use Rattle.mps_model.specs.Graph.{thing_in}
 use Rattle.std.specs.Prelude.{slice_get}
@@ -30,9 +35,9 @@ use Rattle.mps_laws.proofs.Acts.{for_world}
 use Rattle.mps_laws.proofs.Replays.FreeSteps.{BlocksAreLive}
 use Rattle.mps_laws.proofs.Replays.Replay.{limit_after, legal_step_replayed, live_after, empty_layout}
 use Rattle.mps_laws.proofs.SameArena.{IsSameArena, act_same, itself, moved_same}
-use Rattle.mps_laws.proofs.Sound.SoundGraph.{IsSoundGraph}
+use Rattle.mps_laws.proofs.Sound.SoundGraph.{All, IsSoundGraph, all-both, auto, untouched}
 use Rattle.mps_laws.proofs.Sound.SoundHistories.{SlotsAreLive, step_sound}
-use Rattle.mps_laws.proofs.WellFormed.{ClientIsLive, well_formed}
+use Rattle.mps_laws.proofs.WellFormed.{well_formed}
 
 -- ---- grains after acts
 
@@ -61,20 +66,37 @@ record IsKeptWell (w : World) : Type 0 where
   pub layout : HasLayout (w.grains + 1) w
   pub blocks : BlocksAreLive w
   pub slots : SlotsAreLive w
-  pub client : ClientIsLive w
+  pub held : HeldAreLive w
   pub sound : IsSoundGraph w
   pub named : AreNamed w.graph
   pub paired : ArePaired w
+  pub rests : RestsWhenParked w
+  pub pairs : All (auto w) (ids_in_pairs w.state)
 
 which : {A B : Type 0} (b : Bool) → MatchBool b A B → ((b ≡ true) × A) ⊎ ((b ≡ false) × B)
 which true a = inl (refl, a)
 which false b = inr (refl, b)
 
-client_after : (w : World) (s : Step) → ClientIsLive w → IsLegalStep w s → ClientIsLive (world_after w s)
-client_after w s live legal =
+held_after : (w : World) (s : Step) → HeldAreLive w → IsLegalStep w s → HeldAreLive (world_after w s)
+held_after w s live legal =
     elim (which (is_unsupported s.answer) legal) [
-      | inl h ↦ subst (λ b. ClientIsLive (if b then w else world_after_call w s.call s.moves s.answer)) (sym h.0) live
-      | inr h ↦ h.1.held_are_live.client
+      | inl h ↦ subst (λ b. HeldAreLive (if b then w else world_after_call w s.call s.moves s.answer)) (sym h.0) live
+      | inr h ↦ h.1.held_are_live
+    ]
+
+rests_after : (w : World) (s : Step) → RestsWhenParked w → IsLegalStep w s → RestsWhenParked (world_after w s)
+rests_after w s rests legal =
+    elim (legal_step w s legal) [
+      | inl same ↦ subst RestsWhenParked (sym same) rests
+      | inr answered ↦ step_rests w s rests answered
+    ]
+
+pub automatic_after : (w : World) (s : Step) → IsSoundGraph w → IsSoundGraph (world_after w s) → All (auto w) (ids_in_pairs w.state)
+    → IsLegalStep w s → All (auto (world_after w s)) (ids_in_pairs (world_after w s).state)
+automatic_after w s before after pairs legal =
+    elim (legal_step w s legal) [
+      | inl same ↦ subst (λ u. All (auto u) (ids_in_pairs u.state)) (sym same) pairs
+      | inr answered ↦ pairs_after w s before after pairs answered
     ]
 
 no_arena_limit : (limit : ℕ) (c : Call) → makes_arena c ≡ false → limit_after limit c ≡ limit
@@ -85,15 +107,17 @@ step_kept : (w : World) (s : Step) → makes_arena s.call ≡ false → IsKeptWe
 step_kept w s plain k legal =
     let r = legal_step_replayed (w.grains + 1) 0 s.line w k.layout k.blocks s.call s.moves s.answer legal in
     let g : w.grains + 1 ≡ (world_after w s).grains + 1 = ap (λ n. n + 1) (sym (step_grains s.line w s.call s.moves s.answer plain)) in
-    let sound = step_sound (w.grains + 1) s.line w k.layout k.blocks k.slots k.sound s.call s.moves s.answer legal in
+    let sound = step_sound (w.grains + 1) s.line w k.layout k.blocks k.slots k.sound k.pairs s.call s.moves s.answer legal in
     record {
       layout = subst (λ (n : ℕ). HasLayout n (world_after w s)) (no_arena_limit (w.grains + 1) s.call plain ∙ g) r.layout;
       blocks = live_after w s k.blocks legal;
       slots = sound.1;
-      client = client_after w s k.client legal;
+      held = held_after w s k.held legal;
       sound = sound.0;
       named = labels_after w s k.named;
-      paired = pairs_after w s k.paired legal;
+      paired = dependents_after w s k.paired legal;
+      rests = rests_after w s k.rests legal;
+      pairs = automatic_after w s k.sound sound.0 k.pairs legal;
     }
 
 steps_kept : (w : World) (h : History) → list_any (λ (later : Step). makes_arena later.call) h ≡ false → IsKeptWell w → IsLegalFrom w h
@@ -126,10 +150,12 @@ empty_kept formats = record {
   layout = empty_layout formats;
   blocks = refl;
   slots = refl;
-  client = refl;
+  held = held_at_first formats;
   sound = empty_sound formats;
   named = none_labelled;
   paired = refl;
+  rests = λ h. refl;
+  pairs = refl;
 }
 
 -- the first command makes the arena
@@ -141,15 +167,17 @@ first_arena formats line grains most ms answer legal =
     let s : Step = record { line = line; call = call.Arena grains most; moves = ms; answer = answer } in
     let k = empty_kept formats in
     let r = legal_step_replayed 1 0 line w k.layout k.blocks (call.Arena grains most) ms answer legal in
-    let sound = step_sound 1 line w k.layout k.blocks k.slots k.sound (call.Arena grains most) ms answer legal in
+    let sound = step_sound 1 line w k.layout k.blocks k.slots k.sound k.pairs (call.Arena grains most) ms answer legal in
     record {
       layout = limited (is_unsupported answer) refl r.layout;
       blocks = live_after w s k.blocks legal;
       slots = sound.1;
-      client = client_after w s k.client legal;
+      held = held_after w s k.held legal;
       sound = sound.0;
       named = labels_after w s k.named;
-      paired = pairs_after w s k.paired legal;
+      paired = dependents_after w s k.paired legal;
+      rests = rests_after w s k.rests legal;
+      pairs = automatic_after w s k.sound sound.0 k.pairs legal;
     }
   where
     limited : (b : Bool) → is_unsupported answer ≡ b
@@ -195,9 +223,22 @@ reached_kept formats (s ∷ ss) once legal =
     steps_kept (world_after (empty_world_of formats) s) ss (not_true (list_any (λ (later : Step). makes_arena later.call) ss) once)
     (first_kept formats s legal.0) legal.1
 
+-- the objects in pairs are live: where there are pairs no collection runs
+live_pairs : (w : World) → HeldAreLive w → RestsWhenParked w → All (auto w) (ids_in_pairs w.state)
+    → All (is_live_automatic w) (ids_in_pairs w.state)
+live_pairs w held rests pairs = of_state (is_parked w) refl
+  where
+    of_state : (b : Bool) → is_parked w ≡ b → All (is_live_automatic w) (ids_in_pairs w.state)
+    of_state true h =
+        all-both (is_live w) (auto w) (ids_in_pairs w.state)
+        (subst (λ b. (b || list_all (is_live w) (ids_in_pairs w.state)) ≡ true) (rests h) held.transforms) pairs
+    of_state false h = ap (list_all (is_live_automatic w)) (none_there w.state h)
+
 pub reached_are_well_formed : ReachedWorldsAreWellFormed
 reached_are_well_formed formats history once legal =
-    let k = reached_kept formats history once legal in well_formed (reached formats history) k.layout k.sound k.named k.paired k.client
+    let k = reached_kept formats history once legal in
+    let w = reached formats history in
+    well_formed w k.layout k.sound k.named k.paired k.held.client k.rests (live_pairs w k.held k.rests k.pairs)
 
 -- ---- in the middle of a step
 
@@ -215,5 +256,7 @@ worlds_in_steps_are_well_formed formats history ms once legal moves live =
     let alone = moved_alone w call.Park ms in
     let named : AreNamed (world_after_moves w ms).graph = (λ number label e.
     ap (λ ns. thing_in ns label) alone.names ∙ k.named number label (sym (ap (λ ls. slice_get ls number) alone.labels) ∙ e)) in
-    well_formed (world_after_moves w ms) (in_layout w ms k.layout moves) (moves_well w None ms k.sound moves).sound named
-    (moves_paired w ms k.paired) live
+    let v = world_after_moves w ms in
+    well_formed (with_state v Unclamped) (in_layout w ms k.layout moves)
+    (untouched v (with_state v Unclamped) (moves_well w None ms k.sound moves).sound refl (λ n p e. e) refl refl refl refl refl refl refl
+    refl) named (moves_paired w ms k.paired) live (λ h. absurd (false≢true h)) refl

@@ -17,7 +17,8 @@ use Rattle.mps_model.specs.Graph.{ids_of_client}
 use Rattle.mps_model.specs.History.{IsLegalHistoryOf}
 use Rattle.mps_model.specs.LegalMove.{AreLegalMoves}
 use Rattle.mps_model.specs.WellFormed.{IsWellFormed}
-use Rattle.mps_model.specs.World.{is_live}
+use Rattle.mps_model.specs.World.{Unclamped, is_live}
+use Rattle.mps_model.specs.Collecting.{with_state}
 use Rattle.mps_laws.specs.Replay.{reached}
 use Rattle.mps_changes.specs.Change.{makes_arena}
 
@@ -32,14 +33,15 @@ ReachedWorldsAreWellFormed =
     (formats : ℕ → Layout) (history : History) → IsTrue (is_arena_made_once history) → IsLegalHistoryOf formats history
     → IsWellFormed (reached formats history)
 
--- and so is each world that legal moves of a collector lead to from there, in the middle of a step, if what the client holds is live in it
+-- and so is each world that legal moves of a collector lead to from there, in the middle of a step, if what the client holds is live in it.
+-- The arena counts as unclamped there: a `collect` runs its collection in an arena that may be parked, and empties transforms at its end
 abbrev pub WorldsInStepsAreWellFormed : Type 0
 WorldsInStepsAreWellFormed =
     (formats : ℕ → Layout) (history : History) (ms : List Move) → IsTrue (is_arena_made_once history)
     → IsLegalHistoryOf formats history → AreLegalMoves (reached formats history) None ms
     → IsTrue (list_all (is_live (world_after_moves (reached formats history) ms))
     (ids_of_client (world_after_moves (reached formats history) ms).graph))
-    → IsWellFormed (world_after_moves (reached formats history) ms)
+    → IsWellFormed (with_state (world_after_moves (reached formats history) ms) Unclamped)
 
 -- ---- an arena that is made again
 

@@ -30,7 +30,7 @@ pub fn a_labelled_log_replays()
 {}
 
 /// What a client holds is live, after each step: whatever stands in a slot, a hold of an area word, a message, a live
-/// reservation or a table of blocks; and if no collection runs, whatever a live object refers to.
+/// reservation or a table of blocks; and if no collection runs, whatever a live object refers to or a pair of a transform names.
 pub fn held_objects_are_live()
     ensures { HeldObjectsAreLive }
 {}
@@ -70,8 +70,8 @@ pub fn a_step_flips_once_at_most()
 /// Each world that a legal history reaches is well-formed, if no command but the first makes an arena, as in any script:
 /// objects have the cells of their formats, whatever lies in the arena lies apart in held segments of its pool, and what the
 /// client holds is of the right kind. So is each world that legal moves of a collector lead to from there, in the middle of a
-/// step, if what the client holds is live in it. The premise is needed: in a legal history that makes the arena again, a
-/// segment lies outside the arena that it leaves.
+/// step, if what the client holds is live in it and the arena counts as unclamped. The premise is needed: in a legal history that
+/// makes the arena again, a segment lies outside the arena that it leaves.
 pub fn reached_worlds_are_well_formed()
     ensures well_formed { ReachedWorldsAreWellFormed }
     ensures in_steps { WorldsInStepsAreWellFormed }

@@ -7,7 +7,7 @@ use Rattle.mps_base.specs.declared.refusal.Refusal.TheVariants as refusal
 use Rattle.mps_model.specs.declared.reply.Reply.{Reply}
 use Rattle.mps_model.specs.declared.reply.Reply.TheVariants as reply
 use Rattle.mps_model.specs.Answer.{Answer, Replied}
-use Rattle.mps_model.specs.Graph.{Graph, Cell, HeadCell, NumberCell, ReferenceCell, Body, Automatic, Manual, Object, Point, AreaWord, Thing, ChainThing, PoolThing, TableThing, AreaThing, BlocksThing, PointThing, DependencyThing, LabelThing, thing_named, entry_at, object_at, with_last}
+use Rattle.mps_model.specs.Graph.{Graph, Cell, HeadCell, NumberCell, ReferenceCell, Body, Automatic, Manual, Object, Point, AreaWord, Thing, ChainThing, PoolThing, TableThing, AreaThing, BlocksThing, PointThing, DependencyThing, TransformThing, LabelThing, thing_named, entry_at, object_at, with_last}
 use Rattle.mps_model.specs.World.{World, Pool, Dependency}
 
 -- an answer, and the world after it
@@ -82,6 +82,10 @@ abbrev pub as_dependency : Thing → Option ℕ
 as_dependency (DependencyThing number) = Some number
 as_dependency _ = None
 
+abbrev pub as_transform : Thing → Option ℕ
+as_transform (TransformThing number) = Some number
+as_transform _ = None
+
 abbrev pub as_label : Thing → Option ℕ
 as_label (LabelThing number) = Some number
 as_label _ = None
@@ -125,6 +129,10 @@ abbrev pub label_named : World → Name → Checked (Numbered Name)
 label_named w name = do
   number ← required (number_named w name as_label) refusal.BadName
   numbered number (slice_get w.graph.labels number)
+
+-- the number of the transform of this name
+abbrev pub transform_named : World → Name → Checked ℕ
+transform_named w name = required (number_named w name as_transform) refusal.BadName
 
 -- an entry of a list in a list of lists: the number of the list, the list, the index, and what stands there
 pub record Found (A : Type 0) : Type 0 where

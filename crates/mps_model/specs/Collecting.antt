@@ -8,12 +8,12 @@ use Rattle.mps_model.specs.declared.reply.Reply.TheVariants as reply
 use Rattle.mps_model.specs.Answer.{Dumped}
 use Rattle.mps_model.specs.Graph.{with_last, position_of_first, without_first}
 use Rattle.mps_model.specs.Collection.{Collection}
-use Rattle.mps_model.specs.World.{World, ArenaState, Unclamped, Clamped, Parked, is_running, live_ids, id_at, words_of}
+use Rattle.mps_model.specs.World.{World, ArenaState, Unclamped, Clamped, Parked, pairs_in, is_running, live_ids, id_at, words_of}
 use Rattle.mps_model.specs.Image.{image_of}
 use Rattle.mps_model.specs.Checked.{Act, Checked, Found, ◌>>=◌, ◌>>◌, required, refuse_when, says, done, chain_named, slot_in, object_in, with_graph}
 use Rattle.mps_model.specs.Allocating.{with_slot}
 
--- ---- the arena's state
+-- ---- the arena's state. A call that leaves the arena unclamped or clamped, and a `collect`, empties every transform; a `park` does not
 
 abbrev pub with_state : World → ArenaState → World
 with_state w s = record w { state = s }
@@ -34,13 +34,13 @@ abbrev pub act_step : (after : World) → Checked Act
 act_step after = says (if is_running after then reply.More else reply.Idle) after
 
 abbrev pub act_collect : (after : World) → Checked Act
-act_collect after = done (with_state after Parked)
+act_collect after = done (with_state after (Parked []))
 
 abbrev pub act_clamp : World → Checked Act
 act_clamp w = done (with_state w Clamped)
 
 abbrev pub act_park : (after : World) → Checked Act
-act_park after = done (with_state after Parked)
+act_park after = done (with_state after (Parked (pairs_in after.state)))
 
 abbrev pub act_release : World → Checked Act
 act_release w = done (with_state w Unclamped)

@@ -109,8 +109,8 @@ pub record Graph : Type 0 where
   pub labels : List Name
   -- weak objects, each with the object whose references go with its own
   pub dependents : List (Id × Id)
-  -- transforms by their numbers, each with pairs of an old and a new object; none if the transform was dropped
-  pub transforms : List (Option (List (Id × Id)))
+  -- transforms by their numbers, in the order of making: whether there is one, which was not dropped
+  pub transforms : List Bool
   -- allocation caches by their numbers
   pub caches : List Cache
   pub frames : List PoolFrames

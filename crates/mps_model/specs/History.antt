@@ -23,7 +23,7 @@ use Rattle.mps_model.specs.Step.{Step, History}
 use Rattle.mps_model.specs.Replay.{Store, Block, with_block}
 use Rattle.mps_model.specs.Graph.{Reservation, Point, entry_at, ids_of_client, ids_in_blocks, targets}
 use Rattle.mps_model.specs.Collection.{Collection, is_condemned, is_kept_in_place, MaySurvive}
-use Rattle.mps_model.specs.World.{World, PointMemory, empty_world_of, empty_world, is_live, is_running, is_unclamped, live_ids, address_of, segment_of, pool_of, words_of, is_copying_pool, is_copying_object, is_any_size_kind, is_empty_segment, pool_is, block_of_word}
+use Rattle.mps_model.specs.World.{World, PointMemory, empty_world_of, empty_world, is_live, is_running, is_unclamped, ids_in_pairs, live_ids, address_of, segment_of, pool_of, words_of, is_copying_pool, is_copying_object, is_any_size_kind, is_empty_segment, pool_is, block_of_word}
 use Rattle.mps_model.specs.Placement.{ForReserve, ForAlloc, placement_of}
 use Rattle.mps_model.specs.Checked.{Checked, Found, Numbered, number_named, as_point, chain_named, pool_named, point_named, slot_in, block_place_in}
 use Rattle.mps_model.specs.Allocating.{Reserving, check_reserve, reserved_address, address_of_placement}
@@ -262,11 +262,12 @@ moves_of_collector _ moves = moves
 -- ---- what holds after a call
 
 -- what the client holds is live, and so are the blocks in its tables of blocks. If no collection runs, so is what a live
--- object refers to
+-- object refers to, and so are the objects in pairs of transforms. If one runs there are no such pairs
 pub record HeldAreLive (w : World) : Type 0 where
   pub client : IsTrue (list_all (is_live w) (ids_of_client w.graph))
   pub blocks : IsTrue (list_all (is_live w) (ids_in_blocks w.graph))
   pub referred : IsTrue (is_running w || list_all (is_live w) (flat_map (targets w.graph) (live_ids w)))
+  pub transforms : IsTrue (is_running w || list_all (is_live w) (ids_in_pairs w.state))
 
 -- what the client holds of condemned copying pools was pinned, moved, or made to stay
 abbrev pub is_held_rightly : World → Collection → (id : Id) → Bool

@@ -17,6 +17,7 @@ pub mod Accessing
 pub mod Tagging
 pub mod Labelling
 pub mod Dependents
+pub mod Transforms
 pub mod Dependency
 pub mod Collecting
 pub mod Reply

@@ -17,6 +17,7 @@ use Rattle.mps_model.specs.Accessing.{act_get, act_put, act_number, act_set_numb
 use Rattle.mps_model.specs.Tagging.{act_set_tag, act_tag}
 use Rattle.mps_model.specs.Labelling.{act_intern, act_label}
 use Rattle.mps_model.specs.Dependents.{act_depend, act_undepend}
+use Rattle.mps_model.specs.Transforms.{act_transform, act_transform_add, act_transform_apply, act_transform_drop}
 use Rattle.mps_model.specs.Dependency.{act_dependency, act_dependency_reset, act_dependency_add, act_dependency_merge, act_dependency_stale}
 use Rattle.mps_model.specs.Collecting.{act_start, act_start_chain, act_step, act_collect, act_clamp, act_park, act_release, act_finalize, act_definalize, act_message, act_live, act_dump}
 
@@ -59,6 +60,10 @@ act_in w (call.Intern label) = act_intern w label
 act_in w (call.Label slot label) = act_label w slot label
 act_in w (call.Depend holder dependent) = act_depend w holder dependent
 act_in w (call.Undepend holder) = act_undepend w holder
+act_in w (call.Transform transform) = act_transform w transform
+act_in w (call.TransformAdd transform old new) = act_transform_add w transform old new
+act_in w (call.TransformApply transform) = act_transform_apply w transform
+act_in w (call.TransformDrop transform) = act_transform_drop w transform
 act_in w (call.Peek word) = act_peek w word
 act_in w (call.Pin word slot) = act_pin w word slot
 act_in w (call.Take slot word) = act_take w slot word

@@ -10,7 +10,8 @@ use Rattle.mps_base.specs.declared.names.Name.{Name}
 use Rattle.mps_base.specs.declared.names.Kind.TheVariants as kind
 use Rattle.mps_base.specs.declared.names.Rank.TheVariants as rank
 use Rattle.mps_model.specs.Graph.{Graph, Thing, TableThing, LabelThing, NamedThing, thing_named, Cell, HeadCell, NumberCell, ReferenceCell, Body, Automatic, Manual, Object, Reservation, Point, AreaWord, PlainWord, Hold, is_automatic, is_weak_object, new_cells, targets_of_cells, with_target_cell, graph_with_cells, empty_graph, ids_in_slots, ids_in_blocks}
-use Rattle.mps_model.specs.World.{World, Pool, PointMemory, Tail, is_automatic_kind, is_weak_kind, pool_is, pool_at, is_live, is_live_and, live_ids, object_is, pool_of, words_of, extent, covered, shown_word, lies_in, Collected, empty_run, empty_world}
+use Rattle.mps_model.specs.Collection.{empty_collection}
+use Rattle.mps_model.specs.World.{World, Pool, PointMemory, Tail, is_automatic_kind, is_weak_kind, pool_is, pool_at, is_live, is_live_and, live_ids, object_is, pool_of, words_of, extent, covered, shown_word, lies_in, Collected, Parked, TransformPair, is_parked, is_running, ids_in_pairs, empty_run, empty_world}
 use Rattle.mps_model.specs.Making.{is_weak_rank, is_block_size}
 use Rattle.mps_model.specs.Dependents.{may_depend}
 
@@ -157,6 +158,10 @@ pub record IsWellFormed (w : World) : Type 0 where
   pub labels : IsTrue (are_labels w.graph 0 w.graph.labels)
   -- each object with a dependent is weak, its dependent isn't, and both are live
   pub dependents : IsTrue (list_all (is_right_pair w) w.graph.dependents)
+  -- no collection runs in a parked arena
+  pub parked : IsTrue (not (is_parked w && is_running w))
+  -- both objects of each pair of a transform are live and automatic
+  pub transforms : IsTrue (list_all (is_live_automatic w) (ids_in_pairs w.state))
 
 -- the name of a label
 abbrev ring : Name
@@ -190,6 +195,7 @@ small_world = record empty_world {
       ∷ record { base = 0x2000; grains = 1; pool = 0; generation = 0; rank = rank.Weak } ∷ [];
   addresses = Some 0x1000 ∷ Some 0x2000 ∷ [];
   point_memories = record { reserved_at = 0x1010; buffer = empty_run } ∷ [];
+  state = Parked (record { transform = 0; old = 1; new = 0 } ∷ []);
 }
 
 pub small_world_is_well_formed : IsWellFormed small_world
@@ -208,6 +214,8 @@ small_world_is_well_formed = record {
   messages = refl;
   labels = refl;
   dependents = refl;
+  parked = refl;
+  transforms = refl;
 }
 
 -- what breaks it, a fact at a time
@@ -258,6 +266,23 @@ a_weak_dependent w = let h : false ≡ true = w.dependents in absurd cc
 
 pub a_pair_of_a_freed_holder : IsWellFormed (record small_world { addresses = Some 0x1000 ∷ None ∷ [] }) → ⊥
 a_pair_of_a_freed_holder w = let h : false ≡ true = w.dependents in absurd cc
+
+pub a_collection_in_a_parked_arena :
+    IsWellFormed (record small_world { collection = Some (empty_collection small_world.graph) }) → ⊥
+a_collection_in_a_parked_arena w = let h : false ≡ true = w.parked in absurd cc
+
+-- the small world with this pair of a transform
+abbrev with_transform_pair : TransformPair → World
+with_transform_pair p = record small_world { state = Parked (p ∷ []) }
+
+pub a_transform_of_no_object : IsWellFormed (with_transform_pair (record { transform = 0; old = 1; new = 2 })) → ⊥
+a_transform_of_no_object w = let h : false ≡ true = w.transforms in absurd cc
+
+pub a_transform_of_a_freed_object : IsWellFormed (record small_world {
+  graph = record small_world.graph { dependents = [] };
+  addresses = Some 0x1000 ∷ None ∷ [];
+}) → ⊥
+a_transform_of_a_freed_object w = let h : false ≡ true = w.transforms in absurd cc
 
 pub a_reference_to_nothing : IsWellFormed (record small_world {
   graph = graph_with_cells small_world.graph 1

@@ -43,10 +43,17 @@ pub record Tail : Type 0 where
   pub generation : ℕ
   pub words : Run
 
+-- a pair of a transform: the number of the transform, an old object, and the new one that is to stand in its place
+pub record TransformPair : Type 0 where
+  pub transform : ℕ
+  pub old : Id
+  pub new : Id
+
 pub data ArenaState : Type 0 where
   Unclamped : ArenaState
   Clamped : ArenaState
-  Parked : ArenaState
+  -- a parked arena has the pairs of all transforms, in the order of adding. No other arena has any
+  Parked : (pairs : List TransformPair) → ArenaState
 
 -- a location dependency
 pub record Dependency : Type 0 where
@@ -115,10 +122,31 @@ is_running w = is_some w.collection
 abbrev pub is_unclamped_state : ArenaState → Bool
 is_unclamped_state Unclamped = true
 is_unclamped_state Clamped = false
-is_unclamped_state Parked = false
+is_unclamped_state (Parked pairs) = false
 
 abbrev pub is_unclamped : World → Bool
 is_unclamped w = is_unclamped_state w.state
+
+abbrev pub is_parked_state : ArenaState → Bool
+is_parked_state Unclamped = false
+is_parked_state Clamped = false
+is_parked_state (Parked pairs) = true
+
+abbrev pub is_parked : World → Bool
+is_parked w = is_parked_state w.state
+
+-- the pairs of all transforms
+abbrev pub pairs_in : ArenaState → List TransformPair
+pairs_in Unclamped = []
+pairs_in Clamped = []
+pairs_in (Parked pairs) = pairs
+
+abbrev pub ids_of_pair : TransformPair → List ℕ
+ids_of_pair p = p.old ∷ p.new ∷ []
+
+-- the objects in pairs of transforms
+abbrev pub ids_in_pairs : ArenaState → List ℕ
+ids_in_pairs s = flat_map ids_of_pair (pairs_in s)
 
 -- ---- pools
 

@@ -212,6 +212,26 @@ pub enum Call {
         holder: Slot,
     },
 
+    // Transforms.
+    /// `transform X`: makes a transform, without pairs.
+    Transform {
+        transform: Name,
+    },
+    /// `transadd X S T`: adds a pair of an old object and the new one that is to stand in its place.
+    TransformAdd {
+        transform: Name,
+        old: Slot,
+        new: Slot,
+    },
+    /// `transapply X`: replaces the references to the old objects of a transform, all at once, and drops it.
+    TransformApply {
+        transform: Name,
+    },
+    /// `transdrop X`: drops a transform.
+    TransformDrop {
+        transform: Name,
+    },
+
     // Areas.
     /// `poke A.I VALUE`: stores a word into an area.
     Poke {

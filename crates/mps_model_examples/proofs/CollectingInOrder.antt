@@ -17,43 +17,43 @@ linked_leaves = refl
 
 linked_is_legal : IsLegalHistory weak_and_linked
 linked_is_legal = (
-  answered tt refl refl tt refl refl refl refl refl,
+  answered tt refl refl tt refl refl refl refl refl refl,
   (
-    answered tt refl refl tt refl refl refl refl refl,
+    answered tt refl refl tt refl refl refl refl refl refl,
     (
-      answered tt refl refl tt refl refl refl refl refl,
+      answered tt refl refl tt refl refl refl refl refl refl,
       (
-        answered tt refl refl tt refl refl refl refl refl,
+        answered tt refl refl tt refl refl refl refl refl refl,
         (
           answered tt
-              (record { poll = refl; segment = refl }) refl tt refl refl refl refl refl,
+              (record { poll = refl; segment = refl }) refl tt refl refl refl refl refl refl,
           (
-            answered tt refl refl tt refl refl refl refl refl,
+            answered tt refl refl tt refl refl refl refl refl refl,
             (
-              answered tt (record { poll = refl; segment = refl }) refl tt refl refl refl refl refl,
+              answered tt (record { poll = refl; segment = refl }) refl tt refl refl refl refl refl refl,
               (
-                answered tt refl refl tt refl refl refl refl refl,
+                answered tt refl refl tt refl refl refl refl refl refl,
                 (
-                  answered tt refl refl tt refl refl refl refl refl,
+                  answered tt refl refl tt refl refl refl refl refl refl,
                   (
-                    answered tt refl refl tt refl refl refl refl refl,
+                    answered tt refl refl tt refl refl refl refl refl refl,
                     (
-                      answered tt refl refl tt refl refl refl refl refl,
+                      answered tt refl refl tt refl refl refl refl refl refl,
                       (
-                        answered tt refl refl tt refl refl refl refl refl,
+                        answered tt refl refl tt refl refl refl refl refl refl,
                         (
                           answered tt
-                              (record { poll = refl; segment = refl }) refl tt refl refl refl refl refl,
+                              (record { poll = refl; segment = refl }) refl tt refl refl refl refl refl refl,
                           (
-                            answered tt refl refl tt refl refl refl refl refl,
+                            answered tt refl refl tt refl refl refl refl refl refl,
                             (
-                              answered tt (record { poll = refl; segment = refl }) refl tt refl refl refl refl refl,
+                              answered tt (record { poll = refl; segment = refl }) refl tt refl refl refl refl refl refl,
                               (
-                                answered tt refl refl tt refl refl refl refl refl,
+                                answered tt refl refl tt refl refl refl refl refl refl,
                                 (
-                                  answered tt refl refl tt refl refl refl refl refl,
+                                  answered tt refl refl tt refl refl refl refl refl refl,
                                   (
-                                    answered tt refl refl tt refl refl refl refl refl,
+                                    answered tt refl refl tt refl refl refl refl refl refl,
                                     tt,
                                   ),
                                 ),
@@ -166,9 +166,9 @@ collected_is_legal = (
           );
         };
       }))
-      refl tt refl refl refl refl refl,
+      refl tt refl refl refl refl refl refl,
   (
-    answered tt refl refl tt refl refl refl refl refl,
+    answered tt refl refl tt refl refl refl refl refl refl,
     tt,
   ),
 )

@@ -55,7 +55,7 @@ one_held = record {
 
 steps_are_legal : IsLegalFrom one_held copying_steps
 steps_are_legal = (
-  answered tt refl refl tt refl refl refl refl refl,
+  answered tt refl refl tt refl refl refl refl refl refl,
   (
     answered (
       record { none_runs = refl; of_zones = refl },
@@ -86,12 +86,12 @@ steps_are_legal = (
               })) refl refl;
           exact = record { posts = []; posted = refl; exact = refl; survivors = (begins {id = 0} refl, tt) };
         }))
-        refl tt refl refl refl refl refl,
+        refl tt refl refl refl refl refl refl,
     (
-      answered tt refl refl tt refl refl refl refl refl,
+      answered tt refl refl tt refl refl refl refl refl refl,
       (
-        answered tt refl refl tt refl refl refl refl refl,
-        (answered tt refl refl tt refl refl refl refl refl, tt),
+        answered tt refl refl tt refl refl refl refl refl refl,
+        (answered tt refl refl tt refl refl refl refl refl refl, tt),
       ),
     ),
   ),

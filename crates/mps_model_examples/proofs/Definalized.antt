@@ -26,26 +26,26 @@ anew_leaves = refl
 
 once_is_legal : IsLegalHistory registered_once
 once_is_legal = (
-  answered tt refl refl tt refl refl refl refl refl,
+  answered tt refl refl tt refl refl refl refl refl refl,
   (
-    answered tt refl refl tt refl refl refl refl refl,
+    answered tt refl refl tt refl refl refl refl refl refl,
     (
-      answered tt refl refl tt refl refl refl refl refl,
+      answered tt refl refl tt refl refl refl refl refl refl,
       (
-        answered tt refl refl tt refl refl refl refl refl,
+        answered tt refl refl tt refl refl refl refl refl refl,
         (
           answered tt
-              (record { poll = refl; segment = refl }) refl tt refl refl refl refl refl,
+              (record { poll = refl; segment = refl }) refl tt refl refl refl refl refl refl,
           (
-            answered tt refl refl tt refl refl refl refl refl,
+            answered tt refl refl tt refl refl refl refl refl refl,
             (
-              answered tt refl refl tt refl refl refl refl refl,
+              answered tt refl refl tt refl refl refl refl refl refl,
               (
-                answered tt refl refl tt refl refl refl refl refl,
+                answered tt refl refl tt refl refl refl refl refl refl,
                 (
-                  answered tt refl refl tt refl refl refl refl refl,
+                  answered tt refl refl tt refl refl refl refl refl refl,
                   (
-                    answered tt refl refl tt refl refl refl refl refl,
+                    answered tt refl refl tt refl refl refl refl refl refl,
                     tt,
                   ),
                 ),
@@ -66,13 +66,13 @@ anew_is_legal = (
       record { first = refl; placement = (refl, refl); of_pool = refl; of_generation = refl },
       (record { tracing = refl; condemned = refl; not_settled = refl; copying = refl; at_placement = refl }, tt),
     ),
-  ) refl refl tt refl refl refl refl refl,
+  ) refl refl tt refl refl refl refl refl refl,
   (
-    answered tt refl refl tt refl refl refl refl refl,
+    answered tt refl refl tt refl refl refl refl refl refl,
     (
-      answered tt refl refl tt refl refl refl refl refl,
+      answered tt refl refl tt refl refl refl refl refl refl,
       (
-        answered tt refl refl tt refl refl refl refl refl,
+        answered tt refl refl tt refl refl refl refl refl refl,
         tt,
       ),
     ),
@@ -102,9 +102,9 @@ rest_is_legal = (
               refl;
         }),
       )) refl (omega arith) refl)
-      refl tt refl refl refl refl refl,
+      refl tt refl refl refl refl refl refl,
   (
-    answered tt refl refl tt refl refl refl refl refl,
+    answered tt refl refl tt refl refl refl refl refl refl,
     tt,
   ),
 )

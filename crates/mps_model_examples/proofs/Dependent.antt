@@ -17,35 +17,35 @@ use Rattle.mps_model_examples.proofs.Units.{to_end, at_rest}
 
 linked_is_legal : IsLegalHistory key_and_value
 linked_is_legal = (
-  answered tt refl refl tt refl refl refl refl refl,
+  answered tt refl refl tt refl refl refl refl refl refl,
   (
-    answered tt refl refl tt refl refl refl refl refl,
+    answered tt refl refl tt refl refl refl refl refl refl,
     (
-      answered tt refl refl tt refl refl refl refl refl,
+      answered tt refl refl tt refl refl refl refl refl refl,
       (
-        answered tt refl refl tt refl refl refl refl refl,
+        answered tt refl refl tt refl refl refl refl refl refl,
         (
-          answered tt refl refl tt refl refl refl refl refl,
+          answered tt refl refl tt refl refl refl refl refl refl,
           (
-            answered tt (record { poll = refl; segment = refl }) refl tt refl refl refl refl refl,
+            answered tt (record { poll = refl; segment = refl }) refl tt refl refl refl refl refl refl,
             (
-              answered tt refl refl tt refl refl refl refl refl,
+              answered tt refl refl tt refl refl refl refl refl refl,
               (
-                answered tt (record { poll = refl; segment = refl }) refl tt refl refl refl refl refl,
+                answered tt (record { poll = refl; segment = refl }) refl tt refl refl refl refl refl refl,
                 (
-                  answered tt refl refl tt refl refl refl refl refl,
+                  answered tt refl refl tt refl refl refl refl refl refl,
                   (
-                    answered tt refl refl tt refl refl refl refl refl,
+                    answered tt refl refl tt refl refl refl refl refl refl,
                     (
-                      answered tt (record { poll = refl; segment = refl }) refl tt refl refl refl refl refl,
+                      answered tt (record { poll = refl; segment = refl }) refl tt refl refl refl refl refl refl,
                       (
-                        answered tt refl refl tt refl refl refl refl refl,
+                        answered tt refl refl tt refl refl refl refl refl refl,
                         (
-                          answered tt refl refl tt refl refl refl refl refl,
+                          answered tt refl refl tt refl refl refl refl refl refl,
                           (
-                            answered tt refl refl tt refl refl refl refl refl,
+                            answered tt refl refl tt refl refl refl refl refl refl,
                             (
-                              answered tt refl refl tt refl refl refl refl refl,
+                              answered tt refl refl tt refl refl refl refl refl refl,
                               tt,
                             ),
                           ),
@@ -68,7 +68,7 @@ abbrev linked : World
 linked = key_world (Some 0) (Some 1) (Some 0x1000 ∷ Some 0x1010 ∷ Some 0x2000 ∷ []) [] Unclamped
 
 abbrev gone : World
-gone = key_world None None (None ∷ Some 0x1010 ∷ Some 0x2000 ∷ []) (0 ∷ []) Parked
+gone = key_world None None (None ∷ Some 0x1010 ∷ Some 0x2000 ∷ []) (0 ∷ []) (Parked [])
 
 linked_leaves : world_after_steps empty_world key_and_value ≡ linked
 linked_leaves = refl
@@ -143,21 +143,21 @@ collect_is_legal = (
           survivors = ((λ path. false_is_not_true (PathLeads-closed _ _ (1 ∷ 2 ∷ []) refl refl path)), (begins refl, (begins refl, tt)));
         };
       }))
-      refl tt refl refl refl refl refl,
+      refl tt refl refl refl refl refl refl,
   tt,
 )
 
 gone_is_legal : IsLegalFrom gone value_gone
 gone_is_legal = (
-  answered tt refl refl tt refl refl refl refl refl,
+  answered tt refl refl tt refl refl refl refl refl refl,
   (
-    answered tt refl refl tt refl refl refl refl refl,
+    answered tt refl refl tt refl refl refl refl refl refl,
     (
-      answered tt refl refl tt refl refl refl refl refl,
+      answered tt refl refl tt refl refl refl refl refl refl,
       (
-        answered tt refl refl tt refl refl refl refl refl,
+        answered tt refl refl tt refl refl refl refl refl refl,
         (
-          answered tt refl refl tt refl refl refl refl refl,
+          answered tt refl refl tt refl refl refl refl refl refl,
           tt,
         ),
       ),

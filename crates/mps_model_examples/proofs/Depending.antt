@@ -10,26 +10,26 @@ depending_leaves = refl
 
 added_is_legal : IsLegalHistory depending
 added_is_legal = (
-  answered tt refl refl tt refl refl refl refl refl,
+  answered tt refl refl tt refl refl refl refl refl refl,
   (
-    answered tt refl refl tt refl refl refl refl refl,
+    answered tt refl refl tt refl refl refl refl refl refl,
     (
-      answered tt refl refl tt refl refl refl refl refl,
+      answered tt refl refl tt refl refl refl refl refl refl,
       (
-        answered tt refl refl tt refl refl refl refl refl,
+        answered tt refl refl tt refl refl refl refl refl refl,
         (
           answered tt
-              (record { poll = refl; segment = refl }) refl tt refl refl refl refl refl,
+              (record { poll = refl; segment = refl }) refl tt refl refl refl refl refl refl,
           (
-            answered tt refl refl tt refl refl refl refl refl,
+            answered tt refl refl tt refl refl refl refl refl refl,
             (
-              answered tt refl refl tt refl refl refl refl refl,
+              answered tt refl refl tt refl refl refl refl refl refl,
               (
-                answered tt refl refl tt refl refl refl refl refl,
+                answered tt refl refl tt refl refl refl refl refl refl,
                 (
-                  answered tt refl refl tt refl refl refl refl refl,
+                  answered tt refl refl tt refl refl refl refl refl refl,
                   (
-                    answered tt refl refl tt refl refl refl refl refl,
+                    answered tt refl refl tt refl refl refl refl refl refl,
                     tt,
                   ),
                 ),
@@ -44,7 +44,7 @@ added_is_legal = (
 
 stale_is_legal : IsLegalFrom depending_world stale_by_move
 stale_is_legal = (
-  answered tt refl refl tt refl refl refl refl refl,
+  answered tt refl refl tt refl refl refl refl refl refl,
   (
     answered (
       record { none_runs = refl; of_zones = refl },
@@ -52,23 +52,23 @@ stale_is_legal = (
         record { first = refl; placement = (refl, refl); of_pool = refl; of_generation = refl },
         (record { tracing = refl; condemned = refl; not_settled = refl; copying = refl; at_placement = refl }, tt),
       ),
-    ) refl refl tt refl refl refl refl refl,
+    ) refl refl tt refl refl refl refl refl refl,
     (
-      answered tt refl refl tt refl refl refl refl refl,
+      answered tt refl refl tt refl refl refl refl refl refl,
       (
-        answered tt refl refl tt refl refl refl refl refl,
+        answered tt refl refl tt refl refl refl refl refl refl,
         (
-          answered tt refl refl tt refl refl refl refl refl,
+          answered tt refl refl tt refl refl refl refl refl refl,
           (
-            answered tt refl refl tt refl refl refl refl refl,
+            answered tt refl refl tt refl refl refl refl refl refl,
             (
-              answered tt refl refl tt refl refl refl refl refl,
+              answered tt refl refl tt refl refl refl refl refl refl,
               (
-                answered tt refl refl tt refl refl refl refl refl,
+                answered tt refl refl tt refl refl refl refl refl refl,
                 (
-                  answered tt refl refl tt refl refl refl refl refl,
+                  answered tt refl refl tt refl refl refl refl refl refl,
                   (
-                    answered tt refl refl tt refl refl refl refl refl,
+                    answered tt refl refl tt refl refl refl refl refl refl,
                     tt,
                   ),
                 ),

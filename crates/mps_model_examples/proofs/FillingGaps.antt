@@ -27,18 +27,18 @@ two_leaves = refl
 
 one_is_legal : IsLegalHistory one_grain
 one_is_legal = (
-  answered tt refl refl tt refl refl refl refl refl,
+  answered tt refl refl tt refl refl refl refl refl refl,
   (
-    answered tt refl refl tt refl refl refl refl refl,
+    answered tt refl refl tt refl refl refl refl refl refl,
     (
-      answered tt refl refl tt refl refl refl refl refl,
+      answered tt refl refl tt refl refl refl refl refl refl,
       (
-        answered tt refl refl tt refl refl refl refl refl,
+        answered tt refl refl tt refl refl refl refl refl refl,
         (
           answered tt
-              (record { poll = refl; segment = refl }) refl tt refl refl refl refl refl,
+              (record { poll = refl; segment = refl }) refl tt refl refl refl refl refl refl,
           (
-            answered tt refl refl tt refl refl refl refl refl,
+            answered tt refl refl tt refl refl refl refl refl refl,
             tt,
           ),
         ),
@@ -49,11 +49,11 @@ one_is_legal = (
 
 two_is_legal : IsLegalFrom one gap_filled
 two_is_legal = (
-  answered tt (record { poll = refl; segment = refl }) refl tt refl refl refl refl refl,
+  answered tt (record { poll = refl; segment = refl }) refl tt refl refl refl refl refl refl,
   (
-    answered tt (record { poll = refl; segment = refl }) refl tt refl refl refl refl refl,
+    answered tt (record { poll = refl; segment = refl }) refl tt refl refl refl refl refl refl,
     (
-      answered tt refl refl tt refl refl refl refl refl,
+      answered tt refl refl tt refl refl refl refl refl refl,
       tt,
     ),
   ),
@@ -103,13 +103,13 @@ lowest_is_legal = (
           survivors = ((λ path. false_is_not_true (PathLeads-closed _ _ (1 ∷ []) refl refl path)), (begins {id = 1} refl, tt));
         };
       }))
-      refl tt refl refl refl refl refl,
+      refl tt refl refl refl refl refl refl,
   (
-    answered tt (record { poll = refl; segment = refl }) refl tt refl refl refl refl refl,
+    answered tt (record { poll = refl; segment = refl }) refl tt refl refl refl refl refl refl,
     (
-      answered tt refl refl tt refl refl refl refl refl,
+      answered tt refl refl tt refl refl refl refl refl refl,
       (
-        answered tt refl refl tt refl refl refl refl refl,
+        answered tt refl refl tt refl refl refl refl refl refl,
         tt,
       ),
     ),

@@ -20,10 +20,10 @@ abbrev world_1 : World
 world_1 = twice_registered
 
 abbrev world_2 : World
-world_2 = dropped_block (0 ∷ []) [] 0x2000 empty_run (tail_after 0x2000) (2 ∷ []) Parked
+world_2 = dropped_block (0 ∷ []) [] 0x2000 empty_run (tail_after 0x2000) (2 ∷ []) (Parked [])
 
 abbrev world_3 : World
-world_3 = dropped_block [] [] 0x1000 empty_run (tail_after 0x1000) (2 ∷ 4 ∷ []) Parked
+world_3 = dropped_block [] [] 0x1000 empty_run (tail_after 0x1000) (2 ∷ 4 ∷ []) (Parked [])
 
 leaves_1 : world_after_steps empty_world registering ≡ world_1
 leaves_1 = refl
@@ -36,30 +36,30 @@ leaves_3 = refl
 
 -- one message waits
 abbrev pub waiting_world : World
-waiting_world = dropped_block (0 ∷ []) (0 ∷ []) 0x2000 empty_run (tail_after 0x2000) (2 ∷ []) Parked
+waiting_world = dropped_block (0 ∷ []) (0 ∷ []) 0x2000 empty_run (tail_after 0x2000) (2 ∷ []) (Parked [])
 
 pub waiting_leaves : world_after_steps empty_world waiting ≡ waiting_world
 waiting_leaves = refl
 
 registering_is_legal : IsLegalHistory registering
 registering_is_legal = (
-  answered tt refl refl tt refl refl refl refl refl,
+  answered tt refl refl tt refl refl refl refl refl refl,
   (
-    answered tt refl refl tt refl refl refl refl refl,
+    answered tt refl refl tt refl refl refl refl refl refl,
     (
-      answered tt refl refl tt refl refl refl refl refl,
+      answered tt refl refl tt refl refl refl refl refl refl,
       (
-        answered tt refl refl tt refl refl refl refl refl,
+        answered tt refl refl tt refl refl refl refl refl refl,
         (
           answered tt
-              (record { poll = refl; segment = refl }) refl tt refl refl refl refl refl,
+              (record { poll = refl; segment = refl }) refl tt refl refl refl refl refl refl,
           (
-            answered tt refl refl tt refl refl refl refl refl,
+            answered tt refl refl tt refl refl refl refl refl refl,
             (
-              answered tt refl refl tt refl refl refl refl refl,
+              answered tt refl refl tt refl refl refl refl refl refl,
               (
-                answered tt refl refl tt refl refl refl refl refl,
-                (answered tt refl refl tt refl refl refl refl refl, tt),
+                answered tt refl refl tt refl refl refl refl refl refl,
+                (answered tt refl refl tt refl refl refl refl refl refl, tt),
               ),
             ),
           ),
@@ -123,12 +123,12 @@ first_message_is_legal = (
           survivors = (begins {id = 0} refl, tt);
         };
       }))
-      refl tt refl refl refl refl refl,
+      refl tt refl refl refl refl refl refl,
   (
-    answered tt refl refl tt refl refl refl refl refl,
+    answered tt refl refl tt refl refl refl refl refl refl,
     (
-      answered tt refl refl tt refl refl refl refl refl,
-      (answered tt refl refl tt refl refl refl refl refl, tt),
+      answered tt refl refl tt refl refl refl refl refl refl,
+      (answered tt refl refl tt refl refl refl refl refl refl, tt),
     ),
   ),
 )
@@ -187,10 +187,10 @@ second_message_is_legal = (
           survivors = (begins {id = 0} refl, tt);
         };
       }))
-      refl tt refl refl refl refl refl,
+      refl tt refl refl refl refl refl refl,
   (
-    answered tt refl refl tt refl refl refl refl refl,
-    (answered tt refl refl tt refl refl refl refl refl, tt),
+    answered tt refl refl tt refl refl refl refl refl refl,
+    (answered tt refl refl tt refl refl refl refl refl refl, tt),
   ),
 )
 
@@ -236,10 +236,10 @@ freeing_is_legal = (
           survivors = ((λ path. false_is_not_true (PathLeads-closed _ _ ([]) refl refl path)), tt);
         };
       }))
-      refl tt refl refl refl refl refl,
+      refl tt refl refl refl refl refl refl,
   (
-    answered tt refl refl tt refl refl refl refl refl,
-    (answered tt refl refl tt refl refl refl refl refl, tt),
+    answered tt refl refl tt refl refl refl refl refl refl,
+    (answered tt refl refl tt refl refl refl refl refl refl, tt),
   ),
 )
 

@@ -8,16 +8,16 @@ use Rattle.mps_model_examples.proofs.Steps.{answered}
 
 pub flipped_is_legal : FlippedIsLegal
 flipped_is_legal = (
-  answered tt refl refl tt refl refl refl refl refl,
+  answered tt refl refl tt refl refl refl refl refl refl,
   (
-    answered tt refl refl tt refl refl refl refl refl,
+    answered tt refl refl tt refl refl refl refl refl refl,
     (
-      answered tt refl refl tt refl refl refl refl refl,
+      answered tt refl refl tt refl refl refl refl refl refl,
       (
-        answered tt refl refl tt refl refl refl refl refl,
+        answered tt refl refl tt refl refl refl refl refl refl,
         (
           answered tt
-              (record { poll = refl; segment = refl }) refl tt refl refl refl refl refl,
+              (record { poll = refl; segment = refl }) refl tt refl refl refl refl refl refl,
           (
             answered (
               record { none_runs = refl; of_zones = refl },
@@ -43,14 +43,14 @@ flipped_is_legal = (
                       })) refl refl;
                   exact = record { posts = []; posted = refl; exact = refl; survivors = tt };
                 }))
-                refl tt refl refl refl refl refl,
+                refl tt refl refl refl refl refl refl,
             (
-              answered tt refl refl tt refl refl refl refl refl,
+              answered tt refl refl tt refl refl refl refl refl refl,
               (
-                answered tt refl refl tt refl refl refl refl refl,
+                answered tt refl refl tt refl refl refl refl refl refl,
                 (
-                  answered tt refl refl tt refl refl refl refl refl,
-                  (answered tt refl refl tt refl refl refl refl refl, tt),
+                  answered tt refl refl tt refl refl refl refl refl refl,
+                  (answered tt refl refl tt refl refl refl refl refl refl, tt),
                 ),
               ),
             ),

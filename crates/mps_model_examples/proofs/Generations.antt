@@ -15,7 +15,7 @@ abbrev young : World
 young = generations_world (segment_of 0x1000 0 ∷ []) 0x1000 (words 514 510) [] Unclamped [] None
 
 abbrev old : World
-old = generations_world (segment_of 0x2000 1 ∷ []) 0x2000 empty_run (tail_of_last 1026) Parked (2 ∷ []) None
+old = generations_world (segment_of 0x2000 1 ∷ []) 0x2000 empty_run (tail_of_last 1026) (Parked []) (2 ∷ []) None
 
 abbrev begun : World
 begun =
@@ -33,20 +33,20 @@ begun_leaves = refl
 
 young_is_legal : IsLegalHistory in_generation_zero
 young_is_legal = (
-  answered tt refl refl tt refl refl refl refl refl,
+  answered tt refl refl tt refl refl refl refl refl refl,
   (
-    answered tt refl refl tt refl refl refl refl refl,
+    answered tt refl refl tt refl refl refl refl refl refl,
     (
-      answered tt refl refl tt refl refl refl refl refl,
+      answered tt refl refl tt refl refl refl refl refl refl,
       (
-        answered tt refl refl tt refl refl refl refl refl,
+        answered tt refl refl tt refl refl refl refl refl refl,
         (
-          answered tt refl refl tt refl refl refl refl refl,
+          answered tt refl refl tt refl refl refl refl refl refl,
           (
             answered tt
-                (record { poll = refl; segment = refl }) refl tt refl refl refl refl refl,
+                (record { poll = refl; segment = refl }) refl tt refl refl refl refl refl refl,
             (
-              answered tt refl refl tt refl refl refl refl refl,
+              answered tt refl refl tt refl refl refl refl refl refl,
               tt,
             ),
           ),
@@ -64,9 +64,9 @@ first_is_legal = (
       record { first = refl; placement = (refl, refl); of_pool = refl; of_generation = refl },
       (record { tracing = refl; condemned = refl; not_settled = refl; copying = refl; at_placement = refl }, tt),
     ),
-  ) refl refl tt refl refl refl refl refl,
+  ) refl refl tt refl refl refl refl refl refl,
   (
-    answered tt refl refl tt refl refl refl refl refl,
+    answered tt refl refl tt refl refl refl refl refl refl,
     (
       answered (
         record { empty = refl; condemned = refl },
@@ -89,7 +89,7 @@ first_is_legal = (
                   refl;
             }),
           )) refl refl)
-          refl tt refl refl refl refl refl,
+          refl tt refl refl refl refl refl refl,
       tt,
     ),
   ),
@@ -100,9 +100,9 @@ second_is_legal = (
   answered (
     record { none_runs = refl; of_zones = refl },
     (record { survivors = tt; copied = refl; segments = refl }, tt),
-  ) refl refl tt refl refl refl refl refl,
+  ) refl refl tt refl refl refl refl refl refl,
   (
-    answered tt refl refl tt refl refl refl refl refl,
+    answered tt refl refl tt refl refl refl refl refl refl,
     (
       answered (
         record { none_runs = refl; of_zones = refl },
@@ -110,7 +110,7 @@ second_is_legal = (
           record { first = refl; placement = (refl, refl); of_pool = refl; of_generation = refl },
           (record { tracing = refl; condemned = refl; not_settled = refl; copying = refl; at_placement = refl }, tt),
         ),
-      ) refl refl tt refl refl refl refl refl,
+      ) refl refl tt refl refl refl refl refl refl,
       tt,
     ),
   ),
@@ -181,9 +181,9 @@ third_is_legal = (
           exact = record { posts = []; posted = refl; exact = refl; survivors = (begins {id = 0} refl, tt) };
         };
       })
-      refl tt refl refl refl refl refl,
+      refl tt refl refl refl refl refl refl,
   (
-    answered tt refl refl tt refl refl refl refl refl,
+    answered tt refl refl tt refl refl refl refl refl refl,
     tt,
   ),
 )

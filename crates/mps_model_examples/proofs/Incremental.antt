@@ -34,25 +34,25 @@ get_leaves = refl
 
 linked_is_legal : IsLegalHistory linked
 linked_is_legal = (
-  answered tt refl refl tt refl refl refl refl refl,
+  answered tt refl refl tt refl refl refl refl refl refl,
   (
-    answered tt refl refl tt refl refl refl refl refl,
+    answered tt refl refl tt refl refl refl refl refl refl,
     (
-      answered tt refl refl tt refl refl refl refl refl,
+      answered tt refl refl tt refl refl refl refl refl refl,
       (
-        answered tt refl refl tt refl refl refl refl refl,
+        answered tt refl refl tt refl refl refl refl refl refl,
         (
           answered tt
-              (record { poll = refl; segment = refl }) refl tt refl refl refl refl refl,
+              (record { poll = refl; segment = refl }) refl tt refl refl refl refl refl refl,
           (
-            answered tt refl refl tt refl refl refl refl refl,
+            answered tt refl refl tt refl refl refl refl refl refl,
             (
-              answered tt (record { poll = refl; segment = refl }) refl tt refl refl refl refl refl,
+              answered tt (record { poll = refl; segment = refl }) refl tt refl refl refl refl refl refl,
               (
-                answered tt refl refl tt refl refl refl refl refl,
+                answered tt refl refl tt refl refl refl refl refl refl,
                 (
-                  answered tt refl refl tt refl refl refl refl refl,
-                  (answered tt refl refl tt refl refl refl refl refl, tt),
+                  answered tt refl refl tt refl refl refl refl refl refl,
+                  (answered tt refl refl tt refl refl refl refl refl refl, tt),
                 ),
               ),
             ),
@@ -71,7 +71,7 @@ start_is_legal = (
       record { first = refl; placement = (refl, refl); of_pool = refl; of_generation = refl },
       (record { tracing = refl; condemned = refl; not_settled = refl; copying = refl; at_placement = refl }, tt),
     ),
-  ) refl refl tt refl refl refl refl refl,
+  ) refl refl tt refl refl refl refl refl refl,
   tt,
 )
 
@@ -80,7 +80,7 @@ get_is_legal = (
   answered (record { tracing = refl; condemned = refl; not_settled = refl; copying = refl; at_placement = refl }, tt)
       (inl (moves_target (record { holder = 1; scanned = record { in_segment = refl; may_be_scanned = inl refl }; refers = refl })
       scans_no_more))
-      refl tt refl refl refl refl refl,
+      refl tt refl refl refl refl refl refl,
   tt,
 )
 
@@ -109,8 +109,8 @@ last_is_legal = (
           }),
         ),
       )) refl (omega arith) refl)
-      refl tt refl refl refl refl refl,
-  (answered tt refl refl tt refl refl refl refl refl, tt),
+      refl tt refl refl refl refl refl refl,
+  (answered tt refl refl tt refl refl refl refl refl refl, tt),
 )
 
 pub incremental_is_legal : IncrementalIsLegal

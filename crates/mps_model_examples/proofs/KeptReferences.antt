@@ -86,27 +86,27 @@ weak_leaves = refl
 
 pub weak_is_legal : IsLegalHistory weakly_linked
 weak_is_legal = (
-  answered tt refl refl tt refl refl refl refl refl,
+  answered tt refl refl tt refl refl refl refl refl refl,
   (
-    answered tt refl refl tt refl refl refl refl refl,
+    answered tt refl refl tt refl refl refl refl refl refl,
     (
-      answered tt refl refl tt refl refl refl refl refl,
+      answered tt refl refl tt refl refl refl refl refl refl,
       (
-        answered tt refl refl tt refl refl refl refl refl,
+        answered tt refl refl tt refl refl refl refl refl refl,
         (
-          answered tt (record { poll = refl; segment = refl }) refl tt refl refl refl refl refl,
+          answered tt (record { poll = refl; segment = refl }) refl tt refl refl refl refl refl refl,
           (
-            answered tt refl refl tt refl refl refl refl refl,
+            answered tt refl refl tt refl refl refl refl refl refl,
             (
-              answered tt refl refl tt refl refl refl refl refl,
+              answered tt refl refl tt refl refl refl refl refl refl,
               (
-                answered tt refl refl tt refl refl refl refl refl,
+                answered tt refl refl tt refl refl refl refl refl refl,
                 (
-                  answered tt (record { poll = refl; segment = refl }) refl tt refl refl refl refl refl,
+                  answered tt (record { poll = refl; segment = refl }) refl tt refl refl refl refl refl refl,
                   (
-                    answered tt refl refl tt refl refl refl refl refl,
+                    answered tt refl refl tt refl refl refl refl refl refl,
                     (
-                      answered tt refl refl tt refl refl refl refl refl,
+                      answered tt refl refl tt refl refl refl refl refl refl,
                       tt,
                     ),
                   ),
@@ -125,21 +125,21 @@ pinned_leaves = refl
 
 pinned_is_legal : IsLegalFrom weak_world pinned_link
 pinned_is_legal = (
-  answered tt refl refl tt refl refl refl refl refl,
+  answered tt refl refl tt refl refl refl refl refl refl,
   (
-    answered tt refl refl tt refl refl refl refl refl,
+    answered tt refl refl tt refl refl refl refl refl refl,
     (
-      answered tt refl refl tt refl refl refl refl refl,
+      answered tt refl refl tt refl refl refl refl refl refl,
       (
-        answered tt refl refl tt refl refl refl refl refl,
+        answered tt refl refl tt refl refl refl refl refl refl,
         (
-          answered tt (record { poll = refl; segment = refl }) refl tt refl refl refl refl refl,
+          answered tt (record { poll = refl; segment = refl }) refl tt refl refl refl refl refl refl,
           (
-            answered tt refl refl tt refl refl refl refl refl,
+            answered tt refl refl tt refl refl refl refl refl refl,
             (
-              answered tt refl refl tt refl refl refl refl refl,
+              answered tt refl refl tt refl refl refl refl refl refl,
               (
-                answered tt refl refl tt refl refl refl refl refl,
+                answered tt refl refl tt refl refl refl refl refl refl,
                 tt,
               ),
             ),
@@ -165,7 +165,7 @@ dropped_leaves =
 dropped_is_legal : IsLegalHistory dropped
 dropped_is_legal =
     IsLegalFrom-then empty_world pinned_world (weakly_linked ++ pinned_link) (drop_block 20 ∷ []) both_leave both_are_legal
-    (answered tt refl refl tt refl refl refl refl refl, tt)
+    (answered tt refl refl tt refl refl refl refl refl refl, tt)
 
 -- ---- no splat
 
@@ -201,7 +201,7 @@ kept_is_legal =
         survivors = (goes_on (begins {id = 2} refl) refl, (begins refl, (begins refl, tt)));
       };
     }))
-    refl tt refl refl refl refl refl
+    refl tt refl refl refl refl refl refl
 
 pub splat_of_kept_target : SplatOfKeptTarget
 splat_of_kept_target = record {
@@ -224,7 +224,7 @@ registered_leaves =
 registered_is_legal : IsLegalHistory registered
 registered_is_legal =
     IsLegalFrom-then empty_world pinned_world (weakly_linked ++ pinned_link) registering both_leave both_are_legal
-    (answered tt refl refl tt refl refl refl refl refl, (answered tt refl refl tt refl refl refl refl refl, tt))
+    (answered tt refl refl tt refl refl refl refl refl refl, (answered tt refl refl tt refl refl refl refl refl refl, tt))
 
 kept_registered_is_legal : IsLegalStep registered_world (all_kept 22)
 kept_registered_is_legal =
@@ -258,7 +258,7 @@ kept_registered_is_legal =
         survivors = (goes_on (begins {id = 2} refl) refl, (begins refl, (begins refl, tt)));
       };
     }))
-    refl tt refl refl refl refl refl
+    refl tt refl refl refl refl refl refl
 
 pub post_of_kept_target : PostOfKeptTarget
 post_of_kept_target = record {
@@ -286,7 +286,7 @@ begun_leaves =
 begun_is_legal : IsLegalHistory begun
 begun_is_legal =
     IsLegalFrom-then empty_world dropped_world dropped (start_linked ∷ []) dropped_leaves dropped_is_legal
-    (answered (record { none_runs = refl; of_zones = refl }, tt) refl refl tt refl refl refl refl refl, tt)
+    (answered (record { none_runs = refl; of_zones = refl }, tt) refl refl tt refl refl refl refl refl refl, tt)
 
 -- the collection that goes on to its end
 nothing_freed_is_legal : IsLegalStep begun_world nothing_freed
@@ -308,7 +308,7 @@ nothing_freed_is_legal =
       in_segment = refl;
       whole = refl;
     })) refl (omega arith) refl)
-    refl tt refl refl refl refl refl
+    refl tt refl refl refl refl refl refl
 
 pub free_of_kept_target : FreeOfKeptTarget
 free_of_kept_target = record {

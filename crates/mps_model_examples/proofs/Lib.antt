@@ -27,6 +27,7 @@ pub mod Refusing
 pub mod WrongAnswers
 pub mod Labelled
 pub mod Dependent
+pub mod Transformed
 pub mod WrongMoves
 pub mod ThreeToReclaim
 pub mod WrongUnits

@@ -20,15 +20,15 @@ first_leaves = refl
 
 both_are_legal : IsLegalHistory two_blocks
 both_are_legal = (
-  answered tt refl refl tt refl refl refl refl refl,
+  answered tt refl refl tt refl refl refl refl refl refl,
   (
-    answered tt refl refl tt refl refl refl refl refl,
+    answered tt refl refl tt refl refl refl refl refl refl,
     (
-      answered tt refl refl tt refl refl refl refl refl,
+      answered tt refl refl tt refl refl refl refl refl refl,
       (
-        answered tt refl refl tt refl refl refl refl refl,
+        answered tt refl refl tt refl refl refl refl refl refl,
         (
-          answered tt refl refl tt refl refl refl refl refl,
+          answered tt refl refl tt refl refl refl refl refl refl,
           tt,
         ),
       ),
@@ -38,27 +38,27 @@ both_are_legal = (
 
 first_is_legal : IsLegalFrom both first_freed
 first_is_legal = (
-  answered tt refl refl tt refl refl refl refl refl,
+  answered tt refl refl tt refl refl refl refl refl refl,
   (
-    answered tt refl refl tt refl refl refl refl refl,
-    (answered tt refl refl tt refl refl refl refl refl, tt),
+    answered tt refl refl tt refl refl refl refl refl refl,
+    (answered tt refl refl tt refl refl refl refl refl refl, tt),
   ),
 )
 
 sharing_is_legal : IsLegalFrom one_left sharing
 sharing_is_legal = (
-  answered tt refl refl tt refl refl refl refl refl,
+  answered tt refl refl tt refl refl refl refl refl refl,
   (
-    answered tt refl refl tt refl refl refl refl refl,
+    answered tt refl refl tt refl refl refl refl refl refl,
     (
-      answered tt refl refl tt refl refl refl refl refl,
+      answered tt refl refl tt refl refl refl refl refl refl,
       (
-        answered tt refl refl tt refl refl refl refl refl,
+        answered tt refl refl tt refl refl refl refl refl refl,
         (
-          answered tt refl refl tt refl refl refl refl refl,
+          answered tt refl refl tt refl refl refl refl refl refl,
           (
-            answered tt refl refl tt refl refl refl refl refl,
-            (answered tt refl refl tt refl refl refl refl refl, tt),
+            answered tt refl refl tt refl refl refl refl refl refl,
+            (answered tt refl refl tt refl refl refl refl refl refl, tt),
           ),
         ),
       ),

@@ -4,21 +4,21 @@ use Rattle.mps_model_examples.proofs.Steps.{answered}
 
 pub one_block_is_legal : OneBlockIsLegal
 one_block_is_legal = (
-  answered tt refl refl tt refl refl refl refl refl,
+  answered tt refl refl tt refl refl refl refl refl refl,
   (
-    answered tt refl refl tt refl refl refl refl refl,
+    answered tt refl refl tt refl refl refl refl refl refl,
     (
-      answered tt refl refl tt refl refl refl refl refl,
+      answered tt refl refl tt refl refl refl refl refl refl,
       (
-        answered tt refl refl tt refl refl refl refl refl,
+        answered tt refl refl tt refl refl refl refl refl refl,
         (
           answered (tt)
-              (record { poll = refl; segment = refl }) refl tt refl refl refl refl refl,
+              (record { poll = refl; segment = refl }) refl tt refl refl refl refl refl refl,
           (
-            answered tt refl refl tt refl refl refl refl refl,
+            answered tt refl refl tt refl refl refl refl refl refl,
             (
-              answered (tt) refl refl tt refl refl refl refl refl,
-              (answered tt refl refl tt refl refl refl refl refl, tt),
+              answered (tt) refl refl tt refl refl refl refl refl refl,
+              (answered tt refl refl tt refl refl refl refl refl refl, tt),
             ),
           ),
         ),

@@ -87,36 +87,36 @@ collected_is_legal = (
             )) refl refl;
         exact = record { posts = []; posted = refl; exact = refl; survivors = (begins {id = 0} refl, tt) };
       }))
-      refl tt refl refl refl refl refl,
+      refl tt refl refl refl refl refl refl,
   (
-    answered tt refl refl tt refl refl refl refl refl,
+    answered tt refl refl tt refl refl refl refl refl refl,
     (
-      answered tt refl refl tt refl refl refl refl refl,
-      (answered tt refl refl tt refl refl refl refl refl, tt),
+      answered tt refl refl tt refl refl refl refl refl refl,
+      (answered tt refl refl tt refl refl refl refl refl refl, tt),
     ),
   ),
 )
 
 pub pinned_is_legal : PinnedIsLegal
 pinned_is_legal = (
-  answered tt refl refl tt refl refl refl refl refl,
+  answered tt refl refl tt refl refl refl refl refl refl,
   (
-    answered tt refl refl tt refl refl refl refl refl,
+    answered tt refl refl tt refl refl refl refl refl refl,
     (
-      answered tt refl refl tt refl refl refl refl refl,
+      answered tt refl refl tt refl refl refl refl refl refl,
       (
-        answered tt refl refl tt refl refl refl refl refl,
+        answered tt refl refl tt refl refl refl refl refl refl,
         (
-          answered tt refl refl tt refl refl refl refl refl,
+          answered tt refl refl tt refl refl refl refl refl refl,
           (
             answered tt
-                (record { poll = refl; segment = refl }) refl tt refl refl refl refl refl,
+                (record { poll = refl; segment = refl }) refl tt refl refl refl refl refl refl,
             (
-              answered tt refl refl tt refl refl refl refl refl,
+              answered tt refl refl tt refl refl refl refl refl refl,
               (
-                answered tt refl refl tt refl refl refl refl refl,
+                answered tt refl refl tt refl refl refl refl refl refl,
                 (
-                  answered tt refl refl tt refl refl refl refl refl,
+                  answered tt refl refl tt refl refl refl refl refl refl,
                   collected_is_legal,
                 ),
               ),

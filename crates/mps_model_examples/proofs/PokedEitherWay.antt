@@ -21,28 +21,28 @@ unlinked_leaves = refl
 
 linked_is_legal : IsLegalHistory linked_in_place
 linked_is_legal = (
-  answered tt refl refl tt refl refl refl refl refl,
+  answered tt refl refl tt refl refl refl refl refl refl,
   (
-    answered tt refl refl tt refl refl refl refl refl,
+    answered tt refl refl tt refl refl refl refl refl refl,
     (
-      answered tt refl refl tt refl refl refl refl refl,
+      answered tt refl refl tt refl refl refl refl refl refl,
       (
-        answered tt refl refl tt refl refl refl refl refl,
+        answered tt refl refl tt refl refl refl refl refl refl,
         (
-          answered tt refl refl tt refl refl refl refl refl,
+          answered tt refl refl tt refl refl refl refl refl refl,
           (
             answered tt
-                (record { poll = refl; segment = refl }) refl tt refl refl refl refl refl,
+                (record { poll = refl; segment = refl }) refl tt refl refl refl refl refl refl,
             (
-              answered tt refl refl tt refl refl refl refl refl,
+              answered tt refl refl tt refl refl refl refl refl refl,
               (
-                answered tt (record { poll = refl; segment = refl }) refl tt refl refl refl refl refl,
+                answered tt (record { poll = refl; segment = refl }) refl tt refl refl refl refl refl refl,
                 (
-                  answered tt refl refl tt refl refl refl refl refl,
+                  answered tt refl refl tt refl refl refl refl refl refl,
                   (
-                    answered tt refl refl tt refl refl refl refl refl,
+                    answered tt refl refl tt refl refl refl refl refl refl,
                     (
-                      answered tt refl refl tt refl refl refl refl refl,
+                      answered tt refl refl tt refl refl refl refl refl refl,
                       tt,
                     ),
                   ),
@@ -58,16 +58,16 @@ linked_is_legal = (
 
 unlinked_is_legal : IsLegalFrom linked_in_place_world unlinked
 unlinked_is_legal = (
-  answered (record { none_runs = refl; of_zones = refl }, tt) refl refl tt refl refl refl refl refl,
+  answered (record { none_runs = refl; of_zones = refl }, tt) refl refl tt refl refl refl refl refl refl,
   (
-    answered tt refl refl tt refl refl refl refl refl,
+    answered tt refl refl tt refl refl refl refl refl refl,
     tt,
   ),
 )
 
 block_is_legal : IsLegalFrom unlinked_world as_block
 block_is_legal = (
-  answered tt refl refl (goes_on (begins {id = 1} refl) refl) refl refl refl refl refl,
+  answered tt refl refl (goes_on (begins {id = 1} refl) refl) refl refl refl refl refl refl,
   (
     answered (record { survivors = (inl refl, (inl refl, tt)); copied = refl; segments = refl }, tt)
         (at_most ((moves.End ∷ [])
@@ -81,9 +81,9 @@ block_is_legal = (
           in_segment = refl;
           whole = refl;
         })) refl (omega arith) refl)
-        refl tt refl refl refl refl refl,
+        refl tt refl refl refl refl refl refl,
     (
-      answered tt refl refl tt refl refl refl refl refl,
+      answered tt refl refl tt refl refl refl refl refl refl,
       tt,
     ),
   ),
@@ -91,7 +91,7 @@ block_is_legal = (
 
 number_is_legal : IsLegalFrom unlinked_world as_number
 number_is_legal = (
-  answered tt refl refl tt refl refl refl refl refl,
+  answered tt refl refl tt refl refl refl refl refl refl,
   (
     answered (
       record {
@@ -117,9 +117,9 @@ number_is_legal = (
               refl;
           whole = refl;
         })) refl (omega arith) refl)
-        refl tt refl refl refl refl refl,
+        refl tt refl refl refl refl refl refl,
     (
-      answered tt refl refl tt refl refl refl refl refl,
+      answered tt refl refl tt refl refl refl refl refl refl,
       tt,
     ),
   ),

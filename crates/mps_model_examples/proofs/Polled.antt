@@ -57,21 +57,21 @@ commit_leaves = refl
 
 clamped_is_legal : IsLegalHistory clamped
 clamped_is_legal = (
-  answered tt refl refl tt refl refl refl refl refl,
+  answered tt refl refl tt refl refl refl refl refl refl,
   (
-    answered tt refl refl tt refl refl refl refl refl,
+    answered tt refl refl tt refl refl refl refl refl refl,
     (
-      answered tt refl refl tt refl refl refl refl refl,
+      answered tt refl refl tt refl refl refl refl refl refl,
       (
-        answered tt refl refl tt refl refl refl refl refl,
+        answered tt refl refl tt refl refl refl refl refl refl,
         (
-          answered tt refl refl tt refl refl refl refl refl,
+          answered tt refl refl tt refl refl refl refl refl refl,
           (
             answered tt
-                (record { poll = refl; segment = refl }) refl tt refl refl refl refl refl,
+                (record { poll = refl; segment = refl }) refl tt refl refl refl refl refl refl,
             (
-              answered tt refl refl tt refl refl refl refl refl,
-              (answered tt refl refl tt refl refl refl refl refl, tt),
+              answered tt refl refl tt refl refl refl refl refl refl,
+              (answered tt refl refl tt refl refl refl refl refl refl, tt),
             ),
           ),
         ),
@@ -83,10 +83,10 @@ clamped_is_legal = (
 released_is_legal : IsLegalFrom held released
 released_is_legal = (
   answered tt
-      (record { poll = refl; segment = refl }) refl tt refl refl refl refl refl,
+      (record { poll = refl; segment = refl }) refl tt refl refl refl refl refl refl,
   (
-    answered tt refl refl tt refl refl refl refl refl,
-    (answered tt refl refl tt refl refl refl refl refl, tt),
+    answered tt refl refl tt refl refl refl refl refl refl,
+    (answered tt refl refl tt refl refl refl refl refl refl, tt),
   ),
 )
 
@@ -102,13 +102,13 @@ flip_is_legal = (
       ),
     ),
   )
-      (record { poll = refl; segment = refl }) refl tt refl refl refl refl refl,
+      (record { poll = refl; segment = refl }) refl tt refl refl refl refl refl refl,
   tt,
 )
 
 commit_is_legal : IsLegalFrom flipped (grain_committed ∷ [])
 commit_is_legal = (
-  answered tt refl refl tt refl refl refl refl refl,
+  answered tt refl refl tt refl refl refl refl refl refl,
   tt,
 )
 
@@ -173,8 +173,8 @@ units_are_legal = (
             )) refl (omega arith) refl;
         segment = refl;
       })
-      refl tt refl refl refl refl refl,
-  (answered tt refl refl tt refl refl refl refl refl, tt),
+      refl tt refl refl refl refl refl refl,
+  (answered tt refl refl tt refl refl refl refl refl refl, tt),
 )
 
 pub polled_is_legal : PolledIsLegal

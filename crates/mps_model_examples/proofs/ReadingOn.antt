@@ -14,32 +14,32 @@ started_leaves = refl
 
 pub row_is_legal : IsLegalHistory three_in_a_row
 row_is_legal = (
-  answered tt refl refl tt refl refl refl refl refl,
+  answered tt refl refl tt refl refl refl refl refl refl,
   (
-    answered tt refl refl tt refl refl refl refl refl,
+    answered tt refl refl tt refl refl refl refl refl refl,
     (
-      answered tt refl refl tt refl refl refl refl refl,
+      answered tt refl refl tt refl refl refl refl refl refl,
       (
-        answered tt refl refl tt refl refl refl refl refl,
+        answered tt refl refl tt refl refl refl refl refl refl,
         (
           answered tt
-              (record { poll = refl; segment = refl }) refl tt refl refl refl refl refl,
+              (record { poll = refl; segment = refl }) refl tt refl refl refl refl refl refl,
           (
-            answered tt refl refl tt refl refl refl refl refl,
+            answered tt refl refl tt refl refl refl refl refl refl,
             (
-              answered tt (record { poll = refl; segment = refl }) refl tt refl refl refl refl refl,
+              answered tt (record { poll = refl; segment = refl }) refl tt refl refl refl refl refl refl,
               (
-                answered tt refl refl tt refl refl refl refl refl,
+                answered tt refl refl tt refl refl refl refl refl refl,
                 (
-                  answered tt refl refl tt refl refl refl refl refl,
+                  answered tt refl refl tt refl refl refl refl refl refl,
                   (
-                    answered tt (record { poll = refl; segment = refl }) refl tt refl refl refl refl refl,
+                    answered tt (record { poll = refl; segment = refl }) refl tt refl refl refl refl refl refl,
                     (
-                      answered tt refl refl tt refl refl refl refl refl,
+                      answered tt refl refl tt refl refl refl refl refl refl,
                       (
-                        answered tt refl refl tt refl refl refl refl refl,
+                        answered tt refl refl tt refl refl refl refl refl refl,
                         (
-                          answered tt refl refl tt refl refl refl refl refl,
+                          answered tt refl refl tt refl refl refl refl refl refl,
                           tt,
                         ),
                       ),
@@ -63,7 +63,7 @@ started_is_legal = (
       record { first = refl; placement = (refl, refl); of_pool = refl; of_generation = refl },
       (record { tracing = refl; condemned = refl; not_settled = refl; copying = refl; at_placement = refl }, tt),
     ),
-  ) refl refl tt refl refl refl refl refl,
+  ) refl refl tt refl refl refl refl refl refl,
   tt,
 )
 
@@ -74,11 +74,11 @@ read_is_legal = (
     (record { tracing = refl; condemned = refl; not_settled = refl; copying = refl; at_placement = refl }, tt),
   ) (inl (moves_target (record { holder = 2; scanned = record { in_segment = refl; may_be_scanned = inl refl }; refers = refl })
       (moves_target (record { holder = 1; scanned = record { in_segment = refl; may_be_scanned = inl refl }; refers = refl }) scans_no_more)
-      )) refl tt refl refl refl refl refl,
+      )) refl tt refl refl refl refl refl refl,
   (
-    answered tt (inl scans_no_more) refl tt refl refl refl refl refl,
+    answered tt (inl scans_no_more) refl tt refl refl refl refl refl refl,
     (
-      answered tt refl refl tt refl refl refl refl refl,
+      answered tt refl refl tt refl refl refl refl refl refl,
       tt,
     ),
   ),

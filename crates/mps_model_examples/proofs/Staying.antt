@@ -8,18 +8,18 @@ use Rattle.mps_model_examples.proofs.Steps.{answered}
 
 pub staying_is_legal : StayingIsLegal
 staying_is_legal = (
-  answered tt refl refl tt refl refl refl refl refl,
+  answered tt refl refl tt refl refl refl refl refl refl,
   (
-    answered tt refl refl tt refl refl refl refl refl,
+    answered tt refl refl tt refl refl refl refl refl refl,
     (
-      answered tt refl refl tt refl refl refl refl refl,
+      answered tt refl refl tt refl refl refl refl refl refl,
       (
-        answered tt refl refl tt refl refl refl refl refl,
+        answered tt refl refl tt refl refl refl refl refl refl,
         (
           answered tt
-              (record { poll = refl; segment = refl }) refl tt refl refl refl refl refl,
+              (record { poll = refl; segment = refl }) refl tt refl refl refl refl refl refl,
           (
-            answered tt refl refl tt refl refl refl refl refl,
+            answered tt refl refl tt refl refl refl refl refl refl,
             (
               answered (
                 record { none_runs = refl; of_zones = refl },
@@ -49,8 +49,8 @@ staying_is_legal = (
                         )) refl refl;
                     exact = record { posts = []; posted = refl; exact = refl; survivors = (begins {id = 0} refl, tt) };
                   }))
-                  refl tt refl refl refl refl refl,
-              (answered tt refl refl tt refl refl refl refl refl, tt),
+                  refl tt refl refl refl refl refl refl,
+              (answered tt refl refl tt refl refl refl refl refl refl, tt),
             ),
           ),
         ),

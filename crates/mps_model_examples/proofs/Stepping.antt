@@ -21,14 +21,14 @@ scanned_is_legal = (
       ∷ []) refl
       (scans 2 (record { live = refl; not_weak = refl; may_be_scanned = inl refl })
       (moves_target (record { holder = 2; scanned = refl; refers = refl }) scans_no_more)) refl refl)
-      refl tt refl refl refl refl refl,
+      refl tt refl refl refl refl refl refl,
   (
     answered (record { tracing = refl; condemned = refl; not_settled = refl; copying = refl; at_placement = refl }, tt)
         (exactly ((moves.Moved (address 0x1000) (address 0x2030) ∷ [])
         ∷ []) refl
         (scans 1 (record { live = refl; not_weak = refl; may_be_scanned = inl refl })
         (moves_target (record { holder = 1; scanned = refl; refers = refl }) scans_no_more)) refl refl)
-        refl tt refl refl refl refl refl,
+        refl tt refl refl refl refl refl refl,
     tt,
   ),
 )
@@ -39,7 +39,7 @@ ended_is_legal = (
       (exactly ([]
       ∷ []) refl
       (scans 0 (record { live = refl; not_weak = refl; may_be_scanned = inl refl }) scans_no_more) refl refl)
-      refl tt refl refl refl refl refl,
+      refl tt refl refl refl refl refl refl,
   (
     answered (
       record { empty = refl; condemned = refl },
@@ -56,7 +56,7 @@ ended_is_legal = (
           in_segment = refl;
           whole = refl;
         })) refl refl)
-        refl tt refl refl refl refl refl,
+        refl tt refl refl refl refl refl refl,
     tt,
   ),
 )

@@ -5,7 +5,7 @@ use Rattle.std.specs.List.{list_all, flat_map}
 use Rattle.mps_model.specs.Step.{Step}
 use Rattle.mps_model.specs.Answer.{is_block}
 use Rattle.mps_model.specs.Graph.{ids_of_client, ids_in_blocks, targets}
-use Rattle.mps_model.specs.World.{World, is_live, is_running, live_ids}
+use Rattle.mps_model.specs.World.{World, is_live, is_running, live_ids, ids_in_pairs}
 use Rattle.mps_model.specs.Reply.{reply_to}
 use Rattle.mps_model.specs.LegalMove.{AreLegalMoves}
 use Rattle.mps_model.specs.History.{AreMovesOf, moves_of_collector, IsAnsweredStep, IsPossiblyMarked, judged_world, moved_world, world_after, are_held_kept, has_units_left}
@@ -15,14 +15,16 @@ pub answered : {w : World} {s : Step} → AreLegalMoves w None (moves_of_collect
     → IsPossiblyMarked w s.call s.answer → IsTrue (list_all (is_live (world_after w s)) (ids_of_client (world_after w s).graph))
     → IsTrue (list_all (is_live (world_after w s)) (ids_in_blocks (world_after w s).graph))
     → IsTrue (is_running (world_after w s) || list_all (is_live (world_after w s))
-    (flat_map (targets (world_after w s).graph) (live_ids (world_after w s)))) → IsTrue (are_held_kept (world_after w s))
+    (flat_map (targets (world_after w s).graph) (live_ids (world_after w s))))
+    → IsTrue (is_running (world_after w s) || list_all (is_live (world_after w s)) (ids_in_pairs (world_after w s).state))
+    → IsTrue (are_held_kept (world_after w s))
     → IsTrue (has_units_left (world_after w s)) → IsAnsweredStep w s
-answered legal due said marked client blocks referred kept left = record {
+answered legal due said marked client blocks referred pairs kept left = record {
   moves_are_legal = legal;
   moves_are_due = due;
   answer_is_due = said;
   marked_may_survive = marked;
-  held_are_live = record { client = client; blocks = blocks; referred = referred };
+  held_are_live = record { client = client; blocks = blocks; referred = referred; transforms = pairs };
   held_are_kept = kept;
   units_are_left = left;
 }

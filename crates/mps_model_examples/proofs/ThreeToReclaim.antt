@@ -79,37 +79,37 @@ begin_leaves = refl
 
 begin_is_legal : IsLegalHistory three_to_reclaim
 begin_is_legal = (
-  answered tt refl refl tt refl refl refl refl refl,
+  answered tt refl refl tt refl refl refl refl refl refl,
   (
-    answered tt refl refl tt refl refl refl refl refl,
+    answered tt refl refl tt refl refl refl refl refl refl,
     (
-      answered tt refl refl tt refl refl refl refl refl,
+      answered tt refl refl tt refl refl refl refl refl refl,
       (
-        answered tt refl refl tt refl refl refl refl refl,
+        answered tt refl refl tt refl refl refl refl refl refl,
         (
-          answered tt refl refl tt refl refl refl refl refl,
+          answered tt refl refl tt refl refl refl refl refl refl,
           (
-            answered tt refl refl tt refl refl refl refl refl,
+            answered tt refl refl tt refl refl refl refl refl refl,
             (
-              answered tt refl refl tt refl refl refl refl refl,
+              answered tt refl refl tt refl refl refl refl refl refl,
               (
-                answered tt refl refl tt refl refl refl refl refl,
+                answered tt refl refl tt refl refl refl refl refl refl,
                 (
-                  answered tt (record { poll = refl; segment = refl }) refl tt refl refl refl refl refl,
+                  answered tt (record { poll = refl; segment = refl }) refl tt refl refl refl refl refl refl,
                   (
-                    answered tt refl refl tt refl refl refl refl refl,
+                    answered tt refl refl tt refl refl refl refl refl refl,
                     (
-                      answered tt (record { poll = refl; segment = refl }) refl tt refl refl refl refl refl,
+                      answered tt (record { poll = refl; segment = refl }) refl tt refl refl refl refl refl refl,
                       (
-                        answered tt refl refl tt refl refl refl refl refl,
+                        answered tt refl refl tt refl refl refl refl refl refl,
                         (
-                          answered tt (record { poll = refl; segment = refl }) refl tt refl refl refl refl refl,
+                          answered tt (record { poll = refl; segment = refl }) refl tt refl refl refl refl refl refl,
                           (
-                            answered tt refl refl tt refl refl refl refl refl,
+                            answered tt refl refl tt refl refl refl refl refl refl,
                             (
-                              answered tt refl refl tt refl refl refl refl refl,
+                              answered tt refl refl tt refl refl refl refl refl refl,
                               (
-                                answered (record { none_runs = refl; of_zones = refl }, tt) refl refl tt refl refl refl refl refl,
+                                answered (record { none_runs = refl; of_zones = refl }, tt) refl refl tt refl refl refl refl refl refl,
                                 tt,
                               ),
                             ),
@@ -148,7 +148,7 @@ middle_is_legal = (
     ascending = refl;
     in_segment = refl;
     whole = refl;
-  })) refl refl) refl tt refl refl refl refl refl,
+  })) refl refl) refl tt refl refl refl refl refl refl,
   tt,
 )
 

@@ -20,7 +20,7 @@ held_world = weak_world (Some 0) (Some 1) [] Unclamped
 
 -- the weak object is held alone, after one collection
 abbrev dropped_world : World
-dropped_world = weak_world None (Some 1) (0 ∷ []) Parked
+dropped_world = weak_world None (Some 1) (0 ∷ []) (Parked [])
 
 pub pair_leaves : world_after_steps empty_world weak_pair ≡ held_world
 pair_leaves = refl
@@ -30,27 +30,27 @@ dropped_leaves = refl
 
 pair_is_legal : IsLegalHistory weak_pair
 pair_is_legal = (
-  answered tt refl refl tt refl refl refl refl refl,
+  answered tt refl refl tt refl refl refl refl refl refl,
   (
-    answered tt refl refl tt refl refl refl refl refl,
+    answered tt refl refl tt refl refl refl refl refl refl,
     (
-      answered tt refl refl tt refl refl refl refl refl,
+      answered tt refl refl tt refl refl refl refl refl refl,
       (
-        answered tt refl refl tt refl refl refl refl refl,
+        answered tt refl refl tt refl refl refl refl refl refl,
         (
-          answered tt refl refl tt refl refl refl refl refl,
+          answered tt refl refl tt refl refl refl refl refl refl,
           (
             answered tt
-                (record { poll = refl; segment = refl }) refl tt refl refl refl refl refl,
+                (record { poll = refl; segment = refl }) refl tt refl refl refl refl refl refl,
             (
-              answered tt refl refl tt refl refl refl refl refl,
+              answered tt refl refl tt refl refl refl refl refl refl,
               (
                 answered tt
-                    (record { poll = refl; segment = refl }) refl tt refl refl refl refl refl,
+                    (record { poll = refl; segment = refl }) refl tt refl refl refl refl refl refl,
                 (
-                  answered tt refl refl tt refl refl refl refl refl,
+                  answered tt refl refl tt refl refl refl refl refl refl,
                   (
-                    answered tt refl refl tt refl refl refl refl refl,
+                    answered tt refl refl tt refl refl refl refl refl refl,
                     tt,
                   ),
                 ),
@@ -85,15 +85,15 @@ dropped_is_legal = (
             })) refl refl;
         exact = record { posts = []; posted = refl; exact = refl; survivors = (begins refl, (begins refl, tt)) };
       }))
-      refl tt refl refl refl refl refl,
+      refl tt refl refl refl refl refl refl,
   (
-    answered tt refl refl tt refl refl refl refl refl,
+    answered tt refl refl tt refl refl refl refl refl refl,
     (
-      answered tt refl refl tt refl refl refl refl refl,
+      answered tt refl refl tt refl refl refl refl refl refl,
       (
-        answered tt refl refl tt refl refl refl refl refl,
+        answered tt refl refl tt refl refl refl refl refl refl,
         (
-          answered tt refl refl tt refl refl refl refl refl,
+          answered tt refl refl tt refl refl refl refl refl refl,
           tt,
         ),
       ),
@@ -176,10 +176,10 @@ splatted_is_legal = (
           survivors = ((λ path. false_is_not_true (PathLeads-closed _ _ (1 ∷ []) refl refl path)), (begins refl, tt));
         };
       }))
-      refl tt refl refl refl refl refl,
+      refl tt refl refl refl refl refl refl,
   (
-    answered tt refl refl tt refl refl refl refl refl,
-    (answered tt refl refl tt refl refl refl refl refl, tt),
+    answered tt refl refl tt refl refl refl refl refl refl,
+    (answered tt refl refl tt refl refl refl refl refl refl, tt),
   ),
 )
 

@@ -37,33 +37,33 @@ splatted_leaves = refl
 
 begin_is_legal : IsLegalHistory weakly_held
 begin_is_legal = (
-  answered tt refl refl tt refl refl refl refl refl,
+  answered tt refl refl tt refl refl refl refl refl refl,
   (
-    answered tt refl refl tt refl refl refl refl refl,
+    answered tt refl refl tt refl refl refl refl refl refl,
     (
-      answered tt refl refl tt refl refl refl refl refl,
+      answered tt refl refl tt refl refl refl refl refl refl,
       (
-        answered tt refl refl tt refl refl refl refl refl,
+        answered tt refl refl tt refl refl refl refl refl refl,
         (
-          answered tt refl refl tt refl refl refl refl refl,
+          answered tt refl refl tt refl refl refl refl refl refl,
           (
-            answered tt refl refl tt refl refl refl refl refl,
+            answered tt refl refl tt refl refl refl refl refl refl,
             (
               answered tt
-                  (record { poll = refl; segment = refl }) refl tt refl refl refl refl refl,
+                  (record { poll = refl; segment = refl }) refl tt refl refl refl refl refl refl,
               (
-                answered tt refl refl tt refl refl refl refl refl,
+                answered tt refl refl tt refl refl refl refl refl refl,
                 (
                   answered tt
-                      (record { poll = refl; segment = refl }) refl tt refl refl refl refl refl,
+                      (record { poll = refl; segment = refl }) refl tt refl refl refl refl refl refl,
                   (
-                    answered tt refl refl tt refl refl refl refl refl,
+                    answered tt refl refl tt refl refl refl refl refl refl,
                     (
-                      answered tt refl refl tt refl refl refl refl refl,
+                      answered tt refl refl tt refl refl refl refl refl refl,
                       (
-                        answered tt refl refl tt refl refl refl refl refl,
+                        answered tt refl refl tt refl refl refl refl refl refl,
                         (
-                          answered (record { none_runs = refl; of_zones = refl }, tt) refl refl tt refl refl refl refl refl,
+                          answered (record { none_runs = refl; of_zones = refl }, tt) refl refl tt refl refl refl refl refl refl,
                           tt,
                         ),
                       ),
@@ -87,13 +87,13 @@ moved_is_legal = (
   )
       (inl (moves_target_to_segment
       (record { holder = 1; scanned = record { in_segment = refl; may_be_scanned = inl refl }; refers = refl }) scans_no_more))
-      refl tt refl refl refl refl refl,
+      refl tt refl refl refl refl refl refl,
   tt,
 )
 
 kept_is_legal : IsLegalFrom moved kept
 kept_is_legal = (
-  answered tt refl refl tt refl refl refl refl refl,
+  answered tt refl refl tt refl refl refl refl refl refl,
   (
     answered (
       record { empty = refl; condemned = refl },
@@ -130,7 +130,7 @@ kept_is_legal = (
             }),
           ),
         )) refl (omega arith) refl)
-        refl tt refl refl refl refl refl,
+        refl tt refl refl refl refl refl refl,
     tt,
   ),
 )
@@ -150,13 +150,13 @@ splatted_is_legal = (
       };
     },
     tt,
-  ) (inr refl) refl tt refl refl refl refl refl,
+  ) (inr refl) refl tt refl refl refl refl refl refl,
   tt,
 )
 
 gone_is_legal : IsLegalFrom splatted gone
 gone_is_legal = (
-  answered tt refl refl tt refl refl refl refl refl,
+  answered tt refl refl tt refl refl refl refl refl refl,
   (
     answered (
       record {
@@ -198,7 +198,7 @@ gone_is_legal = (
                 refl;
           }),
         )) refl (omega arith) refl)
-        refl tt refl refl refl refl refl,
+        refl tt refl refl refl refl refl refl,
     tt,
   ),
 )

@@ -61,35 +61,35 @@ garbage_leaves = refl
 
 garbage_is_legal : IsLegalHistory garbage_chain
 garbage_is_legal = (
-  answered tt refl refl tt refl refl refl refl refl,
+  answered tt refl refl tt refl refl refl refl refl refl,
   (
-    answered tt refl refl tt refl refl refl refl refl,
+    answered tt refl refl tt refl refl refl refl refl refl,
     (
-      answered tt refl refl tt refl refl refl refl refl,
+      answered tt refl refl tt refl refl refl refl refl refl,
       (
-        answered tt refl refl tt refl refl refl refl refl,
+        answered tt refl refl tt refl refl refl refl refl refl,
         (
-          answered tt (record { poll = refl; segment = refl }) refl tt refl refl refl refl refl,
+          answered tt (record { poll = refl; segment = refl }) refl tt refl refl refl refl refl refl,
           (
-            answered tt refl refl tt refl refl refl refl refl,
+            answered tt refl refl tt refl refl refl refl refl refl,
             (
-              answered tt (record { poll = refl; segment = refl }) refl tt refl refl refl refl refl,
+              answered tt (record { poll = refl; segment = refl }) refl tt refl refl refl refl refl refl,
               (
-                answered tt refl refl tt refl refl refl refl refl,
+                answered tt refl refl tt refl refl refl refl refl refl,
                 (
-                  answered tt refl refl tt refl refl refl refl refl,
+                  answered tt refl refl tt refl refl refl refl refl refl,
                   (
-                    answered tt refl refl tt refl refl refl refl refl,
+                    answered tt refl refl tt refl refl refl refl refl refl,
                     (
-                      answered tt refl refl tt refl refl refl refl refl,
+                      answered tt refl refl tt refl refl refl refl refl refl,
                       (
-                        answered tt (record { poll = refl; segment = refl }) refl tt refl refl refl refl refl,
+                        answered tt (record { poll = refl; segment = refl }) refl tt refl refl refl refl refl refl,
                         (
-                          answered tt refl refl tt refl refl refl refl refl,
+                          answered tt refl refl tt refl refl refl refl refl refl,
                           (
-                            answered tt refl refl tt refl refl refl refl refl,
+                            answered tt refl refl tt refl refl refl refl refl refl,
                             (
-                              answered tt refl refl tt refl refl refl refl refl,
+                              answered tt refl refl tt refl refl refl refl refl refl,
                               tt,
                             ),
                           ),
@@ -121,7 +121,7 @@ condemned_leaves =
 condemned_is_legal : IsLegalHistory garbage_condemned
 condemned_is_legal =
     IsLegalFrom-then empty_world garbage_world garbage_chain (start_garbage ∷ []) garbage_leaves garbage_is_legal
-    (answered (record { none_runs = refl; of_zones = refl }, tt) refl refl tt refl refl refl refl refl, tt)
+    (answered (record { none_runs = refl; of_zones = refl }, tt) refl refl tt refl refl refl refl refl refl, tt)
 
 -- the second block alone refers to the first, and no unit may scan it
 not_scanned : ForOne condemned_world.collection (λ c. MayBeScanned condemned_world c 1) → ⊥
@@ -154,7 +154,7 @@ splatted_is_legal =
       tt,
     )
     (inl (one_more none_yet refl (splats (address 0x2000) (1 ∷ []) refl)))
-    refl tt refl refl refl refl refl
+    refl tt refl refl refl refl refl refl
 
 pub scan_of_white : ScanOfWhite
 scan_of_white = record {
@@ -196,15 +196,15 @@ beside_leaves = refl
 
 beside_is_legal : IsLegalFrom garbage_world pinned_beside
 beside_is_legal = (
-  answered tt (record { poll = refl; segment = refl }) refl tt refl refl refl refl refl,
+  answered tt (record { poll = refl; segment = refl }) refl tt refl refl refl refl refl refl,
   (
-    answered tt refl refl tt refl refl refl refl refl,
+    answered tt refl refl tt refl refl refl refl refl refl,
     (
-      answered tt refl refl tt refl refl refl refl refl,
+      answered tt refl refl tt refl refl refl refl refl refl,
       (
-        answered tt refl refl tt refl refl refl refl refl,
+        answered tt refl refl tt refl refl refl refl refl refl,
         (
-          answered (record { none_runs = refl; of_zones = refl }, tt) refl refl tt refl refl refl refl refl,
+          answered (record { none_runs = refl; of_zones = refl }, tt) refl refl tt refl refl refl refl refl refl,
           tt,
         ),
       ),
@@ -245,5 +245,5 @@ barrier_over_white = record {
   refused = cannot_follow_from read_world read_beside white_read read_leaves (λ s. no_barrier _ s.moves_are_due);
   legal =
       IsLegalFrom-then empty_world read_world read_beside (read_pinned [] ∷ []) read_leaves read_is_legal
-      (answered tt (inl scans_no_more) refl tt refl refl refl refl refl, tt);
+      (answered tt (inl scans_no_more) refl tt refl refl refl refl refl refl, tt);
 }

@@ -44,7 +44,7 @@ registered_leaves =
 registered_is_legal : IsLegalHistory registered
 registered_is_legal =
     IsLegalFrom-then empty_world weak_world weakly_linked registering weak_leaves weak_is_legal
-    (answered tt refl refl tt refl refl refl refl refl, (answered tt refl refl tt refl refl refl refl refl, tt))
+    (answered tt refl refl tt refl refl refl refl refl refl, (answered tt refl refl tt refl refl refl refl refl refl, tt))
 
 -- the block is reached in no way, so it has to be posted
 abbrev registered_flipped : World
@@ -96,7 +96,7 @@ posted_is_legal =
         survivors = (begins {id = 0} refl, (begins {id = 1} refl, tt));
       };
     }))
-    refl tt refl refl refl refl refl
+    refl tt refl refl refl refl refl refl
 
 pub registered_without_post : RegisteredWithoutPost
 registered_without_post = record {
@@ -122,7 +122,7 @@ dead_leaves =
 dead_is_legal : IsLegalHistory dead
 dead_is_legal =
     IsLegalFrom-then empty_world weak_world weakly_linked (drop_block 12 ∷ []) weak_leaves weak_is_legal
-    (answered tt refl refl tt refl refl refl refl refl, tt)
+    (answered tt refl refl tt refl refl refl refl refl refl, tt)
 
 -- the block is reached in no way, so it has to go
 abbrev dead_flipped : World
@@ -211,7 +211,7 @@ collected_is_legal =
         survivors = ((λ path. false_is_not_true (PathLeads-closed _ _ (1 ∷ []) refl refl path)), (begins {id = 1} refl, tt));
       };
     }))
-    refl tt refl refl refl refl refl
+    refl tt refl refl refl refl refl refl
 
 pub dead_block_stays : DeadBlockStays
 dead_block_stays = record {

@@ -25,6 +25,7 @@ pub mod OtherCommands
 pub mod WrongAnswers
 pub mod Labelled
 pub mod Dependent
+pub mod Transformed
 pub mod WrongMoves
 pub mod WrongUnits
 pub mod KeptReferences

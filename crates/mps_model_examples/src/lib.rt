@@ -27,6 +27,7 @@ ghost use Rattle.mps_model_examples.specs.Stepping.{SteppingIsLegal};
 ghost use Rattle.mps_model_examples.specs.OtherCommands.{OtherCommandsIsLegal};
 ghost use Rattle.mps_model_examples.specs.Labelled.{LabelledIsLegal, LabelledIsReplayed, OthersAreNoLabels, NoTagIsLost};
 ghost use Rattle.mps_model_examples.specs.Dependent.{DependentIsLegal, NoValueIsLeft, NoPairOutlivesItsHolder};
+ghost use Rattle.mps_model_examples.specs.Transformed.{TransformedIsLegal, NoPinnedObjectIsReplaced, NoPairIsLeft, NoPairFollowsAnother};
 ghost use Rattle.mps_model_examples.specs.WrongAnswers.{FlippedWithoutFlip, CommitAcrossFlip, LimitBesideGap, LimitBesideRun, StaleWithoutFlip, FreshAfterMove, GetOfOldPlace};
 ghost use Rattle.mps_model_examples.specs.WrongMoves.{SplatOfReachable, TwoPostsForOne, MoveOfPinned, FreeOfWaiting, StayBesideRoom, MarkedInPlace, UnknownFree, MoveAfterSplat};
 ghost use Rattle.mps_model_examples.specs.WrongUnits.{CollectWithoutMoves, StartDoesAll, TwoUnitsForOne, ReclaimedDownwards, WeakScannedAsExact, PollWhereClamped};
@@ -411,4 +412,28 @@ pub fn no_value_is_left()
 /// A new object at the address of a freed one doesn't have its dependent.
 pub fn no_pair_outlives_its_holder()
     ensures { NoPairOutlivesItsHolder }
+{}
+
+/// A history in which references to an object are replaced by references to another is legal. The script: `arena 8 8; table t 4; area a 1;
+/// pool p ams front; ap x p exact; reserve x f:2:1; commit x t.0; reserve x f:2:0; commit x t.1; reserve x f:2:0; commit x t.2; put t.0 1
+/// t.1; settag t.0 1 5; setnum t.2 1 9; transform z; transadd z t.1 t.2; park; transadd z t.1 t.2; transadd z t.1 t.0; clamp; park;
+/// transadd z t.1 t.2; park; pin a.0 t.1; transapply z; poke a.0 0; transapply z; get t.3 t.0 1; num t.3 1; tag t.0 1; same t.1 t.2;
+/// transapply z; transform z; transdrop z`.
+pub fn transformed_is_legal()
+    ensures { TransformedIsLegal }
+{}
+
+/// It isn't applied while an area word lies in the old object.
+pub fn no_pinned_object_is_replaced()
+    ensures { NoPinnedObjectIsReplaced }
+{}
+
+/// A `clamp` leaves no pair.
+pub fn no_pair_is_left()
+    ensures { NoPairIsLeft }
+{}
+
+/// An object that was replaced isn't replaced again, if another pair has its new object as the old one.
+pub fn no_pair_follows_another()
+    ensures { NoPairFollowsAnother }
 {}

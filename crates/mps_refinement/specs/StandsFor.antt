@@ -141,7 +141,7 @@ kept_of d = record { epoch = d.epoch; zones = d.zones }
 abbrev pub state_of : ArenaState → world.ArenaState
 state_of arena.Unclamped = world.Unclamped
 state_of arena.Clamped = world.Clamped
-state_of arena.Parked = world.Parked
+state_of arena.Parked = world.Parked []
 
 -- ---- names
 

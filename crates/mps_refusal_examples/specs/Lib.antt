@@ -6,4 +6,5 @@ pub mod Accessing
 pub mod Collecting
 pub mod Labelling
 pub mod Dependents
+pub mod Transforms
 pub mod Placing

@@ -7,6 +7,7 @@ ghost use Rattle.mps_refusal_examples.specs.Allocating.{ReservationsAnswer, Init
 ghost use Rattle.mps_refusal_examples.specs.Accessing.{CellsAnswer, SlotsAnswer, AreasAnswer};
 ghost use Rattle.mps_refusal_examples.specs.Labelling.{TagsAnswer, LabelsAnswer};
 ghost use Rattle.mps_refusal_examples.specs.Dependents.{DependentsAnswer};
+ghost use Rattle.mps_refusal_examples.specs.Transforms.{TransformsAnswer};
 ghost use Rattle.mps_refusal_examples.specs.Collecting.{CollectionsAnswer, FinalizationAnswers, DependenciesAnswer};
 ghost use Rattle.mps_refusal_examples.specs.Placing.{AreGapsByRank, AreBuffersByPoint};
 
@@ -98,4 +99,9 @@ pub fn labels_answer()
 /// `depend`, if no pair is left and if the holder has one already, and `undepend`.
 pub fn dependents_answer()
     ensures { DependentsAnswer }
+{}
+
+/// `transform`, `transadd`, `transapply` and `transdrop`, in an arena that is parked and in one that isn't.
+pub fn transforms_answer()
+    ensures { TransformsAnswer }
 {}

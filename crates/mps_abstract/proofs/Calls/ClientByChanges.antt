@@ -2,19 +2,19 @@
 use Rattle.std.proofs.Common.{◌≡◌, ◌∙◌, ◌⊎◌, ℕ, Bool, true, false, refl, sym, ap, List, [], ◌∷◌, length, Option, Some, None, subst, inl, inr}
 use Rattle.std.proofs.lemmas.Bool.{false≢true}
 use Rattle.std.proofs.lemmas.Option.{none-some, same_Some}
-use Rattle.std.specs.Prelude.{slice_set, replicate, find, is_some, if◌then◌else◌}
+use Rattle.std.specs.Prelude.{slice_set, replicate, find, is_some, if◌then◌else◌, not, ◌&&◌}
 use Rattle.mps_base.specs.Address.{Id}
 use Rattle.mps_model.specs.declared.call.Call.{Call}
 use Rattle.mps_model.specs.declared.call.Call.TheVariants as call
 use Rattle.mps_model.specs.Answer.{Answer, is_block}
 use Rattle.mps_model.specs.Graph.{Cell, AreaWord, PlainWord, contains, entry_at, with_last, held_by_word, targets_of_cells, without_name}
-use Rattle.mps_model.specs.World.{World, lies_in, live_ids}
+use Rattle.mps_model.specs.World.{World, lies_in, live_ids, is_running}
 use Rattle.mps_model.specs.WellFormed.{IsWellFormed}
 use Rattle.mps_model.specs.Checked.{Act, Checked, Found, Numbered, slot_in}
 use Rattle.mps_model.specs.Allocating.{with_slot}
 use Rattle.mps_model.specs.Making.{graph_with_table, graph_with_area, graph_with_blocks}
 use Rattle.mps_model.specs.Reply.{act, world_from}
-use Rattle.mps_changes.specs.Change.{ForAct, accepted, refused, IsFoundBy, Now, Before, makes_pool, IsGot, GotNull, FromSlot, FromCell, FromWord, FromMessage, IsShown, ShownPlain, ShownPinned, ShownPoked, IsWritten, Change, Unchanged, Aside, SlotIs, WordIs, MessageTaken, TableMade, AreaMade, BlocksMade, TableDropped, AreaDropped, CellsAre, BlockWordIs, PlaceEmptied, Allocated, PoolMade, PointMade, PointDropped, Opened, Written, Closed, Committed, Registered, Unregistered}
+use Rattle.mps_changes.specs.Change.{ForAct, accepted, refused, IsFoundBy, Now, Before, makes_pool, IsGot, GotNull, FromSlot, FromCell, FromWord, FromMessage, IsShown, ShownPlain, ShownPinned, ShownPoked, IsWritten, Change, Unchanged, Aside, SlotIs, WordIs, MessageTaken, TableMade, AreaMade, BlocksMade, TableDropped, AreaDropped, CellsAre, BlockWordIs, PlaceEmptied, Allocated, PoolMade, PointMade, PointDropped, Opened, Written, Closed, Committed, Substituted, Registered, Unregistered}
 use Rattle.mps_changes.proofs.ActChanges.{act_changes_so, but}
 use Rattle.mps_abstract.specs.Colours.{AreDifferent}
 use Rattle.mps_abstract.specs.Collecting.{Collecting, Running}
@@ -183,6 +183,9 @@ module _ (x : Collecting) (run : Running x) (judged : World) (c : Call) (answer 
   change_runs h different (Committed name target p r slot e there found has lives) =
       committed_keeps x run (known.formed (ap moves_itself e)) p (point_found w name p there) r has lives slot
       (slot_found w target slot found) different
+  change_runs h different (Substituted name transform e is parked) =
+      absurd (false≢true (sym (ap (λ b. not (b && is_running w)) parked ∙ ap (λ o. not (is_some o)) run.runs)
+      ∙ (known.formed (ap moves_itself e)).parked))
   change_runs h different (Registered object held e) =
       finalized_keeps x run object.number (slot_held w.graph held.from object.number (slot_found w held.slot held.from held.there)
       (object_found w held.from.value object held.is))

@@ -21,7 +21,9 @@ use Rattle.mps_model.specs.Reply.{act, world_from}
 use Rattle.mps_model.specs.History.{after_its_moves, after_own_segment, asking, judged_world, moved_world, moves_of_poll, own_segment, with_client_remembered, world_after}
 use Rattle.mps_model.specs.Policy.{units_asked}
 use Rattle.mps_laws.proofs.Entries.{GoesOn}
-use Rattle.mps_changes.specs.Change.{Change, Unchanged, CellsAre, BlockWordIs, Allocated, PoolMade, PointMade, PointDropped, Opened, Written, Closed, Committed}
+use Rattle.mps_changes.specs.Change.{Change, Unchanged, CellsAre, BlockWordIs, Allocated, PoolMade, PointMade, PointDropped, Opened, Written, Closed, Committed, Substituted}
+use Rattle.mps_model.specs.Transforms.{pairs_of}
+use Rattle.mps_laws.proofs.Sound.Substituting.{owners_substituted}
 use Rattle.mps_changes.proofs.ActChanges.{of_changes}
 use Rattle.mps_laws.proofs.Acts.{pool_named-is, point_named-is, ForAct, accepted, refused}
 use Rattle.mps_laws.proofs.LeftByActs.{owners, owners-graph_with_cells, owners-graph_with_word, owners-splatted}
@@ -227,6 +229,11 @@ module _ (v : World) (h : HasPools v) where
   change_has_pools same (Committed name target p r slot e there found has lives) = record {
     of_objects = object_there (committed_object p.value r) (named_point v name p h there);
     of_points = points_there p.number (Some (record p.value { reservation = None })) (named_point v name p h there);
+  }
+  change_has_pools same (Substituted name transform e is parked) = record {
+    of_objects = subst (AllByRecursion (IsPoolThere v.pools))
+        (sym (owners_substituted (pairs_of v.state transform) v.graph.objects)) h.of_objects;
+    of_points = h.of_points;
   }
   change_has_pools same Unchanged = h
   change_has_pools same _ = record { of_objects = h.of_objects; of_points = h.of_points }

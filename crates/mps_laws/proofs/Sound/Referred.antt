@@ -7,7 +7,7 @@ use Rattle.std.specs.List.{list_all, flat_map}
 use Rattle.std.specs.Option.{option_map_or}
 use Rattle.mps_model.specs.Graph.{Graph, Object, Cell, contains, entry_at, graph_with_cells, object_at, object_with_cells, targets, targets_of}
 use Rattle.mps_model.specs.Collection.{Collection}
-use Rattle.mps_model.specs.World.{World, is_live, is_running, live_ids, numbers_of}
+use Rattle.mps_model.specs.World.{World, is_live, is_running, live_ids, numbers_of, ids_in_pairs}
 use Rattle.mps_model.specs.Allocating.{body_with_word, graph_with_word, with_object}
 use Rattle.mps_model.specs.History.{is_held_rightly, has_units_left}
 use Rattle.mps_model.specs.Graph.{Body, Automatic, Manual, ids_in_blocks, ids_of_client, targets_of_body}
@@ -158,10 +158,16 @@ module _ (test : ℕ → Bool) (g : Graph) where
 -- a world is sound where what is held there passes both tests, and what is referred to at rest is live
 pub sound_world : (w : World) → AreHeld (is_live w) w.graph → All (is_live w) (ids_in_blocks w.graph)
     → (is_running w ≡ false → AreReferred (is_live w) (is_live w) w.graph)
+    → (is_running w ≡ false → All (is_live w) (ids_in_pairs w.state))
     → ((c : Collection) → w.collection ≡ Some c → AreHeld (is_held_rightly w c) w.graph)
     → has_units_left w ≡ true → IsSound w
-sound_world w held blocks referred kept units = record {
-  live = record { client = for_client (is_live w) w.graph held; blocks = blocks; referred = at_rest (is_running w) refl };
+sound_world w held blocks referred pairs kept units = record {
+  live = record {
+    client = for_client (is_live w) w.graph held;
+    blocks = blocks;
+    referred = at_rest (is_running w) refl;
+    transforms = paired (is_running w) refl;
+  };
   kept = in_collection w.collection refl;
   units = units;
 }
@@ -169,6 +175,10 @@ sound_world w held blocks referred kept units = record {
     at_rest : (b : Bool) → is_running w ≡ b → (b || list_all (is_live w) (flat_map (targets w.graph) (live_ids w))) ≡ true
     at_rest true e = refl
     at_rest false e = for_live w (is_live w) (referred e)
+
+    paired : (b : Bool) → is_running w ≡ b → (b || list_all (is_live w) (ids_in_pairs w.state)) ≡ true
+    paired true e = refl
+    paired false e = pairs e
 
     in_collection : (o : Option Collection) → w.collection ≡ o
         → option_map_or (λ c. list_all (is_held_rightly w c) (ids_of_client w.graph)) o true ≡ true
@@ -180,6 +190,7 @@ pub record SoundParts (w : World) : Type 0 where
   pub held : AreHeld (is_live w) w.graph
   pub blocks : All (is_live w) (ids_in_blocks w.graph)
   pub referred : is_running w ≡ false → AreReferred (is_live w) (is_live w) w.graph
+  pub pairs : is_running w ≡ false → All (is_live w) (ids_in_pairs w.state)
   pub kept : (c : Collection) → w.collection ≡ Some c → AreHeld (is_held_rightly w c) w.graph
   pub units : IsTrue (has_units_left w)
 
@@ -189,6 +200,7 @@ sound_parts w s = record {
   blocks = s.live.blocks;
   referred = λ rest. of_live w (is_live w)
       (subst (λ b. (b || list_all (is_live w) (flat_map (targets w.graph) (live_ids w))) ≡ true) rest s.live.referred);
+  pairs = λ rest. subst (λ b. (b || list_all (is_live w) (ids_in_pairs w.state)) ≡ true) rest s.live.transforms;
   kept = λ c e. of_client (is_held_rightly w c) w.graph
       (subst (λ o. option_map_or (λ c. list_all (is_held_rightly w c) (ids_of_client w.graph)) o true ≡ true) e s.kept);
   units = s.units;

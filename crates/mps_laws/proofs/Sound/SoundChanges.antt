@@ -9,7 +9,7 @@ use Rattle.mps_base.specs.declared.names.Name.{Name}
 use Rattle.mps_base.specs.declared.names.Rank.{Rank}
 use Rattle.mps_model.specs.Graph.{Graph, Object, PlainWord, entry_at, ids_in_blocks, ids_in_holds, ids_in_reservations, ids_in_slots, targets, entries, targets_of, with_last, without_name}
 use Rattle.mps_model.specs.Collection.{Collection}
-use Rattle.mps_model.specs.World.{World, Pool, empty_world, is_live, is_running}
+use Rattle.mps_model.specs.World.{World, ArenaState, Pool, empty_world, ids_in_pairs, is_live, is_running}
 use Rattle.mps_model.specs.Checked.{with_graph}
 use Rattle.mps_model.specs.Making.{graph_with_area, graph_with_blocks, graph_with_table, with_point, without_point}
 use Rattle.mps_model.specs.History.{is_held_rightly}
@@ -26,32 +26,44 @@ use Rattle.mps_laws.proofs.Sound.SoundEffects.{graph_sound}
 -- ---- the parts of a world on which soundness rests
 
 -- the world of these parts, and else nothing
-abbrev of_parts : Graph → List (Option ℕ) → Option Collection → List Pool → World
-of_parts g addresses running pools = record empty_world { graph = g; addresses = addresses; collection = running; pools = pools }
+abbrev of_parts : Graph → List (Option ℕ) → Option Collection → List Pool → ArenaState → World
+of_parts g addresses running pools state =
+    record empty_world { graph = g; addresses = addresses; collection = running; pools = pools; state = state }
 
-to_parts : (w : World) → IsSound w → IsSound (of_parts w.graph w.addresses w.collection w.pools)
+to_parts : (w : World) → IsSound w → IsSound (of_parts w.graph w.addresses w.collection w.pools w.state)
 to_parts w s = record {
-  live = record { client = s.live.client; blocks = s.live.blocks; referred = s.live.referred };
+  live = record {
+    client = s.live.client;
+    blocks = s.live.blocks;
+    referred = s.live.referred;
+    transforms = s.live.transforms;
+  };
   kept = s.kept;
   units = s.units;
 }
 
-from_parts : (w : World) → IsSound (of_parts w.graph w.addresses w.collection w.pools) → IsSound w
+from_parts : (w : World) → IsSound (of_parts w.graph w.addresses w.collection w.pools w.state) → IsSound w
 from_parts w s = record {
-  live = record { client = s.live.client; blocks = s.live.blocks; referred = s.live.referred };
+  live = record {
+    client = s.live.client;
+    blocks = s.live.blocks;
+    referred = s.live.referred;
+    transforms = s.live.transforms;
+  };
   kept = s.kept;
   units = s.units;
 }
 
--- a world is sound where one with the same graph, addresses, running collection and pools is. So the world's numbers may change
+-- a world is sound where one with the same graph, addresses, running collection, pools and state is. So the world's numbers may change
 pub sound_again : (w v : World) → v.graph ≡ w.graph → v.addresses ≡ w.addresses → v.collection ≡ w.collection → v.pools ≡ w.pools
-    → IsSound w → IsSound v
-sound_again w v graph addresses running pools s =
+    → v.state ≡ w.state → IsSound w → IsSound v
+sound_again w v graph addresses running pools state s =
     from_parts v
-    (subst (λ g. IsSound (of_parts g v.addresses v.collection v.pools)) (sym graph)
-    (subst (λ a. IsSound (of_parts w.graph a v.collection v.pools)) (sym addresses)
-    (subst (λ c. IsSound (of_parts w.graph w.addresses c v.pools)) (sym running)
-    (subst (λ p. IsSound (of_parts w.graph w.addresses w.collection p)) (sym pools) (to_parts w s)))))
+    (subst (λ g. IsSound (of_parts g v.addresses v.collection v.pools v.state)) (sym graph)
+    (subst (λ a. IsSound (of_parts w.graph a v.collection v.pools v.state)) (sym addresses)
+    (subst (λ c. IsSound (of_parts w.graph w.addresses c v.pools v.state)) (sym running)
+    (subst (λ p. IsSound (of_parts w.graph w.addresses w.collection p v.state)) (sym pools)
+    (subst (λ a. IsSound (of_parts w.graph w.addresses w.collection w.pools a)) (sym state) (to_parts w s))))))
 
 -- ---- effects
 
@@ -121,7 +133,7 @@ module _ (w : World) (sound : IsSound w) where
   pub point_sound : (name : Name) (pool : ℕ) (rank : Rank) → IsSound (with_point w name pool rank)
   point_sound name pool rank =
       let h = (with_point w name pool rank).graph in
-      sound_again (with_graph w h) (with_point w name pool rank) refl refl refl refl
+      sound_again (with_graph w h) (with_point w name pool rank) refl refl refl refl refl
       (changed h refl refl refl
       (λ test a. held_again test
       (record w.graph { points = with_last w.graph.points (Some (record { pool = pool; rank = rank; reservation = None })) })
@@ -130,7 +142,7 @@ module _ (w : World) (sound : IsSound w) where
   pub point_gone_sound : (name : Name) (number : ℕ) → IsSound (without_point w name number)
   point_gone_sound name number =
       let h = (without_point w name number).graph in
-      sound_again (with_graph w h) (without_point w name number) refl refl refl refl
+      sound_again (with_graph w h) (without_point w name number) refl refl refl refl refl
       (changed h refl refl refl
       (λ test a. held_again test (record w.graph { points = slice_set w.graph.points number None }) h refl refl refl refl
       (point_dropped test w.graph a number)))
@@ -173,7 +185,7 @@ module _ (w : World) (o : Object) (at : ℕ) where
       (λ rest. object_made now w.graph now o (all-weaker (is_live w) now made_lives (targets_of o) (refers rest))
       (λ id live other. all-weaker (is_live w) now made_lives (targets w.graph id)
       (p.referred rest id (lived_before id live (λ same. other (same ∙ lengths))))))
-      rightly p.units
+      (λ rest. all-weaker (is_live w) now made_lives (ids_in_pairs w.state) (p.pairs rest)) rightly p.units
 
 -- ---- a block is gone
 
@@ -228,8 +240,9 @@ module _ (w : World) (gone : ℕ) where
 
   -- the world without a block is sound where nothing held it, and at rest nothing referred to it
   pub gone_sound : IsSound w → AreHeld is_other w.graph → All is_other (ids_in_blocks w.graph)
-      → (is_running w ≡ false → AreReferred (is_live w) is_other w.graph) → IsSound (with_address w gone None)
-  gone_sound sound held blocks referred =
+      → (is_running w ≡ false → AreReferred (is_live w) is_other w.graph)
+      → (is_running w ≡ false → All is_other (ids_in_pairs w.state)) → IsSound (with_address w gone None)
+  gone_sound sound held blocks referred pairs =
       let p = sound_parts w sound in
       let now = is_live (with_address w gone None) in
       sound_world (with_address w gone None)
@@ -240,4 +253,6 @@ module _ (w : World) (gone : ℕ) where
       let lived = lived_otherwise id (entry_at w.addresses gone) refl live in
       all-weaker lives_otherwise now others_live (targets w.graph id)
       (all-both (is_live w) is_other (targets w.graph id) (p.referred rest id lived) (referred rest id lived)))
+      (λ rest. all-weaker lives_otherwise now others_live (ids_in_pairs w.state)
+      (all-both (is_live w) is_other (ids_in_pairs w.state) (p.pairs rest) (pairs rest)))
       p.kept p.units

@@ -66,7 +66,7 @@ module _ (w : World) (sound : IsSound w) where
       → (is_running w ≡ false → AreReferred (is_live w) (is_live w) h)
       → ((c : Collection) → w.collection ≡ Some c → AreHeld (is_held_rightly w c) h) → IsSound (with_graph w h)
   graph_sound h same held blocks referred kept =
-      sound_world (with_graph w h) held blocks referred
+      sound_world (with_graph w h) held blocks referred parts.pairs
       (λ c e. weaker_test (is_held_rightly w c) h (kept c e) (is_held_rightly (with_graph w h) c)
       (λ id passes. held_rightly_again w h c id same ∙ passes)) parts.units
 

@@ -14,7 +14,7 @@ use Rattle.mps_model.specs.declared.call.Call.{Call}
 use Rattle.mps_model.specs.declared.call.Call.TheVariants as call
 use Rattle.mps_model.specs.Answer.{Answer, is_accepted, is_refused, is_block, is_unsupported}
 use Rattle.mps_model.specs.Graph.{Graph, Object, Reservation, contains, entry_at, is_automatic, object_at, ids_in_slots, ids_in_holds, ids_in_reservations, ids_of_client}
-use Rattle.mps_model.specs.World.{World, Pool, id_at, is_live, segment_of, is_copying_pool, is_empty_segment, is_any_size_kind, pool_is}
+use Rattle.mps_model.specs.World.{World, Pool, id_at, ids_in_pairs, is_live, segment_of, is_copying_pool, is_empty_segment, is_any_size_kind, pool_is}
 use Rattle.mps_model.specs.Checked.{Checked, Found, Numbered, pool_named, point_named, block_place_in, number_named, as_point}
 use Rattle.mps_model.specs.Accessing.{address_or_null}
 use Rattle.mps_model.specs.Placement.{ForAlloc, placement_of}
@@ -30,7 +30,7 @@ use Rattle.mps_laws.proofs.Replays.Steps.{is_reserve}
 use Rattle.mps_laws.proofs.Replays.FreeSteps.{block_is_live}
 use Rattle.mps_laws.proofs.Sound.SoundGraph.{All, IsSoundGraph, PassesOrNull, auto, manual, all-parts, all-at, all-contains, entry-passes}
 use Rattle.mps_laws.proofs.FoundBy.{found_by}
-use Rattle.mps_laws.proofs.Sound.SoundSteps.{act_sound, is_finalize}
+use Rattle.mps_laws.proofs.Sound.SoundSteps.{act_sound, is_finalize, is_substituting}
 use Rattle.mps_laws.proofs.Sound.SoundReserves.{reserve_sound}
 use Rattle.mps_laws.proofs.Sound.SoundMoves.{IsMovedWell, grows_on, quiet, moves_well, segment_well, freed_well, unseg_well}
 
@@ -203,7 +203,8 @@ slots_held w h =
     (all-parts (is_live w) (ids_in_slots w.graph) (ids_in_holds w.graph) b.0).0
 
 module _ (limit line : ℕ) (w : World) (laid : Rattle.mps_laws.proofs.Positions.LegalMoves.HasLayout limit w)
-    (live : Rattle.mps_laws.proofs.Replays.FreeSteps.BlocksAreLive w) (slots : SlotsAreLive w) (s : IsSoundGraph w) where
+    (live : Rattle.mps_laws.proofs.Replays.FreeSteps.BlocksAreLive w) (slots : SlotsAreLive w) (s : IsSoundGraph w)
+    (pairs : All (auto w) (ids_in_pairs w.state)) where
   abbrev the_step : Call → List Move → Answer → Step
   the_step c ms answer = record { line = line; call = c; moves = ms; answer = answer }
 
@@ -217,10 +218,10 @@ module _ (limit line : ℕ) (w : World) (laid : Rattle.mps_laws.proofs.Positions
       (quiet x (with_client_remembered x) sound refl refl refl refl).sound
 
   acted : (marked : Bool) (v : World) (c : Call) → IsMovedWell w v → (is_finalize c ≡ true → All (is_live v) (ids_in_slots v.graph))
-      → is_reserve c ≡ false
+      → (is_substituting c ≡ true → All (auto v) (ids_in_pairs v.state)) → is_reserve c ≡ false
       → IsSoundGraph (world_from v (act marked w v c))
-  acted marked v c m finalize plain = for_world IsSoundGraph v (act marked w v c)
-      (act_sound marked w v s m.grown m.sound c finalize plain) m.sound
+  acted marked v c m finalize substitute plain = for_world IsSoundGraph v (act marked w v c)
+      (act_sound marked w v s m.grown m.sound c finalize substitute plain) m.sound
 
   reserved : (name : Rattle.mps_base.specs.declared.names.Name.Name) (head : ℕ) (ms : List Move) (answer : Answer)
       → is_unsupported answer ≡ false
@@ -246,31 +247,39 @@ module _ (limit line : ℕ) (w : World) (laid : Rattle.mps_laws.proofs.Positions
       finished (call.Commit point target) ms answer supported
       (acted (is_block answer) (world_after_moves w ms) (call.Commit point target)
       (subst (λ ns. IsMovedWell w (world_after_moves w ns)) (sym legal.moves_are_due) (commit_well w (point_named w point) answer s))
-      (λ h. absurd (false≢true h)) refl)
+      (λ h. absurd (false≢true h)) (λ h. absurd (false≢true h)) refl)
   of_call (call.Alloc pool words place) ms answer supported legal =
       finished (call.Alloc pool words place) ms answer supported
       (acted (is_block answer) (world_after_moves w ms) (call.Alloc pool words place)
       (subst (λ ns. IsMovedWell w (world_after_moves w ns)) (sym legal.moves_are_due) (alloc_well w (pool_named w pool) words answer s))
-      (λ h. absurd (false≢true h)) refl)
+      (λ h. absurd (false≢true h)) (λ h. absurd (false≢true h)) refl)
   of_call (call.Free place) ms answer supported legal =
       finished (call.Free place) ms answer supported
       (acted (is_block answer) (world_after_moves w ms) (call.Free place)
       (subst (λ ns. IsMovedWell w (world_after_moves w ns)) (sym legal.moves_are_due) (free_well limit w place answer laid live s))
-      (λ h. absurd (false≢true h)) refl)
+      (λ h. absurd (false≢true h)) (λ h. absurd (false≢true h)) refl)
   of_call (call.Finalize slot) ms answer supported legal =
       finished (call.Finalize slot) ms answer supported
       (acted (is_block answer) (world_after_moves w ms) (call.Finalize slot) (moves_well w None ms s legal.moves_are_legal)
-      (λ h. subst (λ (ns : List Move). SlotsAreLive (world_after_moves w ns)) (sym legal.moves_are_due) slots) refl)
+      (λ h. subst (λ (ns : List Move). SlotsAreLive (world_after_moves w ns)) (sym legal.moves_are_due) slots)
+      (λ h. absurd (false≢true h)) refl)
+  of_call (call.TransformApply transform) ms answer supported legal =
+      finished (call.TransformApply transform) ms answer supported
+      (acted (is_block answer) (world_after_moves w ms) (call.TransformApply transform) (moves_well w None ms s legal.moves_are_legal)
+      (λ h. absurd (false≢true h)) (λ h.
+      subst (λ (ns : List Move). All (auto (world_after_moves w ns)) (ids_in_pairs (world_after_moves w ns).state))
+      (sym legal.moves_are_due) pairs) refl)
   of_call (call.Step units) ms answer supported legal =
       let m = moves_well w None ms s legal.moves_are_legal in
       let u = world_after_moves w ms in
       let asked = units_asked w (call.Step units) in
       finished (call.Step units) ms answer supported
       (acted (is_block answer) (asking asked u) (call.Step units) (then_well w u (asking asked u) m (asked_well asked u m.sound))
-      (λ h. absurd (false≢true h)) refl)
+      (λ h. absurd (false≢true h)) (λ h. absurd (false≢true h)) refl)
   of_call c ms answer supported legal =
       finished c ms answer supported
-      (acted (is_block answer) (world_after_moves w ms) c (moves_well w None ms s legal.moves_are_legal) (λ h. absurd (false≢true h)) refl)
+      (acted (is_block answer) (world_after_moves w ms) c (moves_well w None ms s legal.moves_are_legal) (λ h. absurd (false≢true h))
+      (λ h. absurd (false≢true h)) refl)
 
   which : {A B : Type 0} (b : Bool) → MatchBool b A B → ((b ≡ true) × A) ⊎ ((b ≡ false) × B)
   which true a = inl (refl, a)

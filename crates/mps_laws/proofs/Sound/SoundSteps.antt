@@ -12,12 +12,13 @@ use Rattle.mps_base.specs.declared.names.Slot.{Slot}
 use Rattle.mps_model.specs.declared.call.Call.{Call}
 use Rattle.mps_model.specs.declared.call.Call.TheVariants as call
 use Rattle.mps_model.specs.Graph.{Object, Automatic, Manual, Point, Reservation, AreaWord, entries, entry_at, is_automatic, ids_in_slots, slots_of, Cell, without_name, with_last, without_first}
-use Rattle.mps_model.specs.World.{World, Pool, PoolKind, Collected, OneSize, AnySize, is_live, is_automatic_kind, is_weak_kind, pool_at}
+use Rattle.mps_model.specs.World.{World, Pool, PoolKind, Collected, OneSize, AnySize, ids_in_pairs, is_live, is_automatic_kind, is_weak_kind, pool_at}
 use Rattle.mps_model.specs.WellFormed.{are_right_cells, is_right_object, is_live_automatic}
 use Rattle.mps_model.specs.Checked.{Found, Numbered, point_named, slot_in, block_place_in, object_in, cells_of_body, number_named, as_blocks, with_graph}
 use Rattle.mps_model.specs.Making.{with_pool, is_block_size, is_weak_rank, may_have_point}
 use Rattle.mps_model.specs.Allocating.{with_slot, allows_size, committed_object, graph_allocated, reserved_address, with_reservation, world_committed}
 use Rattle.mps_model.specs.Collecting.{without_registration}
+use Rattle.mps_model.specs.Transforms.{graph_substituted, pairs_of, world_substituted}
 use Rattle.mps_model.specs.Reply.{act}
 use Rattle.mps_laws.proofs.Lookups.{slice_get-kept, entry_within_set, slice_get-at_last}
 use Rattle.mps_laws.proofs.Positions.LaidOut.{kind_in}
@@ -25,15 +26,20 @@ use Rattle.mps_laws.proofs.Sound.PoolKinds.{kind_of_pool}
 use Rattle.mps_laws.proofs.Acts.{ForAct, point_named-is, pool_named-is}
 use Rattle.mps_laws.proofs.Sound.SoundGraph.{All, PassesOrNull, AreRight, IsSoundGraph, Grows, auto, manual, is_sound_word, is_sound_reservation, all-weaker, all-at, all-written, all-without, all-ended, entries-written, each-at, grows_alike, untouched, auto_kept, manual_kept, right_target_cell, right_tag_cell, right_number_cell}
 use Rattle.mps_laws.proofs.Sound.SoundActs.{table_passes, slot_passes, object_cells, reference_passes, held_written, slot_written, word_written, cells_changed, reservation_written, object_added, place_written, block_word_written, pin_is_sound, block_lies, hold_is_sound}
-use Rattle.mps_changes.specs.Change.{IsFoundBy, Now, Before, IsGot, GotNull, FromSlot, FromCell, FromWord, FromMessage, IsShown, ShownPlain, ShownPinned, ShownPoked, IsWritten, WritesTag, WritesReference, WritesNumber, Change, Unchanged, Aside, SlotIs, WordIs, MessageTaken, TableMade, AreaMade, BlocksMade, TableDropped, AreaDropped, CellsAre, BlockWordIs, PlaceEmptied, Allocated, PoolMade, PointMade, PointDropped, Opened, Written, Closed, Committed, Registered, Unregistered}
+use Rattle.mps_changes.specs.Change.{IsFoundBy, Now, Before, IsGot, GotNull, FromSlot, FromCell, FromWord, FromMessage, IsShown, ShownPlain, ShownPinned, ShownPoked, IsWritten, WritesTag, WritesReference, WritesNumber, Change, Unchanged, Aside, SlotIs, WordIs, MessageTaken, TableMade, AreaMade, BlocksMade, TableDropped, AreaDropped, CellsAre, BlockWordIs, PlaceEmptied, Allocated, PoolMade, PointMade, PointDropped, Opened, Written, Closed, Committed, Substituted, Registered, Unregistered}
 use Rattle.mps_changes.proofs.ActChanges.{but, of_changes}
 use Rattle.mps_changes.proofs.Written.{written_length}
 use Rattle.mps_laws.proofs.FoundBy.{found_by, slot_found, word_found, object_found, number_found}
+use Rattle.mps_laws.proofs.Sound.Substituting.{pairs_of_pass, substituted_sound}
 use Rattle.mps_laws.proofs.Sound.SoundParts.{cells_sound, new_table, new_blocks, new_area, new_point, no_point, object_of_slot, id_of_slot, taken}
 
 abbrev pub is_finalize : Call → Bool
 is_finalize (call.Finalize slot) = true
 is_finalize _ = false
+
+abbrev pub is_substituting : Call → Bool
+is_substituting (call.TransformApply transform) = true
+is_substituting _ = false
 
 module _ (judged v : World) (j : IsSoundGraph judged) (grown : Grows judged v) (s : IsSoundGraph v) where
   slot_judged : (slot : Slot) (into : Found (Option ℕ)) → slot_in judged slot ≡ Ok into → All (auto v) (entries into.list)
@@ -198,60 +204,69 @@ module _ (judged v : World) (j : IsSoundGraph judged) (grown : Grows judged v) (
       (ap (λ x. option_map_or is_automatic x false) (slice_get-at_last v.graph.objects o))
 
   pub change_sound : {marked : Bool} {c : Call} {u : World} → (is_finalize c ≡ true → All (is_live v) (ids_in_slots v.graph))
+      → (is_substituting c ≡ true → All (auto v) (ids_in_pairs v.state))
       → Rattle.mps_laws.proofs.Replays.Steps.is_reserve c ≡ false → Change marked c judged v u → IsSoundGraph u
-  change_sound live other Unchanged = s
-  change_sound live other (Aside u what) =
+  change_sound live pairs other Unchanged = s
+  change_sound live pairs other (Aside u what) =
       as_it_was refl refl refl refl refl refl refl refl refl refl
-  change_sound live other (SlotIs into target found got) = slot_written v s into target (slots_pass into found) (got_passes got)
-  change_sound live other (WordIs place at word e shown) = word_written v s place at word e (shown_sound shown)
-  change_sound live other (MessageTaken slot into id ids e are) =
+  change_sound live pairs other (SlotIs into target found got) = slot_written v s into target (slots_pass into found) (got_passes got)
+  change_sound live pairs other (WordIs place at word e shown) = word_written v s place at word e (shown_sound shown)
+  change_sound live pairs other (MessageTaken slot into id ids e are) =
       let parts = and_parts (auto v id) (list_all (auto v) ids) (subst (All (auto v)) are s.messages) in
       held_written v s (with_slot (record v.graph { messages = ids }) into (Some id)) refl refl
       (inr (all-written (auto v) slots_of v.graph.tables into.number (Some (slice_set into.list into.index (Some id))) s.slots
       (entries-written (auto v) into.list into.index (Some id) (slots_pass into (Now slot e)) parts.0)))
       (inl refl) (inl refl) (inl refl) (inr parts.1)
-  change_sound live other (TableMade name slots) = new_table v s name slots
-  change_sound live other (AreaMade name words) = new_area v s name words
-  change_sound live other (BlocksMade name places e) = new_blocks v s name places
-  change_sound live other (TableDropped name n named) =
+  change_sound live pairs other (TableMade name slots) = new_table v s name slots
+  change_sound live pairs other (AreaMade name words) = new_area v s name words
+  change_sound live pairs other (BlocksMade name places e) = new_blocks v s name places
+  change_sound live pairs other (TableDropped name n named) =
       held_written v s (record v.graph { tables = slice_set v.graph.tables n None; names = without_name v.graph.names name }) refl refl
       (inr (all-written (auto v) slots_of v.graph.tables n None s.slots refl)) (inl refl) (inl refl) (inl refl) (inl refl)
-  change_sound live other (AreaDropped name n named) =
+  change_sound live pairs other (AreaDropped name n named) =
       held_written v s (record v.graph { areas = slice_set v.graph.areas n None; names = without_name v.graph.names name }) refl refl
       (inl refl)
       (inr (λ k area h. elim (entry_within_set v.graph.areas n k area None h) [
         | inl here ↦ absurd (none-some area here.1)
         | inr other ↦ s.words k area other.1
       ])) (inl refl) (inl refl) (inl refl)
-  change_sound live other (CellsAre object change held write) =
+  change_sound live pairs other (CellsAre object change held write) =
       let o = (object_found v held.from.value object held.is).1 in
       cells_changed v s object.number object.value change o (written_length write (cells_of_body object.value.body)) (written_right write)
-  change_sound live other (BlockWordIs id k value) = block_word_written v s id k value
-  change_sound live other (PlaceEmptied from place e found) = place_written v s place None (place_own from place found) tt
-  change_sound live other (Allocated pool p words into place at e of kind size found) =
+  change_sound live pairs other (BlockWordIs id k value) = block_word_written v s id k value
+  change_sound live pairs other (PlaceEmptied from place e found) = place_written v s place None (place_own from place found) tt
+  change_sound live pairs other (Allocated pool p words into place at e of kind size found) =
       allocated_sound p words place at (grown.pools p.number p.value (pool_named-is judged pool p of)) kind size
       (place_judged into place found)
-  change_sound live other (PoolMade name p e made) =
+  change_sound live pairs other (PoolMade name p e made) =
       untouched v (with_pool v name p) s refl (λ n q h. slice_get-kept v.pools p q n h) refl refl refl refl refl refl refl refl
-  change_sound live other (PointMade name pool of at_rank e is may) = new_point v s name of.number at_rank (
+  change_sound live pairs other (PointMade name pool of at_rank e is may) = new_point v s name of.number at_rank (
     kind_of_pool is_automatic_kind v.pools of.number of.value (pool_named-is v pool of is) (may_is_automatic of.value.kind at_rank
         (ap not may)),
     (λ weak. kind_of_pool is_weak_kind v.pools of.number of.value (pool_named-is v pool of is)
         (may_is_weak of.value.kind at_rank (ap not may) weak)),
   )
-  change_sound live other (PointDropped name p e is none) = no_point v s name p.number
-  change_sound live other (Opened name head reserving p at e is there) = but Rattle.mps_laws.proofs.Replays.Steps.is_reserve e refl other
-  change_sound live other (Written name p r change e there has lives write) =
+  change_sound live pairs other (PointDropped name p e is none) = no_point v s name p.number
+  change_sound live pairs other (Opened name head reserving p at e is there) =
+      but Rattle.mps_laws.proofs.Replays.Steps.is_reserve e refl other
+  change_sound live pairs other (Written name p r change e there has lives write) =
       let is = (point_named-is v name p there).1 in
       reservation_written v s p (Some (record r { cells = change r.cells })) is (λ x k.
       subst (λ (z : Reservation). is_sound_reservation v p.value.pool z ≡ true) (same_Some (record r { cells = change r.cells }) x k)
       (cells_sound v s p.value.pool r (change r.cells) (written_right write) (s.reservations p.number p.value r is has)))
-  change_sound live other (Closed name target p r e there has ended) =
+  change_sound live pairs other (Closed name target p r e there has ended) =
       reservation_written v s p None (point_named-is v name p there).1 (λ x k. absurd (none-some x k))
-  change_sound live other (Committed name target p r slot e there found has lives) = committed_sound name target p slot r there found has
-  change_sound live other (Registered object held e) =
+  change_sound live pairs other (Committed name target p r slot e there found has lives) =
+      committed_sound name target p slot r there found has
+  change_sound live pairs other (Substituted name transform e is parked) =
+      let replaced = pairs_of v.state transform in
+      let u = with_graph v (graph_substituted v.graph replaced) in
+      untouched u (world_substituted v name transform)
+      (substituted_sound v s replaced (pairs_of_pass (auto v) v.state transform (pairs (ap is_substituting e))))
+      refl (λ n p h. h) refl refl refl refl refl refl refl refl
+  change_sound live pairs other (Registered object held e) =
       registered_sound held.slot held.from object (live (ap is_finalize e)) held.there held.is
-  change_sound live other (Unregistered slot from object position e there is at) =
+  change_sound live pairs other (Unregistered slot from object position e there is at) =
       untouched (with_graph v (record v.graph { registered = without_first v.graph.registered object.number }))
       (record v {
         graph = record v.graph { registered = without_first v.graph.registered object.number };
@@ -263,7 +278,8 @@ module _ (judged v : World) (j : IsSoundGraph judged) (grown : Grows judged v) (
       refl (λ n p h. h) refl refl refl refl refl refl refl refl
 
 pub act_sound : (marked : Bool) (judged v : World) (j : IsSoundGraph judged) (grown : Grows judged v) (s : IsSoundGraph v) (c : Call)
-    → (is_finalize c ≡ true → All (is_live v) (ids_in_slots v.graph)) → Rattle.mps_laws.proofs.Replays.Steps.is_reserve c ≡ false
+    → (is_finalize c ≡ true → All (is_live v) (ids_in_slots v.graph))
+    → (is_substituting c ≡ true → All (auto v) (ids_in_pairs v.state)) → Rattle.mps_laws.proofs.Replays.Steps.is_reserve c ≡ false
     → ForAct IsSoundGraph (act marked judged v c)
-act_sound marked judged v j grown s c live other = of_changes marked judged v c (λ u change.
-    change_sound judged v j grown s live other change)
+act_sound marked judged v j grown s c live pairs other = of_changes marked judged v c (λ u change.
+    change_sound judged v j grown s live pairs other change)

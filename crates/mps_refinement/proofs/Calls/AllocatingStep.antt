@@ -125,7 +125,7 @@ module _ (w : World) (sound : w.collection ≡ None → IsSound w) (blocks : lis
       made_sound w new_object at (sound rest) lengths (λ r. refl) (λ c e. absurd (none-some c (sym rest ∙ e))) in
       let placed = place_sound made first found (Some (length w.graph.objects)) has new_lives in
       sound_again (with_graph made (with_block_place made.graph found (Some (length w.graph.objects)))) world_made
-      refl refl refl refl placed
+      refl refl refl refl refl placed
 
   -- blocks in places are live
   pub blocks_made : list_all (is_live world_made) (ids_in_blocks world_made.graph) ≡ true

@@ -14,6 +14,7 @@ use Rattle.mps_model.specs.Answer.{Replied}
 use Rattle.mps_model.specs.Checked.{Checked, done}
 use Rattle.mps_model.specs.Collecting.{with_state}
 use Rattle.mps_model.specs.Reply.{act}
+use Rattle.mps_model.specs.World as world
 use Rattle.mps_model.specs.World.{World, committed}
 use Rattle.mps_heap_spec.specs.Arena.{held_grains, limit_set, with_arena}
 use Rattle.mps_heap_spec.specs.Coming as ours
@@ -29,6 +30,7 @@ use Rattle.mps_refinement.proofs.Worlds.Steps.{HasParts, Leads, answer_is_right,
 use Rattle.mps_refinement.proofs.Parts.Resting.{at_rest}
 use Rattle.mps_refinement.proofs.Worlds.RunningActs.{is_poke}
 use Rattle.mps_refinement.specs.QuietCalls.{never_moves}
+use Rattle.mps_refinement.proofs.Parts.BlockParts.{unpaired}
 
 -- ---- the grains that are held
 
@@ -103,5 +105,6 @@ module _ {F : Type 0} (layout : F → Layout) (h : HeapState F) where
   park_is_right after is w line st =
       subst (λ s. IsRightIn layout w (step_of line call.Park [] (Replied reply.Ok)) s) (sym is)
       (resting_is_right layout w line call.Park (Replied reply.Ok) refl refl refl st.reached st.past.time h.segs
-      (done (with_state w (state_of arena.Parked))) (with_arena h arena.Parked) (at_rest st.time) (refl, refl) refl refl
+      (done (with_state w (state_of arena.Parked))) (with_arena h arena.Parked) (at_rest st.time) (refl, refl)
+      (ap (λ pairs. done (with_state w (world.Parked pairs))) (ap world.pairs_in st.parts.state ∙ unpaired h.arena)) refl
       (state_has layout h w st.past st.parts arena.Parked))

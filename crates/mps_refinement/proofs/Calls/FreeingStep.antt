@@ -20,7 +20,7 @@ use Rattle.mps_model.proofs.AtRest.{with_collection-none}
 use Rattle.mps_model.specs.declared.reply.Reply.TheVariants as reply
 use Rattle.mps_model.specs.Answer.{Answer, Replied}
 use Rattle.mps_model.specs.Graph.{Slots, entries, entry_at, ids_in_blocks, contains, without_first}
-use Rattle.mps_model.specs.World.{World, is_any_size_kind, is_empty_segment, pool_is, segment_of, is_live}
+use Rattle.mps_model.specs.World.{World, is_any_size_kind, is_empty_segment, pool_is, segment_of, is_live, ids_of_pair, pairs_in}
 use Rattle.mps_model.specs.Checked.{Found, ◌>>=◌, ◌>>◌, block_place_in, done, with_graph, required}
 use Rattle.mps_model.specs.Allocating.{act_free, block_in, with_block_place}
 use Rattle.mps_model.specs.Accessing.{address_or_null}
@@ -144,20 +144,26 @@ module _ (w : World) (outside : (c : Collection) → w.collection ≡ Some c →
             }))))
       ])
 
-  pub sound_freed : w.collection ≡ None → IsSound world_freed
-  sound_freed rest =
+  pub sound_freed : pairs_in w.state ≡ [] → w.collection ≡ None → IsSound world_freed
+  sound_freed none rest =
       let placed = with_graph w (with_block_place w.graph found None) in
       let emptied = place_sound w (sound rest) found None has tt in
       let gone = gone_sound placed id emptied
       (held_again (λ j. not (id == j)) w.graph placed.graph refl refl refl refl (held_others w graph id manual)) place_others
-      (λ r j live. target_others w graph id manual j) in
+      (λ r j live. target_others w graph id manual j)
+      (λ r. ap (λ ps. list_all (λ j. not (id == j)) (flat_map ids_of_pair ps)) none) in
       let unlinked = record (with_address placed id None) { graph = world_freed.graph } in
       let kept : IsSound unlinked = record {
-        live = record { client = gone.live.client; blocks = gone.live.blocks; referred = gone.live.referred };
+        live = record {
+          client = gone.live.client;
+          blocks = gone.live.blocks;
+          referred = gone.live.referred;
+          transforms = gone.live.transforms;
+        };
         kept = gone.kept;
         units = gone.units;
       } in
-      sound_again unlinked world_freed refl refl refl refl kept
+      sound_again unlinked world_freed refl refl refl refl refl kept
 
   -- blocks in places are live
   pub blocks_freed : list_all (is_live world_freed) (ids_in_blocks world_freed.graph) ≡ true

@@ -23,7 +23,7 @@ use Rattle.mps_model.specs.declared.call.Call.TheVariants as call
 use Rattle.mps_model.specs.Checked as checked
 use Rattle.mps_model.specs.Checked.{Checked, Found, ◌>>=◌, ◌>>◌, done, required}
 use Rattle.mps_model.specs.Effect.{with_address, world_after_moves}
-use Rattle.mps_model.specs.World.{World, Pool, is_any_size_kind, is_empty_segment, pool_is, is_automatic_kind, is_copying_pool}
+use Rattle.mps_model.specs.World.{World, Pool, is_any_size_kind, is_empty_segment, pool_is, is_automatic_kind, is_copying_pool, pairs_in}
 use Rattle.mps_heap_spec.specs.Coming.{ComesMoving, Moved}
 use Rattle.mps_heap_spec.specs.Finding.{block_place_in}
 use Rattle.mps_heap_spec.specs.declared.found.Entry.{Entry}
@@ -66,7 +66,7 @@ use Rattle.mps_refinement.proofs.Parts.PointWritten.{none_set}
 use Rattle.mps_refinement.proofs.Parts.SegmentsTaken.{condemned_held, contained_among}
 use Rattle.mps_refinement.proofs.Worlds.RestingActs.{resting_sound}
 use Rattle.mps_refinement.proofs.Calls.RightOwn.{IsOwn, IsRightOutcome, done_is_right, outcome_is_right, refusal_is_right}
-use Rattle.mps_refinement.proofs.Parts.BlockParts.{parts_with_pairs, world_with_blocks}
+use Rattle.mps_refinement.proofs.Parts.BlockParts.{parts_with_pairs, world_with_blocks, unpaired}
 
 -- the moves of a free, where the trail had none
 moves_are : (size : ℕ) (s : SegsState) (trail : Moves) (at : Address) (t : Segment) → trail.moves ≡ []
@@ -282,7 +282,7 @@ module _ {F : Type 0} (layout : F → Layout) (h : HeapState F) (trail : Moves) 
               comes = comes;
               sound =
                   freeing.sound_freed w outside graph sound own.live.blocks once place found place_is is.has entry_there id at value
-                  b.address manual differ t over given is_given;
+                  b.address manual differ t over given is_given (ap pairs_in parts.state ∙ unpaired h.arena);
               blocks =
                   freeing.blocks_freed w outside graph sound own.live.blocks once place found place_is is.has entry_there id at value
                   b.address manual differ t over given is_given;

@@ -215,7 +215,7 @@ module _ {F : Type 0} (layout : F → Layout) (past : Past) (h : HeapState F) (w
           head = head;
           cells = new_cells format head;
           is_doomed = false;
-        })))) (reserved_world v name head reserving check named segments m) refl refl refl refl
+        })))) (reserved_world v name head reserving check named segments m) refl refl refl refl refl
         (reservation_sound v (resting_sound v rest knows.live) n (record {
           head = head;
           cells = new_cells format head;

@@ -140,7 +140,7 @@ module _ {F : Type 0} (layout : F → Layout) where
 
     world_is : world_collected w ms ≡ v
     world_is =
-        ap (λ (u : World). record u { state = world.Parked }) c.leaves.but_collected.world
+        ap (λ (u : World). record u { state = world.Parked [] }) c.leaves.but_collected.world
         ∙ ap (λ (o : Option Collection). record v { collection = o }) none_runs
 
     places_then : AreInPlace w acted v
@@ -175,6 +175,7 @@ module _ {F : Type 0} (layout : F → Layout) where
         referred = all_flat (is_live v) (targets v.graph) (live_ids v) (λ id listed.
             list_all-members (is_live v) (targets v.graph id) (λ target refers.
             referred_then id target (listed_is_live v id listed) refers));
+        transforms = refl;
       }
 
       moves : IsMoving w call.Collect ms (Replied reply.Ok) (done (world_collected w ms))

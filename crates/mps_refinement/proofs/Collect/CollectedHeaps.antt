@@ -1,5 +1,5 @@
 -- What a collection of everything leaves of a heap, and that it is right where it does.
-use Rattle.std.proofs.Common.{◌≡◌, ◌∙◌, ℕ, false, sym, ap, List, Option}
+use Rattle.std.proofs.Common.{◌≡◌, ◌∙◌, ℕ, false, sym, ap, List, Option, []}
 use Rattle.mps_base.specs.Address.{Address}
 use Rattle.mps_base.specs.Trail.{Moves}
 use Rattle.mps_extents.specs.Table.{bit}
@@ -52,7 +52,7 @@ module _ {F : Type 0} (layout : F → Layout) (past : Past) (h : HeapState F) (w
   -- what is left of it stands as the call has to leave it
   pub collected_heap : (acted : List (Option Address)) (u : World) → IsButCollected (world_flipped w (condemned_zones w Everything)) u
       → IsLeft past w h h' acted u
-      → IsCollectedHeap past w h h' acted (record u { state = Parked })
+      → IsCollectedHeap past w h h' acted (record u { state = Parked [] })
   collected_heap acted u moved left =
       let size = same_size w u (condemned_zones w Everything) moved in
       record {

@@ -54,7 +54,7 @@ module _ {F : Type 0} (layout : F → Layout) (past : Past) (h after : HeapState
     addresses = addresses;
     segments = segments;
     tails = tails;
-    state = world.Parked;
+    state = world.Parked [];
     collection = None;
   }
 

@@ -1,18 +1,20 @@
 -- The parts of a heap still stand for those of a world after blocks were changed in both: the segments, what objects there are and
 -- where they lie, and the places of tables of blocks.
-use Rattle.std.proofs.Common.{◌≡◌, ◌∙◌, ℕ, ◌+◌, refl, sym, ap, List, map, length, Option, arith}
+use Rattle.std.proofs.Common.{◌≡◌, ◌∙◌, ℕ, ◌+◌, refl, sym, ap, List, map, length, Option, arith, []}
 use Rattle.std.specs.Prelude.{sum_by, count_by, is_some}
 use Rattle.mps_base.specs.Address.{Address, Id}
 use Rattle.mps_base.specs.Segment.{Segment}
 use Rattle.mps_format.specs.Layout.{Layout}
 use Rattle.mps_model.specs.Graph.{Object, Slots}
 use Rattle.mps_model.specs.Making.{length_of}
-use Rattle.mps_model.specs.World.{World}
+use Rattle.mps_model.specs.World.{World, pairs_in}
 use Rattle.mps_root.specs.State.{kept}
 use Rattle.mps_seg.specs.Segs.{SegsState}
 use Rattle.mps_heap_spec.specs.State.{HeapState}
+use Rattle.mps_heap_spec.specs.declared.arena.ArenaState.{ArenaState}
+use Rattle.mps_heap_spec.specs.declared.arena.ArenaState.TheVariants as arena
 use Rattle.mps_refinement.specs.Numbering.{AreNumbered}
-use Rattle.mps_refinement.specs.StandsFor.{Past, AreParts, AreSlots, AreWords, IsArena, address_of_id, address_of_target, StandsAt, AreRegistered}
+use Rattle.mps_refinement.specs.StandsFor.{Past, AreParts, AreSlots, AreWords, IsArena, address_of_id, address_of_target, StandsAt, AreRegistered, state_of}
 use Rattle.mps_refinement.proofs.Parts.Named.{named_alike}
 use Rattle.mps_refinement.proofs.Parts.PartsByKind.{parts_of_kinds, points_of, pools_of, states_of}
 
@@ -66,6 +68,12 @@ blocks_changed layout past h w segs blocks objects addresses places segments par
       dependencies = λ n low. low;
     }))
     (states_of parts)
+
+-- a heap has no pairs of transforms
+pub unpaired : (a : ArenaState) → pairs_in (state_of a) ≡ []
+unpaired arena.Unclamped = refl
+unpaired arena.Clamped = refl
+unpaired arena.Parked = refl
 
 -- a world with other pairs of dependents: a heap has none of them
 abbrev pub world_with_pairs : World → List (Id × Id) → World

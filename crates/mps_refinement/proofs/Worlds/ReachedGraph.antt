@@ -3,22 +3,24 @@ use Rattle.std.proofs.Common.{ℕ, refl, sym, subst, [], ◌∷◌}
 use Rattle.std.proofs.lemmas.Option.{none-some}
 use Rattle.mps_format.specs.Layout.{Layout}
 use Rattle.mps_model.specs.Step.{History}
-use Rattle.mps_model.specs.World.{World, empty_world_of}
+use Rattle.mps_model.specs.World.{World, empty_world_of, ids_in_pairs}
 use Rattle.mps_model.specs.History.{IsLegalFrom, world_after, world_after_steps}
 use Rattle.mps_laws.proofs.Replays.FreeSteps.{BlocksAreLive}
 use Rattle.mps_laws.proofs.Positions.LegalMoves.{HasLayout}
 use Rattle.mps_laws.proofs.Replays.Replay.{empty_layout, legal_step_replayed, limit_after, live_after}
-use Rattle.mps_laws.proofs.Sound.SoundGraph.{IsSoundGraph}
+use Rattle.mps_laws.proofs.Sound.SoundGraph.{IsSoundGraph, All, auto}
 use Rattle.mps_laws.proofs.Sound.SoundHistories.{SlotsAreLive, step_sound}
 use Rattle.mps_refinement.specs.StandsFor.{IsReached}
+use Rattle.mps_laws.proofs.WellFormedHistories.{automatic_after}
 
 steps_sound : (limit : ℕ) (w : World) (h : History) → HasLayout limit w → BlocksAreLive w → SlotsAreLive w → IsSoundGraph w
-    → IsLegalFrom w h → IsSoundGraph (world_after_steps w h)
-steps_sound limit w [] laid live slots sound legal = sound
-steps_sound limit w (s ∷ ss) laid live slots sound legal =
+    → All (auto w) (ids_in_pairs w.state) → IsLegalFrom w h → IsSoundGraph (world_after_steps w h)
+steps_sound limit w [] laid live slots sound pairs legal = sound
+steps_sound limit w (s ∷ ss) laid live slots sound pairs legal =
     let one = legal_step_replayed limit 0 s.line w laid live s.call s.moves s.answer legal.0 in
-    let after = step_sound limit s.line w laid live slots sound s.call s.moves s.answer legal.0 in
-    steps_sound (limit_after limit s.call) (world_after w s) ss one.layout (live_after w s live legal.0) after.1 after.0 legal.1
+    let after = step_sound limit s.line w laid live slots sound pairs s.call s.moves s.answer legal.0 in
+    steps_sound (limit_after limit s.call) (world_after w s) ss one.layout (live_after w s live legal.0) after.1 after.0
+    (automatic_after w s sound after.0 pairs legal.0) legal.1
 
 empty_sound : (formats : ℕ → Layout) → IsSoundGraph (empty_world_of formats)
 empty_sound formats = record {
@@ -35,4 +37,4 @@ empty_sound formats = record {
 pub reached_graph : (w : World) → IsReached w → IsSoundGraph w
 reached_graph w r =
     subst IsSoundGraph (sym r.is)
-    (steps_sound 1 (empty_world_of w.formats) r.history (empty_layout w.formats) refl refl (empty_sound w.formats) r.legal)
+    (steps_sound 1 (empty_world_of w.formats) r.history (empty_layout w.formats) refl refl (empty_sound w.formats) refl r.legal)

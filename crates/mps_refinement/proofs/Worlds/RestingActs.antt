@@ -1,17 +1,18 @@
 -- What the changes of calls that make no moves leave where no collection runs: a sound world, of the same formats.
 use Rattle.std.proofs.Common.{◌≡◌, ◌∙◌, ℕ, Bool, true, false, refl, sym, ap, subst, List, [], ◌∷◌, map, Option, Some, None, Ok, inl, inr}
-use Rattle.std.proofs.lemmas.Bool.{and_parts, false≢true}
+use Rattle.std.proofs.lemmas.Bool.{and_parts, false≢true, or_right}
 use Rattle.std.proofs.lemmas.Option.{none-some, same_Some, slice_get-map}
 use Rattle.std.specs.Prelude.{◌||◌, find, if◌then◌else◌, is_some, nat_lt, option_map}
 use Rattle.std.specs.List.{flat_map, list_all}
 use Rattle.std.specs.Option.{option_map_or}
+use Rattle.mps_base.specs.declared.names.Name.{Name}
 use Rattle.mps_base.specs.declared.names.Slot.{Slot}
 use Rattle.mps_format.specs.Layout.{Layout}
 use Rattle.mps_model.specs.declared.call.Call.{Call}
 use Rattle.mps_model.specs.declared.call.Call.TheVariants as call
-use Rattle.mps_model.specs.Graph.{Graph, Object, Body, Automatic, Manual, Cell, AreaWord, PlainWord, Hold, entry_at, held_by_word, holds_of, is_automatic, object_with_cells, with_last, without_first, target_of_cell, targets, targets_of, targets_of_body, targets_of_cells, targets_of_point, targets_of_reservation}
+use Rattle.mps_model.specs.Graph.{Graph, Object, object_at, Body, Automatic, Manual, Cell, AreaWord, PlainWord, Hold, entry_at, held_by_word, holds_of, is_automatic, object_with_cells, with_last, without_first, target_of_cell, targets, targets_of, targets_of_body, targets_of_cells, targets_of_point, targets_of_reservation}
 use Rattle.mps_model.specs.Collection.{Collection}
-use Rattle.mps_model.specs.World.{World, block_of_word, is_copying_object, is_live, is_live_and, is_running, is_word_in, lies_in, live_ids, object_is, words_of}
+use Rattle.mps_model.specs.World.{World, block_of_word, is_copying_object, is_live, is_live_and, is_running, is_word_in, lies_in, live_ids, object_is, words_of, TransformPair, ids_in_pairs, ids_of_pair}
 use Rattle.mps_model.specs.Checked.{Found, Numbered, cells_of_body, slot_in, with_graph, word_in}
 use Rattle.mps_model.specs.Allocating.{graph_with_word}
 use Rattle.mps_model.specs.Accessing.{held_in}
@@ -20,7 +21,7 @@ use Rattle.mps_model.specs.Reply.{act}
 use Rattle.mps_model.specs.History.{HeldAreLive, is_held_rightly}
 use Rattle.mps_laws.proofs.Acts.{ForAct, point_named-is}
 use Rattle.mps_changes.proofs.ActChanges.{but, of_changes}
-use Rattle.mps_changes.specs.Change.{IsFoundBy, Now, Before, IsInSlot, IsGot, GotNull, FromSlot, FromCell, FromWord, FromMessage, IsShown, ShownPlain, ShownPinned, ShownPoked, IsWritten, Change, Unchanged, Aside, SlotIs, WordIs, MessageTaken, TableMade, AreaMade, BlocksMade, TableDropped, AreaDropped, CellsAre, BlockWordIs, PlaceEmptied, Allocated, PoolMade, PointMade, PointDropped, Opened, Written, Closed, Committed, Registered, Unregistered}
+use Rattle.mps_changes.specs.Change.{IsFoundBy, Now, Before, IsInSlot, IsGot, GotNull, FromSlot, FromCell, FromWord, FromMessage, IsShown, ShownPlain, ShownPinned, ShownPoked, IsWritten, Change, Unchanged, Aside, SlotIs, WordIs, MessageTaken, TableMade, AreaMade, BlocksMade, TableDropped, AreaDropped, CellsAre, BlockWordIs, PlaceEmptied, Allocated, PoolMade, PointMade, PointDropped, Opened, Written, Closed, Committed, Substituted, Registered, Unregistered}
 use Rattle.mps_laws.proofs.FoundBy.{object_found, reference_found, slot_found, word_found}
 use Rattle.mps_laws.proofs.Sound.SoundGraph.{all-at, entry-passes}
 use Rattle.mps_laws.proofs.Lookups.{entry_is_there}
@@ -29,9 +30,12 @@ use Rattle.mps_laws.proofs.Sound.HeldIds.{All, PassesOrNull}
 use Rattle.mps_model.proofs.Reaching.{list_all-contains}
 use Rattle.mps_abstract.proofs.Lists.{list_all-members}
 use Rattle.mps_changes.proofs.Written.{written_targets}
-use Rattle.mps_laws.proofs.Sound.Referred.{SoundParts, sound_parts, word_of_block_written}
+use Rattle.mps_laws.proofs.Sound.Referred.{SoundParts, sound_parts, word_of_block_written, sound_world}
 use Rattle.mps_laws.proofs.Sound.SoundEffects.{MayBeHeld, cells_sound, reservation_sound, slot_passes, slot_sound, word_sound}
 use Rattle.mps_laws.proofs.Sound.SoundChanges.{area_gone_sound, area_sound, blocks_sound, message_sound, point_gone_sound, point_sound, registrations_sound, sound_again, table_gone_sound, table_sound}
+use Rattle.mps_model.specs.Transforms.{object_substituted, pairs_of, world_substituted}
+use Rattle.mps_laws.proofs.Parked.{aside_pairs}
+use Rattle.mps_laws.proofs.Sound.Substituting.{body_targets_pass, others_pass, pairs_of_pass, tables_pass}
 
 -- a sound world, with these formats
 pub record LeavesSound (formats : ℕ → Layout) (u : World) : Type 0 where
@@ -83,20 +87,36 @@ module _ (w : World) (rest : w.collection ≡ None) (sound : IsSound w) where
   left s same = record { sound = s; formats_kept = same }
 
   -- names, pools and numbers of the world change
-  renamed : {u : World} → u.graph ≡ record w.graph { names = u.graph.names; labels = u.graph.labels; dependents = u.graph.dependents }
-      → u.addresses ≡ w.addresses → u.collection ≡ w.collection → u.formats ≡ w.formats → LeavesSound w.formats u
-  renamed {u} graph addresses collection formats =
-      let v = record w { graph = record w.graph { names = u.graph.names; labels = u.graph.labels; dependents = u.graph.dependents } } in
+  renamed : {u : World}
+      → u.graph ≡ record w.graph {
+        names = u.graph.names;
+        labels = u.graph.labels;
+        dependents = u.graph.dependents;
+        transforms = u.graph.transforms;
+      }
+      → u.addresses ≡ w.addresses → u.collection ≡ w.collection → u.formats ≡ w.formats
+      → (is_running u || list_all (is_live u) (ids_in_pairs u.state)) ≡ true → LeavesSound w.formats u
+  renamed {u} graph addresses collection formats pairs =
+      let v = record w {
+        graph = record w.graph {
+          names = u.graph.names;
+          labels = u.graph.labels;
+          dependents = u.graph.dependents;
+          transforms = u.graph.transforms;
+        };
+      } in
       let named : IsSound v = resting_sound v rest (record {
         client = sound.live.client;
         blocks = sound.live.blocks;
         referred = sound.live.referred;
+        transforms = sound.live.transforms;
       }) in
-      let s = sound_again v (record u { pools = w.pools }) graph addresses collection refl named in
+      let s = sound_again v (record u { pools = w.pools; state = w.state }) graph addresses collection refl refl named in
       left (resting_sound u (collection ∙ rest) (record {
         client = s.live.client;
         blocks = s.live.blocks;
         referred = s.live.referred;
+        transforms = pairs;
       })) formats
 
   -- what is live may be written anywhere
@@ -166,11 +186,39 @@ module _ (w : World) (rest : w.collection ≡ None) (sound : IsSound w) where
   slots_there into (Now slot e) = (slot_found w slot into e).0
   slots_there into (Before slot e) = (slot_found w slot into e).0
 
+  -- ---- a transform is applied
+
+  substituted_sound : (name : Name) (transform : ℕ) → IsSound (world_substituted w name transform)
+  substituted_sound name transform =
+      sound_world (world_substituted w name transform) (record {
+        slots = tables_pass (is_live w) pairs passes w.graph.tables parts.held.slots;
+        holds = parts.held.holds;
+        messages = parts.held.messages;
+        reservations = parts.held.reservations;
+      }) parts.blocks (λ r id live.
+      ap (λ o. list_all (is_live w) (option_map_or targets_of o [])) (slice_get-map (object_substituted pairs) w.graph.objects id)
+      ∙ of_object (object_at w.graph id) (parts.referred running id live))
+      (λ r. others_pass (is_live w) w.state transform (parts.pairs running)) (λ c is. none_kept c is) parts.units
+    where
+      pairs : List TransformPair
+      pairs = pairs_of w.state transform
+
+      passes : All (is_live w) (flat_map ids_of_pair pairs)
+      passes = pairs_of_pass (is_live w) w.state transform (parts.pairs running)
+
+      of_object : (o : Option Object) → All (is_live w) (option_map_or targets_of o [])
+          → All (is_live w) (option_map_or targets_of (option_map (object_substituted pairs) o) [])
+      of_object None all = refl
+      of_object (Some o) all = body_targets_pass (is_live w) pairs passes o.body all
+
   -- ---- changes
 
   pub change_sound : {marked : Bool} {c : Call} {u : World} → may_move c ≡ false → Change marked c w w u → LeavesSound w.formats u
   change_sound h Unchanged = left sound refl
-  change_sound h (Aside u what) = renamed refl refl refl refl
+  change_sound h (Aside u what) =
+      renamed refl refl refl refl
+      (or_right (is_running w) (list_all (is_live w) (ids_in_pairs u.state))
+      (aside_pairs w (is_live w) (parts.pairs running) what parts.held.slots))
   change_sound h (SlotIs into target found got) =
       left (slot_sound w sound into target (slots_there into found) (may_be_held target (got_live got))) refl
   change_sound h (WordIs place at word e shown) =
@@ -204,10 +252,11 @@ module _ (w : World) (rest : w.collection ≡ None) (sound : IsSound w) where
         referred = subst (λ b. (b || list_all (is_live w) (flat_map (targets g) (live_ids w))) ≡ true) (sym running)
             (Rattle.mps_laws.proofs.Sound.Referred.for_live (with_graph w g) (is_live w)
             (word_of_block_written (is_live w) w.graph (is_live w) id k value (parts.referred running)));
+        transforms = sound.live.transforms;
       })) refl
   change_sound h (PlaceEmptied from place e found) = but may_move e refl h
   change_sound h (Allocated pool p words into place at e of kind size found) = but may_move e refl h
-  change_sound h (PoolMade name p e made) = renamed refl refl refl refl
+  change_sound h (PoolMade name p e made) = renamed refl refl refl refl sound.live.transforms
   change_sound h (PointMade name pool of at_rank e is may) = left (point_sound w sound name of.number at_rank) refl
   change_sound h (PointDropped name p e is none) = left (point_gone_sound w sound name p.number) refl
   change_sound h (Opened name head reserving p at e is there) = but may_move e refl h
@@ -224,12 +273,13 @@ module _ (w : World) (rest : w.collection ≡ None) (sound : IsSound w) where
           (written_live write r.cells (subst (λ b. All (is_live w) (if b then [] else targets_of_cells r.cells)) lives all))
   change_sound h (Closed name target p r e there has ended) = but may_move e refl h
   change_sound h (Committed name target p r slot e there found has lives) = but may_move e refl h
+  change_sound h (Substituted name transform e is parked) = left (substituted_sound name transform) refl
   change_sound h (Registered object held e) =
       left (registrations_sound w sound (with_last w.graph.registered object.number)) refl
   change_sound h (Unregistered slot from object position e there is at) =
       let g = record w.graph { registered = without_first w.graph.registered object.number } in
       left (sound_again (with_graph w g) (record w { graph = g; collection = option_map (without_registration position) w.collection })
-      refl refl (ap (option_map (without_registration position)) rest ∙ sym rest) refl
+      refl refl (ap (option_map (without_registration position)) rest ∙ sym rest) refl refl
       (registrations_sound w sound (without_first w.graph.registered object.number))) refl
 
 pub act_leaves_sound : (w : World) (rest : w.collection ≡ None) (sound : IsSound w) (marked : Bool) (c : Call) → may_move c ≡ false

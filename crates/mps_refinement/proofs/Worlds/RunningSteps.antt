@@ -20,7 +20,7 @@ use Rattle.mps_model.specs.declared.call.Call.{Call}
 use Rattle.mps_model.specs.Answer.{Answer, is_block, is_unsupported}
 use Rattle.mps_model.specs.Step.{Step}
 use Rattle.mps_model.specs.Graph.{ids_in_blocks, ids_of_client, targets}
-use Rattle.mps_model.specs.World.{World, is_live, live_ids}
+use Rattle.mps_model.specs.World.{World, is_live, live_ids, ids_in_pairs}
 use Rattle.mps_model.specs.WellFormed.{IsWellFormed}
 use Rattle.mps_model.specs.Checked.{Act, Checked}
 use Rattle.mps_model.specs.LegalMove.{AreLegalMoves}
@@ -98,6 +98,7 @@ module _ (w : World) (x : Collecting) (line : ℕ) (c : Call) (ms : List Move) (
     blocks = subst (λ (v : World). list_all (is_live v) (ids_in_blocks v.graph) ≡ true) (sym after) is.blocks_after;
     referred = ap (λ o. is_some o || list_all (is_live (world_after w s))
         (flat_map (targets (world_after w s).graph) (live_ids (world_after w s)))) runs.runs;
+    transforms = ap (λ o. is_some o || list_all (is_live (world_after w s)) (ids_in_pairs (world_after w s).state)) runs.runs;
   }
 
   pub answered_runs_on : Running (after_client w x s) → RunsOn w x s (world_from (moved_world w c ms) r)

@@ -1,5 +1,5 @@
 -- What is left of a heap by a full collection, in which no call comes between the flip and the end.
-use Rattle.std.specs.Prelude.{◌≡◌, ℕ, false, IsSome, List, Option}
+use Rattle.std.specs.Prelude.{◌≡◌, ℕ, false, IsSome, List, Option, []}
 use Rattle.mps_base.specs.Address.{Address}
 use Rattle.mps_base.specs.declared.moves.Move.{Move}
 use Rattle.mps_extents.specs.Table.{bit}
@@ -17,7 +17,7 @@ use Rattle.mps_refinement.specs.StandsFor.{AreSlots, Past}
 
 -- the world after a `collect` that made these moves
 abbrev pub world_collected : World → List Move → World
-world_collected w ms = record (world_after_moves w ms) { state = Parked }
+world_collected w ms = record (world_after_moves w ms) { state = Parked [] }
 
 -- what the call has to leave of a heap that represented a world, if the act of the flip left objects at these addresses, and this is
 -- the world after the call

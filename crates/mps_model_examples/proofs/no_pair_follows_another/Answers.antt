@@ -1,0 +1,5 @@
+use Rattle.mps_model_examples.proofs.Transformed as history
+use Rattle.mps_model_examples.proofs.no_pair_follows_another.Goals as goal
+
+pub returns : goal.returns
+returns c = history.no_pair_follows_another
