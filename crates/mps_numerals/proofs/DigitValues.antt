@@ -1,5 +1,5 @@
 -- The table of what digits stand for.
-use Rattle.std.proofs.Common.{◌≡◌, ℕ, zero, suc, ◌-◌, ◌<◌, ◌≤◌, Bool, true, ◌&&◌, T, eqb, get_or, inl, inr, eq-zero-or-pos, arith}
+use Rattle.std.proofs.Common.{◌≡◌, ℕ, zero, suc, ◌-◌, ◌<◌, ◌≤◌, Bool, true, ◌&&◌, T, eqb, get_or, eqb→eq, inl, inr, eq-zero-or-pos, arith}
 use Rattle.std.proofs.lemmas.Grind.{common_steps}
 use lib.Ieee.Fits.{and_l, and_r}
 use Rattle.mps_numerals.specs.Reading.{digit_of}
