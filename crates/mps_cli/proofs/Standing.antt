@@ -25,10 +25,10 @@ use Rattle.mps_model.specs.declared.reply.Reply.{Reply}
 use Rattle.mps_model.specs.declared.reply.Reply.TheVariants as reply
 use Rattle.mps_refinement.specs.Collecting.{can_collect}
 use Rattle.mps_refinement.specs.State.{HeapState}
-use Rattle.mps_cli.specs.Built.{can_collect_world, is_answered, is_built, is_unsupported_call}
+use Rattle.mps_cli.specs.Built.{is_answered, is_built, is_unsupported_call}
 use Rattle.mps_cli.specs.Session.{MadeState, last_moves, arena_words}
 use Rattle.mps_cli.specs.Standing.{AnswersRightly, Answered, BeginsRightly, Begun, HeapStands, NotBegun, NotSupported, SessionStands}
-use Rattle.mps_cli.proofs.CanCollect.{collects_alike}
+use Rattle.mps_cli.proofs.CanCollect.{collects_there}
 
 -- a reply is `unsupported` exactly where a call is
 abbrev pub IsExact : World → Call → Reply → Type 0
@@ -134,8 +134,8 @@ module _ (h after : HeapState AnyFormat) (c : Call) (moves : List Move) (given :
 
       made : is_unsupported_call w c ≡ not one_of
       made =
-          ap (λ b. if b then not (is_answered (can_collect_world w) c) else not (is_arena c)) (lt-ltb 0 w.grains st.arena)
-          ∙ ap (λ collects. not (is_answered collects c)) (sym (collects_alike any_layout h w st.heap few))
+          ap (λ b. if b then not (is_answered true c) else not (is_arena c)) (lt-ltb 0 w.grains st.arena)
+          ∙ ap (λ collects. not (is_answered collects c)) (sym (collects_there any_layout h w st.heap few))
 
       of_answer : AnswersRightly one_of h c moves given after → IsExact w c given
       of_answer (Answered one a) = (λ e. absurd (a.supported e), λ t. absurd (false≢true (sym (ap not one) ∙ sym made ∙ t)))

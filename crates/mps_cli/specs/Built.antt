@@ -1,21 +1,15 @@
 -- What is built, and what takes memory.
 use Rattle.std.specs.Prelude.{◌≡◌, ◌∷◌, [], Bool, true, false, ◌&&◌, nat_lt, not, if◌then◌else◌, None, refl}
-use Rattle.std.specs.List.{list_all}
 use Rattle.mps_base.specs.declared.names.Kind.TheVariants as kind
 use Rattle.mps_model.specs.declared.call.Call.{Call}
 use Rattle.mps_model.specs.declared.call.Call.TheVariants as call
 use Rattle.mps_model.specs.FirstCall.{is_arena}
 use Rattle.mps_model.specs.Graph.{empty_graph}
-use Rattle.mps_model.specs.World.{World, Pool, Collected, is_weak_kind, empty_world}
+use Rattle.mps_model.specs.World.{World, Collected, empty_world}
 use Rattle.mps_commands.specs.Built.{Built}
-use Rattle.mps_refinement.specs.Collecting.{is_empty}
-
--- whether everything can be collected in a world: no pool has weak references, and nothing is registered
-abbrev pub can_collect_world : World → Bool
-can_collect_world w = list_all (λ (p : Pool). not (is_weak_kind p.kind)) w.pools && is_empty w.graph.registered
 
 -- whether the form of a call is built: all but chains of generations, what begins or drives a collection by steps, tags, labels,
--- dependents and transforms; a collection of everything is if it can be done
+-- dependents and transforms; a collection of everything is if it can be counted
 abbrev pub is_built : (collects : Bool) → Call → Bool
 is_built collects (call.Chain chain count capacities) = false
 is_built collects (call.PoolOnChain pool kind format chain) = false
@@ -45,7 +39,7 @@ has_arena w = nat_lt 0 w.grains
 
 -- whether a call is answered `unsupported`: its form isn't built, it comes before the arena, or it makes the arena again
 abbrev pub is_unsupported_call : World → Call → Bool
-is_unsupported_call w c = if has_arena w then not (is_answered (can_collect_world w) c) else not (is_arena c)
+is_unsupported_call w c = if has_arena w then not (is_answered true c) else not (is_arena c)
 
 -- whether a call takes memory: all that make something do
 abbrev pub call_takes_memory : Call → Bool
@@ -91,11 +85,11 @@ pub a_collection_beside_a_pool_that_marks :
     ≡ false
 a_collection_beside_a_pool_that_marks = refl
 
-pub no_collection_beside_a_pool_with_weak_references :
+pub a_collection_beside_a_pool_with_weak_references :
     is_unsupported_call (record example_world { pools = record { kind = Collected kind.Awl; format = 1; chain = None } ∷ [] }) call.Collect
-    ≡ true
-no_collection_beside_a_pool_with_weak_references = refl
+    ≡ false
+a_collection_beside_a_pool_with_weak_references = refl
 
-pub none_while_an_object_is_registered :
-    is_unsupported_call (record example_world { graph = record empty_graph { registered = 0 ∷ [] } }) call.Collect ≡ true
-none_while_an_object_is_registered = refl
+pub a_collection_while_an_object_is_registered :
+    is_unsupported_call (record example_world { graph = record empty_graph { registered = 0 ∷ [] } }) call.Collect ≡ false
+a_collection_while_an_object_is_registered = refl

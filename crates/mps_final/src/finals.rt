@@ -52,6 +52,13 @@ impl Finals {
         self.registered.len()
     }
 
+    /// There are at most 65,536 registrations.
+    pub fn registrations_are_few(&self)
+        ensures { length self.now.registered ≤ max_finals }
+    {
+        let _ = &self.registered;
+    }
+
     /// How many messages wait.
     pub fn messages(&self) -> usize
         ensures { result ≡ length self.now.messages }

@@ -1,27 +1,21 @@
 -- From a collection of a heap's pools to one of the heap.
-use Rattle.std.proofs.Common.{ℕ, ◌≡◌, ◌==◌, ◌∙◌, Option, List, [], ◌∷◌, length, map, refl, sym, ap, subst}
-use Rattle.std.proofs.Math.Dec.{eqb-suc-zero}
+use Rattle.std.proofs.Common.{ℕ, ◌≡◌, ◌∙◌, Option, List, length, map, sym, ap, subst}
 use Rattle.mps_base.specs.Trail.{Moves}
 use Rattle.mps_buffer.specs.Points.{points_after_flip}
 use Rattle.mps_format.specs.Layout.{Layout}
 use Rattle.mps_ld.specs.State as ld
-use Rattle.mps_trace.specs.Collect.{most_moves}
+use Rattle.mps_trace.specs.Collect.{most_units}
 use Rattle.mps_trace.specs.Flip.{moving_of, zones_of}
-use Rattle.mps_heap_spec.specs.Collecting.{CanCollectAll, IsCollected, is_empty}
+use Rattle.mps_heap_spec.specs.Collecting.{CanCollectAll, IsCollected}
 use Rattle.mps_heap_spec.specs.State.{HeapState}
 use Rattle.mps_format.specs.Pools.{policy_of_pool}
 use Rattle.mps_heap_spec.specs.declared.arena.ArenaState.TheVariants as arena
 use Rattle.mps_trace.specs.PoolsCollecting.{CanCollectPools, ArePoolsCollected}
 use Rattle.mps_format.specs.declared.pool.Policy.{Policy}
 
--- a list of no entries is empty
-pub no_entries : {A : Type 0} (xs : List A) → (length xs == 0) ≡ is_empty xs
-no_entries [] = refl
-no_entries (x ∷ xs) = eqb-suc-zero (length xs)
-
 module _ {F : Type 0} (layout : F → Layout) (h : HeapState F) (m : Moves) where
   -- what a heap can do, its pools can, where the state is seen in two ways
-  pub can_pools : (seen : HeapState F) (most : ℕ) → seen ≡ h → most ≡ most_moves seen.segs.grains → CanCollectAll layout h m
+  pub can_pools : (seen : HeapState F) (most : ℕ) → seen ≡ h → most ≡ most_units seen.segs.grains (length seen.finals.registered) → CanCollectAll layout h m
       → CanCollectPools layout seen.pools seen.points seen.roots seen.finals seen.segs m most
   can_pools seen most is bound can =
       let P : HeapState F → Type 0 = λ g. CanCollectAll layout g m in
@@ -39,7 +33,7 @@ module _ {F : Type 0} (layout : F → Layout) (h : HeapState F) (m : Moves) wher
     arena = arena.Parked;
   }
 
-  pub collected : (seen h' : HeapState F) (m' : Moves) (most : ℕ) → seen ≡ h → most ≡ most_moves seen.segs.grains
+  pub collected : (seen h' : HeapState F) (m' : Moves) (most : ℕ) → seen ≡ h → most ≡ most_units seen.segs.grains (length seen.finals.registered)
       → ArePoolsCollected layout seen.pools seen.points seen.roots seen.finals seen.segs m most h'.roots h'.finals h'.segs m'
       → h' ≡ parked_with seen (map policy_of_pool seen.pools) h' → IsCollected layout h m h' m'
   collected seen h' m' most is bound of_pools state =

@@ -1,14 +1,12 @@
 -- What a collection of everything comes to, and when a heap can do one.
-use Rattle.std.specs.Prelude.{ℕ, ◌≡◌, ◌^◌, Bool, true, false, ◌&&◌, nat_lt, List, [], ◌∷◌}
-use Rattle.std.specs.List.{list_all}
+use Rattle.std.specs.Prelude.{ℕ, ◌≡◌, ◌^◌, Bool, nat_lt, length}
 use Rattle.mps_base.specs.Trail.{Moves}
 use Rattle.mps_buffer.specs.Points.{points_after_flip}
 use Rattle.mps_format.specs.Layout.{Layout}
 use Rattle.mps_trace.specs.LdState as ld
 use Rattle.mps_trace.specs.Trace.{TraceState, traced}
-use Rattle.mps_trace.specs.Collect.{CanCollect, Collects, most_moves}
+use Rattle.mps_trace.specs.Collect.{CanCollect, Collects, most_units}
 use Rattle.mps_trace.specs.Flip.{moving_of, zones_of}
-pub use Rattle.mps_trace.specs.Pools.{is_strong_pool}
 use Rattle.mps_trace.specs.PoolsCollecting.{IsTraceOf}
 use Rattle.mps_heap_spec.specs.State.{HeapState}
 use Rattle.mps_heap_spec.specs.declared.arena.ArenaState.TheVariants as arena
@@ -17,20 +15,16 @@ use Rattle.mps_heap_spec.specs.declared.arena.ArenaState.TheVariants as arena
 abbrev pub most_flips : ℕ
 most_flips = 2 ^ 63
 
-abbrev pub is_empty : {A : Type 0} → List A → Bool
-is_empty [] = true
-is_empty (x ∷ xs) = false
-
 module _ {F : Type 0} where
-  -- whether a heap can collect everything: no pool has weak references, nothing is registered, and one flip more can be counted
+  -- whether a heap can collect everything: one flip more can be counted
   abbrev pub can_collect : HeapState F → Bool
-  can_collect h = list_all is_strong_pool h.pools && is_empty h.finals.registered && nat_lt h.points.flips most_flips
+  can_collect h = nat_lt h.points.flips most_flips
 
   -- whatever words are at hand for its pools, a heap can do a collection of everything within this trail
   abbrev pub CanCollectAll : (F → Layout) → HeapState F → Moves → Type 0
   CanCollectAll layout h m =
       (t : TraceState F) → IsTraceOf h.pools t
-      → CanCollect layout t h.points h.roots h.finals h.segs m (most_moves h.segs.grains)
+      → CanCollect layout t h.points h.roots h.finals h.segs m (most_units h.segs.grains (length h.finals.registered))
 
   -- a full collection was done, from its flip to its end, and the arena is parked
   pub record IsCollected (layout : F → Layout) (h : HeapState F) (m : Moves) (h' : HeapState F) (m' : Moves) : Type 0 where
@@ -38,7 +32,7 @@ module _ {F : Type 0} where
     pub after : TraceState F
     pub of_pools : IsTraceOf h.pools before
     pub collects : Collects layout before.formats before.chains h.points h.roots h.finals (traced before h.segs m)
-        (most_moves h.segs.grains) h'.roots h'.finals (traced after h'.segs m')
+        (most_units h.segs.grains (length h.finals.registered)) h'.roots h'.finals (traced after h'.segs m')
     pub state : h' ≡ record h {
       segs = h'.segs;
       roots = h'.roots;

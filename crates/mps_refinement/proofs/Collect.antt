@@ -4,7 +4,7 @@ pub mod SameAddresses
 pub mod FlippedPoints
 pub mod CollectedParts
 pub mod CollectIsRight
-pub mod PlainHeaps
+pub mod StrongMoving
 pub mod RootsAfter
 pub mod PushedMoves
 pub mod ActedRoots
@@ -17,7 +17,7 @@ pub mod CanCollect
 pub mod LiveIsFew
 pub mod SegmentsAtRest
 pub mod PoolsKnown
-pub mod PlainAtRest
+pub mod ObjectsAtRest
 pub mod BeforeAFlip
 pub mod RootsHeld
 pub mod SameRuns

@@ -46,10 +46,18 @@ pub record CanCollect {F : Type 0} (layout : F → Layout) (t : TraceState F) (p
       → Begins layout t.formats t.chains points roots finals (traced t s m) roots' finals' z run
       → CanEnd layout t.formats t.chains z finals' run most
 
--- how many moves a full collection in an arena of these grains makes at most, and how many units it has at most: two for each
--- block, of which there is at most one a word, one for each segment, of which there is at most one a grain, and its begin and end
+-- how many moves a full collection in an arena of these grains makes at most: two for each word, which is enough for each block that is
+-- kept, posted, splatted or freed, one for each segment, of which there is at most one a grain, and its begin and end
 abbrev pub most_moves : (grains : ℕ) → ℕ
 most_moves grains = 2 * (words_of_grain * (grains + 1)) + grains + 4
 
 pub a_thousand_a_grain : most_moves 1 ≡ 2053
 a_thousand_a_grain = refl
+
+-- how many units it has at most, with n registrations: one for each block, of which there is at most one a word, one for each
+-- registration, one for each segment, and one more
+abbrev pub most_units : (grains registrations : ℕ) → ℕ
+most_units grains registrations = words_of_grain * (grains + 1) + registrations + grains + 1
+
+pub five_hundred_a_grain : most_units 1 3 ≡ 1029
+five_hundred_a_grain = refl

@@ -1,7 +1,6 @@
 -- What a caller sees of a heap's pools.
-use Rattle.std.specs.Prelude.{ℕ, ◌≡◌, Bool, true, false, not, List, [], ◌∷◌, ◌++◌, refl}
-use Rattle.mps_base.specs.declared.names.Kind.TheVariants as kind
-use Rattle.mps_format.specs.Pools.{size_of_pool, is_weak_pool}
+use Rattle.std.specs.Prelude.{ℕ, ◌≡◌, List, [], ◌∷◌, ◌++◌, refl}
+use Rattle.mps_format.specs.Pools.{size_of_pool}
 use Rattle.mps_format.specs.declared.pool.Pool.{Pool}
 use Rattle.mps_format.specs.declared.pool.Pool.TheVariants as pool
 
@@ -18,10 +17,6 @@ module _ {F : Type 0} where
   abbrev pub with_one_more : PoolsState F → Pool F → PoolsState F
   with_one_more s p = record { pools = s.pools ++ p ∷ []; sizes = s.sizes ++ size_of_pool p ∷ [] }
 
-  -- no object of a pool has weak references
-  abbrev pub is_strong_pool : Pool F → Bool
-  is_strong_pool p = not (is_weak_pool p)
-
 -- ---- vectors
 
 pub a_pool_has_its_size : (with_one_more {F = ℕ} none_made (pool.OneSize 4)).sizes ≡ 4 ∷ []
@@ -30,9 +25,3 @@ a_pool_has_its_size = refl
 pub pools_stand_in_their_order : (with_one_more {F = ℕ} (with_one_more none_made pool.AnySize) (pool.OneSize 4)).pools
     ≡ pool.AnySize ∷ pool.OneSize 4 ∷ []
 pools_stand_in_their_order = refl
-
-pub a_pool_that_marks_is_strong : is_strong_pool {F = ℕ} (pool.Automatic kind.Ams 7) ≡ true
-a_pool_that_marks_is_strong = refl
-
-pub a_pool_of_weak_blocks_is_not : is_strong_pool {F = ℕ} (pool.Automatic kind.Awl 7) ≡ false
-a_pool_of_weak_blocks_is_not = refl

@@ -15,7 +15,7 @@ mod running;
 mod splatting;
 mod trace;
 
-pub use pools::{Pools, most_moves};
+pub use pools::{Pools, most_moves, most_units};
 pub use running::{Band, Running};
 pub use trace::Trace;
 

@@ -2,22 +2,21 @@
 #![tactic(auto)]
 
 ghost use Rattle.std.specs.Prelude.{◌≡◌, ◌^◌, ◌<◌, ◌≤◌, length, map, slice_get, MatchResult};
-ghost use Rattle.std.specs.List.{list_all};
 ghost use Rattle.mps_base.specs.Address.{max_grains};
 ghost use Rattle.mps_buffer.specs.Points as buffer;
 ghost use Rattle.mps_gen.specs.State.{max_pools};
 ghost use Rattle.mps_ld.specs.State as ld;
 ghost use Rattle.mps_format.specs.Pools.{policy_of_pool};
-ghost use Rattle.mps_trace.specs.Collect.{most_moves};
+ghost use Rattle.mps_trace.specs.Collect.{most_moves, most_units};
 ghost use Rattle.mps_trace.specs.Flip.{moving_of, zones_of};
 ghost use Rattle.mps_trace.specs.PoolsCollecting.{CanCollectPools, ArePoolsCollected};
-ghost use Rattle.mps_trace.specs.Pools.{none_made, with_one_more, is_strong_pool};
+ghost use Rattle.mps_trace.specs.Pools.{none_made, with_one_more};
 
 use crate::Trace;
 use mps_base::{Trail, WORDS_OF_GRAIN};
 use mps_buffer::OpenPoints;
 use mps_final::Finals;
-use mps_format::{Format, Pool, is_weak, policy_of_pool, size_of_pool};
+use mps_format::{Format, Pool, policy_of_pool, size_of_pool};
 use mps_ld::Epochs;
 use mps_manual::Manual;
 use mps_root::Roots;
@@ -96,13 +95,6 @@ impl<F: Format> Pools<F> {
         Ok(())
     }
 
-    /// Whether no pool has objects with weak references.
-    pub fn are_strong(&self) -> bool
-        ensures { result ≡ list_all is_strong_pool self.now.pools }
-    {
-        are_strong(&self.pools)
-    }
-
     /// Collects everything, from the flip to the end, within `most` units.
     pub fn collect(
         &mut self,
@@ -129,17 +121,21 @@ impl<F: Format> Pools<F> {
     }
 }
 
-/// Whether none of these pools has objects with weak references.
-fn are_strong<F: Format>(pools: &[Pool<F>]) -> bool
-    ensures { result ≡ list_all is_strong_pool pools.now }
-{
-    pools.iter().all(|pool| !is_weak(*pool))
-}
-
-/// The most moves, and the most units, of a full collection in an arena of these grains.
+/// The most moves of a full collection in an arena of these grains.
 pub fn most_moves(grains: u32) -> u32
     requires at_most { grains ≤ max_grains }
     ensures value { result ≡ most_moves grains }
 {
     2 * (WORDS_OF_GRAIN as u32 * (grains + 1)) + grains + 4
+}
+
+/// The most units of a full collection in an arena of these grains, with n registrations.
+pub fn most_units(grains: u32, registrations: u32) -> u64
+    requires at_most { grains ≤ max_grains }
+    ensures value { result ≡ most_units grains registrations }
+{
+    u64::from(WORDS_OF_GRAIN as u32 * (grains + 1))
+        + u64::from(registrations)
+        + u64::from(grains)
+        + 1
 }

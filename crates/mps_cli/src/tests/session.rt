@@ -264,7 +264,7 @@ fn a_block_is_moved(rt: HostRuntime) {
         Move::Unseg { base },
         Move::End,
     ];
-    let steps: [Step<'_>; 16] = [
+    let steps: [Step<'_>; 14] = [
         (
             Call::Arena {
                 grains: 8,
@@ -280,14 +280,12 @@ fn a_block_is_moved(rt: HostRuntime) {
         (init(2, 7), Reply::Ok, &[]),
         (commit(0), Reply::Ok, &[committed(0x1000)]),
         (registration(true), Reply::Ok, &[]),
-        (Call::Collect, NO, &[]),
-        (registration(false), Reply::Ok, &[]),
+        (weak_pool(), Reply::Ok, &[]),
         (Call::Collect, Reply::Ok, &moved),
+        (registration(false), Reply::Ok, &[]),
         (number(0, 2), Reply::Number(7), &[]),
         (Call::Dump { at: to.0 }, Reply::Words(to, 3), &[]),
         (Call::Committed, Reply::Number(1), &[]),
-        (weak_pool(), Reply::Ok, &[]),
-        (Call::Collect, NO, &[]),
     ];
     run(&rt, rt.alloc(), &steps);
 }

@@ -14,8 +14,7 @@ use mps_base::Trail;
 use mps_format::Format;
 
 impl<F: Format> Heap<F> {
-    /// Whether the heap can collect everything: each automatic pool is a copying pool (`Kind::Amc` or `Kind::Amcz`), no object is
-    /// registered for finalization, and fewer than 2^63 collections came before.
+    /// Whether the heap can collect everything: fewer than 2^63 collections came before.
     pub fn can_collect(&self) -> bool
         ensures value { result ≡ can_collect self.now }
     {
@@ -31,7 +30,8 @@ impl<F: Format> Heap<F> {
     }
 
     /// Collects everything, and leaves the arena parked. What can be reached from slots, messages and words of areas stays; an object in
-    /// which a word of an area lies stays where it is, and all others of it are moved, if there is room. The trail has room for
+    /// which a word of an area lies stays where it is, and all others of copying pools are moved, if there is room. What is registered and
+    /// isn't reached stays too, and becomes a message. References of weak objects to what is freed become null. The trail has room for
     /// `most_moves`.
     pub fn collect(&mut self, trail: &mut Trail)
         requires built { IsTrue (can_collect self.old) }

@@ -9,14 +9,13 @@ use super::State;
 use mps_base::Trail;
 use mps_format::Format;
 use mps_heap_spec::ArenaState;
-use mps_trace::most_moves;
+use mps_trace::{most_moves, most_units};
 
 /// The most flips that a heap counts.
 const MAX_FLIPS: u64 = 1 << 63;
 
 impl<F: Format> State<F> {
-    /// Whether everything can be collected: no pool has weak references, nothing is registered, and one flip more can be counted.
-    #[tactic(auto, using(crate::proofs::Collecting::no_entries))]
+    /// Whether everything can be collected: one flip more can be counted.
     pub fn can_collect(&self) -> bool
         ensures value { result ≡ can_collect self.now }
         ensures tables { IsMarked self.now.segs.grains self.now.segs.marks self.now.segs.condemned self.now.segs.summaries }
@@ -24,7 +23,7 @@ impl<F: Format> State<F> {
     {
         self.segs.tables_are_whole();
         self.points.reservations_are_past();
-        self.pools.are_strong() && self.finals.registered() == 0 && self.points.flips() < MAX_FLIPS
+        self.points.flips() < MAX_FLIPS
     }
 
     /// How many moves a full collection makes at most: the room that its trail needs.
@@ -41,7 +40,8 @@ impl<F: Format> State<F> {
         requires can { CanCollectAll F.layout self.old trail.old }
         ensures collected { IsCollected F.layout self.old trail.old self.new trail.new }
     {
-        let most = u64::from(most_moves(self.segs.grains()));
+        self.finals.registrations_are_few();
+        let most = most_units(self.segs.grains(), self.finals.registered() as u32);
         self.pools.collect(
             &mut self.segs,
             trail,

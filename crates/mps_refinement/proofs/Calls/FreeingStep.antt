@@ -2,7 +2,7 @@
 use Rattle.std.proofs.Common.{◌≡◌, ◌∙◌, ℕ, zero, suc, Bool, true, false, refl, sym, ap, List, [], ◌∷◌, Option, Some, None, Ok, inl, inr}
 use Rattle.std.proofs.lemmas.Bool.{ne_eqb, and_from, and_parts}
 use Rattle.std.proofs.lemmas.Option.{none-some}
-use Rattle.std.specs.Prelude.{◌==◌, ◌&&◌, not, slice_get, slice_set, if◌then◌else◌, option_map}
+use Rattle.std.specs.Prelude.{◌==◌, ◌&&◌, not, slice_get, if◌then◌else◌, option_map}
 use Rattle.std.specs.List.{flat_map, list_all}
 use Rattle.std.specs.Option.{option_map_or}
 use Rattle.mps_base.specs.Address.{Address, Id}

@@ -57,7 +57,7 @@ use Rattle.mps_laws.proofs.Sound.SoundGraph.{IsSoundGraph, auto}
 use Rattle.mps_laws.proofs.Replays.Steps.{remembered_kept}
 use Rattle.mps_model.specs.Collection as model_collection
 use Rattle.mps_model.specs.Collection.{Collection}
-use Rattle.mps_model.specs.Graph.{contains, entry_at}
+use Rattle.mps_model.specs.Graph.{without_named, contains, entry_at}
 use Rattle.mps_model.specs.History.{moves_of_free, unless_refused, with_client_remembered}
 use Rattle.mps_model.specs.Reply.{world_from}
 use Rattle.mps_refinement.proofs.Worlds.PlacesByMoves.{places_of}
@@ -292,6 +292,7 @@ module _ {F : Type 0} (layout : F → Layout) (h : HeapState F) (trail : Moves) 
                 timed = refl;
                 parts = parts_with_pairs layout past (with_block_place (record h { segs = segments_freed h.segs at t given }) entry 0)
                     (world_with_blocks w w.graph.objects v.addresses v.graph.blocks v.segments) v.graph.dependents
+                    (λ unpaired. ap (λ ps. without_named ps id) unpaired)
                     (parts_freed layout past h w parts own graph at id b time place.index entry found is value once t given among
                     not_copying own.laid layout_freed);
               };

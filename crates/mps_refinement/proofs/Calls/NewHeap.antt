@@ -84,6 +84,7 @@ module _ {F : Type 0} (layout : F → Layout) (formats : ℕ → Layout) (lawful
     pools = record { count = refl; each = λ number p is. absurd (none-some p is) };
     sizes = refl;
     chains = refl;
+    dependents = refl;
     names = record {
       named = λ name. sym (ap (option_map (numbered_thing no_past)) (none name));
       there = λ name thing is. absurd (none-some thing (sym (none name) ∙ is));

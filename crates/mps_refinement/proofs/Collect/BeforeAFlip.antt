@@ -1,8 +1,5 @@
 -- A heap that can be collected stands, with what its owner knows of its pools, as a flip of everything needs it.
-use Rattle.std.proofs.Common.{◌≡◌, ◌≤◌, true, arith}
-use Rattle.std.proofs.lemmas.Bool.{and_parts}
-use Rattle.std.specs.Prelude.{◌&&◌, nat_lt}
-use Rattle.std.specs.List.{list_all}
+use Rattle.std.proofs.Common.{◌≤◌, arith}
 use Rattle.mps_base.specs.Trail.{Moves}
 use Rattle.mps_format.specs.Layout.{Layout}
 use Rattle.mps_model.specs.World.{World}
@@ -11,16 +8,14 @@ use Rattle.mps_seg.specs.Table.{IsMarked}
 use Rattle.mps_trace.specs.Collect.{most_moves}
 use Rattle.mps_trace.specs.Trace.{TraceState}
 use Rattle.mps_trace_laws.specs.Begin.Before.{StandsBefore}
-use Rattle.mps_heap_spec.specs.Collecting.{can_collect, is_empty, most_flips}
 use Rattle.mps_trace.specs.PoolsCollecting.{IsTraceOf}
-use Rattle.mps_trace.specs.Pools.{is_strong_pool}
 use Rattle.mps_heap_spec.specs.State.{HeapState}
 use Rattle.mps_refinement.specs.StandsFor.{AreParts, AreSlots, IsReached, Past, Rests}
 use Rattle.mps_refinement.proofs.Collect.CollectRight.{IsBefore}
 use Rattle.mps_refinement.proofs.Collect.KeysInOrder.{keys_in_order}
 use Rattle.mps_refinement.proofs.Collect.LiveIsFew.{moves_are_few}
 use Rattle.mps_refinement.proofs.Collect.OpenReservations.{reservations_are_open}
-use Rattle.mps_refinement.proofs.Collect.PlainAtRest.{plain_at_rest}
+use Rattle.mps_refinement.proofs.Collect.ObjectsAtRest.{objects_at_rest}
 use Rattle.mps_refinement.proofs.Collect.PoolsKnown.{pools_known}
 use Rattle.mps_refinement.proofs.Collect.RootsHeld.{roots_held, rows, words_shown}
 use Rattle.mps_refinement.proofs.Collect.SegmentsAtRest.{blocks_in_order, segments_at_rest}
@@ -28,19 +23,15 @@ use Rattle.mps_refinement.proofs.Collect.SegmentsAtRest.{blocks_in_order, segmen
 module _ {F : Type 0} (layout : F → Layout) (past : Past) (h : HeapState F) (w : World) (parts : AreParts layout past h w)
     (reached : IsReached w) (rest : Rests past.time h.segs w)
     (marked : IsMarked h.segs.grains h.segs.marks h.segs.condemned h.segs.summaries)
-    (can : can_collect h ≡ true) (m : Moves) (room : most_moves h.segs.grains ≤ m.spare) where
+    (m : Moves) (room : most_moves h.segs.grains ≤ m.spare) where
   -- whatever words are at hand for its pools
   pub stands_before : (t : TraceState F) → IsTraceOf h.pools t → StandsBefore layout t h.segs m h.points w
   stands_before t of =
-      let strong = list_all is_strong_pool h.pools in
-      let none = is_empty h.finals.registered in
-      let first = and_parts (strong && none) (nat_lt h.points.flips most_flips) can in
-      let both = and_parts strong none first.0 in
       let few = moves_are_few layout past h w parts reached (blocks_in_order layout past h w parts reached rest) in
       record {
-        plain = plain_at_rest layout past h w parts reached rest.none both.0 both.1;
+        objects = objects_at_rest layout past h w parts reached rest.none;
         segments = segments_at_rest layout past h w parts reached rest marked;
-        pools = pools_known layout h.pools t w parts.pools parts.chains of both.0;
+        pools = pools_known layout h.pools t w parts.pools parts.chains of;
         reservations = reservations_are_open layout past h w parts;
         room = omega (arith, few, room);
       }

@@ -1,5 +1,5 @@
 -- A heap that stands for a world, and can collect everything, does so in the room that is asked for.
-use Rattle.std.proofs.Common.{ℕ, ◌≤◌, List, [], Option, inl, inr, arith}
+use Rattle.std.proofs.Common.{ℕ, ◌+◌, ◌<◌, List, length, Option, inl, inr, arith}
 use Rattle.std.proofs.lemmas.Bool.{cases_Bool}
 use Rattle.mps_base.specs.Address.{Address}
 use Rattle.mps_base.specs.Trail.{Moves}
@@ -9,12 +9,12 @@ use Rattle.mps_trace.specs.State.{FinalsState}
 use Rattle.mps_root.specs.State.{RootsState}
 use Rattle.mps_model.specs.Effect.{Everything, condemned_by}
 use Rattle.mps_model.specs.Flip.{is_nothing}
-use Rattle.mps_model.specs.World.{World}
+use Rattle.mps_model.specs.World.{World, live_ids}
 use Rattle.mps_heap_spec.specs.Collecting.{CanCollectAll}
 use Rattle.mps_trace.specs.PoolsCollecting.{IsTraceOf}
 use Rattle.mps_heap_spec.specs.State.{HeapState}
 use Rattle.mps_trace.specs.Begin.{nailed_at_flip, Begins, CanFixRoots}
-use Rattle.mps_trace.specs.Collect.{CanCollect, CanEnd, most_moves}
+use Rattle.mps_trace.specs.Collect.{CanCollect, CanEnd, most_units}
 use Rattle.mps_trace.specs.Trace.{TraceState, Traced, traced}
 use Rattle.mps_trace.specs.declared.running.Running.{Running}
 use Rattle.mps_trace_laws.proofs.Reclaim.Room.{segments_are_in_order}
@@ -30,22 +30,16 @@ use Rattle.mps_refinement.proofs.Collect.CollectRight.{IsBefore}
 use Rattle.mps_refinement.proofs.Collect.NullRoots.{null_roots_can_be_fixed}
 use Rattle.mps_format.specs.declared.pool.Policy.{Policy}
 
--- a trail with just the room that a collection asks for
-abbrev enough : (grains : ℕ) → Moves
-enough grains = record { moves = []; spare = most_moves grains }
-
 module _ {F : Type 0} (layout : F → Layout) (begins : ACollectionBegins F) (can_fix : RootsCanBeFixed F) (few : UnitsAreFew)
     (scans : (formats : List (Option (Policy F))) (of : ChainsState) (at_flip : List (Option Address))
     → AreScansDone layout formats of at_flip)
     (h : HeapState F) (m : Moves) (w : World) (st : StandsFor layout h w)
-    (known : (n : Moves) → most_moves h.segs.grains ≤ n.spare → IsBefore layout h n w) (room : most_moves h.segs.grains ≤ m.spare) where
-  k : IsBefore layout h m w
-  k = known m room
-
-  -- as many units as there is room for are more than a collection has
-  bounded : (t : TraceState F) → IsTraceOf h.pools t
-      → StandsBefore layout t h.segs (enough h.segs.grains) h.points w
-  bounded t of = (known (enough h.segs.grains) (omega arith)).stands t of
+    (k : IsBefore layout h m w)
+    (below : length (live_ids w) + length w.graph.registered + length w.segments
+    < most_units h.segs.grains (length h.finals.registered)) where
+  -- how many units it has at most
+  abbrev most : ℕ
+  most = most_units h.segs.grains (length h.finals.registered)
 
   module _ (t : TraceState F) (of : IsTraceOf h.pools t) where
     before : StandsBefore layout t h.segs m h.points w
@@ -55,13 +49,13 @@ module _ {F : Type 0} (layout : F → Layout) (begins : ACollectionBegins F) (ca
     roots_ready = elim (cases_Bool (is_nothing (condemned_by w Everything))) [
       | inl nothing ↦
           null_roots_can_be_fixed layout t h.roots h.finals (nailed_at_flip t.formats h.points h.roots (traced t h.segs m)) w k.rows
-          before.plain.rest nothing k.roots
+          before.objects.rest nothing k.roots
       | inr some ↦ can_fix layout t h.segs m h.points h.roots h.finals w k.rows before k.areas k.roots some
     ]
 
     can_end : (roots' : RootsState) (finals' : FinalsState) (z : Traced) (run : Running)
         → Begins layout t.formats t.chains h.points h.roots h.finals (traced t h.segs m) roots' finals' z run
-        → CanEnd layout t.formats t.chains z finals' run (most_moves h.segs.grains)
+        → CanEnd layout t.formats t.chains z finals' run most
     can_end roots' finals' z run begun =
         let act : IsActDone layout t m w k.rows h.roots roots' finals' z run =
         begins layout t h.segs m h.points h.roots roots' h.finals finals' w k.rows z run before k.areas k.roots begun
@@ -70,18 +64,17 @@ module _ {F : Type 0} (layout : F → Layout) (begins : ACollectionBegins F) (ca
         record {
           ready =
               units_are_ready layout (record { formats = t.formats; amc = z.amc; chains = t.chains }) z.segs z.moves w.addresses finals'
-              run act.after (most_moves h.segs.grains) those act.stands;
+              run act.after most those act.stands;
           ends = λ last finals'' run' units.
               let less =
-              units_run_out layout t.formats t.chains w.addresses z last finals' finals'' run run' act.after (most_moves h.segs.grains)
+              units_run_out layout t.formats t.chains w.addresses z last finals' finals'' run run' act.after most
               those act.stands units
               in
-              let most = few w act.first act.after act.fixes before.plain.none_registered in
-              let enough_for = (bounded t of).room in
-              omega (arith, less, most, enough_for);
+              let left = few w act.first act.after act.fixes in
+              omega (arith, less, left, below);
         }
 
-    can_collect_one : CanCollect layout t h.points h.roots h.finals h.segs m (most_moves h.segs.grains)
+    can_collect_one : CanCollect layout t h.points h.roots h.finals h.segs m most
     can_collect_one = record {
       ordered = segments_are_in_order h.segs (held_in_order h.segs before.segments.held);
       blocks = before.segments.whole.order;

@@ -132,7 +132,8 @@ module _ {F : Type 0} (layout : F → Layout) where
       (c : IsCollection w acted ms) where
     abbrev v : World
     v = parts_of.v layout past h after w parts timed (reached_well_formed w reached) made acted c.leaves.but_collected.objects
-        c.leaves.but_collected.registered c.leaves.but_collected.messages c.leaves.but_collected.dependents c.leaves.but_collected.addresses
+        c.leaves.but_collected.registered c.leaves.but_collected.messages c.leaves.but_collected.dependents
+        c.leaves.but_collected.unpaired c.leaves.but_collected.addresses
         c.leaves.but_collected.segments c.leaves.but_collected.tails
 
     none_runs : c.leaves.but_collected.collection ≡ None
@@ -168,7 +169,7 @@ module _ {F : Type 0} (layout : F → Layout) where
         blocks = list_all-members (is_live v) (ids_in_blocks v.graph) (λ id there.
             ap is_some (places_then.manual id (parts_of.places_same layout past h after w parts timed (reached_well_formed w reached)
             made acted c.leaves.but_collected.objects c.leaves.but_collected.registered c.leaves.but_collected.messages
-            c.leaves.but_collected.dependents
+            c.leaves.but_collected.dependents c.leaves.but_collected.unpaired
             c.leaves.but_collected.addresses c.leaves.but_collected.segments c.leaves.but_collected.tails heap_then
             places_then id there))
             ∙ list_all-contains (is_live w) (ids_in_blocks w.graph) id (reached_live w reached).blocks there);
@@ -207,7 +208,7 @@ module _ {F : Type 0} (layout : F → Layout) where
             timed = refl;
             parts = parts_of.collected_parts layout past h after w parts timed (reached_well_formed w reached) made acted
                 c.leaves.but_collected.objects c.leaves.but_collected.registered c.leaves.but_collected.messages
-                c.leaves.but_collected.dependents
+                c.leaves.but_collected.dependents c.leaves.but_collected.unpaired
                 c.leaves.but_collected.addresses c.leaves.but_collected.segments c.leaves.but_collected.tails heap_then places_then
                 (reached_well_formed v (reached_then line)).registered;
           }))

@@ -24,7 +24,7 @@ use Rattle.mps_abstract.proofs.FlipActs.FlipBegins.{flip_done, flip_ended}
 use Rattle.mps_abstract.proofs.WholeCollections.WholeBegins.{nothing_remembered}
 use Rattle.mps_trace_laws.specs.Image.AtRest.{StandsAtRest}
 use Rattle.mps_trace.specs.Begin.{Begins, EndsAtOnce, nailed_at_flip}
-use Rattle.mps_trace.specs.Collect.{at_once, in_units, most_moves}
+use Rattle.mps_trace.specs.Collect.{at_once, in_units, most_units}
 use Rattle.mps_trace.specs.Flip.{at_flip, automatic_of}
 use Rattle.mps_trace.specs.Trace.{TraceState, Traced, traced}
 use Rattle.mps_trace.specs.Unit.{EndsWithin}
@@ -81,6 +81,10 @@ module _ {F : Type 0} (layout : F → Layout) (begins : ACollectionBegins F) (no
   abbrev z : Traced
   z = traced collected.after h'.segs m'
 
+  -- how many units it has at most
+  abbrev most : ℕ
+  most = most_units h.segs.grains (length h.finals.registered)
+
   module _ (w : World) (st : StandsFor layout h w) (known : IsBefore layout h m w) where
     before : StandsBefore layout t h.segs m h.points w
     before = known.stands t collected.of_pools
@@ -92,7 +96,7 @@ module _ {F : Type 0} (layout : F → Layout) (begins : ACollectionBegins F) (no
 
     module _ (b : Traced) (f : FinalsState) (run : Running)
         (begun : Begins layout t.formats t.chains h.points h.roots h.finals x h'.roots f b run)
-        (ends : EndsWithin layout t.formats t.chains b f run (most_moves h.segs.grains) z h'.finals) where
+        (ends : EndsWithin layout t.formats t.chains b f run most z h'.finals) where
       act : IsActDone layout t m w known.rows h.roots h'.roots f b run
       act = begins layout t h.segs m h.points h.roots h'.roots h.finals f w known.rows b run before known.areas known.roots begun
 
@@ -101,7 +105,7 @@ module _ {F : Type 0} (layout : F → Layout) (begins : ACollectionBegins F) (no
 
       last : AreLastTracedUnitsDone b y (suc ends.count) z h'.finals
       last =
-          the_end_is_done layout t.formats t.chains w.addresses b z f h'.finals run y (most_moves h.segs.grains)
+          the_end_is_done layout t.formats t.chains w.addresses b z f h'.finals run y most
           (scans t.formats t.chains w.addresses) act.stands ends
 
       some_of : (ts : List Segment) → 0 < length ts → is_nothing ts ≡ false
@@ -116,7 +120,7 @@ module _ {F : Type 0} (layout : F → Layout) (begins : ACollectionBegins F) (no
       u = world_after_moves w (flip_act w Everything ++ last.moves)
 
       abbrev rest : IsAtRest w
-      rest = before.plain.rest
+      rest = before.objects.rest
 
       act_leads : IsFlipDone w Everything act.first y
       act_leads = flip_done w Everything [] act.first y rest refl some (nothing_remembered w rest) act.fixes
@@ -158,7 +162,7 @@ module _ {F : Type 0} (layout : F → Layout) (begins : ACollectionBegins F) (no
             made_then some act.fixes last.units
             (collected_heap layout st.past h w st.parts m h' m' collected before y.world.addresses u moved left);
         room =
-            units_keep_room layout t w.addresses m b z f h'.finals run y (most_moves h.segs.grains) (scans t.formats t.chains w.addresses)
+            units_keep_room layout t w.addresses m b z f h'.finals run y most (scans t.formats t.chains w.addresses)
             act.stands (begin_pushes layout t h.points h.roots h'.roots h.finals f x b run begun) ends;
       }
 
@@ -172,11 +176,11 @@ module _ {F : Type 0} (layout : F → Layout) (begins : ACollectionBegins F) (no
       v = world_after_moves w (flip_act w Everything)
 
       moved_at_once : IsButCollected (world_flipped w (condemned_zones w Everything)) v
-      moved_at_once = (a_collection_moves_objects.2 w before.plain.rest over.nothing).but_collected
+      moved_at_once = (a_collection_moves_objects.2 w before.objects.rest over.nothing).but_collected
 
       left_at_once : IsLeft st.past w h h' w.addresses v
       left_at_once = record {
-        segments = segments_at_once t.formats h.points x z w before.segments.segments before.plain.rest over.nothing ends.over;
+        segments = segments_at_once t.formats h.points x z w before.segments.segments before.objects.rest over.nothing ends.over;
         image = over.stands;
         not_condemned = none_condemned (at_flip t.formats h.points x) z ends.over;
         not_kept = none_kept (at_flip t.formats h.points x) z ends.over;
@@ -187,7 +191,7 @@ module _ {F : Type 0} (layout : F → Layout) (begins : ACollectionBegins F) (no
         finals =
             subst (λ (f : FinalsState). HasFinalsOf f v) (sym ends.finals_are)
             (subst (λ ms. HasFinalsOf h.finals (world_after_moves w ms))
-            (sym (flip_ended w Everything before.plain.rest refl over.nothing).act)
+            (sym (flip_ended w Everything before.objects.rest refl over.nothing).act)
             (record {
               registrations = registered_at_rest layout st.past h w st.parts (at_rest st.time).time;
               waiting = st.parts.messages;

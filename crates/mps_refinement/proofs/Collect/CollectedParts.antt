@@ -27,7 +27,7 @@ use Rattle.mps_abstract.specs.Collecting.{Collecting}
 use Rattle.mps_names.specs.State.{thing_named}
 use Rattle.mps_heap_spec.specs.State.{HeapState}
 use Rattle.mps_format.specs.Pools.{size_of_pool}
-use Rattle.mps_refinement.specs.StandsFor.{AreParts, AreRegistered, ArePools, IsPoint, Past, address_of_id, StandsAt, state_of, time_at_rest}
+use Rattle.mps_refinement.specs.StandsFor.{AreParts, AreRegistered, ArePools, IsPoint, Past, StandsAt, state_of, time_at_rest}
 use Rattle.mps_refinement.specs.Numbering.{AreNumbered}
 use Rattle.mps_refinement.proofs.Parts.Named.{ThingsStay, named_alike}
 use Rattle.mps_refinement.proofs.Parts.Numbering.{kept_alike}
@@ -40,6 +40,7 @@ use Rattle.mps_refinement.proofs.Collect.FlippedPoints.{points_counted, points_f
 module _ {F : Type 0} (layout : F → Layout) (past : Past) (h after : HeapState F) (w : World) (parts : AreParts layout past h w)
     (timed : past.time ≡ time_at_rest) (formed : IsWellFormed w) (made : WereMadeBefore (length w.flips) h.points)
     (acted : Collecting) (objects : List Object) (registered messages : List Id) (dependents : List (Id × Id))
+    (unpaired : w.graph.dependents ≡ [] → dependents ≡ [])
     (addresses : List (Option Address)) (segments : List Segment) (tails : List world.Tail) where
   -- the world after it
   abbrev pub v : World
@@ -139,6 +140,7 @@ module _ {F : Type 0} (layout : F → Layout) (past : Past) (h after : HeapState
       pools = subst (λ ps. ArePools layout w.formats ps w.pools) (sym heap.pools) parts.pools;
       sizes = heap.sizes ∙ (parts.sizes ∙ ap (map size_of_pool) (sym heap.pools));
       chains = parts.chains;
+      dependents = unpaired parts.dependents;
       names = named_alike h after past w.graph.names parts.names (λ name. ap (λ ns. thing_named ns name) heap.names) stay;
       state = ap state_of (sym heap.parked);
     }

@@ -64,6 +64,7 @@ module _ (w : World) (first : List Move) (y : Collecting) (rest : IsAtRest w) (s
     segments = w.segments;
     tails = [];
     collection = Some begins.running;
+    unpaired = λ none. none;
     world = refl;
   }
 
@@ -145,6 +146,7 @@ nothing_collected w rest nothing =
         segments = w.segments;
         tails = [];
         collection = None;
+        unpaired = λ none. none;
         world = refl;
       };
       ended = refl;

@@ -1,18 +1,31 @@
--- How many objects are live at most, and how many segments are held, in an arena of so many grains: each object has a word of its own,
--- and each segment a grain.
+-- How many objects are live at most, how many segments are held, and how many moves a collection takes, in an arena of n grains: each
+-- object has a word of its own, and two if it is automatic, and each segment a grain.
 use Rattle.mps_refinement.proofs.Worlds.Reached.{reached_well_formed}
-use Rattle.std.proofs.Common.{◌≡◌, ℕ, ◌+◌, ◌*◌, ◌≤◌, List, [], ◌∷◌, length, map, arith}
+use Rattle.std.proofs.Common.{◌≡◌, ℕ, zero, suc, ◌+◌, ◌*◌, ◌<◌, ◌≤◌, true, ap, subst, List, [], ◌∷◌, length, map, Some, Contains, arith}
 use Rattle.std.proofs.lemmas.List.{length-map}
 use Rattle.mps_base.specs.Address.{words_of_grain}
 use Rattle.mps_base.specs.Run.{Run, IsAscending, end_of}
 use Rattle.mps_base.specs.Segment.{grains_of_segment}
+use Rattle.std.specs.Prelude.{slice_get}
 use Rattle.mps_format.specs.Layout.{Layout}
+use Rattle.mps_model.specs.Graph.{Object, is_automatic, size_of}
+use Rattle.mps_trace.specs.Collect.{most_moves, most_units}
+use Rattle.mps_trace_laws.proofs.Begin.MovesOfObjects.{room_is_enough}
+use Rattle.mps_trace_laws.proofs.Image.Laws.{well_formed_is_shaped}
+use Rattle.mps_trace_laws.specs.Begin.MovesOfObjects.{moves_of}
 use Rattle.mps_model.specs.World.{World, live_ids}
 use Rattle.mps_laws.proofs.Positions.LegalMoves.{HasLayout}
 use Rattle.mps_heap_spec.specs.State.{HeapState}
 use Rattle.mps_refinement.specs.StandsFor.{AreParts, IsReached, Past}
 use Rattle.mps_refinement.proofs.Calls.LiveBlocks.{blocks_are_counted}
 use Rattle.mps_refinement.proofs.Worlds.Ready.{laid_out}
+
+-- what a list contains stands at an index
+contained_at : {A : Type 0} (xs : List A) (x : A) → Contains xs x → (k : ℕ) × (slice_get xs k ≡ Some x)
+contained_at [] x (k, within, is) = absurd (omega (arith, within))
+contained_at (y ∷ ys) x (zero, within, is) = (0, ap Some is)
+contained_at (y ∷ ys) x (suc k, within, is) =
+    let later = contained_at ys x (k, omega (arith, within), is) in (suc later.0, later.1)
 
 -- each of ascending runs has a number of its own
 runs_are_few : (low high : ℕ) (rs : List Run) → IsAscending low high rs → low + length rs ≤ high
@@ -36,11 +49,25 @@ module _ {F : Type 0} (layout : F → Layout) (past : Past) (h : HeapState F) (w
       let grains = parts.grains in
       omega (arith, few, counted, grains)
 
+  large : (o : Object) → Contains w.graph.objects o → is_automatic o ≡ true → 2 ≤ size_of o
+  large o there automatic =
+      let k = contained_at w.graph.objects o there in
+      ((well_formed_is_shaped w parts.lawful (reached_well_formed w reached)).sizes k.0 o k.1 automatic).0
+
   -- so there is room for all moves of a collection where there is for this many
-  pub moves_are_few : 2 * length (live_ids w) + length w.segments + 4
-      ≤ 2 * (words_of_grain * (h.segs.grains + 1)) + h.segs.grains + 4
+  pub moves_are_few : moves_of w.graph.objects w.addresses + length w.segments + 4 ≤ most_moves h.segs.grains
   moves_are_few =
+      let moves = room_is_enough w.graph.objects w.addresses (words_of_grain * (h.segs.grains + 1))
+      (subst (λ (rs : List Run). IsAscending 0 (words_of_grain * (h.segs.grains + 1)) rs) parts.image.runs.blocks ascending) large in
+      let segments = segments_are_few w (laid_out w reached) in
+      let grains = parts.grains in
+      omega (arith, moves, segments, grains)
+
+  -- and fewer units than this
+  pub units_are_below : (registrations : ℕ) → registrations ≡ length w.graph.registered
+      → length (live_ids w) + length w.graph.registered + length w.segments < most_units h.segs.grains registrations
+  units_are_below registrations registered =
       let live = live_is_few in
       let segments = segments_are_few w (laid_out w reached) in
       let grains = parts.grains in
-      omega (arith, live, segments, grains)
+      omega (arith, live, segments, grains, registered)

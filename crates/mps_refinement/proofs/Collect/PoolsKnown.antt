@@ -1,10 +1,9 @@
--- What a collector knows of the pools of a heap, where it has their policies, none is on a chain, and none has weak references.
+-- What a collector knows of the pools of a heap, where it has their policies and none is on a chain.
 use Rattle.std.proofs.Common.{◌≡◌, ◌∙◌, ℕ, true, false, refl, sym, ap, subst, List, [], length, replicate, Option, Some, None, is_some, arith}
-use Rattle.std.proofs.lemmas.Bool.{false≢true, not-true}
+use Rattle.std.proofs.lemmas.Bool.{false≢true}
 use Rattle.std.proofs.lemmas.List.{length-replicate}
 use Rattle.std.proofs.lemmas.Option.{none-some, same_Some, slice_get-map, slice_get_within, unwrap_or-slice_get}
 use Rattle.std.specs.Prelude.{option_map, option_and_then, slice_get}
-use Rattle.std.specs.List.{list_all}
 use Rattle.std.specs.Option.{option_map_or, unwrap_or}
 use Rattle.mps_base.specs.Generation.{target_generation}
 use Rattle.mps_format.specs.Layout.{Layout}
@@ -12,23 +11,20 @@ use Rattle.mps_amc.specs.Amc.{HasTail}
 use Rattle.mps_trace.specs.GenState as chains
 use Rattle.mps_trace.specs.GenState.{ChainsState}
 use Rattle.mps_model.specs.World as world
-use Rattle.mps_model.specs.World.{World, is_automatic_kind, is_weak_kind, pool_is, generations_of}
+use Rattle.mps_model.specs.World.{World, is_automatic_kind, pool_is, generations_of}
 use Rattle.mps_trace_laws.specs.Image.Memory.{pool_layout}
-use Rattle.mps_trace_laws.proofs.Image.Shaped.{all_at}
 use Rattle.mps_trace.specs.Flip.{is_automatic, moves_blocks}
 use Rattle.mps_trace.specs.Trace.{TraceState}
 use Rattle.mps_trace_laws.specs.Fix.Tracing.{AreKnownPools}
 use Rattle.mps_trace_laws.specs.Flip.Condemned.{AreFormatsOf, AreMovesOf}
 use Rattle.mps_trace_laws.specs.Begin.Before.{ArePoolsKnown}
 use Rattle.mps_trace.specs.PoolsCollecting.{IsTraceOf}
-use Rattle.mps_format.specs.Pools.{policy_of_pool, is_copying_pool, is_weak_pool}
-use Rattle.mps_trace.specs.Pools.{is_strong_pool}
+use Rattle.mps_format.specs.Pools.{policy_of_pool, is_copying_pool}
 use Rattle.mps_format.specs.declared.pool.Pool.{Pool}
 use Rattle.mps_format.specs.declared.pool.Pool.TheVariants as pool
 use Rattle.mps_refinement.specs.StandsFor.{ArePools, IsPool}
 use Rattle.mps_refinement.proofs.Lookups.PoolKinds.{copying_by_number, kind_of, kinds_alike}
 use Rattle.mps_refinement.proofs.Collect.CollectIsRight.{something}
-use Rattle.mps_refinement.proofs.Collect.PlainHeaps.{weak_alike}
 use Rattle.mps_format.specs.declared.pool.Policy.{Policy}
 
 -- ---- one pool
@@ -38,9 +34,6 @@ module _ {F : Type 0} where
   has_format (pool.Automatic kind format) = refl
   has_format (pool.OneSize words) = refl
   has_format pool.AnySize = refl
-
-  not_weak : (p : Pool F) → is_strong_pool p ≡ true → is_weak_kind (kind_of p) ≡ false
-  not_weak p strong = sym (weak_alike p) ∙ not-true (is_weak_pool p) strong
 
   format_where_automatic : (p : Pool F) → is_automatic_kind (kind_of p) ≡ true
       → (format : Policy F) × (policy_of_pool p ≡ Some format)
@@ -93,8 +86,7 @@ none_on_chain (Some chain) = refl
 -- ---- all pools
 
 module _ {F : Type 0} (layout : F → Layout) (pools : List (Pool F)) (t : TraceState F) (w : World)
-    (are : ArePools layout w.formats pools w.pools) (none : w.chains ≡ []) (of : IsTraceOf pools t)
-    (strong : list_all is_strong_pool pools ≡ true) where
+    (are : ArePools layout w.formats pools w.pools) (none : w.chains ≡ []) (of : IsTraceOf pools t) where
   -- a pool and what it stands for have one number, and so does what is no pool
   data AtNumber (number : ℕ) : Type 0 where
     both : (p : Pool F) (q : world.Pool) → slice_get pools number ≡ Some p → slice_get w.pools number ≡ Some q
@@ -144,16 +136,6 @@ module _ {F : Type 0} (layout : F → Layout) (pools : List (Pool F)) (t : Trace
       by_cases (neither e f) =
           moves_there t.formats number None (format_at number None e)
           ∙ sym (ap (λ (o : Option world.Pool). option_map_or (λ p. world.is_copying_kind p.kind) o false) f)
-
-  none_weak : (number : ℕ) → pool_is is_weak_kind w number ≡ false
-  none_weak number = by_cases (at_number number)
-    where
-      by_cases : AtNumber number → pool_is is_weak_kind w number ≡ false
-      by_cases (both p q e f is) =
-          ap (λ (o : Option world.Pool). option_map_or (λ p. is_weak_kind p.kind) o false) f
-          ∙ ap is_weak_kind (kinds_alike layout w.formats p q is)
-          ∙ not_weak p (all_at is_strong_pool pools number p strong e)
-      by_cases (neither e f) = ap (λ (o : Option world.Pool). option_map_or (λ p. is_weak_kind p.kind) o false) f
 
   -- an automatic pool, with its policy
   record IsCollectedPool (number : ℕ) : Type 0 where
@@ -236,7 +218,6 @@ module _ {F : Type 0} (layout : F → Layout) (pools : List (Pool F)) (t : Trace
   pools_known = record {
     formats = formats_known;
     moves = moves_known;
-    strong = none_weak;
     pools = known_pools;
     tails = λ number generation copying.
         let m = mover number copying in

@@ -2,26 +2,27 @@
 -- marked.
 use Rattle.mps_refinement.proofs.Parts.Resting.{image_at_rest}
 use Rattle.mps_trace_laws.specs.Image.AtRest.{StandsAtRest}
-use Rattle.std.proofs.Common.{◌≡◌, ◌∙◌, ℕ, ◌+◌, ◌<◌, ◌≤◌, false, refl, sym, ap, subst, List, map, Some, inl, inr, arith}
+use Rattle.std.proofs.Common.{◌≡◌, ◌∙◌, ℕ, ◌+◌, ◌<◌, ◌≤◌, Bool, true, false, refl, sym, ap, subst, List, map, Some, inl, inr, arith}
 use Rattle.std.proofs.lemmas.Bool.{cases_Bool, or_right}
 use Rattle.std.proofs.lemmas.Option.{slice_get-map}
-use Rattle.std.specs.Prelude.{◌||◌, option_map, slice_get}
+use Rattle.std.specs.Prelude.{◌||◌, if◌then◌else◌, option_map, slice_get}
+use Rattle.std.specs.Option.{option_map_or}
 use Rattle.mps_base.specs.Address.{Address, Id, Word, address_of_word}
 use Rattle.mps_base.specs.Run.{Run, Covers, IsAscending, end_of}
 use Rattle.mps_base.specs.Segment.{Segment, grains_of_segment, segment_over, words_of_segment}
 use Rattle.mps_extents.specs.Table.{bit}
 use Rattle.mps_format.specs.Layout.{Layout}
 use Rattle.mps_seg.specs.Table.{IsMarked}
-use Rattle.mps_model.specs.Graph.{Object, entry_at, size_of}
+use Rattle.mps_base.specs.declared.names.Rank.TheVariants.{Exact, Weak}
+use Rattle.mps_model.specs.Graph.{Object, entry_at, is_weak_object, size_of}
 use Rattle.mps_model.specs.World.{World, extent}
 use Rattle.mps_trace_laws.specs.Image.Memory.{pool_layout, setting_at_rest, words_of_arena}
-use Rattle.mps_laws.proofs.Positions.Covered.{covered-shapes, covered_ascending, or_false}
+use Rattle.mps_laws.proofs.Positions.Covered.{covered-shapes, covered_ascending}
 use Rattle.mps_laws.proofs.Positions.LegalMoves.{HasLayout}
-use Rattle.mps_laws.proofs.Positions.Occupancy.{OfBlock, OfReservation, occupancy_of, run_of, run_of_block, shape_of}
+use Rattle.mps_laws.proofs.Positions.Occupancy.{OfBlock, OfReservation, Shape, occupancy_of, rank_of_occupant, rank_where, run_of, run_of_block, shape_of}
 use Rattle.mps_laws.proofs.Positions.Segments.{AreAligned, IsAmong, found_segment}
 use Rattle.mps_trace_laws.specs.Fix.Tracing.{AreSegmentsOf, AreHeld, AreCoveredInOrder, AreReservationsHeld}
-use Rattle.mps_trace_laws.specs.Fix.Housed.{AreHoused}
-use Rattle.mps_trace.specs.Splat.{HasNoWeakMark}
+use Rattle.mps_trace_laws.specs.Fix.Housed.{AreHoused, rank_of_object}
 use Rattle.mps_trace_laws.proofs.Image.BlockRuns.{extents_ascend}
 use Rattle.mps_trace_laws.specs.Begin.Before.{AreSegmentsAtRest}
 use Rattle.mps_heap_spec.specs.State.{HeapState}
@@ -37,6 +38,18 @@ block_run w id at o there object =
     ap (λ s. run_of_block s (entry_at w.addresses id))
     (slice_get-map shape_of w.graph.objects id ∙ ap (option_map shape_of) object)
     ∙ ap (run_of_block (Some (shape_of o))) there
+
+-- and its rank
+block_rank : (w : World) (id : Id) (o : Object) → slice_get w.graph.objects id ≡ Some o
+    → rank_of_occupant (occupancy_of w) (OfBlock id) ≡ rank_of_object o
+block_rank w id o object =
+    ap (λ s. option_map_or (λ (x : Shape). rank_where x.is_weak) s Exact)
+    (slice_get-map shape_of w.graph.objects id ∙ ap (option_map shape_of) object)
+    ∙ of_test (is_weak_object o)
+  where
+    of_test : (b : Bool) → rank_where b ≡ (if b then Weak else Exact)
+    of_test true = refl
+    of_test false = refl
 
 module _ {F : Type 0} (layout : F → Layout) (past : Past) (h : HeapState F) (w : World) (parts : AreParts layout past h w)
     (reached : IsReached w) (rest : Rests past.time h.segs w) where
@@ -82,10 +95,7 @@ module _ {F : Type 0} (layout : F → Layout) (past : Past) (h : HeapState F) (w
     | inr none ↦ none
   ]
 
-  none_weak : HasNoWeakMark h.segs
-  none_weak n = (or_false (bit h.segs.marks.exact n) (bit h.segs.marks.weak n) (none_grey n)).1
-
-  -- each object lies in one segment
+  -- each object lies in one segment of its rank
   are_housed : AreHoused w.graph.objects h.segs.segments w.addresses
   are_housed id at o there object =
       let g = occupancy_of w in
@@ -98,6 +108,7 @@ module _ {F : Type 0} (layout : F → Layout) (past : Past) (h : HeapState F) (w
         segment = home.segment;
         held = segment_there home.segment h.segs.segments
             (subst (λ (ts : List Segment). IsAmong home.segment ts) (sym parts.segments) home.held);
+        rank_is = home.of_rank ∙ block_rank w id o object;
         above = above;
         below = omega (arith, below);
       }
@@ -133,7 +144,6 @@ module _ {F : Type 0} (layout : F → Layout) (past : Past) (h : HeapState F) (w
     image = image;
     not_condemned = rest.not_condemned;
     unmarked = record { kept = rest.not_kept; grey = none_grey };
-    strong = none_weak;
     housed = are_housed;
     reserved = are_reserved;
   }

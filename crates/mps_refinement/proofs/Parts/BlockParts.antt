@@ -1,6 +1,6 @@
 -- The parts of a heap still stand for those of a world after blocks were changed in both: the segments, what objects there are and
 -- where they lie, and the places of tables of blocks.
-use Rattle.std.proofs.Common.{◌≡◌, ◌∙◌, ℕ, ◌+◌, refl, sym, ap, List, map, length, Option, arith, []}
+use Rattle.std.proofs.Common.{◌≡◌, ◌∙◌, ℕ, ◌+◌, refl, sym, ap, List, [], map, length, Option, arith}
 use Rattle.std.specs.Prelude.{sum_by, count_by, is_some}
 use Rattle.mps_base.specs.Address.{Address, Id}
 use Rattle.mps_base.specs.Segment.{Segment}
@@ -75,13 +75,13 @@ unpaired arena.Unclamped = refl
 unpaired arena.Clamped = refl
 unpaired arena.Parked = refl
 
--- a world with other pairs of dependents: a heap has none of them
+-- a world with other pairs of dependents, which are none where there were none
 abbrev pub world_with_pairs : World → List (Id × Id) → World
 world_with_pairs w pairs = record w { graph = record w.graph { dependents = pairs } }
 
 pub parts_with_pairs : {F : Type 0} (layout : F → Layout) (past : Past) (h : HeapState F) (w : World) (pairs : List (Id × Id))
-    → AreParts layout past h w → AreParts layout past h (world_with_pairs w pairs)
-parts_with_pairs layout past h w pairs p = record {
+    → (w.graph.dependents ≡ [] → pairs ≡ []) → AreParts layout past h w → AreParts layout past h (world_with_pairs w pairs)
+parts_with_pairs layout past h w pairs unpaired p = record {
   grains = p.grains;
   limit = p.limit;
   segments = p.segments;
@@ -104,6 +104,7 @@ parts_with_pairs layout past h w pairs p = record {
   pools = p.pools;
   sizes = p.sizes;
   chains = p.chains;
+  dependents = unpaired p.dependents;
   names = p.names;
   state = p.state;
 }

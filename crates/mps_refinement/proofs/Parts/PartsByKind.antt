@@ -43,11 +43,11 @@ module _ {F : Type 0} (layout : F → Layout) (past : Past) (h : HeapState F) (w
   abbrev pub DependencyParts : Type 0
   DependencyParts = h.dependencies ≡ map kept_of w.dependencies
 
-  -- formats, pools and chains
+  -- formats, pools and chains, and that no object has a dependent
   abbrev pub PoolParts : Type 0
   PoolParts =
       ((number : ℕ) → IsLawful (w.formats number)) × ArePools layout w.formats h.pools w.pools × (h.sizes ≡ map size_of_pool h.pools)
-      × (w.chains ≡ [])
+      × (w.chains ≡ []) × (w.graph.dependents ≡ [])
 
   -- flips, the arena's state, and that no collection runs
   abbrev pub StateParts : Type 0
@@ -81,6 +81,7 @@ module _ {F : Type 0} {layout : F → Layout} {past : Past} {h : HeapState F} {w
     pools = pools.1;
     sizes = pools.2;
     chains = pools.3;
+    dependents = pools.4;
     names = names;
     state = state.2;
   }
@@ -102,7 +103,7 @@ module _ {F : Type 0} {layout : F → Layout} {past : Past} {h : HeapState F} {w
   finals_of = (parts.registered, parts.messages)
 
   pub pools_of : PoolParts layout past h w
-  pools_of = (parts.lawful, parts.pools, parts.sizes, parts.chains)
+  pools_of = (parts.lawful, parts.pools, parts.sizes, parts.chains, parts.dependents)
 
   pub states_of : StateParts layout past h w
   states_of = (parts.flips, parts.point_flips, parts.state)

@@ -100,25 +100,3 @@ now_alone addresses (a ∷ ats) (id ∷ ids) are =
       | inl now ↦ sym (ap (λ o. option_map_or (λ at. at) o 0) now)
       | inr old ↦ absurd (none-some a old)
     ]) (now_alone addresses ats ids are.1)
-
--- ---- nothing is registered
-
-module _ (addresses at_flip : List (Option Address)) where
-  pub none_there : (ats : List Address) (ids : List Id) → AreRegistered addresses at_flip ats ids → ids ≡ [] → ats ≡ []
-  none_there ats ids are none = empty_like ats (subst (AreRegistered addresses at_flip ats) none are)
-    where
-      empty_like : (ats : List Address) → AreRegistered addresses at_flip ats [] → ats ≡ []
-      empty_like [] are = refl
-      empty_like (a ∷ ats) are = absurd are
-
-  pub none_kept : (ats : List Address) (ids : List Id) → AreRegistered addresses at_flip ats ids → ats ≡ [] → ids ≡ []
-  none_kept ats ids are none = empty_like ids (subst (λ xs. AreRegistered addresses at_flip xs ids) none are)
-    where
-      empty_like : (ids : List Id) → AreRegistered addresses at_flip [] ids → ids ≡ []
-      empty_like [] are = refl
-      empty_like (id ∷ ids) are = absurd are
-
-  pub none_registered_now : (ats : List Address) (ids : List Id) → ats ≡ [] → ids ≡ [] → AreRegistered addresses at_flip ats ids
-  none_registered_now ats ids none none_there =
-      subst (λ xs. AreRegistered addresses at_flip xs ids) (sym none)
-      (subst (AreRegistered addresses at_flip []) (sym none_there) tt)

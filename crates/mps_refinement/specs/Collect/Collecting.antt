@@ -1,5 +1,5 @@
 -- What is shown of the call `collect` of a heap: it can be done in the room that is asked for, and it is right.
-use Rattle.std.specs.Prelude.{◌≤◌, IsTrue}
+use Rattle.std.specs.Prelude.{◌≤◌}
 use Rattle.mps_base.specs.Trail.{Moves}
 use Rattle.mps_buffer.specs.Points.{WereMadeBefore}
 use Rattle.mps_format.specs.Layout.{Layout}
@@ -9,14 +9,13 @@ use Rattle.mps_model.specs.Answer.{Replied}
 use Rattle.mps_model.specs.World.{World}
 use Rattle.mps_seg.specs.Table.{IsMarked}
 use Rattle.mps_trace.specs.Collect.{most_moves}
-use Rattle.mps_heap_spec.specs.Collecting.{IsCollected, can_collect}
+use Rattle.mps_heap_spec.specs.Collecting.{IsCollected}
 use Rattle.mps_heap_spec.specs.State.{HeapState}
 use Rattle.mps_refinement.specs.RightMoving.{IsRightMoving, KeepsRoom}
 use Rattle.mps_refinement.specs.StandsFor.{StandsFor}
 
 -- a heap may collect everything: it represents a world, its tables of marks have their sizes, and there is room for all moves
 pub record MayCollect {F : Type 0} (layout : F → Layout) (h : HeapState F) (m : Moves) : Type 0 where
-  pub can : IsTrue (can_collect h)
   pub world : World
   pub stands : StandsFor layout h world
   pub marked : IsMarked h.segs.grains h.segs.marks h.segs.condemned h.segs.summaries

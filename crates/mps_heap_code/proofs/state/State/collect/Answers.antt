@@ -4,10 +4,10 @@ use Rattle.mps_heap_code.proofs.state.State.collect.Goals as goal
 
 pub collect-requires-clause-can : goal.collect-requires-clause-can
 collect-requires-clause-can g c =
-    can_pools g.F.Format.layout c.args.self.now c.args.trail.now _ c.from-most.result c.self.view_is (search rules) c.requires.can
+    can_pools g.F.Format.layout c.args.self.now c.args.trail.now _ c.most_units-most.result c.self.view_is (search rules) c.requires.can
 
 pub returns : goal.returns
 returns g c = record {
-  collected = collected g.F.Format.layout c.args.self.now c.args.trail.now _ _ c.collect.new.trail c.from-most.result
+  collected = collected g.F.Format.layout c.args.self.now c.args.trail.now _ _ c.collect.new.trail c.most_units-most.result
       c.self.view_is (search rules) c.collect.ensures.collected (search rules);
 }
