@@ -148,6 +148,10 @@ module _ {F : Type 0} (layout : F → Layout) (words : List ℕ) (b : Block F) w
 abbrev pub retargeted : Layout → (word : ℕ) → (to : Address) → ℕ
 retargeted f word to = if to % 8 == 0 then f.retarget word to else word
 
+-- the reference word that leads to what another does, and has this tag, a number below 8
+abbrev pub retagged : Layout → (word tag : ℕ) → ℕ
+retagged f word tag = f.target word + tag
+
 -- ---- a state with one thing changed
 
 module _ {F : Type 0} (h : HeapState F) where

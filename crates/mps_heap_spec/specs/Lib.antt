@@ -12,6 +12,7 @@ pub mod Coming
 pub mod Collecting
 pub use Rattle.mps_names.specs.State as NamesState
 pub use Rattle.mps_model.specs.Checked
+pub use Rattle.mps_model.specs.Tagging
 pub use Rattle.mps_seg.specs.Table
 pub use Rattle.mps_buffer.specs.Points
 pub use Rattle.mps_trace.specs.Collect

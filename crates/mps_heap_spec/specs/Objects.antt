@@ -1,13 +1,14 @@
 -- The outcomes of the calls on slots and objects.
-use Rattle.std.specs.Prelude.{ℕ, ◌==◌, Bool, Ok, slice_set}
+use Rattle.std.specs.Prelude.{ℕ, ◌==◌, ◌%◌, Bool, Ok, slice_set}
 use Rattle.mps_base.specs.Address.{Address}
 use Rattle.mps_base.specs.declared.names.Slot.{Slot}
 use Rattle.mps_format.specs.Layout.{Layout}
 use Rattle.mps_model.specs.Checked.{Checked, ◌>>=◌}
+use Rattle.mps_model.specs.Tagging.{tag_count}
 use Rattle.mps_root.specs.State.{with_item}
 use Rattle.mps_heap_spec.specs.State.{HeapState}
 use Rattle.mps_heap_spec.specs.Coming.{Outcome, done}
-use Rattle.mps_heap_spec.specs.Finding.{slot_in, object_in, object_at, number_cell_at, reference_cell_at, retargeted, with_words}
+use Rattle.mps_heap_spec.specs.Finding.{slot_in, object_in, object_at, number_cell_at, reference_cell_at, retagged, retargeted, with_words}
 use Rattle.mps_heap_spec.specs.declared.found.Entry.{Entry}
 
 module _ {F : Type 0} where
@@ -82,3 +83,17 @@ module _ {F : Type 0} (layout : F → Layout) where
     object ← object_at layout h into.value
     cell ← reference_cell_at layout h.segs.words object k
     done (with_word h cell.word (retargeted (layout object.format) cell.value from.value))
+
+  -- the tag of the reference in cell k
+  abbrev pub tag_got : HeapState F → Slot → (k : ℕ) → Checked ℕ
+  tag_got h slot k = do
+    object ← object_in layout h slot
+    cell ← reference_cell_at layout h.segs.words object k
+    Ok (cell.value % tag_count)
+
+  -- the reference in cell k has this tag, and refers to what it did
+  abbrev pub tag_set : HeapState F → Slot → (k tag : ℕ) → Checked (Outcome F (Unit {0}))
+  tag_set h slot k tag = do
+    object ← object_in layout h slot
+    cell ← reference_cell_at layout h.segs.words object k
+    done (with_word h cell.word (retagged (layout object.format) cell.value tag))

@@ -1,15 +1,19 @@
 // The cells of a block, as its format reads them.
 #![tactic(auto)]
 
-ghost use Rattle.std.specs.Prelude.{◌≡◌, ◌+◌, ◌<◌, ◌^◌, slice_set, IsTrue, IfOk};
+ghost use Rattle.std.specs.Prelude.{◌≡◌, ◌+◌, ◌%◌, ◌<◌, ◌^◌, slice_set, IsTrue, IfOk};
 ghost use Rattle.mps_base.specs.Address.{word_of};
 ghost use Rattle.mps_model.specs.Graph.{has_references};
-ghost use Rattle.mps_heap_spec.specs.Finding.{cell_at, number_cell_at, reference_cell_at, retargeted};
+ghost use Rattle.mps_model.specs.Tagging.{tag_count};
+ghost use Rattle.mps_heap_spec.specs.Finding.{cell_at, number_cell_at, reference_cell_at, retagged, retargeted};
 
 use crate::{Block, CellFound};
 use mps_base::{Addr, BYTES_OF_WORD, Refusal};
 use mps_format::Format;
 use mps_seg::Segs;
+
+/// How many tags a reference may have: 0 to 7.
+const TAGS: u64 = 8;
 
 /// Whether cell `k` of a block with this head is a reference.
 #[inline(always)]
@@ -44,6 +48,21 @@ pub fn with_target<F: Format>(format: &F, word: u64, to: u64) -> u64
     } else {
         word
     }
+}
+
+/// The tag of a reference word.
+pub fn tag_of(word: u64) -> u8
+    ensures { result ≡ word % tag_count }
+{
+    (word % TAGS) as u8
+}
+
+/// The reference word that leads to what another does, and has this tag.
+pub fn with_tag<F: Format>(format: &F, word: u64, tag: u8) -> u64
+    requires { tag < tag_count }
+    ensures { result ≡ retagged (F.layout format.now) word tag }
+{
+    format.target(word).0 + u64::from(tag)
 }
 
 /// The number of the word of cell `k` of a block at an address.

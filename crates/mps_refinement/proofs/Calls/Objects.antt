@@ -1,13 +1,13 @@
--- The calls on objects are right: `head`, `addr`, `num`, `setnum`, `get`, `put`.
-use Rattle.std.proofs.Common.{◌≡◌, ◌∙◌, ℕ, ◌+◌, refl, sym, ap, subst, List, [], Option, Some, None, inl, arith}
-use Rattle.std.proofs.lemmas.Option.{none-some}
+-- The calls on objects are right: `head`, `addr`, `num`, `setnum`, `get`, `put`, `tag`, `settag`.
+use Rattle.std.proofs.Common.{◌≡◌, ◌∙◌, ℕ, ◌+◌, ◌%◌, ◌<◌, refl, sym, ap, subst, List, [], Option, Some, None, inl, arith}
+use Rattle.std.proofs.lemmas.Option.{none-some, get_or_from_slice_get}
 use Rattle.std.specs.Prelude.{slice_get, slice_set, Bool, true, false, not, Ok}
 use Rattle.std.specs.Option.{option_map_or}
 use Rattle.mps_base.specs.Address.{Address, Id}
 use Rattle.mps_base.specs.declared.names.Slot.{Slot}
 use Rattle.mps_format.specs.Layout.{Layout, IsLawful}
-use Rattle.mps_trace_laws.proofs.Image.CellChanged.{target_changed}
-use Rattle.mps_trace_laws.proofs.Image.ClientLaws.{cell_of_an_object_is_written}
+use Rattle.mps_trace_laws.proofs.Image.CellChanged.{tag_changed, target_changed}
+use Rattle.mps_trace_laws.proofs.Image.ClientLaws.{cell_of_an_object_is_written, tag_of_an_object_is_written}
 use Rattle.mps_trace_laws.specs.Image.Image.{IsCellWord, IsFixedWord}
 use Rattle.mps_trace_laws.specs.Image.Memory.{Lies, memory_in}
 use Rattle.mps_laws.proofs.Same.{Same, fits, same_then, Alike, same_weaker}
@@ -16,21 +16,22 @@ use Rattle.mps_model.specs.declared.call.Call.TheVariants as call
 use Rattle.mps_model.specs.Allocating.{with_slot}
 use Rattle.mps_model.specs.Checked as model
 use Rattle.mps_model.specs.Checked.{Act, Checked, Found, Numbered, ◌>>=◌, ◌>>◌, cells_of_body, reference_at, with_graph}
-use Rattle.mps_model.specs.Graph.{Cell, NumberCell, ReferenceCell, Object, entry_at, graph_with_cells, with_target_cell}
+use Rattle.mps_model.specs.Graph.{Cell, NumberCell, ReferenceCell, Object, entry_at, graph_with_cells, with_tag_cell, with_target_cell}
+use Rattle.mps_model.specs.Tagging.{tag_count}
 use Rattle.mps_model.specs.World.{World, is_live}
 use Rattle.mps_heap_spec.specs.Coming.{Comes}
-use Rattle.mps_heap_spec.specs.Finding.{object_at, object_in, retargeted, slot_in}
+use Rattle.mps_heap_spec.specs.Finding.{object_at, object_in, retagged, retargeted, slot_in}
 use Rattle.mps_heap_spec.specs.declared.found.Block.{Block}
 use Rattle.mps_heap_spec.specs.declared.found.CellFound.{CellFound}
 use Rattle.mps_heap_spec.specs.declared.found.Entry.{Entry}
-use Rattle.mps_heap_spec.specs.Objects.{head_in, address_in, number_in, number_set, reference_got, reference_put, with_word}
+use Rattle.mps_heap_spec.specs.Objects.{head_in, address_in, number_in, number_set, reference_got, reference_put, tag_got, tag_set, with_word}
 use Rattle.mps_heap_spec.specs.State.{HeapState}
 use Rattle.mps_refinement.specs.RightStep.{IsRight}
 use Rattle.mps_refinement.specs.StandsFor.{AreParts, Past, address_of_target, setting_at}
 use Rattle.mps_refinement.proofs.Lookups.Cells.{retargeted_is, target_is}
 use Rattle.mps_refinement.proofs.Lookups.Found.{again, in_a_row, same_drop, some_there}
 use Rattle.mps_refinement.proofs.Worlds.Known.{IsKnown, is_kept_at}
-use Rattle.mps_refinement.proofs.Lookups.LiveObjects.{IsNumberOf, IsObject, IsReferenceOf, number_same, object_at_same, object_lawful, object_then, reference_same, slot_may_read, target_address, fixed_reference_same}
+use Rattle.mps_refinement.proofs.Lookups.LiveObjects.{IsNumberOf, IsObject, IsReferenceOf, number_same, object_at_same, object_lawful, object_then, reference_same, tag_same, slot_may_read, target_address, fixed_reference_same}
 use Rattle.mps_refinement.proofs.Lookups.Lookups.{slot_same}
 use Rattle.mps_refinement.proofs.Parts.PartsWritten.{slot_written, words_written}
 use Rattle.mps_refinement.proofs.Calls.Readings.{act_reading, reading_is_right, says_ok}
@@ -80,7 +81,7 @@ module _ {F : Type 0} (layout : F → Layout) (past : Past) (h : HeapState F) (w
 
   pub reference_written : (k : ℕ) (target : Option ℕ) (cell : CellFound) (old : Option ℕ) → PassesOrNull (is_live w) target
       → PassesOrNull (is_kept_at past.time) target
-      → IsReferenceOf past.time w n k cell old
+      → IsReferenceOf past.time h.segs.words w n k cell old
       → AreParts layout past (with_word h cell.word (retargeted (layout b.format) cell.value (address_of_target w.addresses target)))
       (with_graph w (graph_with_cells w.graph n.number (λ cells. with_target_cell cells k target)))
   reference_written k target cell old live kept found =
@@ -107,6 +108,27 @@ module _ {F : Type 0} (layout : F → Layout) (past : Past) (h : HeapState F) (w
       kept_target None k t e = absurd (none-some t e)
       kept_target (Some id) k t e =
           not_white (is_white past.time.condemned past.time.colours t) (subst (PassesOrNull (is_kept_at past.time)) e k)
+
+module _ {F : Type 0} (layout : F → Layout) (past : Past) (h : HeapState F) (w : World) (parts : AreParts layout past h w)
+    (b : Block F) (n : Numbered Object) (is : IsObject layout past h w b n) where
+  -- the word of a reference with another tag stands for the cell with another tag, whichever address it has
+  pub tag_written : (k tag : ℕ) (cell : CellFound) (target : Option ℕ) → IsReferenceOf past.time h.segs.words w n k cell target
+      → AreParts layout past (with_word h cell.word (retagged (layout b.format) cell.value tag))
+      (with_graph w (graph_with_cells w.graph n.number (λ cells. with_tag_cell cells k tag)))
+  tag_written k tag cell target found =
+      let there : slice_get is.cells k ≡ Some (ReferenceCell target found.tag) =
+      ap (λ body. slice_get (cells_of_body body) k) (sym is.body) ∙ found.cell
+      in
+      subst (λ at. AreParts layout past (with_word h cell.word (at + tag))
+      (with_graph w (graph_with_cells w.graph n.number (λ cells. with_tag_cell cells k tag))))
+      (sym (target_is (layout b.format) (object_lawful layout past h w parts b n is) cell.value found.was found.tag found.low
+      found.is_target found.value))
+      (words_written layout past h w parts (slice_set h.segs.words cell.word (found.was + tag))
+      (graph_with_cells w.graph n.number (λ cells. with_tag_cell cells k tag)).objects
+      (tag_of_an_object_is_written (setting_at past.time h.segs w) w.graph (memory_in h.segs) w.addresses past.time.colours n.number k
+      n.value b.head is.cells is.is_weak cell.word target found.tag tag found.was (λ cells. with_tag_cell cells k tag) refl is.body there
+      (tag_changed is.cells k found.tag tag target there) parts.image found.lies
+      (get_or_from_slice_get h.segs.words cell.word cell.value 0 found.there ∙ found.value)))
 
 -- ---- an object that is looked up again
 
@@ -214,6 +236,43 @@ module _ {F : Type 0} (layout : F → Layout) (h : HeapState F) where
   number_set_right slot k value result after =
       quiet_is_right layout says_ok h (call.SetNumber slot k value) refl refl (λ a. refl) (number_set layout h slot k value) result after
       (number_set_same slot k value)
+
+  pub tag_got_right : (slot : Slot) (k : ℕ) (result : Checked ℕ) → result ≡ tag_got layout h slot k
+      → IsRight layout h (call.Tag slot k) [] (answer_to says_number result) h
+  tag_got_right slot k result =
+      reading_is_right layout says_number h (call.Tag slot k) refl refl (λ a. refl) (tag_got layout h slot k) result
+      (λ w past parts reached.
+      object_then layout past h w parts reached slot (λ b n is.
+      same_then (tag_same layout past h w parts b n is k) (λ cell tag found.
+      fits (ap (λ m. act_reading w (says_number m)) (sym found)))))
+
+  tag_set_same : (slot : Slot) (k tag : ℕ) → tag < tag_count
+      → ComesToTheSame layout says_ok h (call.SetTag slot k tag) (tag_set layout h slot k tag)
+  tag_set_same slot k tag low w past parts reached =
+      object_then layout past h w parts reached slot (λ b n is.
+      same_drop (reference_same layout past h w parts b n is k) (λ cell target found.
+      fits (record {
+        answer = refl;
+        marks = (refl, refl);
+        formats = refl;
+        has = record {
+          past = past;
+          timed = refl;
+          parts = subst (λ m. AreParts layout past (with_word h cell.word (retagged (layout b.format) cell.value tag))
+              (with_graph w (graph_with_cells w.graph n.number (λ cells. with_tag_cell cells k m)))) (sym whole)
+              (tag_written layout past h w parts b n is k tag cell target found);
+        };
+      })))
+    where
+      whole : tag % tag_count ≡ tag
+      whole = omega (arith, low)
+
+  pub tag_set_right : (slot : Slot) (k tag : ℕ) (result : Checked (Unit {0})) (after : HeapState F) → tag < tag_count
+      → Comes h (tag_set layout h slot k tag) result after
+      → IsRight layout h (call.SetTag slot k tag) [] (answer_to says_ok result) after
+  tag_set_right slot k tag result after low =
+      quiet_is_right layout says_ok h (call.SetTag slot k tag) refl refl (λ a. refl) (tag_set layout h slot k tag) result after
+      (tag_set_same slot k tag low)
 
   reference_put_same : (target : Slot) (k : ℕ) (source : Slot)
       → ComesToTheSame layout says_ok h (call.Put target k source) (reference_put layout h target k source)

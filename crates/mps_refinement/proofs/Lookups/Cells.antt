@@ -9,7 +9,7 @@ use Rattle.mps_format.specs.Layout.{Layout, IsLawful}
 use Rattle.mps_trace_laws.proofs.Image.Shaped.{shaped_at, shaped_length, new_at, new_length, same_kind, low_tag}
 use Rattle.mps_laws.proofs.Lookups.{there_is}
 use Rattle.mps_laws.proofs.Same.{Same, fits, refused, same_then}
-use Rattle.mps_model.specs.Checked.{◌>>◌, required, refuse_when, cell_of, number_of_cell, reference_in, number_at, reference_at}
+use Rattle.mps_model.specs.Checked.{◌>>◌, required, refuse_when, cell_of, number_of_cell, reference_in, tag_in, number_at, reference_at, tag_at}
 use Rattle.mps_model.specs.Graph.{Cell, HeadCell, NumberCell, ReferenceCell, new_cells, new_cells_from, is_reference_cell}
 use Rattle.mps_model.specs.WellFormed.{is_shaped, are_shaped}
 use Rattle.mps_heap_spec.specs.Finding.{cell_at, number_cell_at, reference_cell_at, retargeted}
@@ -122,6 +122,12 @@ pub record IsReference (words : List ℕ) (at : Address) (cells : List Cell) (k 
   pub low : tag < 8
   pub is : IsCell words at cells k (ReferenceCell target tag) found
 
+-- a reference with this tag was
+pub record IsTagged (words : List ℕ) (at : Address) (cells : List Cell) (k : ℕ) (found : CellFound) (tag : ℕ) : Type 0 where
+  pub target : Option ℕ
+  pub low : tag < 8
+  pub is : IsCell words at cells k (ReferenceCell target tag) found
+
 module _ {F : Type 0} (layout : F → Layout) (words : List ℕ) (b : Block F) (cells : List Cell)
     (are : AreCells (layout b.format) b.head cells)
     (there : (k : ℕ) → k < length cells → (value : ℕ) × (slice_get words (word_of b.at + k) ≡ Some value)) where
@@ -179,12 +185,28 @@ module _ {F : Type 0} (layout : F → Layout) (words : List ℕ) (b : Block F) (
       subst (λ r. Same (IsReference words b.at cells k) (refuse_when (not r) refusal.NotARef >> Ok found) (reference_in c))
       (are.kinds k c is.cell) (reference_of k found c is))
 
+  tag_of : (k : ℕ) (found : CellFound) (c : Cell) → Fits k found c
+      → Same (IsTagged words b.at cells k) (refuse_when (not (is_reference_cell c)) refusal.NotARef >> Ok found) (tag_in c)
+  tag_of k found HeadCell is = refused
+  tag_of k found (NumberCell number) is = refused
+  tag_of k found (ReferenceCell target tag) is =
+      fits (record { target = target; low = are.tags k tag target is.cell; is = is })
+
+  pub tag_cell_same : (k : ℕ) → Same (IsTagged words b.at cells k) (reference_cell_at layout words b k) (tag_at cells k)
+  tag_cell_same k = same_then (cell_same k) (λ found c is.
+      subst (λ r. Same (IsTagged words b.at cells k) (refuse_when (not r) refusal.NotARef >> Ok found) (tag_in c))
+      (are.kinds k c is.cell) (tag_of k found c is))
+
 -- ---- what a word of a reference says
 
 -- the address of a target is null, or that of an object
 pub record IsTargetAddress (to : Address) : Type 0 where
   pub aligned : to % 8 ≡ 0
   pub small : to + 8 ≤ 2 ^ 64
+
+-- the low three bits of it are its tag
+pub tag_is : (word to tag : ℕ) → tag < 8 → IsTargetAddress to → word ≡ to + tag → word % 8 ≡ tag
+tag_is word to tag low address is = omega (arith, is, low, address.aligned)
 
 module _ (f : Layout) (lawful : IsLawful f) (word to tag : ℕ) (low : tag < 8) (address : IsTargetAddress to) (is : word ≡ to + tag) where
   -- the format reads the target in it

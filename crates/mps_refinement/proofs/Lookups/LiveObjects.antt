@@ -4,8 +4,9 @@
 -- live_block: what is at the address of a live object: its pool, and of an automatic one its format and its head.
 -- object_at_same, object_same: the object that a slot refers to (`IsObject`).
 -- number_same, reference_same: cell k of it: its word (`Lies`) and the number or the target there (`IsNumberOf`, `IsReferenceOf`).
+-- tag_same: the tag of the reference in cell k.
 -- slot_passes, word_passes: what stands in a slot or in a word of an area passes each test that all that is held there passes.
-use Rattle.std.proofs.Common.{◌≡◌, ◌∙◌, ℕ, ◌+◌, ◌*◌, ◌<◌, Bool, true, false, refl, sym, ap, subst, List, [], length, Option, Some, None, Ok, inl, inr, arith, lit≤, slice_index}
+use Rattle.std.proofs.Common.{◌≡◌, ◌∙◌, ℕ, ◌+◌, ◌*◌, ◌%◌, ◌<◌, Bool, true, false, refl, sym, ap, subst, List, [], length, Option, Some, None, Ok, inl, inr, arith, lit≤, slice_index}
 use Rattle.std.proofs.lemmas.Bool.{false≢true, and_parts, ne_eqb}
 use Rattle.std.proofs.lemmas.Option.{none-some, same_Some, slice_get-get_or, slice_get_within, get_or_from_slice_get}
 use Rattle.std.specs.Prelude.{◌==◌, ◌&&◌, ◌||◌, not, slice_get, option_and_then}
@@ -24,7 +25,7 @@ use Rattle.mps_laws.proofs.Lookups.{there_is, entry_is_there}
 use Rattle.mps_laws.proofs.Same.{Same, refused, same_then, same_weaker}
 use Rattle.mps_laws.proofs.Sound.SoundGraph.{All, PassesOrNull, all-at, entry-passes}
 use Rattle.mps_model.specs.Checked as model
-use Rattle.mps_model.specs.Checked.{Checked, Numbered, Found, ◌>>=◌, required, cells_of_body, number_at, reference_at}
+use Rattle.mps_model.specs.Checked.{Checked, Numbered, Found, ◌>>=◌, required, cells_of_body, number_at, reference_at, tag_at}
 use Rattle.mps_model.specs.Graph.{Cell, HeadCell, NumberCell, ReferenceCell, Body, Automatic, Manual, Object, entry_at, slots_of, ids_in_slots, is_automatic, is_automatic_body, new_cells, size_of, size_of_body, targets_of_cells}
 use Rattle.mps_model.specs.World as world
 use Rattle.mps_model.specs.World.{World, is_live, object_is, is_automatic_kind, is_weak_kind, pool_at}
@@ -40,7 +41,7 @@ use Rattle.mps_format.specs.declared.pool.Pool.TheVariants as pool
 use Rattle.mps_refinement.specs.StandsFor.{Past, AreParts, IsPool, address_of_target, Time}
 use Rattle.mps_refinement.proofs.Lookups.Found.{same_of, in_a_row, mapped_some, some_there}
 use Rattle.mps_refinement.proofs.Worlds.Known.{IsKnown, is_kept_at}
-use Rattle.mps_refinement.proofs.Lookups.Cells.{IsTargetAddress, AreCells, are_cells, first_cell, IsCell, IsNumber, IsReference, number_cell_same, reference_cell_same}
+use Rattle.mps_refinement.proofs.Lookups.Cells.{IsTargetAddress, AreCells, are_cells, first_cell, IsCell, IsNumber, IsReference, number_cell_same, reference_cell_same, IsTagged, tag_cell_same, tag_is}
 use Rattle.mps_refinement.proofs.Lookups.Lookups.{IsSlotEntry, slot_same}
 
 -- ---- the pool of an object
@@ -142,11 +143,13 @@ pub record IsNumberOf (w : World) (n : Numbered Object) (k : ℕ) (found : CellF
   pub cell : slice_get (cells_of_body n.value.body) k ≡ Some (NumberCell number)
   pub value : found.value ≡ number
 
-pub record IsReferenceOf (t : Time) (w : World) (n : Numbered Object) (k : ℕ) (found : CellFound) (target : Option ℕ) : Type 0 where
+pub record IsReferenceOf (t : Time) (words : List ℕ) (w : World) (n : Numbered Object) (k : ℕ) (found : CellFound)
+    (target : Option ℕ) : Type 0 where
   pub lies : Lies w.graph.objects w.addresses n.number k n.value found.word
   pub tag : ℕ
   pub low : tag < 8
   pub cell : slice_get (cells_of_body n.value.body) k ≡ Some (ReferenceCell target tag)
+  pub there : slice_get words found.word ≡ Some found.value
   -- the address that its word has, of now or of the flip
   pub was : Address
   pub is_target : IsTargetAddress was
@@ -297,16 +300,31 @@ module _ {F : Type 0} (layout : F → Layout) (past : Past) (h : HeapState F) (w
     })
 
     pub reference_same : (k : ℕ)
-        → Same (IsReferenceOf past.time w n k) (reference_cell_at layout h.segs.words b k) (reference_at (cells_of_body n.value.body) k)
+        → Same (IsReferenceOf past.time h.segs.words w n k) (reference_cell_at layout h.segs.words b k)
+        (reference_at (cells_of_body n.value.body) k)
     reference_same k = same_weaker (reference_in_cells k) (λ found target cell. record {
       lies = cell_lies k (ReferenceCell target cell.tag) found cell.is;
       tag = cell.tag;
       low = cell.low;
       cell = cell_in_body k (ReferenceCell target cell.tag) found cell.is;
+      there = cell.is.value;
       was = (word_address b.head target cell.tag found.value (cell_word k (ReferenceCell target cell.tag) found cell.is)).0;
       is_target = (word_address b.head target cell.tag found.value (cell_word k (ReferenceCell target cell.tag) found cell.is)).1;
       value = (word_address b.head target cell.tag found.value (cell_word k (ReferenceCell target cell.tag) found cell.is)).2;
     })
+
+    tag_in_cells : (k : ℕ) → Same (IsTagged h.segs.words b.at is.cells k) (reference_cell_at layout h.segs.words b k)
+        (tag_at (cells_of_body n.value.body) k)
+    tag_in_cells k =
+        subst (λ body. Same (IsTagged h.segs.words b.at is.cells k) (reference_cell_at layout h.segs.words b k)
+        (tag_at (cells_of_body body) k)) (sym is.body)
+        (tag_cell_same layout h.segs.words b is.cells is.are words_there k)
+
+    pub tag_same : (k : ℕ) → Same (λ (found : CellFound) (tag : ℕ). found.value % 8 ≡ tag) (reference_cell_at layout h.segs.words b k)
+        (tag_at (cells_of_body n.value.body) k)
+    tag_same k = same_weaker (tag_in_cells k) (λ found tag cell.
+        let at = word_address b.head cell.target tag found.value (cell_word k (ReferenceCell cell.target tag) found cell.is) in
+        tag_is found.value at.0 tag cell.low at.1 at.2)
 
     -- if the object is black its cells are fixed
     fixed_word : (k : ℕ) (c : Cell) (found : CellFound) → IsCell h.segs.words b.at is.cells k c found

@@ -6,7 +6,7 @@ use Rattle.std.proofs.lemmas.List.{length-set}
 use Rattle.std.specs.Prelude.{slice_get, slice_set, ◌≢◌, IsTrue}
 use Rattle.mps_base.specs.Address.{Address, Id}
 use Rattle.std.specs.Option.{option_map_or}
-use Rattle.mps_model.specs.Graph.{Cell, NumberCell, ReferenceCell, Body, Automatic, Manual, Object, Graph, object_at, object_with_cells, body_with_cells, graph_with_cells, retargeted, with_target_cell, size_of, size_of_body}
+use Rattle.mps_model.specs.Graph.{Cell, NumberCell, ReferenceCell, Body, Automatic, Manual, Object, Graph, object_at, object_with_cells, body_with_cells, graph_with_cells, retargeted, tagged, with_tag_cell, with_target_cell, size_of, size_of_body}
 use Rattle.mps_model.specs.Checked.{head_of_body}
 use Rattle.mps_model.specs.World.{extent, extents_of}
 use Rattle.mps_abstract.specs.Colours.{Colours}
@@ -60,6 +60,11 @@ pub target_changed : (cells : List Cell) (i tag : ℕ) (was : Option Id) (target
     → with_target_cell cells i target ≡ slice_set cells i (ReferenceCell target tag)
 target_changed cells i tag was target e =
     ap (λ found. option_map_or (λ cell. slice_set cells i (retargeted cell target)) found cells) e
+
+-- so is one with another tag
+pub tag_changed : (cells : List Cell) (i old tag : ℕ) (target : Option Id) → slice_get cells i ≡ Some (ReferenceCell target old)
+    → with_tag_cell cells i tag ≡ slice_set cells i (ReferenceCell target tag)
+tag_changed cells i old tag target e = ap (λ found. option_map_or (λ cell. slice_set cells i (tagged cell tag)) found cells) e
 
 -- ---- among other objects
 

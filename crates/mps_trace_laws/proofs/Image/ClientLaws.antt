@@ -6,14 +6,14 @@ use Rattle.mps_model.specs.Graph.{graph_with_cells, Object, entry_at, ReferenceC
 use Rattle.mps_model.specs.Checked.{head_of_body}
 use Rattle.mps_trace_laws.specs.Image.Image.{IsFixedWord, black_cells, with_cell, Stands, AreShaped}
 use Rattle.mps_trace_laws.specs.Image.Changes.{setting_with_objects, memory_with_word, IsCellChanged, memory_without_block, setting_made, addresses_made, memory_allocated, AreFree, AreHome, IsAllocated, setting_with_points, memory_without_reservation, memory_with_reservation}
-use Rattle.mps_trace_laws.proofs.Image.Written.{cell_written}
+use Rattle.mps_trace_laws.proofs.Image.Written.{cell_written, tag_written}
 use Rattle.mps_trace_laws.proofs.Image.CellChanged.{graph_cell_changed, fewer_fixed}
 use Rattle.mps_trace_laws.proofs.Image.Reservations.{reservation_written}
 use Rattle.mps_trace_laws.proofs.Image.Allocated as allocated
 use Rattle.mps_trace_laws.proofs.Image.Gone.{image_gone, manual_may_go, white_may_go}
 use Rattle.mps_base.specs.Address.{Address, Id, Word, word_of}
 use Rattle.mps_abstract.specs.Colours.{Colours, is_white, is_grey}
-use Rattle.mps_trace_laws.specs.Image.Memory.{Setting, Memory, live_reservation, Lies}
+use Rattle.mps_trace_laws.specs.Image.Memory.{Setting, Memory, live_reservation, Lies, all_cells}
 use Rattle.mps_trace_laws.specs.Image.Fixing.{IsMarkCleared}
 use Rattle.mps_model.specs.World.{PointMemory}
 
@@ -34,6 +34,24 @@ cell_of_an_object_is_written s g m addresses k id i o head cells is_weak n new w
     (black_cells s.condemned k) (λ j l d. or_right (j == id && l == i) (black_cells s.condemned k j l) d)
     (cell_written s objects' m addresses k (black_cells s.condemned k) id i o n new word changed st lies
     (subst (λ h. IsFixedWord s.condemned addresses k h new word) (sym (ap head_of_body body)) fixed))
+
+-- the tag of a reference of a live automatic object is written, and the address in its word stays
+pub tag_of_an_object_is_written : (s : Setting) (g : Graph) (m : Memory) (addresses : List (Option Address)) (k : Colours) (id i : ℕ)
+    (o : Object) (head : ℕ)
+    (cells : List Cell) (is_weak : Bool) (n : Word) (target : Option Id) (old tag : ℕ) (was : Address) (change : List Cell → List Cell)
+    → s.objects ≡ g.objects → o.body ≡ Automatic head cells is_weak → slice_get cells i ≡ Some (ReferenceCell target old)
+    → change cells ≡ slice_set cells i (ReferenceCell target tag) → Stands s m addresses k → Lies s.objects addresses id i o n
+    → slice_index m.words n ≡ was + old
+    → Stands (setting_with_objects s (graph_with_cells g id change).objects) (memory_with_word m n (was + tag)) addresses k
+tag_of_an_object_is_written s g m addresses k id i o head cells is_weak n target old tag was change same body cell is st lies has =
+    let objects' = (graph_with_cells g id change).objects in
+    let changed : IsCellChanged s.objects objects' id i (ReferenceCell target tag) =
+    subst (λ objects. IsCellChanged objects objects' id i (ReferenceCell target tag)) (sym same)
+    (graph_cell_changed g id o head cells is_weak i (ReferenceCell target tag) change
+    (ap (λ objects. slice_get objects id) (sym same) ∙ lies.object) body is)
+    in
+    tag_written s objects' m addresses k (black_cells s.condemned k) id i o n target old tag was changed st lies
+    (ap (λ b. slice_get (all_cells b) i) body ∙ cell) has
 
 -- a point without a live reservation gets one, where nothing is
 pub reservation_is_made : (s : Setting) (m : Memory) (addresses : List (Option Address)) (k : Colours) (i : ℕ) (p : Option Point)

@@ -1,10 +1,10 @@
 -- A word is written that is that of one cell: by a client, where the cell changes too, or by a collector, where it doesn't. The
--- word then holds the address of what the cell refers to, which isn't white.
+-- word then holds the address of what the cell refers to, which isn't white; or, if only the tag changes, the address that it held.
 use Rattle.std.proofs.Common.{refl, ◌≡◌, ◌∙◌, ◌⊎◌, ℕ, ◌+◌, ◌<◌, sym, ap, List, [], ◌++◌, Option, Some, None, subst, inl, inr, arith, slice_index}
 use Rattle.std.proofs.lemmas.Bool.{cases_eq}
 use Rattle.std.proofs.lemmas.Option.{none-some, same_Some}
 use Rattle.std.proofs.lemmas.List.{get_or-set_same, get_or-set_other, length-set}
-use Rattle.std.specs.Prelude.{slice_get, slice_set, drop, ◌≢◌}
+use Rattle.std.specs.Prelude.{slice_get, slice_set, drop, ◌≢◌, IsTrue}
 use Rattle.mps_base.specs.Address.{Address, Id, Word, word_of}
 use Rattle.mps_base.specs.Run.{in_order}
 use Rattle.mps_format.specs.Blocks.{BeginsForwarded}
@@ -27,10 +27,27 @@ holds_still addresses at_flip head (ReferenceCell None tag) word h = h
 holds_still addresses at_flip head (ReferenceCell (Some id) tag) word h =
     record { address = h.address; is = h.is; means = elim h.means [ inl e ↦ inl e | inr e ↦ absurd (none-some h.address e) ] }
 
-module _ (s : Setting) (objects' : List Object) (m : Memory) (addresses : List (Option Address)) (k : Colours) (done : CellSet)
+-- the same address with another tag is the word of the cell with that tag
+pub retagged_word : (addresses at_flip : List (Option Address)) (head : ℕ) (target : Option Id) (old tag : ℕ) (was : Address)
+    → IsCellWord addresses at_flip head (ReferenceCell target old) (was + old)
+    → IsCellWord addresses at_flip head (ReferenceCell target tag) (was + tag)
+retagged_word addresses at_flip head None old tag was h = omega (arith, h)
+retagged_word addresses at_flip head (Some id) old tag was h =
+    record { address = h.address; is = (let e = h.is in omega (arith, e)); means = h.means }
+
+pub retagged_fixed : (condemned : List Id) (addresses : List (Option Address)) (k : Colours) (head : ℕ) (target : Option Id)
+    (old tag : ℕ) (was : Address) → IsFixedWord condemned addresses k head (ReferenceCell target old) (was + old)
+    → IsFixedWord condemned addresses k head (ReferenceCell target tag) (was + tag)
+retagged_fixed condemned addresses k head target old tag was fixed =
+    record { holds = retagged_word addresses [] head target old tag was fixed.holds; not_white = fixed.not_white }
+
+-- the cells that are fixed then may be others. The new one holds what its cell refers to as far as it is read, and as it is fixed
+module _ (s : Setting) (objects' : List Object) (m : Memory) (addresses : List (Option Address)) (k : Colours) (done then_fixed : CellSet)
     (holder i : ℕ) (o : Object) (n : Word) (new : Cell) (word : ℕ) (changed : IsCellChanged s.objects objects' holder i new)
     (st : ImageStands s m addresses k done) (lies : Lies s.objects addresses holder i o n)
-    (fixed : IsFixedWord s.condemned addresses k (head_of_body o.body) new word) where
+    (holds : IsTrue (s.is_read holder) → IsCellWord addresses s.at_flip (head_of_body o.body) new word)
+    (fixed : IsTrue (then_fixed holder i) → IsFixedWord s.condemned addresses k (head_of_body o.body) new word)
+    (were : (id j : ℕ) → IsTrue (then_fixed id j) → ((id ≡ holder) × (j ≡ i)) ⊎ IsTrue (done id j)) where
   lay : (id j : ℕ) (p : Object) (l : Word) (there : Lies objects' addresses id j p l)
       → Lies s.objects addresses id j (changed.was id p there.object).object l
   lay id j p l there =
@@ -83,18 +100,19 @@ module _ (s : Setting) (objects' : List Object) (m : Memory) (addresses : List (
   elsewhere : (l : Word) → l ≢ n → slice_index words_after l ≡ slice_index m.words l
   elsewhere l x = get_or-set_other m.words n l word 0 x
 
-  -- the new cell's word, where it is a cell of the object with this head
-  new_word : (id j : ℕ) (p : Object) (l : Word) (c : Cell) → Lies objects' addresses id j p l → (id ≡ holder) × (j ≡ i) × (c ≡ new)
-      → IsFixedWord s.condemned addresses k (head_of_body p.body) c (slice_index words_after l)
-  new_word id j p l c there e =
+  -- what is so of the new cell's word is so of it in the object with this head
+  new_word : (Holds : (head : ℕ) → Cell → (word : ℕ) → Type 0) → Holds (head_of_body o.body) new word → (id j : ℕ) (p : Object)
+      (l : Word) (c : Cell) → Lies objects' addresses id j p l → (id ≡ holder) × (j ≡ i) × (c ≡ new)
+      → Holds (head_of_body p.body) c (slice_index words_after l)
+  new_word Holds holds id j p l c there e =
       let w = changed.was id p there.object in
       let same : there.at ≡ lies.at = same_Some there.at lies.at (sym there.address ∙ ap (entry_at addresses) e.0 ∙ lies.address) in
       let at_n : l ≡ n = there.is ∙ ap (λ x. word_of x + j) same ∙ ap (λ x. word_of lies.at + x) e.1 ∙ sym lies.is in
       let is_o : o ≡ w.object = same_Some o w.object (sym lies.object ∙ ap (slice_get s.objects) (sym e.0) ∙ w.there) in
       let head : head_of_body o.body ≡ head_of_body p.body = ap (λ (q : Object). head_of_body q.body) is_o ∙ w.head in
-      subst (λ x. IsFixedWord s.condemned addresses k (head_of_body p.body) x (slice_index words_after l)) (sym e.2)
-      (subst (λ x. IsFixedWord s.condemned addresses k x new (slice_index words_after l)) head
-      (subst (λ x. IsFixedWord s.condemned addresses k (head_of_body o.body) new x) (sym (ap (slice_index words_after) at_n ∙ here)) fixed))
+      subst (λ x. Holds (head_of_body p.body) x (slice_index words_after l)) (sym e.2)
+      (subst (λ x. Holds x new (slice_index words_after l)) head
+      (subst (λ x. Holds (head_of_body o.body) new x) (sym (ap (slice_index words_after) at_n ∙ here)) holds))
 
   forwarded_written : (id from to : ℕ) (p : Object) → entry_at s.at_flip id ≡ Some from → entry_at addresses id ≡ Some to → from ≢ to
       → slice_get objects' id ≡ Some p → IsForwardedObject (setting_with_objects s objects') words_after addresses p from to
@@ -132,25 +150,28 @@ module _ (s : Setting) (objects' : List Object) (m : Memory) (addresses : List (
               (sym (elsewhere l (other_word id j p l there x.0)))
               (st.words.cells id j w.object l c read (lay id j p l there) x.1))
           | inr x ↦
-              holds_still addresses s.at_flip (head_of_body p.body) c (slice_index words_after l) (new_word id j p l c there x).holds
+              new_word (λ head d v. IsCellWord addresses s.at_flip head d v) (holds (subst (λ y. IsTrue (s.is_read y)) x.0 read))
+              id j p l c there x
         ];
     forwarded = forwarded_written;
   }
 
-  fixed_written : FixedCellsStand (setting_with_objects s objects') words_after addresses k (with_cell done holder i)
+  fixed_written : FixedCellsStand (setting_with_objects s objects') words_after addresses k then_fixed
   fixed_written = record {
     cells = λ id j p l c d there cell.
         let w = changed.was id p there.object in
         elim (w.cells j c cell) [
           | inl x ↦
-              elim (cell_cases done holder i id j d) [
+              elim (were id j d) [
                 | inl y ↦ absurd (x.0 y)
                 | inr y ↦
                     subst (λ z. IsFixedWord s.condemned addresses k z c (slice_index words_after l)) w.head
                     (subst (λ z. IsFixedWord s.condemned addresses k (head_of_body w.object.body) c z)
                     (sym (elsewhere l (other_word id j p l there x.0))) (st.fixed.cells id j w.object l c y (lay id j p l there) x.1))
               ]
-          | inr x ↦ new_word id j p l c there x
+          | inr x ↦
+              new_word (λ head e v. IsFixedWord s.condemned addresses k head e v)
+              (fixed (subst (λ y. IsTrue (then_fixed holder y)) x.1 (subst (λ y. IsTrue (then_fixed y j)) x.0 d))) id j p l c there x
         ];
     reserved = λ point j r l c there cell.
         let not_n : l ≢ n =
@@ -159,9 +180,8 @@ module _ (s : Setting) (objects' : List Object) (m : Memory) (addresses : List (
         subst (λ y. IsFixedWord s.condemned addresses k r.head c y) (sym (elsewhere l not_n)) (st.fixed.reserved point j r l c there cell);
   }
 
-  -- the cell is fixed then
-  pub cell_written : ImageStands (setting_with_objects s objects') (memory_with_word m n word) addresses k (with_cell done holder i)
-  cell_written = record {
+  pub word_written : ImageStands (setting_with_objects s objects') (memory_with_word m n word) addresses k then_fixed
+  word_written = record {
     placed = placed_written;
     words = words_written;
     fixed = fixed_written;
@@ -177,6 +197,34 @@ module _ (s : Setting) (objects' : List Object) (m : Memory) (addresses : List (
       covered = st.runs.covered ∙ sym (ap (λ rs. in_order (rs ++ reserved_extents s.points s.point_memories)) (changed.extents addresses));
     };
   }
+
+-- a word that holds the address of what its cell refers to, which isn't white: the cell is fixed then
+pub cell_written : (s : Setting) (objects' : List Object) (m : Memory) (addresses : List (Option Address)) (k : Colours) (done : CellSet)
+    (holder i : ℕ) (o : Object) (n : Word) (new : Cell) (word : ℕ) → IsCellChanged s.objects objects' holder i new
+    → ImageStands s m addresses k done → Lies s.objects addresses holder i o n
+    → IsFixedWord s.condemned addresses k (head_of_body o.body) new word
+    → ImageStands (setting_with_objects s objects') (memory_with_word m n word) addresses k (with_cell done holder i)
+cell_written s objects' m addresses k done holder i o n new word changed st lies fixed =
+    word_written s objects' m addresses k done (with_cell done holder i) holder i o n new word changed st lies
+    (λ read. holds_still addresses s.at_flip (head_of_body o.body) new word fixed.holds) (λ d. fixed)
+    (λ id j d. cell_cases done holder i id j d)
+
+-- the tag of a reference is written, and the address in its word stays, of now or of the flip: what was fixed is fixed then
+pub tag_written : (s : Setting) (objects' : List Object) (m : Memory) (addresses : List (Option Address)) (k : Colours) (done : CellSet)
+    (holder i : ℕ) (o : Object) (n : Word) (target : Option Id) (old tag : ℕ) (was : Address)
+    → IsCellChanged s.objects objects' holder i (ReferenceCell target tag) → ImageStands s m addresses k done
+    → Lies s.objects addresses holder i o n → slice_get (all_cells o.body) i ≡ Some (ReferenceCell target old)
+    → slice_index m.words n ≡ was + old
+    → ImageStands (setting_with_objects s objects') (memory_with_word m n (was + tag)) addresses k done
+tag_written s objects' m addresses k done holder i o n target old tag was changed st lies cell has =
+    word_written s objects' m addresses k done done holder i o n (ReferenceCell target tag) (was + tag) changed st lies
+    (λ read. retagged_word addresses s.at_flip (head_of_body o.body) target old tag was
+    (subst (λ v. IsCellWord addresses s.at_flip (head_of_body o.body) (ReferenceCell target old) v) has
+    (st.words.cells holder i o n (ReferenceCell target old) read lies cell)))
+    (λ d. retagged_fixed s.condemned addresses k (head_of_body o.body) target old tag was
+    (subst (λ v. IsFixedWord s.condemned addresses k (head_of_body o.body) (ReferenceCell target old) v) has
+    (st.fixed.cells holder i o n (ReferenceCell target old) d lies cell)))
+    (λ id j d. inr d)
 
 -- ---- which cell changed
 
