@@ -1,7 +1,8 @@
 // Slots and objects.
 #![tactic(auto)]
 
-ghost use Rattle.std.specs.Prelude.{[]};
+ghost use Rattle.std.specs.Prelude.{[], ◌<◌};
+ghost use Rattle.mps_model.specs.Tagging.{tag_count};
 ghost use Rattle.mps_model.specs.declared.call.Call.TheVariants as call;
 ghost use Rattle.mps_refinement.specs.RightStep.{IsRight};
 ghost use Rattle.mps_refinement.specs.Answering.{answer_to, says_bool, says_head, says_number, says_ok};
@@ -88,5 +89,21 @@ impl<F: Format> Heap<F> {
         ensures right { IsRight F.layout self.old (call.Put target cell source) [] (answer_to says_ok result) self.new }
     {
         self.state.put(target, cell, source)
+    }
+
+    /// The tag of the reference in a cell of the object in a slot, 0 to 7. Refuses as `get` does.
+    #[inline(always)]
+    pub fn tag(&self, slot: Slot, cell: u64) -> Result<u8, Refusal>
+        ensures right { IsRight F.layout self.now (call.Tag slot cell) [] (answer_to says_number result) self.now }
+    {
+        self.state.tag(slot, cell)
+    }
+
+    /// The reference in a cell of the object in a slot gets this tag, 0 to 7, and refers to what it did. Refuses as `get` does.
+    pub fn set_tag(&mut self, slot: Slot, cell: u64, tag: u8) -> Result<(), Refusal>
+        requires fits { tag < tag_count }
+        ensures right { IsRight F.layout self.old (call.SetTag slot cell tag) [] (answer_to says_ok result) self.new }
+    {
+        self.state.set_tag(slot, cell, tag)
     }
 }

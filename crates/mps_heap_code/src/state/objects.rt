@@ -1,13 +1,16 @@
 // The calls on slots and objects.
-ghost use Rattle.std.specs.Prelude.{◌≡◌};
+ghost use Rattle.std.specs.Prelude.{◌≡◌, ◌<◌};
 ghost use Rattle.mps_root.specs.State.{HasItem};
+ghost use Rattle.mps_heap_spec.specs.Tagging.{tag_count};
 ghost use Rattle.mps_heap_spec.specs.Coming.{Comes};
-ghost use Rattle.mps_heap_spec.specs.Objects.{with_slot, after_copy, after_clear, are_same, is_null, head_in, address_in, number_in, number_set, reference_got, reference_put};
+ghost use Rattle.mps_heap_spec.specs.Objects.{with_slot, after_copy, after_clear, are_same, is_null, head_in, address_in, number_in, number_set, reference_got, reference_put, tag_got, tag_set};
 
 use super::State;
 use mps_base::{Refusal, Slot};
 use mps_format::Format;
-use mps_heap_spec::{Entry, number_cell_at, reference_cell_at, with_target, write_word};
+use mps_heap_spec::{
+    Entry, number_cell_at, reference_cell_at, tag_of, with_tag, with_target, write_word,
+};
 
 impl<F: Format> State<F> {
     /// Writes a slot that was found.
@@ -116,6 +119,28 @@ impl<F: Format> State<F> {
         let object = self.object_at(into.value)?;
         let cell = reference_cell_at(&self.segs, &object, k)?;
         let word = with_target(&object.format, cell.value, from.value);
+        write_word(&mut self.segs, cell.word, word);
+        Ok(())
+    }
+
+    /// The tag of the reference in cell `k` of the object in a slot.
+    #[inline(always)]
+    pub fn tag(&self, slot: Slot, k: u64) -> Result<u8, Refusal>
+        ensures { result ≡ tag_got F.layout self.now slot k }
+    {
+        let object = self.object_in(slot)?;
+        let cell = reference_cell_at(&self.segs, &object, k)?;
+        Ok(tag_of(cell.value))
+    }
+
+    /// The reference in cell `k` of the object in a slot has another tag, and refers to what it did.
+    pub fn set_tag(&mut self, slot: Slot, k: u64, tag: u8) -> Result<(), Refusal>
+        requires fits { tag < tag_count }
+        ensures { Comes self.old (tag_set F.layout self.old slot k tag) result self.new }
+    {
+        let object = self.object_in(slot)?;
+        let cell = reference_cell_at(&self.segs, &object, k)?;
+        let word = with_tag(&object.format, cell.value, tag);
         write_word(&mut self.segs, cell.word, word);
         Ok(())
     }
