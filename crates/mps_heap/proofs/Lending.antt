@@ -53,7 +53,7 @@ use Rattle.mps_heap_code.specs.Lending.{AreBlockWords, IsBlockBorrowed, IsBlockW
 use Rattle.mps_heap.specs.Lending as spec
 use Rattle.mps_heap.specs.Lending.{ComesToWords, IsBorrowedAndWritten, IsNotBorrowed, words_of_block, words_of_leaf}
 
--- what is told of the value of a check matters not to its refusals
+-- what is made of the value of a check matters not to its refusals
 told : {A B C : Type 0} {Fits : A → B → Type 0} {x : Checked A} {y : Checked B} (f : B → C) → Same Fits x y
     → Alike x (y >>= (λ b. Ok (f b)))
 told f (fits fit) = fits tt
@@ -189,7 +189,7 @@ leaf_of_kind (pool.OneSize words) = refl
 leaf_of_kind pool.AnySize = refl
 
 module _ {F : Type 0} (layout : F → Layout) (h : HeapState F) (w : World) (st : StandsFor layout h w) where
-  -- what is told of an address: the words after the head of the block there
+  -- what is known of an address: the words after the head of the block there
   abbrev AreAfterHead : Address → List ℕ → Type 0
   AreAfterHead at found = (words : List ℕ) → AreBlockWords h at words → found ≡ drop 1 words
 

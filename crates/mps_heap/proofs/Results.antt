@@ -1,4 +1,4 @@
--- What was right of a result is right of what is told of it.
+-- What was right of a result is right of what is made of it.
 use Rattle.std.proofs.Common.{◌≡◌, ℕ, refl, sym, subst, [], Result, Ok, Err}
 use Rattle.mps_base.specs.declared.address.Addr.{Addr}
 use Rattle.mps_base.specs.declared.refusal.Refusal.{Refusal}

@@ -5,7 +5,7 @@ use Rattle.std.proofs.lemmas.Slice.Eq.{bytes_eq-Decides}
 use Rattle.std.specs.Map.{lookup}
 use Rattle.mps_base.specs.declared.names.Name.{Name}
 use Rattle.mps_base.specs.Name.{same_name}
-use Rattle.mps_names.specs.Inside.{AreApart, ChangesAt, found_in}
+use Rattle.mps_names.specs.Inside.{ShareNoName, ChangesAt, found_in}
 
 abbrev name_with : List ℕ → Name
 name_with bytes = record { bytes = bytes }
@@ -80,7 +80,7 @@ module _ {X : Type 0} (old new those : List (Name × X)) (name : Name) (value : 
         ∙ sym (looked_up (same_name other) old those);
   }
 
-  pub first_apart : AreApart old those → AreApart new those
+  pub first_apart : ShareNoName old those → ShareNoName new those
   first_apart apart other there = by (same_name name other) refl
     where
       by : (b : Bool) → same_name name other ≡ b → found_in those other ≡ None
@@ -99,7 +99,7 @@ module _ {X : Type 0} (these old new : List (Name × X)) (name : Name) (value : 
         ∙ sym (looked_up (same_name other) these old);
   }
 
-  pub second_apart : AreApart these old → AreApart these new
+  pub second_apart : ShareNoName these old → ShareNoName these new
   second_apart apart other there = by (same_name name other) refl
     where
       by : (b : Bool) → same_name name other ≡ b → found_in new other ≡ None

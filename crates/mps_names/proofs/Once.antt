@@ -52,16 +52,6 @@ module _ (test : Name → Bool) where
   pub no_position : (es : List (Name × ℕ)) → position passes es ≡ None → (remove_entry test es ≡ es) × (lookup test es ≡ None)
   no_position es none = none_from es 0 (sym (position_from-zero passes es) ∙ none)
 
-  -- an entry that is found is one of the length
-  pub one_less : (es : List (Name × ℕ)) (n : ℕ) → lookup test es ≡ Some n → length (remove_entry test es) + 1 ≡ length es
-  one_less [] n found = absurd cc
-  one_less (e ∷ es) n found = by (test e.0) (one_less es n) found
-    where
-      by : (b : Bool) → (lookup test es ≡ Some n → length (remove_entry test es) + 1 ≡ length es)
-          → cond b (Some e.1) (lookup test es) ≡ Some n → length (cond b es (e ∷ remove_entry test es)) + 1 ≡ length (e ∷ es)
-      by true rest is = omega arith
-      by false rest is = let e = rest is in omega (arith, e)
-
 -- ---- once
 
 none_stays : (test gone : Name → Bool) (es : List (Name × ℕ)) → lookup test es ≡ None → lookup test (remove_entry gone es) ≡ None

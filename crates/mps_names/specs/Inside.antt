@@ -51,20 +51,20 @@ abbrev pub found_in : {X : Type 0} → List (Name × X) → Name → Option X
 found_in entries name = lookup (same_name name) entries
 
 -- no name of the first stands in the second
-abbrev pub AreApart : {X : Type 0} → (these those : List (Name × X)) → Type 0
-AreApart these those = (name : Name) → IsSome (found_in these name) → found_in those name ≡ None
+abbrev pub ShareNoName : {X : Type 0} → (these those : List (Name × X)) → Type 0
+ShareNoName these those = (name : Name) → IsSome (found_in these name) → found_in those name ≡ None
 
 -- the three tables have no name in common, and room for all
 pub record AreTables (labels caches transforms : NumbersState) : Type 0 where
-  pub labels_apart : AreApart (of_kind label labels.entries) (of_kind cache caches.entries ++ of_kind transform transforms.entries)
-  pub caches_apart : AreApart (of_kind cache caches.entries) (of_kind transform transforms.entries)
+  pub labels_apart : ShareNoName (of_kind label labels.entries) (of_kind cache caches.entries ++ of_kind transform transforms.entries)
+  pub caches_apart : ShareNoName (of_kind cache caches.entries) (of_kind transform transforms.entries)
   pub labels_fit : most_label_names ≤ labels.capacity
   pub caches_fit : most_cache_names ≤ caches.capacity
   pub transforms_fit : most_transform_names ≤ transforms.capacity
 
 -- the map has no name of the tables, and nothing that belongs into them
 pub record AreBeside (things : List (Name × Thing)) (tables : TablesState) : Type 0 where
-  pub apart : AreApart things tables.entries
+  pub apart : ShareNoName things tables.entries
   pub others : (name : Name) (t : Thing) → thing_in things name ≡ Some t → has_own_room t ≡ false
 
 -- this is found by this name in the new list, or nothing, and by every other name what is found in the old

@@ -226,7 +226,7 @@ module _ (pools : ℕ) (h k : Step) (hs ks : History) where
       ∙ those
       ∙ ap (records_of k.moves) (sym line))
 
--- histories from a world on that answer the same commands are told by what is printed and logged
+-- histories from a world on that answer the same commands are determined by what is printed and logged
 told_from : (built : Built) (w : World) (pools : ℕ) (hs ks : History) → commands_of hs ≡ commands_of ks → AscendLines hs → AscendLines ks
     → IsLegalFrom w hs → IsLegalFrom w ks → AreUnsupportedWhereDue built w hs → AreUnsupportedWhereDue built w ks
     → log_from pools hs ≡ log_from pools ks → answers_of hs ≡ answers_of ks → hs ≡ ks

@@ -1,5 +1,5 @@
 -- What is known of the segment over an address, of its pool and of where its blocks move.
-use Rattle.std.proofs.Common.{ℕ, ◌<◌, ◌≡◌, Bool, true, false, not, Option, Some, None, List, Contains, length, get_or, refl, sym, ap, ◌∙◌, subst}
+use Rattle.std.proofs.Common.{ℕ, ◌<◌, ◌≡◌, Bool, true, false, Option, Some, None, List, Contains, length, get_or, refl, sym, ap, ◌∙◌, subst}
 use Rattle.std.specs.Prelude.{option_map, slice_get, ◌%◌, IfSome, if◌then◌else◌}
 use Rattle.std.proofs.lemmas.Option.{slice_get_within, get_or_from_slice_get, same_Some}
 use Rattle.mps_base.specs.Address.{grain_of, bytes_of_word}
@@ -32,14 +32,6 @@ base_is o base t is over =
 pub condemned_is : (s : SegsState) (at : Addr) (t : Segment) → segment_over s.segments at.0 ≡ Some t
     → (info_of s t).is_condemned ≡ is_condemned_at s at.0
 condemned_is s at t over = sym (ap (λ (o : Option Segment). bit_of s.condemned (option_map (λ (x : Segment). grain_of x.base) o)) over)
-
-pub not_true : (b : Bool) → not b ≡ true → b ≡ false
-not_true true is = sym is
-not_true false is = refl
-
-pub not_false : (b : Bool) → not b ≡ false → b ≡ true
-not_false true is = refl
-not_false false is = sym is
 
 pub same_info : (a b : SegmentInfo) → Some a ≡ Some b → a ≡ b
 same_info a b is = cc

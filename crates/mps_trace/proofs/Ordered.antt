@@ -99,24 +99,6 @@ lowest_found low (s ∷ ts) from base ascending is =
           }
     ]
 
-pub none_from : (ts : List Segment) (from : Address) → None ≡ option_map base_address (segment_from ts from)
-    → (t : Segment) → Contains ts t → from ≤ t.base → ⊥
-none_from [] from is t (k, within, at) above = omega (arith, within)
-none_from (s ∷ ts) from is t there above =
-    elim (cases_lt s.base from) [
-      | inl below ↦
-          let rest = is ∙ ap (λ (o : Option Segment). option_map base_address o) (from_later from s ts below) in
-          elim (contains_cases ts t s there) [
-            | inl same ↦ omega (arith, above, below, ap (λ (x : Segment). x.base) same)
-            | inr later ↦ none_from ts from rest t later above
-          ]
-      | inr over ↦
-          let never : None ≡ Some (base_address s) =
-          is ∙ ap (λ (o : Option Segment). option_map base_address o) (from_here from s ts over)
-          in
-          let no : Some (base_address s) ≡ None = sym never in cc
-    ]
-
 pub rest_none : (ts : List Segment) (from : Address) → None ≡ option_map base_address (segment_from ts from) → rest_from from ts ≡ []
 rest_none [] from is = refl
 rest_none (s ∷ ts) from is =

@@ -61,11 +61,11 @@ AreSlotsReady layout t s m key roots = (count : ℕ) (roots' : RootsState) (y : 
     → FixesSlots layout t.formats t.chains key roots (traced t s m) count roots' y
     → CanFixRootAt layout t.formats t.chains y (slot_of roots' key count)
 
--- the key of the table that is fixed after so many others
+-- the key of the table that is fixed after n others
 abbrev pub key_at : RootsState → (count : ℕ) → ℕ
 key_at roots count = slice_index_or roots.order count 0
 
--- as many tables as this are fixed, in the order in which they were made
+-- n tables are fixed, in the order in which they were made
 pub data FixesTables {F : Type 0} (layout : F → Layout) (formats : List (Option (Policy F))) (chains : ChainsState) (roots : RootsState)
     (x : Traced) : (count : ℕ) → RootsState → Traced → Type 0
   where

@@ -1,17 +1,17 @@
 -- What a transform can be applied to, another can be applied to after it.
-use Rattle.std.proofs.Common.{ℕ, zero, suc, ◌-◌, ◌<◌, ◌≤◌, ◌≡◌, ◌==◌, Bool, true, false, IsTrue, Option, Some, None, IsSome, List, [], ◌∷◌, Contains, length, map, refl, sym, ap, ◌∙◌, subst, inl, inr, arith}
+use Rattle.std.proofs.Common.{ℕ, zero, suc, ◌-◌, ◌≤◌, ◌≡◌, ◌==◌, Bool, true, false, IsTrue, Option, Some, None, IsSome, List, [], ◌∷◌, Contains, length, map, refl, sym, ap, ◌∙◌, subst, inl, inr, arith}
 use Rattle.std.specs.Prelude.{slice_index}
-use Rattle.std.specs.Option.{option_map, option_map_or}
+use Rattle.std.specs.Option.{option_map_or}
 use Rattle.std.proofs.lemmas.Bool.{cases_Bool, eqb-true}
-use Rattle.mps_base.specs.Address.{Address, Word, word_of, address_of_word}
+use Rattle.mps_base.specs.Address.{Address, word_of, address_of_word}
 use Rattle.mps_base.specs.Run.{Run, IsAscending}
 use Rattle.mps_base.specs.Segment.{Segment, segment_over, end_of_segment}
 use Rattle.mps_extents.proofs.RunOver.{run_over_in}
-use Rattle.mps_format.specs.Layout.{IsBlockSize, IsLawful, Layout}
+use Rattle.mps_format.specs.Layout.{IsLawful, Layout}
 use Rattle.mps_root.specs.State.{RootsState, kept}
 use Rattle.mps_seg.specs.Extents.{run_over, AreWhole}
 use Rattle.mps_seg.specs.Segs.{SegsState}
-use Rattle.mps_xform.specs.Applying.{AreOfFormat, AreSegmentsApart, CanApply, after_apply, is_in_pool, is_reference_word, word_after_apply}
+use Rattle.mps_xform.specs.Applying.{AreSegmentsApart, CanApply, after_apply, is_in_pool, is_reference_word}
 use Rattle.mps_xform.specs.Slots.{AreListedOnce, slots_after_apply, table_after_apply}
 use Rattle.mps_xform.proofs.Applied.{SameParts, none_elsewhere, none_of_numbers, parts_below}
 use Rattle.mps_xform.proofs.Done.{word_is}

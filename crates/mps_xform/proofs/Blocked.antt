@@ -1,8 +1,7 @@
 -- Words of areas that lie in old blocks.
-use Rattle.std.proofs.Common.{ℕ, zero, suc, ◌<◌, ◌≡◌, ◌||◌, not, Bool, true, false, Option, Some, None, List, [], ◌∷◌, length, get_or, refl, sym, ap, ◌∙◌, arith}
+use Rattle.std.proofs.Common.{ℕ, suc, ◌<◌, ◌≡◌, ◌||◌, not, Bool, false, Option, Some, None, List, [], ◌∷◌, length, get_or, refl, ap, ◌∙◌, arith}
 use Rattle.std.specs.List.{list_any}
 use Rattle.std.specs.Option.{option_map_or}
-use Rattle.std.proofs.lemmas.Bool.{false≢true}
 use Rattle.mps_base.specs.Address.{Address, word_of, address_of_word}
 use Rattle.mps_base.specs.Run.{Run}
 use Rattle.mps_root.specs.declared.roots.Stored.{Stored}
@@ -13,16 +12,6 @@ use Rattle.mps_xform.specs.declared.transforms.Pair.{Pair}
 -- ---- tests of entries by key
 
 module _ {A : Type 0} (test : Option A → Bool) where
-  -- one entry that passes, where nothing doesn't
-  pub some_passes : (entries : List (Option A)) (key : ℕ) → test None ≡ false → test (get_or entries key None) ≡ true
-      → list_any test entries ≡ true
-  some_passes [] key none is = absurd (false≢true (sym none ∙ is))
-  some_passes (e ∷ es) zero none is = ap (λ (b : Bool). b || list_any test es) is
-  some_passes (e ∷ es) (suc key) none is = either (test e) (list_any test es) (some_passes es key none is)
-    where
-      either : (a b : Bool) → b ≡ true → (a || b) ≡ true
-      either true b is = refl
-      either false b is = is
 
   -- no entry that passes
   pub none_passes : (entries : List (Option A)) → ((key : ℕ) → key < length entries → test (get_or entries key None) ≡ false)

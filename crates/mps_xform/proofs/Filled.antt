@@ -59,26 +59,6 @@ or_none (Some p) = refl
 
 -- what a table has where a pair was put that had no place, and where there was one
 module _ (pair : Pair) (before : Address → Option Pair) (old : Address) where
-  pub put_new : before pair.old.0 ≡ None → cond (nat_eq pair.old.0 old) (Some pair) (before old) ≡ after_add pair (before old) old
-  put_new none = by_test (nat_eq pair.old.0 old) refl
-    where
-      by_test : (b : Bool) → nat_eq pair.old.0 old ≡ b → cond b (Some pair) (before old) ≡ option_or (before old) (cond b (Some pair) None)
-      by_test true is =
-          let here : before old ≡ None = ap before (sym (eqb-true pair.old.0 old is)) ∙ none in
-          sym (ap (λ (o : Option Pair). option_or o (Some pair)) here)
-      by_test false is = sym (or_none (before old))
-
-  pub gives_way : is_some (before pair.old.0) ≡ true → before old ≡ after_add pair (before old) old
-  gives_way there = by_test (nat_eq pair.old.0 old) refl
-    where
-      some_first : (o : Option Pair) (b : Bool) → is_some o ≡ true → o ≡ option_or o (cond b (Some pair) None)
-      some_first (Some p) b is = refl
-      some_first None b is = absurd (false≢true is)
-
-      by_test : (b : Bool) → nat_eq pair.old.0 old ≡ b → before old ≡ option_or (before old) (cond b (Some pair) None)
-      by_test true is =
-          some_first (before old) true (ap (λ (a : Address). is_some (before a)) (sym (eqb-true pair.old.0 old is)) ∙ there)
-      by_test false is = sym (or_none (before old))
 
 -- the pairs of a transform among the first ones, and one more
 module _ (pairs : List Pair) (transform index : ℕ) (d : Pair) (within : index < length pairs) (old : Address) where

@@ -58,12 +58,6 @@ module _ (g : ℕ → ℕ) where
   same_length (suc count) (y ∷ ys) = ap suc (same_length count ys)
 
   module _ (tables : List (Option (List ℕ))) (key : ℕ) where
-    none_still : get_or (set tables key None) key None ≡ None
-    none_still =
-        elim (cases_lt key (length tables)) [
-          | inl within ↦ get_or-set_same tables key None None within
-          | inr past ↦ kept_past (set tables key None) key (omega (arith, past, length-set tables key None))
-        ]
 
     -- a slot that there was is there
     pub has_still : (count i : ℕ) → HasItem tables key i → HasItem (slice_set tables key (partly g count (kept tables key))) key i

@@ -37,7 +37,7 @@ use Rattle.mps_format.specs.declared.pool.Policy.{Policy}
 
 -- ---- trails
 
--- so many moves were appended, and each took its room while there was some
+-- n moves were appended, and each took its room while there was some
 pub record IsPushed (m m' : Moves) : Type 0 where
   pub told : ℕ
   pub spare : m'.spare ≡ m.spare - told

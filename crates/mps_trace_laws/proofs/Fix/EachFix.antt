@@ -22,7 +22,7 @@ use Rattle.mps_trace.specs.GenState.{ChainsState}
 use Rattle.mps_model.specs.Graph.{Object, entry_at, size_of, is_automatic}
 use Rattle.mps_model.specs.LegalMove.{has_no_room}
 use Rattle.mps_abstract.specs.Collecting.{Collecting, is_white_in}
-use Rattle.mps_trace_laws.specs.Image.Memory.{Setting, pool_layout}
+use Rattle.mps_trace_laws.specs.Image.Memory.{pool_layout}
 use Rattle.mps_trace_laws.specs.Image.Image.{CellSet, AreShaped}
 use Rattle.mps_trace_laws.specs.Image.Fixing.{Target}
 use Rattle.mps_trace.specs.Trace.{Traced, KeepsTo, FixesTo, finds, keeps, target_of}
@@ -156,8 +156,6 @@ module _ (F : Type 0) (layout : F → Layout) (formats : List (Option (Policy F)
           })
 
     module _ (now : Address) (target : Target (setting_of x.segs at_flip y) y.world.addresses t at.0 now o) where
-      abbrev setting : Setting
-      setting = setting_of x.segs at_flip y
 
       module _ (here : at.0 ≡ now) (white : is_white_in y t ≡ true) (condemned : is_condemned_at x.segs at.0 ≡ true) (s : Segment)
           (over : segment_over x.segs.segments at.0 ≡ Some s) (format : Policy F)

@@ -17,9 +17,6 @@ use Rattle.mps_trace_laws.specs.Image.Memory.{pool_over_word, is_condemned_word}
 use Rattle.mps_trace_laws.specs.Fix.Tracing.{AreHeld, HasTables}
 use Rattle.mps_trace_laws.specs.Fix.Growing.{Grows}
 
-pub grows_not : (s : SegsState) → Grows s s
-grows_not s = record { same_grains = refl; pools = λ n pool e. e; condemned = λ n. refl }
-
 -- the segment over a word is held and has the word
 pub record IsOver (s : SegsState) (n : Word) (t : Segment) : Type 0 where
   pub among : IsAmong t s.segments

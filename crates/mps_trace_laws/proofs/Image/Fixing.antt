@@ -181,20 +181,3 @@ module _ (s : Setting) (m : Memory) (addresses : List (Option Address)) (k : Col
                 not_white = λ u e. subst (λ y. is_white s.condemned f.colours_after y ≡ false) (same_Some t u e) f.not_white;
               });
         }
-
-    fix_object : (address : Address) (p : Object) (m' : Memory) → Target s addresses t address now p
-        → references.ReadsAddress (s.layout o.pool) (slice_index m.words n) address tag → 0 < address
-        → FixWord s addresses (s.layout o.pool) m n address m' → IsFixedCell s m' addresses k done (Some t) holder i
-    fix_object address p m' x r lt (null e) = absurd (omega (arith, e, lt))
-    fix_object address p m' x r lt (writes {m' = m₁} answer lt' f) =
-        write_cell address answer m₁ r (fix_at s m addresses k done shaped st t address now p x answer m₁ f)
-
-    -- what the code does with a reference of an object that isn't white, and whose target is live, keeps the image
-    pub fix_keeps : (address : Address) (m' : Memory) → (s.layout o.pool).target (slice_index m.words n) ≡ address
-        → FixWord s addresses (s.layout o.pool) m n address m' → IsFixedCell s m' addresses k done (Some t) holder i
-    fix_keeps address m' read f =
-        let found = references.found s m.words addresses shaped st.placed st.words all_read holder i o n tag lies t now cell there in
-        let e : found.address ≡ address = sym found.read.target ∙ read in
-        fix_object address found.object m' (subst (λ y. Target s addresses t y now found.object) e found.target)
-        (subst (λ y. references.ReadsAddress (s.layout o.pool) (slice_index m.words n) y tag) e found.read)
-        (subst (λ y. 0 < y) e found.not_null) f

@@ -1,16 +1,12 @@
 -- Where the segments have a run of words that nothing covers, no object and no live reservation lies.
-use Rattle.std.proofs.Common.{◌≡◌, ℕ, zero, suc, true, false, List, [], ◌∷◌, Option, Some, None, subst}
+use Rattle.std.proofs.Common.{◌≡◌, zero, suc, true, false, List, [], ◌∷◌, Option, Some, None, subst}
 use Rattle.std.proofs.lemmas.Option.{none-some, same_Some}
 use Rattle.std.specs.Prelude.{slice_get, nat_lt, if◌then◌else◌}
 use Rattle.std.specs.List.{AllByRecursion}
 use Rattle.mps_base.specs.Address.{Address, Id}
-use Rattle.mps_base.specs.Run.{Run, Covers, in_order, with_run}
+use Rattle.mps_base.specs.Run.{Run, in_order, with_run}
 use Rattle.mps_model.specs.Graph.{Object, entry_at, size_of}
 use Rattle.mps_model.specs.World.{extent, extents_of}
-
--- no number lies in both
-abbrev pub AreApart : Run → Run → Type 0
-AreApart r s = (n : ℕ) → Covers r n → Covers s n → ⊥
 
 -- ---- runs in order
 

@@ -1,6 +1,6 @@
 -- A whole scan: it begins with the cells of black objects fixed, fixes one cell after the other, and ends with one object more
 -- that is black.
-use Rattle.std.proofs.Common.{◌≡◌, ◌∙◌, ℕ, ◌+◌, ◌<◌, ◌≤◌, Bool, true, false, refl, sym, ap, List, [], ◌∷◌, length, Option, Some, subst, inl, inr, arith, zero, suc}
+use Rattle.std.proofs.Common.{◌≡◌, ◌∙◌, ℕ, ◌<◌, ◌≤◌, Bool, true, false, refl, sym, ap, List, [], ◌∷◌, length, Option, Some, subst, inl, inr, arith, zero, suc}
 use Rattle.std.proofs.lemmas.Bool.{false≢true, cases_eq, eq-eqb, ne_eqb, or_left, or_right, or_cases, and_parts}
 use Rattle.std.proofs.lemmas.Option.{same_Some}
 use Rattle.std.specs.Prelude.{slice_get, not, ◌&&◌, ◌||◌, ◌==◌, ◌≢◌, filter, map, if◌then◌else◌, IsTrue}
@@ -10,7 +10,7 @@ use Rattle.mps_abstract.specs.Colours.{Colours, is_white, is_grey, is_black, kee
 use Rattle.mps_trace_laws.specs.Image.Memory.{Setting, Memory, Lies, BlockBegins, all_cells}
 use Rattle.mps_trace_laws.specs.Image.Image.{AreShaped, CellSet, with_cell, black_cells, ImageStands, Stands}
 use Rattle.mps_trace_laws.specs.Image.Fixing.{IsMarkCleared, address_moved, FixesOne, nothing, passed, kept, moved}
-use Rattle.mps_trace_laws.specs.Image.Scanning.{setting_with_pools, IsToScan, LeavesOthers}
+use Rattle.mps_trace_laws.specs.Image.Scanning.{setting_with_pools, LeavesOthers}
 use Rattle.mps_trace_laws.proofs.Image.Entries.{entry_at-set_same, entry_at-set_other}
 use Rattle.mps_trace_laws.proofs.Image.Marked.{still_not_white, others_white, others_grey, grey_now, begins_apart}
 
@@ -80,27 +80,6 @@ pub record Scanned (s : Setting) (pools : Word → Option ℕ) (m' : Memory) (ad
     pub all : (l : ℕ) → i ≤ l → l < size → IsTrue (done_after id l)
     pub stands : ImageStands (setting_with_pools s pools) m' addresses_after colours_after done_after
 
-now_done : (done : CellSet) (id i : ℕ) → with_cell done id i id i ≡ true
-now_done done id i = rw (eq-eqb id id refl, eq-eqb i i refl) refl
-
--- one cell more
-one_more : (s : Setting) (pools : Word → Option ℕ) (m' : Memory) (addresses addresses' : List (Option Address)) (k k' : Colours)
-    (done : CellSet) (id i size : ℕ)
-    → LeavesOthers s.condemned addresses addresses' k k' → Scanned s pools m' addresses' k' (with_cell done id i) id (i + 1) size
-    → Scanned s pools m' addresses k done id i size
-one_more s pools m' addresses addresses' k k' done id i size l x = record {
-  addresses_after = x.addresses_after;
-  colours_after = x.colours_after;
-  done_after = x.done_after;
-  leaves = both_leave s.condemned addresses addresses' x.addresses_after k k' x.colours_after l x.leaves;
-  more = λ j n d. x.more j n (or_right (j == id && n == i) (done j n) d);
-  all = λ j low high. elim (cases_eq i j) [
-    | inl e ↦ subst (λ y. x.done_after id y ≡ true) e (x.more id i (now_done done id i))
-    | inr n ↦ x.all j (omega (arith, low, n)) high
-  ];
-  stands = x.stands;
-}
-
 -- each word of an object has a cell
 in_range : {X : Type 0} (xs : List X) (i : ℕ) → i < length xs → (x : X) × (slice_get xs i ≡ Some x)
 in_range [] i lt = absurd (omega (arith, lt))
@@ -116,9 +95,6 @@ cell_there (Automatic head cells is_weak) i lt = in_range cells i lt
 cell_there (Manual words) i lt = in_range (map NumberCell words) i (omega (arith, lt, length-map words))
 
 module _ (s : Setting) (shaped : AreShaped s.objects s.layout) (all_read : (id : Id) → IsTrue (s.is_read id)) (id at : ℕ) (o : Object) where
-  word_there : (addresses : List (Option Address)) (k : Colours) (i : ℕ) → IsToScan s addresses k id at o → i < size_of o
-      → Lies s.objects addresses id i o (word_of at + i)
-  word_there addresses k i x lt = record { at = at; address = x.there; object = x.object; within = lt; is = refl }
 
 -- ---- the end of a scan
 

@@ -54,7 +54,7 @@ grey_more Exact n k m exact weak =
 grey_more Weak n k m exact weak =
     ap (λ (b : Bool). bit m.exact k || b) (bit_more m.weak n k weak) ∙ second_more (n == k) (bit m.exact k) (bit m.weak k)
 
--- ---- marks told otherwise
+-- ---- marks by other tests
 
 pub marked_alike : (s : SegsState) (f g : Word → Bool) → ((n : Word) → f n ≡ g n) → AreMarkedAt s f → AreMarkedAt s g
 marked_alike s f g same m = record { kept = λ n. m.kept n ∙ same n; grey = λ n. m.grey n ∙ same n }
@@ -114,8 +114,8 @@ module _ (s : SegsState) (f : Word → Bool) (whole : AreTablesWhole s) (marked 
             (sym (cond-false (is_kept_at s at) s (kept_in_place s at) not_kept)) (kept_now at within)
       ]
 
-  told : (s' : SegsState) (g h : Word → Bool) → ((n : Word) → g n ≡ h n) → AreMarkedTo s s' g → AreMarkedTo s s' h
-  told s' g h same m = record { same = m.same; whole = m.whole; marks = marked_alike s' g h same m.marks }
+  by_alike : (s' : SegsState) (g h : Word → Bool) → ((n : Word) → g n ≡ h n) → AreMarkedTo s s' g → AreMarkedTo s s' h
+  by_alike s' g h same m = record { same = m.same; whole = m.whole; marks = marked_alike s' g h same m.marks }
 
   -- whether a word is a given one that passes a test
   here_only : (p : Word → Bool) (n : Word) (c : Bool) → p n ≡ c → (k : Word) → (n == k && c) ≡ (p k && n == k)
@@ -172,7 +172,7 @@ module _ (s : SegsState) (f : Word → Bool) (whole : AreTablesWhole s) (marked 
       elim (cases_Bool (pinned n)) [
         | inl is ↦
             subst (λ (x : SegsState). AreMarkedTo s x goal) (sym (cond-true (pinned n) (nailed s (address_of_word n)) s is))
-            (told (nailed s (address_of_word n)) (λ k. word_of (address_of_word n) == k || f k) goal (λ k.
+            (by_alike (nailed s (address_of_word n)) (λ k. word_of (address_of_word n) == k || f k) goal (λ k.
             ap (λ (i : ℕ). i == k || f k) (word_again n) ∙ first_of (n == k) true (f k) refl
             ∙ ap (λ (b : Bool). b || f k) (here true is k))
             (nailed_now (address_of_word n) (subst (λ i. i < words_of_arena s.grains) (sym (word_again n)) (within n refl))))
@@ -211,7 +211,7 @@ module _ {F : Type 0} (formats : List (Option (Policy F))) (blocks : List Run) (
   word_marked s f w h whole marked =
       let found = run_over s.blocks (word_of w.word) in
       let is_here : Word → Bool = λ n. w.word == address_of_word n in
-      told s f whole marked (nailed_by formats s w.word)
+      by_alike s f whole marked (nailed_by formats s w.word)
       (λ n. (is_condemned_word s n && (begins_at found n && (is_moving_word formats s n || is_here n))) || f n)
       (λ n. (is_condemned_over n && pins_block blocks moves_over n w) || f n) (λ n.
       ap (λ (c : Bool). (c && (begins_at found n && (is_moving_word formats s n || is_here n))) || f n) (h.condemned_are n)

@@ -6,8 +6,6 @@ use Rattle.mps_base.specs.Address.{Address, grain_of}
 use Rattle.mps_base.specs.Segment.{Segment, without_segment}
 use Rattle.mps_extents.specs.Table.{bit}
 use Rattle.mps_seg.specs.Segs.{SegsState}
-use Rattle.mps_seg.specs.Reclaiming.{lost_of, is_given, is_used, IsSwept}
-use Rattle.mps_seg.proofs.Lost.{segments_after}
 use Rattle.mps_model.proofs.Reaching.{list_all-contains}
 use Rattle.mps_model.specs.Graph.{contains}
 use Rattle.mps_model.specs.World.{segment_at, is_automatic_kind, pool_is, World}
@@ -17,12 +15,9 @@ use Rattle.mps_abstract.proofs.KeptRunning.{one_that_is}
 use Rattle.mps_abstract.proofs.Lists.{find-passes, list_all-members}
 use Rattle.mps_trace_laws.specs.Image.Memory.{memory_in, setting_in}
 use Rattle.mps_trace_laws.proofs.Image.Bands.{freeing_begins}
-use Rattle.mps_trace.specs.Condemned.{NoneLeft, IsNextCondemned}
-use Rattle.mps_trace_laws.proofs.Reclaim.Reclaimed.{condemned_after}
+use Rattle.mps_trace.specs.Condemned.{NoneLeft}
 use Rattle.mps_trace_laws.specs.Reclaim.Units.{FreesFor}
 use Rattle.mps_trace_laws.proofs.Reclaim.HeldSegments.{found_held, held_filtered, was_held}
-use Rattle.mps_base.specs.Trail.{Moves}
-use Rattle.mps_base.specs.declared.address.Addr.{Addr}
 use Rattle.mps_format.specs.Layout.{Layout}
 use Rattle.mps_model.specs.Collection.{Collection}
 use Rattle.mps_abstract.specs.Colours.{Colours, AreAllScanned}
@@ -134,20 +129,6 @@ module _ (x : Collecting) (g : SegsState) (layout : ℕ → Rattle.mps_format.sp
 
     pub known : is_last_condemned x.running t.base ≡ true ↔ NoneLeft g' (suc t.base)
     known = (none_after_last, last_where_none)
-
--- after a reclaim none is left after the segment exactly where it was the last one
-pub the_last_is_known : (x : Collecting) (g : SegsState) (layout : ℕ → Layout) (base : Addr) (moves : Moves)
-    (g' : SegsState) (moves' : Moves)
-    → Running x → FreesFor g x.world x.running x.colours layout → (next : IsNextCondemned g x.cursor base.0)
-    → IsSwept g moves base g' moves' → is_last_condemned x.running next.segment.base ≡ true ↔ NoneLeft g' (suc next.segment.base)
-the_last_is_known x g layout base moves g' moves' run f next (is_given u found empty state trail) =
-    known x g layout run f next.segment g'
-    (ap (λ (y : SegsState). y.condemned) state ∙ condemned_after (lost_of g u) g)
-    (inr (ap (λ (y : SegsState). y.segments) state ∙ ap (without_segment g.segments) (sym next.begins)))
-the_last_is_known x g layout base moves g' moves' run f next (is_used u found used state unwritten trail) =
-    known x g layout run f next.segment g'
-    (ap (λ (y : SegsState). y.condemned) state ∙ condemned_after (lost_of g u) g)
-    (inl (ap (λ (y : SegsState). y.segments) state ∙ segments_after (lost_of g u) g))
 
 -- while a collection runs, a condemned segment is left from the cursor on
 pub one_is_left : (x : Collecting) (g : SegsState) (layout : ℕ → Layout) → Running x → FreesFor g x.world x.running x.colours layout

@@ -60,9 +60,6 @@ said_alike test none os ps id same =
     by_outline test none (slice_get ps id) ∙ ap (λ o. option_map_or test o none) (outlines_at os ps id same)
     ∙ sym (by_outline test none (slice_get os id))
 
-cells_of_outline : Outline → ℕ
-cells_of_outline v = if v.is_weak then v.size - 1 else 0
-
 -- as many cells may be splatted
 splats_alike : (os ps : List Object) (condemned : List Id) (k : Colours) (live : List Id) → map outline_of ps ≡ map outline_of os
     → splats_left ps condemned k live ≤ splats_left os condemned k live

@@ -1,10 +1,8 @@
-use Rattle.std.proofs.Common.{◌≡◌, Some, sym, ap, ◌∙◌, subst, arith}
-use Rattle.std.specs.Prelude.{slice_get}
-use Rattle.mps_format.specs.declared.pool.Policy.{Policy}
+use Rattle.std.proofs.Common.{Some, arith}
 use Rattle.mps_seg.specs.declared.segment_info.Owner.{Owner}
 use Rattle.mps_trace.specs.Trace.{TraceState}
 use Rattle.mps_trace.proofs.Keeping.{can_there}
-use Rattle.mps_trace.proofs.Known.{owner_read, pool_within, policy_read, policy_is, listed_is}
+use Rattle.mps_trace.proofs.Known.{owner_read, pool_within}
 use Rattle.mps_trace.proofs.trace.Trace.keep.Goals as goal
 
 pub index-requires : goal.index-requires

@@ -7,8 +7,7 @@ use Rattle.mps_seg.specs.Segs.{SegsState}
 use Rattle.mps_xform.specs.declared.transforms.Pair.{Pair}
 use Rattle.mps_xform.specs.Passing.{new_in}
 use Rattle.mps_xform.specs.State.{TransformsState, is_of, new_address, pair_of}
-use Rattle.mps_format.specs.Layout.{Layout}
-use Rattle.mps_xform.specs.Applying.{CanApply, after_apply}
+use Rattle.mps_xform.specs.Applying.{CanApply}
 use Rattle.mps_xform.proofs.Again.{can_again}
 use Rattle.mps_xform.proofs.Applied.{below_same}
 use Rattle.mps_xform.proofs.Done.{found_has, word_is}
