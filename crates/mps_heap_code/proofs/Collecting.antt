@@ -15,7 +15,8 @@ use Rattle.mps_format.specs.declared.pool.Policy.{Policy}
 
 module _ {F : Type 0} (layout : F → Layout) (h : HeapState F) (m : Moves) where
   -- what a heap can do, its pools can, where the state is seen in two ways
-  pub can_pools : (seen : HeapState F) (most : ℕ) → seen ≡ h → most ≡ most_units seen.segs.grains (length seen.finals.registered) → CanCollectAll layout h m
+  pub can_pools : (seen : HeapState F) (most : ℕ) → seen ≡ h → most ≡ most_units seen.segs.grains (length seen.finals.registered)
+      → CanCollectAll layout h m
       → CanCollectPools layout seen.pools seen.points seen.roots seen.finals seen.segs m most
   can_pools seen most is bound can =
       let P : HeapState F → Type 0 = λ g. CanCollectAll layout g m in
@@ -33,7 +34,8 @@ module _ {F : Type 0} (layout : F → Layout) (h : HeapState F) (m : Moves) wher
     arena = arena.Parked;
   }
 
-  pub collected : (seen h' : HeapState F) (m' : Moves) (most : ℕ) → seen ≡ h → most ≡ most_units seen.segs.grains (length seen.finals.registered)
+  pub collected : (seen h' : HeapState F) (m' : Moves) (most : ℕ) → seen ≡ h
+      → most ≡ most_units seen.segs.grains (length seen.finals.registered)
       → ArePoolsCollected layout seen.pools seen.points seen.roots seen.finals seen.segs m most h'.roots h'.finals h'.segs m'
       → h' ≡ parked_with seen (map policy_of_pool seen.pools) h' → IsCollected layout h m h' m'
   collected seen h' m' most is bound of_pools state =

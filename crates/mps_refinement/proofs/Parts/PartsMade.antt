@@ -119,7 +119,8 @@ module _ {F : Type 0} (layout : F → Layout) (past : Past) (h : HeapState F) (w
       → AreParts layout past (state_of_pools pools sizes names) (world_of_pools numbered named)
   pools_changed pools sizes names numbered named are =
       parts_of_kinds (arena_of parts) (are.image_stands, parts.arena) (roots_of parts) (are.points_are, parts.points_counted)
-      (finals_of parts) parts.dependencies (parts.lawful, are.pools_are, are.sizes_are, parts.chains, parts.dependents) are.names_are (states_of parts)
+      (finals_of parts) parts.dependencies (parts.lawful, are.pools_are, are.sizes_are, parts.chains, parts.dependents) are.names_are
+      (states_of parts)
 
   -- ---- dependencies
 

@@ -156,7 +156,6 @@ module _ (F : Type 0) (layout : F → Layout) (formats : List (Option (Policy F)
           })
 
     module _ (now : Address) (target : Target (setting_of x.segs at_flip y) y.world.addresses t at.0 now o) where
-
       module _ (here : at.0 ≡ now) (white : is_white_in y t ≡ true) (condemned : is_condemned_at x.segs at.0 ≡ true) (s : Segment)
           (over : segment_over x.segs.segments at.0 ≡ Some s) (format : Policy F)
           (listed : slice_get formats s.pool ≡ Some (Some format)) where

@@ -124,6 +124,7 @@ module _ (F : Type 0) (layout : F → Layout) (formats : List (Option (Policy F)
         };
         hands =
             new_tails s stands.held y.world.graph.objects y.world.graph.points y.world.point_memories (pool_layout y.world) at_flip
-            y.running.condemned (λ id. true) y.world.addresses stands.tables stands.image.placed stands.reserved u exact free (tail_of y.world)
+            y.running.condemned (λ id. true) y.world.addresses stands.tables stands.image.placed stands.reserved u exact free
+            (tail_of y.world)
             (tail_of after.world) stands.hands new;
       }

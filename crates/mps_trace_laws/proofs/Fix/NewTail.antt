@@ -32,7 +32,8 @@ module _ (s : SegsState) (held : AreHeld s) (objects : List Object) (points : Li
     (layout : ℕ → Layout) (at_flip : List (Option Address)) (condemned : List Id) (is_read : Id → Bool)
     (addresses : List (Option Address)) (tables : HasTables s)
     (placed : LieApart (setting_in s objects points memories layout at_flip condemned is_read) addresses)
-    (reserved : AreReservationsHeld s points memories) (u : Segment) (exact : u.rank ≡ Exact) (free : IsFree s u) (tail tail' : (pool generation : ℕ) → Run)
+    (reserved : AreReservationsHeld s points memories) (u : Segment) (exact : u.rank ≡ Exact) (free : IsFree s u)
+    (tail tail' : (pool generation : ℕ) → Run)
     (tails : TailsStand (setting_in s objects points memories layout at_flip condemned is_read) s.segments addresses tail)
     (new : IsNewTail tail tail' u) where
   abbrev its_setting : SegsState → Setting

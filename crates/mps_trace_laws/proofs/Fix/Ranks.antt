@@ -295,7 +295,8 @@ pub ranked_there : (s : SegsState) (order : AreSegmentsInOrder s.segments) → A
 ranked_there s order ranked = record { exact = ranked.exact; weak = ranked.weak }
 
 -- where a block is kept marks are ranked if they were before
-pub keeps_ranks : {F : Type 0} → (layout : F → Layout) (formats : List (Option (Policy F))) (of : ChainsState) {x z : Traced} {at answer : Addr}
+pub keeps_ranks : {F : Type 0}
+    → (layout : F → Layout) (formats : List (Option (Policy F))) (of : ChainsState) {x z : Traced} {at answer : Addr}
     → KeepsTo layout formats of x at z answer → AreSegmentsInOrder z.segs.segments → AreMarksRanked x.segs → AreMarksRanked z.segs
 keeps_ranks layout formats of {x} {z} kept order ranked =
     let all = z.segs.segments in

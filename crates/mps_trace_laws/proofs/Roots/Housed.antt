@@ -121,7 +121,8 @@ pub roots_keep_housed : {F : Type 0}
     (x between z : Traced) (y : Collecting) (rows : List (List (Option Id))) (ids : List Id) (roots roots' : RootsState)
     (finals finals' : FinalsState)
     → TracingStands layout formats of at_flip done x y → AreHoused y.world.graph.objects x.segs.segments y.world.addresses
-    → AreStrongMoving y.world → AreMarksRanked x.segs → AreTablesHeld at_flip y roots rows → AreHeldAtFlip at_flip y finals.messages (map Some ids)
+    → AreStrongMoving y.world → AreMarksRanked x.segs → AreTablesHeld at_flip y roots rows
+    → AreHeldAtFlip at_flip y finals.messages (map Some ids)
     → FixesTables layout formats of roots x (length roots.order) roots' between
     → FixesMessages layout formats of finals between (length finals.messages) finals' z
     → (all : AreRootsFixed layout formats of at_flip done x z y roots roots' finals' rows ids) → AreRootsHoused z all.fixed.after

@@ -117,7 +117,8 @@ module _ (F : Type 0) (layout : F → Layout) (formats : List (Option (Policy F)
       ∙ ap (pool_layout y.world) pool in
       let all = subst (λ h. SplatsAll layout f formats h at x is.before) head_is
       (subst (λ (g : Layout). SplatsAll layout g formats (slice_index x.segs.words (word_of at.0)) at x is.before) format_is is.all) in
-      subst (λ w. IsSplatScan layout formats of at_flip x w y holder at (size_of o)) (sym is.black) (ended is.before (whole_run is.before all))
+      subst (λ w. IsSplatScan layout formats of at_flip x w y holder at (size_of o)) (sym is.black)
+      (ended is.before (whole_run is.before all))
 
 pub a_splat_scan_is_a_scan : {F : Type 0} → ASplatScanIsAScan F
 a_splat_scan_is_a_scan {F} layout formats of at_flip x z y holder at o none_paired shaped stands scan is =

@@ -218,7 +218,8 @@ module _ {F : Type 0} (layout : F → Layout) (formats : List (Option (Policy F)
         subst (λ ss. AreHoused after.world.graph.objects ss after.world.addresses) (sym posted.state.segments.same_segments)
         (subst (λ (u : Collecting). AreHoused u.world.graph.objects u.world.segments u.world.addresses) posted.kept.is
         (fixes_keep_housed layout formats of at_flip (black_cells y.running.condemned y.colours) x y posted.step.after (id ∷ [])
-        (posted.step.moves ++ []) st.traces stands.moving.strong_moving st.housed is_alone (posted.step.fixes [] [] posted.step.after fixes_no_more)))
+        (posted.step.moves ++ []) st.traces stands.moving.strong_moving st.housed is_alone
+        (posted.step.fixes [] [] posted.step.after fixes_no_more)))
 
     ranked_then : AreMarksRanked z.segs
     ranked_then = keeps_ranks layout formats of kept (held_in_order z.segs posted.state.held) st.ranked

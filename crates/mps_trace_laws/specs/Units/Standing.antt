@@ -26,7 +26,8 @@ use Rattle.mps_format.specs.declared.pool.Policy.{Policy}
 
 -- what units leave as it is of a world: its objects are blocks of their formats, what moves isn't weak, and no object has a dependent. The
 -- collector knows its pools
-pub record AreObjectsKnown {F : Type 0} (layout : F → Layout) (formats : List (Option (Policy F))) (of : ChainsState) (w : World) : Type 0 where
+pub record AreObjectsKnown {F : Type 0} (layout : F → Layout) (formats : List (Option (Policy F))) (of : ChainsState)
+    (w : World) : Type 0 where
   pub shaped : AreShaped w.graph.objects (pool_layout w)
   pub pools : AreKnownPools layout formats of (pool_is is_automatic_kind w) (is_copying_pool w) (pool_layout w) (generations_of w)
   pub strong_moving : AreStrongMoving w
