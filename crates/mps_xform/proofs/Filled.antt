@@ -1,10 +1,10 @@
 -- Pairs in a table, by their old addresses.
 use Rattle.std.proofs.Common.{ℕ, ◌≡◌, ◌≢◌, ◌+◌, ◌<◌, ◌≤◌, ◌==◌, ◌&&◌, Bool, true, false, cond, Option, Some, None, List, [], ◌∷◌, length, take, get_or, set, refl, sym, ap, ◌∙◌, inl, inr, arith}
-use Rattle.std.specs.Prelude.{nat_eq, slice_set, is_some}
+use Rattle.std.specs.Prelude.{nat_eq, slice_set}
 use Rattle.std.specs.List.{find}
 use Rattle.std.specs.Map.{lookup}
 use Rattle.std.specs.Option.{option_or}
-use Rattle.std.proofs.lemmas.Bool.{false≢true, eqb-true}
+use Rattle.std.proofs.lemmas.Bool.{false≢true}
 use Rattle.std.proofs.lemmas.Bool.Decides.{eqb_tells}
 use Rattle.std.proofs.lemmas.List.{length-set, get_or-set_same, get_or-set_other, take_more}
 use Rattle.std.proofs.lemmas.List.Folds.{find-append}
@@ -56,9 +56,6 @@ module _ (entries entries' : List (ℕ × Pair)) (spare spare' : ℕ) (marks : L
 or_none : (o : Option Pair) → option_or o None ≡ o
 or_none None = refl
 or_none (Some p) = refl
-
--- what a table has where a pair was put that had no place, and where there was one
-module _ (pair : Pair) (before : Address → Option Pair) (old : Address) where
 
 -- the pairs of a transform among the first ones, and one more
 module _ (pairs : List Pair) (transform index : ℕ) (d : Pair) (within : index < length pairs) (old : Address) where
