@@ -1,5 +1,5 @@
 -- One fix keeps the image, whatever the code finds: of an address, and of the reference in a word.
-use Rattle.std.proofs.Common.{◌≡◌, ◌∙◌, ℕ, ◌+◌, ◌<◌, Bool, true, false, sym, ap, List, Option, Some, subst, inl, arith, slice_index}
+use Rattle.std.proofs.Common.{◌≡◌, ◌∙◌, ℕ, ◌+◌, Bool, true, false, sym, ap, List, Option, Some, subst, inl, slice_index}
 use Rattle.std.proofs.lemmas.Bool.{false≢true, and_right, and_from}
 use Rattle.std.proofs.lemmas.Option.{same_Some}
 use Rattle.std.specs.Prelude.{slice_get, slice_set, not, IsTrue}
@@ -8,7 +8,7 @@ use Rattle.mps_model.specs.Graph.{ReferenceCell, Object, entry_at, size_of}
 use Rattle.mps_abstract.specs.Colours.{Colours, is_white, keeping}
 use Rattle.mps_trace_laws.specs.Image.Memory.{Setting, Memory, Lies, all_cells}
 use Rattle.mps_trace_laws.specs.Image.Image.{AreShaped, CellSet, ImageStands, is_white_over}
-use Rattle.mps_trace_laws.specs.Image.Fixing.{Target, AreAtHand, IsMarkSet, AreMarksMoved, marked_in, copied_in, address_moved, IsNotForwarded, IsToKeep, FixAt, passes, forwards, is_kept, stays, copies, FixWord, null, writes, FixesOne, nothing, passed, kept, moved, IsFixedAt, IsFixedCell}
+use Rattle.mps_trace_laws.specs.Image.Fixing.{Target, AreAtHand, IsMarkSet, AreMarksMoved, marked_in, copied_in, address_moved, IsNotForwarded, IsToKeep, FixAt, passes, forwards, is_kept, stays, copies, FixesOne, nothing, passed, kept, moved, IsFixedAt, IsFixedCell}
 use Rattle.mps_amc.specs.Moving.{AreCopied}
 use Rattle.mps_trace_laws.proofs.Image.Entries.{entry_at-set_same, entry_at-set_other}
 use Rattle.mps_trace_laws.proofs.Image.Targets as targets
@@ -112,28 +112,6 @@ module _ (s : Setting) (m : Memory) (addresses : List (Option Address)) (k : Col
       let e = not_forwarded_there pool (pool_of_target pool is.over) is.not_forwarded in
       (e.0, e.1 ∙ and_from (s.is_condemned_over (word_of address)) (not (m.kept (word_of address))) is.condemned (ap not is.not_kept))
 
-  -- whatever the code finds at an address that means a live object: the image stands, it answers where the object is then, and
-  -- the object isn't white
-  pub fix_at : (answer : Address) (m' : Memory) → FixAt s addresses m address answer m' → IsFixedAt s m' addresses k done t answer
-  fix_at answer m' (passes c) =
-      let e = targets.not_condemned s m addresses k done shaped st t address now p x c in at_there e.0 e.1
-  fix_at answer m' (forwards pool size over in_range head) =
-      let head' = subst (λ q. slice_index m.words (word_of address) ≡ (s.layout q).forwarded_head size) (pool_of_target pool over) head in
-      let e = targets.is_forwarded s m addresses k done shaped st t address now p x size in_range head' in
-      at_moved (slice_index m.words (word_of address + 1)) e.0 e.1
-  fix_at answer m' (is_kept pool over isnt is) =
-      let e = not_forwarded_there pool (pool_of_target pool over) isnt in
-      at_there e.0 (e.1 ∙ and_right (s.is_condemned_over (word_of address)) (not (m.kept (word_of address))) (ap not is))
-  fix_at answer m' (stays pool kept' grey' is keeps greys) = let e = white_there pool is in at_stay kept' grey' e.0 e.1 keeps greys
-  fix_at answer m' (copies pool to size words' kept' grey' is whole hand copy marks) =
-      let ep = pool_of_target pool is.over in
-      let e = white_there pool is in
-      let size_is : size ≡ size_of p =
-      whole ∙ ap (λ q. (s.layout q).size (slice_index m.words (word_of address))) ep
-      ∙ targets.size_at_target s m addresses k done shaped st t address now p x e.0
-      in
-      at_copy to words' kept' grey' pool size e.1 e.0 ep size_is is.condemned hand copy marks
-
 -- ---- a word is fixed
 
 -- an object that isn't white stays where it is
@@ -158,26 +136,3 @@ module _ (s : Setting) (m : Memory) (addresses : List (Option Address)) (k : Col
     (lies : Lies s.objects addresses holder i o n) where
   module _ (t now : ℕ) (holder_kept : is_white s.condemned k holder ≡ false)
       (cell : slice_get (all_cells o.body) i ≡ Some (ReferenceCell (Some t) tag)) (there : entry_at addresses t ≡ Some now) where
-    -- the word is written after what its address means was fixed
-    write_cell : (address answer : Address) (m₁ : Memory) → references.ReadsAddress (s.layout o.pool) (slice_index m.words n) address tag
-        → IsFixedAt s m₁ addresses k done t answer
-        → IsFixedCell s (record m₁ { words = slice_set m₁.words n ((s.layout o.pool).retarget (slice_index m.words n) answer) }) addresses k
-        done (Some t) holder i
-    write_cell address answer m₁ r f =
-        let new = (s.layout o.pool).retarget (slice_index m.words n) answer in
-        record {
-          addresses_after = f.addresses_after;
-          colours_after = f.colours_after;
-          step = f.step;
-          stands =
-              cell_written s s.objects m₁ f.addresses_after f.colours_after done holder i o n (ReferenceCell (Some t) tag) new
-              (no_cell_changed s.objects holder i o (ReferenceCell (Some t) tag) lies.object cell) f.stands
-              (holder_stays s addresses f.addresses_after k f.colours_after (Some t) holder i o n f.step holder_kept lies) (record {
-                holds = record {
-                  address = answer;
-                  is = r.retarget answer (f.stands.placed.address t answer f.there);
-                  means = inl f.there;
-                };
-                not_white = λ u e. subst (λ y. is_white s.condemned f.colours_after y ≡ false) (same_Some t u e) f.not_white;
-              });
-        }

@@ -8,7 +8,7 @@ use Rattle.mps_base.specs.Address.{Address, Id, Word, word_of}
 use Rattle.mps_model.specs.Graph.{Cell, NumberCell, Body, Automatic, Manual, Object, contains, entry_at, size_of, size_of_body}
 use Rattle.mps_abstract.specs.Colours.{Colours, is_white, is_grey, is_black, keeping, blackened}
 use Rattle.mps_trace_laws.specs.Image.Memory.{Setting, Memory, Lies, BlockBegins, all_cells}
-use Rattle.mps_trace_laws.specs.Image.Image.{AreShaped, CellSet, with_cell, black_cells, ImageStands, Stands}
+use Rattle.mps_trace_laws.specs.Image.Image.{CellSet, black_cells, ImageStands, Stands}
 use Rattle.mps_trace_laws.specs.Image.Fixing.{IsMarkCleared, address_moved, FixesOne, nothing, passed, kept, moved}
 use Rattle.mps_trace_laws.specs.Image.Scanning.{setting_with_pools, LeavesOthers}
 use Rattle.mps_trace_laws.proofs.Image.Entries.{entry_at-set_same, entry_at-set_other}
@@ -93,8 +93,6 @@ length-map (w ∷ ws) = ap suc (length-map ws)
 pub cell_there : (b : Body) (i : ℕ) → i < size_of_body b → (c : Cell) × (slice_get (all_cells b) i ≡ Some c)
 cell_there (Automatic head cells is_weak) i lt = in_range cells i lt
 cell_there (Manual words) i lt = in_range (map NumberCell words) i (omega (arith, lt, length-map words))
-
-module _ (s : Setting) (shaped : AreShaped s.objects s.layout) (all_read : (id : Id) → IsTrue (s.is_read id)) (id at : ℕ) (o : Object) where
 
 -- ---- the end of a scan
 
