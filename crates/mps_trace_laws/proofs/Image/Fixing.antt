@@ -1,19 +1,18 @@
 -- One fix keeps the image, whatever the code finds: of an address, and of the reference in a word.
-use Rattle.std.proofs.Common.{◌≡◌, ◌∙◌, ℕ, ◌+◌, Bool, true, false, sym, ap, List, Option, Some, subst, inl, slice_index}
-use Rattle.std.proofs.lemmas.Bool.{false≢true, and_right, and_from}
+use Rattle.std.proofs.Common.{◌≡◌, ◌∙◌, ℕ, Bool, true, false, sym, ap, List, Option, Some, subst}
+use Rattle.std.proofs.lemmas.Bool.{false≢true, and_from}
 use Rattle.std.proofs.lemmas.Option.{same_Some}
-use Rattle.std.specs.Prelude.{slice_get, slice_set, not, IsTrue}
+use Rattle.std.specs.Prelude.{not}
 use Rattle.mps_base.specs.Address.{Address, Id, Word, word_of}
-use Rattle.mps_model.specs.Graph.{ReferenceCell, Object, entry_at, size_of}
+use Rattle.mps_model.specs.Graph.{Object, entry_at, size_of}
 use Rattle.mps_abstract.specs.Colours.{Colours, is_white, keeping}
-use Rattle.mps_trace_laws.specs.Image.Memory.{Setting, Memory, Lies, all_cells}
+use Rattle.mps_trace_laws.specs.Image.Memory.{Setting, Memory, Lies}
 use Rattle.mps_trace_laws.specs.Image.Image.{AreShaped, CellSet, ImageStands, is_white_over}
-use Rattle.mps_trace_laws.specs.Image.Fixing.{Target, AreAtHand, IsMarkSet, AreMarksMoved, marked_in, copied_in, address_moved, IsNotForwarded, IsToKeep, FixAt, passes, forwards, is_kept, stays, copies, FixesOne, nothing, passed, kept, moved, IsFixedAt, IsFixedCell}
+use Rattle.mps_trace_laws.specs.Image.Fixing.{Target, AreAtHand, IsMarkSet, AreMarksMoved, marked_in, copied_in, address_moved, IsNotForwarded, IsToKeep, FixesOne, nothing, passed, kept, moved, IsFixedAt}
 use Rattle.mps_amc.specs.Moving.{AreCopied}
 use Rattle.mps_trace_laws.proofs.Image.Entries.{entry_at-set_same, entry_at-set_other}
 use Rattle.mps_trace_laws.proofs.Image.Targets as targets
 use Rattle.mps_trace_laws.proofs.Image.References as references
-use Rattle.mps_trace_laws.proofs.Image.Written.{cell_written, no_cell_changed}
 use Rattle.mps_trace_laws.proofs.Image.Marked as marking
 use Rattle.mps_trace_laws.proofs.Image.Copied as copying
 use Rattle.mps_trace_laws.proofs.Image.Runs.{runs_moved}
@@ -47,22 +46,6 @@ module _ (s : Setting) (m : Memory) (addresses : List (Option Address)) (k : Col
     stands = st;
   }
 
-  at_there : address ≡ now → is_white s.condemned k t ≡ false → IsFixedAt s m addresses k done t address
-  at_there e w = at_moved address e w
-
-  at_stay : (kept' grey' : Word → Bool) → address ≡ now → is_white s.condemned k t ≡ true → IsMarkSet m.kept kept' (word_of address)
-      → IsMarkSet m.grey grey' (word_of address) → IsFixedAt s (marked_in m kept' grey') addresses k done t address
-  at_stay kept' grey' e w keeps greys = record {
-    addresses_after = addresses;
-    colours_after = keeping k t;
-    step = kept t w;
-    there = x.there ∙ ap Some (sym e);
-    not_white = marking.kept_not_white s.condemned k t;
-    stands =
-        marking.image_marked s m addresses k done t now kept' grey' st x.there
-        (subst (λ y. IsMarkSet m.kept kept' (word_of y)) e keeps) (subst (λ y. IsMarkSet m.grey grey' (word_of y)) e greys);
-  }
-
   abbrev Copying : (to : Address) (words' : List ℕ) (kept' grey' : Word → Bool) (from pool size : ℕ) → Type 0
   Copying to words' kept' grey' from pool size =
       s.is_condemned_over (word_of from) ≡ true → AreAtHand s addresses to size pool → AreCopied (s.layout pool) m.words words' from to size
@@ -88,13 +71,6 @@ module _ (s : Setting) (m : Memory) (addresses : List (Option Address)) (k : Col
         not_white = marking.kept_not_white s.condemned k t;
         stands = image_copied s m addresses k done t now to p words' kept' grey' st v copy marks;
       }
-
-  at_copy : (to : Address) (words' : List ℕ) (kept' grey' : Word → Bool) (pool size : ℕ) → is_white s.condemned k t ≡ true → address ≡ now
-      → pool ≡ p.pool → size ≡ size_of p → Copying to words' kept' grey' address pool size
-  at_copy to words' kept' grey' pool size w ea ep ez =
-      subst (λ f. Copying to words' kept' grey' f pool size) (sym ea)
-      (subst (λ q. Copying to words' kept' grey' now q size) (sym ep)
-      (subst (λ z. Copying to words' kept' grey' now p.pool z) (sym ez) (copies_there to words' kept' grey' w)))
 
   -- the pool that the code finds is the object's
   pool_of_target : (pool : ℕ) → s.pool_over (word_of address) ≡ Some pool → pool ≡ p.pool
@@ -129,10 +105,3 @@ holder_stays s addresses addresses' k k' t holder i o n (moved u from to w' e) w
   within = l.within;
   is = l.is;
 }
-
-module _ (s : Setting) (m : Memory) (addresses : List (Option Address)) (k : Colours) (done : CellSet)
-    (shaped : AreShaped s.objects s.layout)
-    (all_read : (id : Id) → IsTrue (s.is_read id)) (st : ImageStands s m addresses k done) (holder i : ℕ) (o : Object) (n : Word) (tag : ℕ)
-    (lies : Lies s.objects addresses holder i o n) where
-  module _ (t now : ℕ) (holder_kept : is_white s.condemned k holder ≡ false)
-      (cell : slice_get (all_cells o.body) i ≡ Some (ReferenceCell (Some t) tag)) (there : entry_at addresses t ≡ Some now) where

@@ -162,9 +162,3 @@ module _ (s : Setting) (m : Memory) (addresses : List (Option Address)) (k : Col
             (record { at = now; address = x.there; object = x.object; within = positive; is = first now })
         | inr f ↦ ap s.pool_over (first address) ∙ f.2.home 0 positive
       ]
-
-  -- and the block there has the object's size
-  pub size_at_target : address ≡ now → (s.layout p.pool).size (slice_index m.words (word_of address)) ≡ size_of p
-  size_at_target e =
-      ap (λ y. (s.layout p.pool).size (slice_index m.words (word_of y))) e ∙ ap (s.layout p.pool).size head_there
-      ∙ shaped.whole t p x.object x.automatic
