@@ -1,4 +1,4 @@
--- One fix keeps the image, whatever the code finds: of an address, and of the reference in a word.
+-- One fix keeps the image, whatever the code finds of an address.
 use Rattle.std.proofs.Common.{◌≡◌, ◌∙◌, ℕ, Bool, true, false, sym, ap, List, Option, Some, subst}
 use Rattle.std.proofs.lemmas.Bool.{false≢true, and_from}
 use Rattle.std.proofs.lemmas.Option.{same_Some}
@@ -12,7 +12,6 @@ use Rattle.mps_trace_laws.specs.Image.Fixing.{Target, AreAtHand, IsMarkSet, AreM
 use Rattle.mps_amc.specs.Moving.{AreCopied}
 use Rattle.mps_trace_laws.proofs.Image.Entries.{entry_at-set_same, entry_at-set_other}
 use Rattle.mps_trace_laws.proofs.Image.Targets as targets
-use Rattle.mps_trace_laws.proofs.Image.References as references
 use Rattle.mps_trace_laws.proofs.Image.Marked as marking
 use Rattle.mps_trace_laws.proofs.Image.Copied as copying
 use Rattle.mps_trace_laws.proofs.Image.Runs.{runs_moved}
