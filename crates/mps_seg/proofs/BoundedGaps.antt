@@ -53,7 +53,6 @@ module _
     (arena : ArenaMemory) (table : List Entry) (ex : ExtentLists) (firsts bounds : List ℕ)
     (held : IsHeld arena table ex) (bounded : AreGapsBounded arena.held (arena.grains + 1) firsts bounds ex.covered)
   where
-
     pub own_segment_of_covered : (grain : ℕ) (r : Run) → Contains ex.covered r → words_of_grain * grain ≤ r.from
         → r.from < words_of_grain * grain + words_of_grain → OwnSegment arena.held (arena.grains + 1) firsts grain r
     own_segment_of_covered grain r listed above below =

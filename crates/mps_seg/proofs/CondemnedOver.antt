@@ -9,7 +9,6 @@ use Rattle.mps_seg.specs.Collecting.{bit_of, owner_of, owner_if_condemned, conde
 use Rattle.mps_seg.proofs.FirstGrain.{first_of}
 
 module _ (s : SegsState) (at : Address) where
-
   pub one_condemned : (t : Segment) → segment_over s.segments at ≡ Some t → bit s.condemned (grain_of t.base) ≡ true
       → (condemned_owner_at s at ≡ Some (owner_of t)) × (is_condemned_at s at ≡ true)
   one_condemned t over condemned = (

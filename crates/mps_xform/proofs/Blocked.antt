@@ -12,7 +12,6 @@ use Rattle.mps_xform.specs.declared.transforms.Pair.{Pair}
 -- ---- tests of entries by key
 
 module _ {A : Type 0} (test : Option A → Bool) where
-
   -- no entry that passes
   pub none_passes : (entries : List (Option A)) → ((key : ℕ) → key < length entries → test (get_or entries key None) ≡ false)
       → list_any test entries ≡ false

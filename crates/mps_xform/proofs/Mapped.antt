@@ -58,7 +58,6 @@ module _ (g : ℕ → ℕ) where
   same_length (suc count) (y ∷ ys) = ap suc (same_length count ys)
 
   module _ (tables : List (Option (List ℕ))) (key : ℕ) where
-
     -- a slot that there was is there
     pub has_still : (count i : ℕ) → HasItem tables key i → HasItem (slice_set tables key (partly g count (kept tables key))) key i
     has_still count i has = go (kept tables key) refl has
