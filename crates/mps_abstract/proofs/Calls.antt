@@ -4,6 +4,7 @@ pub mod ClientCalls
 pub mod ClientReads
 pub mod ClientReserves
 pub mod ClientFrees
+pub mod ClientCaches
 pub mod ClientBlocks
 pub mod ClientMaking
 pub mod ClientRegistrations

@@ -1,30 +1,32 @@
 -- What each call changes: the one walk over all calls and their checks.
-use Rattle.std.proofs.Common.{◌≡◌, ℕ, ◌+◌, Bool, true, false, refl, ap, sym, ◌∙◌, List, [], ◌∷◌, length, Option, Some, None, Ok, inl, inr}
-use Rattle.std.proofs.Common.{arith}
+use Rattle.std.proofs.Common.{◌≡◌, ℕ, ◌+◌, Bool, true, false, zero, suc, refl, ap, sym, ◌∙◌, List, [], ◌∷◌, length, Option, Some, None, Ok, inl, inr, arith}
 use Rattle.std.proofs.Math.Nat.{mod-lt}
-use Rattle.std.proofs.lemmas.Bool.{lt-ltb, true≢false}
-use Rattle.std.specs.Prelude.{◌%◌, ◌&&◌, if◌then◌else◌, is_none, is_some, count_by, nat_le, nat_lt, not, slice_get, slice_set}
+use Rattle.std.proofs.lemmas.Bool.{lt-ltb, true≢false, eqb-true}
+use Rattle.std.specs.Prelude.{◌%◌, ◌&&◌, if◌then◌else◌, is_none, is_some, count_by, nat_le, nat_lt, not, slice_get, slice_set, ◌==◌}
 use Rattle.std.specs.List.{list_any}
 use Rattle.mps_base.specs.Staleness.{is_stale}
+use Rattle.mps_base.specs.Address.{Id}
 use Rattle.mps_base.specs.declared.names.Name.{Name}
+use Rattle.mps_base.specs.declared.names.Slot.{Slot}
 use Rattle.mps_base.specs.declared.refusal.Refusal.TheVariants as refusal
 use Rattle.mps_model.specs.declared.call.Call.{Call}
 use Rattle.mps_model.specs.declared.call.Call.TheVariants as call
 use Rattle.mps_model.specs.declared.reply.Reply.TheVariants as reply
-use Rattle.mps_model.specs.Graph.{Graph, Object, Cell, NumberCell, AreaWord, PlainWord, Point, Reservation, dependent_in, TransformThing, is_taken, position_of_first, thing_named, with_target_cell}
+use Rattle.mps_model.specs.Graph.{Graph, Object, Cell, NumberCell, AreaWord, PlainWord, Point, Reservation, dependent_in, TransformThing, is_taken, position_of_first, thing_named, with_target_cell, Cache, CacheClass}
 use Rattle.mps_model.specs.Dependents.{may_depend, most_dependents}
 use Rattle.mps_model.specs.Tagging.{tag_count}
 use Rattle.mps_model.specs.Transforms.{has_live_reservation, is_blocked, is_old, most_pairs, most_transforms, pairs_of, world_substituted}
-use Rattle.mps_model.specs.World.{World, Pool, Dependency, Unclamped, Clamped, block_of_word, id_at, is_automatic_kind, is_parked, is_running, pairs_in}
-use Rattle.mps_model.specs.Checked.{Act, Checked, Found, Numbered, block_place_in, cells_of_body, chain_named, dependency_named, done, label_named, transform_named, tag_at, number_at, object_in, point_named, pool_named, reference_at, refuse_when, required, says, slot_in, tells, with_graph, word_in}
-use Rattle.mps_model.specs.Making.{graph_without_root, is_block_size, live_points, make_pool, may_have_point, most_chains, most_dependencies, most_labels, most_points, most_pools, refuse_at_limit, refuse_root, refuse_taken}
+use Rattle.mps_model.specs.World.{World, Pool, Dependency, Unclamped, Clamped, block_of_word, id_at, is_automatic_kind, is_parked, is_running, pairs_in, PoolKind, Collected, OneSize, AnySize, pool_at, pool_of, Parked}
+use Rattle.mps_model.specs.Checked.{Act, Checked, Found, Numbered, block_place_in, cells_of_body, chain_named, dependency_named, done, label_named, transform_named, tag_at, number_at, object_in, point_named, pool_named, reference_at, refuse_when, required, says, slot_in, tells, with_graph, word_in, cache_named}
+use Rattle.mps_model.specs.Making.{graph_without_root, is_block_size, live_points, make_pool, may_have_point, most_chains, most_dependencies, most_labels, most_points, most_pools, refuse_at_limit, refuse_root, refuse_taken, most_caches}
+use Rattle.mps_model.specs.Caches.{act_kept, act_taken, are_class_sizes, kept_by, may_have_cache, new_classes, taken_from}
 use Rattle.mps_model.specs.Placement.{ForAlloc, ForReserve, placement_of}
 use Rattle.mps_model.specs.Allocating.{Reserving, allows_size, block_in, check_reserve, refuse_without_place, with_reservation, with_reserved_cells, words_at, world_committed}
 use Rattle.mps_model.specs.Accessing.{Poked, AsBlock, AsMarked, AsNumber, act_poke_in, act_poked, held_in, poked, same_target}
 use Rattle.mps_model.specs.Collecting.{act_message_in, most_registrations}
 use Rattle.mps_model.specs.Reply.{act}
-use Rattle.mps_changes.proofs.Checks.{with_value, after_check, andthen, checked, unless, required-is, transform_named-is, without_root}
-use Rattle.mps_changes.specs.Change.{ForAct, accepted, refused, changes_points, Now, Before, makes_pool, is_kind_made, GotNull, FromSlot, FromCell, FromWord, ShownPlain, ShownPinned, ShownPoked, IsWritten, WritesReference, WritesNumber, WritesTag, ArenaMade, LimitIs, ChainMade, StateIs, ParkedAnew, ParkedOn, DependencyMade, DependencyIs, LabelMade, Linked, Unlinked, TransformMade, PairAdded, TransformDropped, Change, Unchanged, Aside, SlotIs, WordIs, MessageTaken, TableMade, AreaMade, BlocksMade, TableDropped, AreaDropped, CellsAre, BlockWordIs, PlaceEmptied, Allocated, PoolMade, PointMade, PointDropped, Opened, Written, Closed, Committed, Substituted, Registered, Unregistered}
+use Rattle.mps_changes.proofs.Checks.{with_value, after_check, andthen, checked, unless, required-is, transform_named-is, without_root, pool_named-is}
+use Rattle.mps_changes.specs.Change.{ForAct, accepted, refused, changes_points, Now, Before, makes_pool, is_kind_made, GotNull, FromSlot, FromCell, FromWord, ShownPlain, ShownPinned, ShownPoked, IsWritten, WritesReference, WritesNumber, WritesTag, ArenaMade, LimitIs, ChainMade, StateIs, ParkedAnew, ParkedOn, DependencyMade, DependencyIs, LabelMade, Linked, Unlinked, TransformMade, PairAdded, TransformDropped, Change, Unchanged, Aside, SlotIs, WordIs, MessageTaken, TableMade, AreaMade, BlocksMade, TableDropped, AreaDropped, CellsAre, BlockWordIs, PlaceEmptied, Allocated, PoolMade, PointMade, PointDropped, Opened, Written, Closed, Committed, Substituted, Registered, Unregistered, are_empty_classes, CacheMade, BlockUncached, BlockCached, CacheFlushed}
 
 not_not : (b : Bool) → not b ≡ false → b ≡ true
 not_not true h = refl
@@ -33,6 +35,17 @@ not_not false h = absurd (true≢false h)
 none_there : {A : Type 0} (o : Option A) → is_some o ≡ false → o ≡ None
 none_there None h = refl
 none_there (Some x) h = absurd (true≢false h)
+
+pub sized_is_manual : (kind : PoolKind) (words : ℕ) → allows_size kind words ≡ true → is_automatic_kind kind ≡ false
+sized_is_manual (Collected kind) words h = absurd (true≢false (sym h))
+sized_is_manual (OneSize size) words h = refl
+sized_is_manual AnySize words h = refl
+
+none_cached : (count : ℕ) (sizes limits : List ℕ) → are_empty_classes (new_classes count sizes limits) ≡ true
+none_cached zero sizes limits = refl
+none_cached (suc count) [] limits = refl
+none_cached (suc count) (size ∷ sizes) [] = refl
+none_cached (suc count) (size ∷ sizes) (limit ∷ limits) = none_cached count sizes limits
 
 module _ (marked : Bool) (judged v : World) where
   abbrev Leads : Call → Checked Act → Type 0
@@ -97,6 +110,24 @@ module _ (marked : Bool) (judged v : World) where
       by_case : (b : Bool) → Leads (call.TransformApply name) (if b then says reply.No v else says reply.Yes (world_substituted v name n))
       by_case true = accepted Unchanged
       by_case false = accepted (Substituted name n refl is parked)
+
+  takes : (cache : Name) (from : Numbered Cache) (words : ℕ) (into : Slot) (place : Found (Option ℕ)) (p : Pool)
+      → cache_named v cache ≡ Ok from → pool_at judged from.value.pool ≡ Some p → block_place_in v into ≡ Ok place
+      → allows_size p.kind words ≡ true → place.value ≡ None → (o : Option (Id × List CacheClass))
+      → taken_from from.value.classes words ≡ o → Leads (call.CacheAlloc cache words into) (act_taken judged v from words place o)
+  takes cache from words into place p e of e' size none None is =
+      after_check (refuse_without_place (placement_of judged (ForAlloc from.value.pool words)))
+      (accepted (Allocated (record { number = from.value.pool; value = p }) words place _ refl of (sized_is_manual p.kind words size) size
+      (Now into e') none))
+  takes cache from words into place p e of e' size none (Some taken) is =
+      accepted (BlockUncached cache from words into place taken.0 taken.1 refl e is e' none)
+
+  keeps : (cache : Name) (into : Numbered Cache) (from : Slot) (place : Found (Option ℕ)) (id : ℕ) → cache_named v cache ≡ Ok into
+      → block_place_in v from ≡ Ok place → place.value ≡ Some id → pool_of v id ≡ into.value.pool → (o : Option (List CacheClass))
+      → kept_by v into.value id ≡ o → Leads (call.CacheFree cache from) (act_kept v into place o)
+  keeps cache into from place id e e' has own None is = accepted (PlaceEmptied from place id refl e' has)
+  keeps cache into from place id e e' has own (Some classes) is =
+      accepted (BlockCached cache into from place id classes refl e e' has own is)
 
   pub act_changes_so : (c : Call) → Leads c (act marked judged v c)
   act_changes_so (call.Arena grains limit) = accepted (Aside _ (ArenaMade grains limit refl))
@@ -163,12 +194,37 @@ module _ (marked : Bool) (judged v : World) where
       unless (is_automatic_kind p.value.kind) refusal.WrongPool (λ kind.
       with_value (block_place_in judged place) (λ (at : Found (Option ℕ)) e'.
       unless (not (allows_size p.value.kind words)) refusal.BadSize (λ size.
-      after_check (refuse_when (is_some at.value) refusal.NameTaken)
-      (after_check (refuse_without_place (placement_of judged (ForAlloc p.number words)))
-      (accepted (Allocated pool p words place at _ refl e kind (not_not (allows_size p.value.kind words) size) e')))))))
+      unless (is_some at.value) refusal.NameTaken (λ none.
+      after_check (refuse_without_place (placement_of judged (ForAlloc p.number words)))
+      (accepted (Allocated p words at _ refl (pool_named-is judged pool p e) kind (not_not (allows_size p.value.kind words) size)
+      (Before place e') (none_there at.value none))))))))
   act_changes_so (call.Free place) =
       with_value (block_place_in v place) (λ (at : Found (Option ℕ)) e.
-      after_check (block_in at) (accepted (PlaceEmptied place at refl e)))
+      checked (block_in at) (λ (id : ℕ) f. accepted (PlaceEmptied place at id refl e (required-is at.value refusal.NotABlock id f))))
+  act_changes_so (call.Cache cache pool count sizes limits) =
+      let classes = new_classes count sizes limits in
+      after_check (refuse_taken v cache) (with_value (pool_named v pool) (λ (of : Numbered Pool) e.
+      unless (not (may_have_cache of.value.kind)) refusal.WrongPool (λ may.
+      after_check (refuse_when (not (are_class_sizes 0 classes)) refusal.BadSize)
+      (after_check (refuse_at_limit (length v.graph.caches) most_caches)
+      (accepted (CacheMade cache pool of classes e (not_not (may_have_cache of.value.kind) may) (none_cached count sizes limits)))))))
+  act_changes_so (call.CacheAlloc cache words place) =
+      with_value (cache_named v cache) (λ (from : Numbered Cache) e.
+      with_value (required (pool_at judged from.value.pool) refusal.BadName) (λ (p : Pool) f.
+      with_value (block_place_in v place) (λ (at : Found (Option ℕ)) e'.
+      unless (not (allows_size p.kind words)) refusal.BadSize (λ size.
+      unless (is_some at.value) refusal.NameTaken (λ none.
+      takes cache from words place at p e (required-is (pool_at judged from.value.pool) refusal.BadName p f) e'
+      (not_not (allows_size p.kind words) size) (none_there at.value none) (taken_from from.value.classes words) refl)))))
+  act_changes_so (call.CacheFree cache place) =
+      with_value (cache_named v cache) (λ (into : Numbered Cache) e.
+      with_value (block_place_in v place) (λ (at : Found (Option ℕ)) e'.
+      with_value (block_in at) (λ (id : ℕ) f.
+      unless (not (pool_of v id == into.value.pool)) refusal.WrongPool (λ own.
+      keeps cache into place at id e e' (required-is at.value refusal.NotABlock id f)
+      (eqb-true (pool_of v id) into.value.pool (not_not (pool_of v id == into.value.pool) own)) (kept_by v into.value id) refl))))
+  act_changes_so (call.CacheFlush cache) =
+      with_value (cache_named v cache) (λ (from : Numbered Cache) e. accepted (CacheFlushed cache from refl e))
   act_changes_so (call.Load place word) =
       andthen (block_place_in v place) (λ (at : Found (Option ℕ)). andthen (block_in at) (λ (id : ℕ).
       andthen (required (slice_get (words_at v.graph id) word) refusal.BadIndex) (λ (n : ℕ). accepted Unchanged)))

@@ -1,5 +1,5 @@
 -- What a change aside of objects, roots and collections leaves, whatever it is.
-use Rattle.std.proofs.Common.{◌≡◌, ◌∙◌, Bool, true, false, refl, sym}
+use Rattle.std.proofs.Common.{◌≡◌, ◌∙◌, Bool, false, refl, sym}
 use Rattle.std.proofs.lemmas.Bool.{true≢false}
 use Rattle.mps_model.specs.declared.call.Call.{Call}
 use Rattle.mps_model.specs.World.{World}

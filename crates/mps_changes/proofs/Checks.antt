@@ -5,9 +5,9 @@ use Rattle.std.specs.Prelude.{option_and_then, slice_get, slice_set}
 use Rattle.mps_base.specs.declared.names.Name.{Name}
 use Rattle.mps_base.specs.declared.refusal.Refusal.{Refusal}
 use Rattle.mps_base.specs.declared.refusal.Refusal.TheVariants as refusal
-use Rattle.mps_model.specs.Graph.{Graph, Point, Thing, ChainThing, PoolThing, TableThing, AreaThing, BlocksThing, PointThing, DependencyThing, TransformThing, CacheThing, LabelThing, entry_at, thing_named, without_name}
+use Rattle.mps_model.specs.Graph.{Graph, Point, Thing, ChainThing, PoolThing, TableThing, AreaThing, BlocksThing, PointThing, DependencyThing, TransformThing, CacheThing, LabelThing, entry_at, thing_named, without_name, Cache}
 use Rattle.mps_model.specs.World.{World, Pool}
-use Rattle.mps_model.specs.Checked.{Act, Checked, Numbered, ◌>>=◌, ◌>>◌, as_point, as_pool, as_transform, number_named, numbered, required, refuse_when, point_named, pool_named, transform_named}
+use Rattle.mps_model.specs.Checked.{Act, Checked, Numbered, ◌>>=◌, ◌>>◌, as_point, as_pool, as_transform, number_named, numbered, required, refuse_when, point_named, pool_named, transform_named, as_cache, cache_named}
 use Rattle.mps_model.specs.Making.{graph_without_root}
 use Rattle.mps_changes.specs.Change.{ForAct, accepted, refused}
 
@@ -90,6 +90,10 @@ transform_thing (Some (LabelThing m)) n e = absurd cc
 pub transform_named-is : (w : World) (name : Name) (n : ℕ) → transform_named w name ≡ Ok n
     → thing_named w.graph name ≡ Some (TransformThing n)
 transform_named-is w name n e = transform_thing (thing_named w.graph name) n e
+
+pub cache_named-is : (w : World) (name : Name) (q : Numbered Cache) → cache_named w name ≡ Ok q
+    → slice_get w.graph.caches q.number ≡ Some q.value
+cache_named-is w name q e = (named_by (number_named w name as_cache) (λ n. slice_get w.graph.caches n) q e).1
 
 -- of an act after a check whose value it uses
 pub andthen : {A : Type 0} {Holds : World → Type 0} (x : Checked A) {f : A → Checked Act} → ((a : A) → ForAct Holds (f a))

@@ -4,3 +4,4 @@ pub mod AsideFacts
 pub mod Lookups
 pub mod Entries
 pub mod Written
+pub mod OneMore

@@ -1,6 +1,6 @@
 -- What a call of the client may change of a world, as data: one case for each way, with what the call's checks found. Which call makes
 -- which change is said by one walk over all calls (`ActChanges`); facts of the worlds after calls then go by cases over changes.
-use Rattle.std.specs.Prelude.{◌≡◌, ◌⊎◌, ℕ, Bool, true, false, nat_lt, length, List, [], ◌∷◌, Option, Some, None, option_map, Ok, Err, slice_set}
+use Rattle.std.specs.Prelude.{◌≡◌, ◌⊎◌, ℕ, Bool, true, false, nat_lt, length, List, [], ◌∷◌, Option, Some, None, option_map, Ok, Err, slice_set, ◌&&◌, map, slice_get}
 use Rattle.mps_base.specs.declared.refusal.Refusal.{Refusal}
 use Rattle.mps_model.specs.Reply.{act}
 use Rattle.mps_base.specs.Address.{Address}
@@ -9,9 +9,9 @@ use Rattle.mps_base.specs.declared.names.Rank.{Rank}
 use Rattle.mps_base.specs.declared.names.Slot.{Slot}
 use Rattle.mps_model.specs.declared.call.Call.{Call}
 use Rattle.mps_model.specs.declared.call.Call.TheVariants as call
-use Rattle.mps_model.specs.Graph.{ChainThing, TableThing, AreaThing, DependencyThing, TransformThing, thing_named, is_taken, with_tag_cell, without_holder, Object, Cell, NumberCell, AreaWord, PlainWord, Hold, Point, Reservation, with_last, with_target_cell, graph_with_cells, position_of_first, without_first, without_name}
-use Rattle.mps_model.specs.World.{World, Pool, PoolKind, Collected, OneSize, AnySize, ArenaState, Parked, Dependency, is_automatic_kind, is_parked, is_parked_state, pairs_in, block_of_word}
-use Rattle.mps_model.specs.Checked.{Act, Checked, Found, Numbered, block_place_in, cells_of_body, named, number_at, object_in, point_named, pool_named, reference_at, slot_in, with_graph, word_in}
+use Rattle.mps_model.specs.Graph.{ChainThing, TableThing, AreaThing, DependencyThing, TransformThing, thing_named, is_taken, with_tag_cell, without_holder, Object, Cell, NumberCell, AreaWord, PlainWord, Hold, Point, Reservation, with_last, with_target_cell, graph_with_cells, position_of_first, without_first, without_name, Cache, CacheClass}
+use Rattle.mps_model.specs.World.{World, Pool, PoolKind, Collected, OneSize, AnySize, ArenaState, Parked, Dependency, is_automatic_kind, is_parked, is_parked_state, pairs_in, block_of_word, pool_of}
+use Rattle.mps_model.specs.Checked.{Act, Checked, Found, Numbered, block_place_in, cells_of_body, named, number_at, object_in, point_named, pool_named, reference_at, slot_in, with_graph, word_in, cache_named}
 use Rattle.mps_model.specs.Making.{graph_with_area, graph_with_blocks, graph_with_table, is_block_size, may_have_point, with_point, with_pool, without_point}
 use Rattle.mps_model.specs.Allocating.{Reserving, allows_size, check_reserve, graph_allocated, graph_with_word, with_block_place, with_reservation, with_reserved, with_slot, world_committed}
 use Rattle.mps_model.specs.Accessing.{AsBlock, held_in, hold_of, poked, with_word}
@@ -19,6 +19,7 @@ use Rattle.mps_model.specs.Tagging.{tag_count}
 use Rattle.mps_model.specs.Labelling.{graph_with_label}
 use Rattle.mps_model.specs.Dependents.{graph_with_dependents, may_depend, with_dependent}
 use Rattle.mps_model.specs.Transforms.{graph_with_transform, with_pair, without_transform, world_substituted}
+use Rattle.mps_model.specs.Caches.{emptied, graph_cached, graph_uncached, graph_with_cache, kept_by, may_have_cache, taken_from, with_classes}
 use Rattle.mps_model.specs.Dependency.{with_dependency}
 use Rattle.mps_model.specs.Collecting.{with_state, without_registration}
 
@@ -38,7 +39,20 @@ is_placing (call.Arena grains limit) = true
 is_placing (call.Reserve point head) = true
 is_placing (call.Commit point target) = true
 is_placing (call.Alloc pool words place) = true
+is_placing (call.CacheAlloc cache words place) = true
 is_placing _ = false
+
+-- whether a call may make a manual block
+abbrev pub allocates : Call → Bool
+allocates (call.Alloc pool words place) = true
+allocates (call.CacheAlloc cache words place) = true
+allocates _ = false
+
+-- whether a call may free the block in a place
+abbrev pub frees : Call → Bool
+frees (call.Free place) = true
+frees (call.CacheFree cache place) = true
+frees _ = false
 
 abbrev pub changes_dependencies : Call → Bool
 changes_dependencies (call.Dependency dependency) = true
@@ -84,6 +98,15 @@ pub record IsInSlot (v : World) (object : Numbered Object) : Type 0 where
   pub from : Found (Option ℕ)
   pub there : slot_in v slot ≡ Ok from
   pub is : object_in v from.value ≡ Ok object
+
+abbrev pub is_empty_list : List ℕ → Bool
+is_empty_list [] = true
+is_empty_list (id ∷ ids) = false
+
+-- whether nothing lies in some classes
+abbrev pub are_empty_classes : List CacheClass → Bool
+are_empty_classes [] = true
+are_empty_classes (k ∷ ks) = is_empty_list k.cached && are_empty_classes ks
 
 -- a call that makes a pool
 abbrev pub makes_pool : Call → Bool
@@ -174,12 +197,27 @@ module _ (marked : Bool) (c : Call) (judged v : World) where
     CellsAre : (object : Numbered Object) (change : List Cell → List Cell) → IsInSlot v object
         → IsWritten (cells_of_body object.value.body) change → Change (with_graph v (graph_with_cells v.graph object.number change))
     BlockWordIs : (id k value : ℕ) → Change (with_graph v (graph_with_word v.graph id k value))
-    PlaceEmptied : (from : Slot) (place : Found (Option ℕ)) → c ≡ call.Free from → block_place_in v from ≡ Ok place
+    PlaceEmptied : (from : Slot) (place : Found (Option ℕ)) (id : ℕ) → frees c ≡ true → block_place_in v from ≡ Ok place
+        → place.value ≡ Some id
         → Change (with_graph v (with_block_place v.graph place None))
-    Allocated : (pool : Name) (p : Numbered Pool) (words : ℕ) (into : Slot) (place : Found (Option ℕ)) (at : Address)
-        → c ≡ call.Alloc pool words into → pool_named judged pool ≡ Ok p → is_automatic_kind p.value.kind ≡ false
-        → allows_size p.value.kind words ≡ true → block_place_in judged into ≡ Ok place
+    Allocated : (p : Numbered Pool) (words : ℕ) (place : Found (Option ℕ)) (at : Address)
+        → allocates c ≡ true → slice_get judged.pools p.number ≡ Some p.value → is_automatic_kind p.value.kind ≡ false
+        → allows_size p.value.kind words ≡ true → IsFoundBy block_place_in judged v place → place.value ≡ None
         → Change (record v { graph = graph_allocated v.graph p.number words place; addresses = with_last v.addresses (Some at) })
+    -- caches
+    CacheMade : (name pool : Name) (of : Numbered Pool) (classes : List CacheClass) → pool_named v pool ≡ Ok of
+        → may_have_cache of.value.kind ≡ true → are_empty_classes classes ≡ true
+        → Change (with_graph v (graph_with_cache v.graph name (record { pool = of.number; classes = classes })))
+    BlockUncached : (name : Name) (cache : Numbered Cache) (words : ℕ) (into : Slot) (place : Found (Option ℕ)) (id : ℕ)
+        (classes : List CacheClass) → c ≡ call.CacheAlloc name words into → cache_named v name ≡ Ok cache
+        → taken_from cache.value.classes words ≡ Some (id, classes) → block_place_in v into ≡ Ok place → place.value ≡ None
+        → Change (with_graph v (graph_uncached v.graph cache classes place id))
+    BlockCached : (name : Name) (cache : Numbered Cache) (from : Slot) (place : Found (Option ℕ)) (id : ℕ) (classes : List CacheClass)
+        → c ≡ call.CacheFree name from → cache_named v name ≡ Ok cache → block_place_in v from ≡ Ok place → place.value ≡ Some id
+        → pool_of v id ≡ cache.value.pool → kept_by v cache.value id ≡ Some classes
+        → Change (with_graph v (graph_cached v.graph cache classes place))
+    CacheFlushed : (name : Name) (cache : Numbered Cache) → c ≡ call.CacheFlush name → cache_named v name ≡ Ok cache
+        → Change (with_graph v (with_classes v.graph cache (map emptied cache.value.classes)))
     -- pools and points
     PoolMade : (name : Name) (p : Pool) → makes_pool c ≡ true → is_kind_made p.kind ≡ true → Change (with_pool v name p)
     PointMade : (name pool : Name) (of : Numbered Pool) (at_rank : Rank) → c ≡ call.Point name pool at_rank → pool_named v pool ≡ Ok of

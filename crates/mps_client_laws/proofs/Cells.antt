@@ -2,11 +2,13 @@
 use Rattle.std.proofs.Common.{◌≡◌, inl, inr, ℕ, Bool, true, false, refl, sym, ◌∙◌, ap, subst, List, length, map, Option, Some, None}
 use Rattle.std.proofs.lemmas.Option.{none-some, slice_get-map}
 use Rattle.std.proofs.lemmas.Bool.{cases_eq}
+use Rattle.std.proofs.lemmas.List.{length-replicate}
 use Rattle.std.specs.Prelude.{slice_get, slice_set, option_map, option_and_then}
 use Rattle.std.specs.Option.{option_map_or}
 use Rattle.mps_model.specs.Graph.{Graph, Object, Body, Automatic, Manual, Cell, NumberCell, object_with_cells, body_with_cells, graph_with_cells, with_target_cell, with_tag_cell, retargeted, tagged}
 use Rattle.mps_model.specs.Checked.{cells_of_body, words_of_body}
 use Rattle.mps_model.specs.Allocating.{body_with_word, graph_with_word}
+use Rattle.mps_model.specs.Caches.{body_cleared, graph_cleared}
 use Rattle.mps_client_laws.specs.Objects.{Identity, identity_of, cell_at, word_at}
 use Rattle.mps_laws.proofs.Lookups.{slice_get-set_other, slice_set-same, length-slice_set, map-slice_set}
 use Rattle.mps_laws.proofs.Entries.{slice_get-written}
@@ -201,3 +203,42 @@ other_words_stay g id k value this j n differs there =
         → option_and_then (λ x. slice_get (words_of_body x.body) j) (option_map (object_with_word k value) o) ≡ Some n
     of_object None other there = absurd (none-some n there)
     of_object (Some x) other there = of_body x.body other there
+
+-- ---- a block is cleared
+
+abbrev pub object_cleared : Object → Object
+object_cleared o = record o { body = body_cleared o.body }
+
+pub clearing_keeps_identity : (o : Object) → identity_of (object_cleared o) ≡ identity_of o
+clearing_keeps_identity o = by_body o.body
+  where
+    of_size : Bool → (head : ℕ) → Bool → (size : ℕ) → Identity
+    of_size is_automatic head is_weak size =
+        record { pool = o.pool; is_automatic = is_automatic; size = size; head = head; is_weak = is_weak }
+
+    by_body : (b : Body) → identity_of (record { pool = o.pool; body = body_cleared b }) ≡ identity_of (record { pool = o.pool; body = b })
+    by_body (Automatic head cells is_weak) = refl
+    by_body (Manual words) = ap (of_size false 0 false) (length-replicate (length words) 0)
+
+cells_beside_clearing : (b : Body) → cells_of_body (body_cleared b) ≡ cells_of_body b
+cells_beside_clearing (Automatic head cells is_weak) = refl
+cells_beside_clearing (Manual words) = refl
+
+pub cells_beside_cleared : (g : Graph) (id this j : ℕ) → cell_at (graph_cleared g id) this j ≡ cell_at g this j
+cells_beside_cleared g id this j =
+    elim (cases_eq id this) [
+      | inl same ↦ subst (λ (n : ℕ). cell_at (graph_cleared g n) this j ≡ cell_at g this j) (sym same)
+          (ap (option_and_then (λ x. slice_get (cells_of_body x.body) j)) (this_is_changed g.objects this object_cleared)
+          ∙ of_object (slice_get g.objects this))
+      | inr other ↦ ap (option_and_then (λ x. slice_get (cells_of_body x.body) j)) (others_stay g.objects id this object_cleared other)
+    ]
+  where
+    of_object : (o : Option Object) → option_and_then (λ x. slice_get (cells_of_body x.body) j) (option_map object_cleared o)
+        ≡ option_and_then (λ x. slice_get (cells_of_body x.body) j) o
+    of_object None = refl
+    of_object (Some x) = ap (λ cells. slice_get cells j) (cells_beside_clearing x.body)
+
+pub words_of_others_stay : (g : Graph) (id this j n : ℕ) → (id ≡ this → ⊥) → word_at g this j ≡ Some n
+    → word_at (graph_cleared g id) this j ≡ Some n
+words_of_others_stay g id this j n other there =
+    ap (option_and_then (λ x. slice_get (words_of_body x.body) j)) (others_stay g.objects id this object_cleared other) ∙ there

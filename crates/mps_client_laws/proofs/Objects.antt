@@ -10,6 +10,7 @@ use Rattle.mps_model.specs.Step.{Step}
 use Rattle.mps_model.specs.Graph.{Graph, Object, Cell, with_last, graph_with_cells, object_with_cells, object_at, target_of_cell}
 use Rattle.mps_model.specs.World.{World}
 use Rattle.mps_model.specs.Checked.{Act, Checked, cells_of_body, words_of_body}
+use Rattle.mps_model.specs.Caches.{graph_cleared}
 use Rattle.mps_model.specs.Allocating.{graph_with_word}
 use Rattle.mps_model.specs.Reply.{act, world_from}
 use Rattle.mps_model.specs.History.{judged_world, moved_world, world_after, world_after_call}
@@ -17,12 +18,12 @@ use Rattle.mps_changes.specs.Change.{ForAct, accepted, refused}
 use Rattle.mps_changes.proofs.Checks.{for_world}
 use Rattle.mps_laws.proofs.Lookups.{slice_get-kept, map-with_last}
 use Rattle.mps_client_laws.specs.Objects.{Identity, identity_of, identity_at, cell_at, word_at, leaves_cell, leave_cell, leave_word, moves_leave_cell, writes_cell, writes_word, ObjectsKeepTheirIdentity, CellsStay, WordsStay, replaces}
-use Rattle.mps_client_laws.proofs.Cells.{identities_stay, cells_keep_identity, words_keep_identity, other_cells_stay, words_beside_cells, cells_beside_words, other_words_stay, object_with_word}
-use Rattle.mps_client_laws.proofs.WritesOfCalls.{Writes, Nothing, OneMore, ACell, AWord, Replaced, writes_of_act}
+use Rattle.mps_client_laws.proofs.Cells.{identities_stay, cells_keep_identity, words_keep_identity, other_cells_stay, words_beside_cells, cells_beside_words, other_words_stay, object_with_word, cells_beside_cleared, clearing_keeps_identity, object_cleared, words_of_others_stay}
+use Rattle.mps_client_laws.proofs.WritesOfCalls.{Writes, Nothing, OneMore, ACell, AWord, Replaced, writes_of_act, Clears}
+use Rattle.mps_laws.proofs.SameArena.{moved_alone}
 use Rattle.mps_client_laws.proofs.WritesOfMoves.{moved_world_leaves, same_cells_written, same_words_written}
 use Rattle.mps_model.specs.Transforms.{graph_substituted, is_old}
 use Rattle.mps_client_laws.proofs.Substituted.{identities, same_cell_at, same_word_at}
-use Rattle.mps_laws.proofs.SameArena.{moved_alone}
 use Rattle.std.specs.Option.{option_map_or}
 
 -- ---- what a call leaves, by what it writes
@@ -56,6 +57,11 @@ module _ (c : Call) (v : World) where
       ∙ sym (slice_get-map identity_of (graph_substituted v.graph pairs).objects id)
       ∙ ap (λ is. slice_get is id) (identities pairs v.graph.objects)
       ∙ slice_get-map identity_of v.graph.objects id ∙ there
+  identity_kept id is there u (Clears this written e) =
+      ap (λ os. identity_at (with_objects u.graph os) id) e
+      ∙ sym (slice_get-map identity_of (graph_cleared v.graph this).objects id)
+      ∙ ap (λ is. slice_get is id) (identities_stay v.graph.objects this object_cleared clearing_keeps_identity)
+      ∙ slice_get-map identity_of v.graph.objects id ∙ there
 
   -- what is written isn't what isn't
   not_written : (writes : (id k : ℕ) → Bool) (this j id k : ℕ) → writes this j ≡ true → writes id k ≡ false → this ≡ id → j ≡ k → ⊥
@@ -86,6 +92,8 @@ module _ (c : Call) (v : World) where
       ∙ same_cell_at pairs v.graph id k cell (ap (λ ps. option_map_or (is_old ps) (target_of_cell cell) false) pairs_are
       ∙ ap (λ o. replaces v (call.TransformApply transform) (option_and_then target_of_cell o)) (sym there)
       ∙ ap (λ d. writes_cell v d id k) (sym call_is) ∙ other) there
+  cell_kept id k cell other there u (Clears this written e) =
+      ap (λ os. cell_at (with_objects u.graph os) id k) e ∙ cells_beside_cleared v.graph this id k ∙ there
 
   word_kept : (id k word : ℕ) → writes_word v c id k ≡ false → word_at v.graph id k ≡ Some word → (u : World) → Writes c v u
       → word_at u.graph id k ≡ Some word
@@ -99,6 +107,9 @@ module _ (c : Call) (v : World) where
       ∙ other_words_stay v.graph this j value id k word (not_written (writes_word v c) this j id k written other) there
   word_kept id k word other there u (Replaced transform pairs call_is pairs_are e) =
       ap (λ os. word_at (with_objects u.graph os) id k) e ∙ same_word_at pairs v.graph id k ∙ there
+  word_kept id k word other there u (Clears this written e) =
+      ap (λ os. word_at (with_objects u.graph os) id k) e
+      ∙ words_of_others_stay v.graph this id k word (λ same. not_written (writes_word v c) this k id k (written k) other same refl) there
 
 -- from what a call writes to the world after it
 after_act : (P : World → Type 0) (marked : Bool) (judged v : World) (c : Call) → ((u : World) → Writes c v u → P u) → P v
@@ -159,7 +170,8 @@ word_after_step w s id k word leaves there =
     let now = left.words id k ∙ there in
     after_step (λ g. word_at g id k ≡ Some word) w s there
     (after_act (λ u. word_at u.graph id k ≡ Some word) (is_block s.answer) (judged_world w s.call s.moves) moved s.call
-    (word_kept s.call moved id k word (same_words_written moved w s.call id k left.names left.blocks ∙ leaves) now) now)
+    (word_kept s.call moved id k word (same_words_written moved w s.call id k left.names left.blocks (moved_alone w s.call s.moves).caches
+    ∙ leaves) now) now)
 
 -- ---- the laws
 

@@ -1,6 +1,6 @@
 -- Which refusals each call may have: one walk over all calls and their checks.
 use Rattle.std.proofs.Common.{ℕ, ◌+◌, Bool, true, false, refl, List, [], ◌∷◌, length, Option, Some, None, Ok, Err}
-use Rattle.std.specs.Prelude.{◌&&◌, if◌then◌else◌, is_none, is_some, nat_le, nat_lt, not, slice_get, count_by}
+use Rattle.std.specs.Prelude.{◌&&◌, if◌then◌else◌, is_none, is_some, nat_le, nat_lt, not, slice_get, count_by, ◌==◌}
 use Rattle.mps_base.specs.Staleness.{is_stale}
 use Rattle.mps_base.specs.declared.names.Name.{Name}
 use Rattle.mps_base.specs.declared.names.Slot.{Slot}
@@ -9,11 +9,12 @@ use Rattle.mps_base.specs.declared.refusal.Refusal.TheVariants as refusal
 use Rattle.mps_model.specs.declared.call.Call.{Call}
 use Rattle.mps_model.specs.declared.call.Call.TheVariants as call
 use Rattle.mps_model.specs.declared.reply.Reply.TheVariants as reply
-use Rattle.mps_model.specs.Graph.{AreaWord, PlainWord, Hold, Graph, Object, Point, Reservation, dependent_in, entry_at, is_taken, position_of_first, thing_named}
-use Rattle.mps_model.specs.World.{World, Pool, Dependency, block_of_word, committed, id_at, is_automatic_kind, is_running, pool_at, is_parked, pairs_in}
+use Rattle.mps_model.specs.Graph.{AreaWord, PlainWord, Hold, Graph, Object, Point, Reservation, dependent_in, entry_at, is_taken, position_of_first, thing_named, Cache, CacheClass}
+use Rattle.mps_model.specs.World.{World, Pool, Dependency, block_of_word, committed, id_at, is_automatic_kind, is_running, pool_at, is_parked, pairs_in, pool_of}
 use Rattle.mps_model.specs.Placement.{ForReserve, placement_of}
-use Rattle.mps_model.specs.Checked.{Act, Checked, Found, Numbered, ◌>>=◌, ◌>>◌, as_area, as_blocks, as_chain, as_dependency, as_label, as_point, as_pool, as_table, block_place_in, cells_of_body, chain_named, dependency_named, done, label_named, number_named, point_named, pool_named, says, slot_in, tells, with_graph, word_in, as_transform, transform_named}
-use Rattle.mps_model.specs.Making.{graph_without_root, is_block_size, live_points, live_roots, live_slots, make_pool, may_have_point, most_chains, most_dependencies, most_labels, most_points, most_pools, most_roots, most_slots, refuse_at_limit, refuse_root, refuse_taken}
+use Rattle.mps_model.specs.Checked.{Act, Checked, Found, Numbered, ◌>>=◌, ◌>>◌, as_area, as_blocks, as_chain, as_dependency, as_label, as_point, as_pool, as_table, block_place_in, cells_of_body, chain_named, dependency_named, done, label_named, number_named, point_named, pool_named, says, slot_in, tells, with_graph, word_in, as_transform, transform_named, cache_named, as_cache}
+use Rattle.mps_model.specs.Making.{graph_without_root, is_block_size, live_points, live_roots, live_slots, make_pool, may_have_point, most_chains, most_dependencies, most_labels, most_points, most_pools, most_roots, most_slots, refuse_at_limit, refuse_root, refuse_taken, most_caches}
+use Rattle.mps_model.specs.Caches.{act_kept, act_taken, are_class_sizes, kept_by, may_have_cache, new_classes, taken_from}
 use Rattle.mps_model.specs.Allocating.{Reserving, allows_size, block_in, check_reserve, refuse_without_place, takes_head, with_reservation, with_reserved, words_at, world_committed, address_of_placement}
 use Rattle.mps_model.specs.Accessing.{Poked, AsBlock, AsMarked, AsNumber, act_poke_in, act_poked, held_in, poked, same_target}
 use Rattle.mps_model.specs.Dependents.{may_depend, most_dependents}
@@ -50,6 +51,9 @@ module _ {whys : List Refusal} (w : World) where
 
     dependency_fails : Fails whys (dependency_named w name)
     dependency_fails = named_fails (number_named w name as_dependency) (slice_get w.dependencies) is
+
+    cache_fails : Fails whys (cache_named w name)
+    cache_fails = named_fails (number_named w name as_cache) (slice_get w.graph.caches) is
 
     label_fails : Fails whys (label_named w name)
     label_fails = named_fails (number_named w name as_label) (slice_get w.graph.labels) is
@@ -152,6 +156,18 @@ module _ (marked : Bool) (judged v : World) where
       check_then (reserve_fails judged (length r.cells) fourth fifth r.point.number)
       (value_then (point_fails v point first) (λ (p : Numbered Point). answered refl))
   reserves point head (Err why) (fails is) = is_refusal is
+
+  takes : (from : Numbered Cache) (words : ℕ) (place : Found (Option ℕ)) (o : Option (ℕ × List CacheClass))
+      → Comes (refusal.BadName ∷ refusal.BadIndex ∷ refusal.BadSize ∷ refusal.NameTaken
+      ∷ over_limit judged words ∷ no_run judged words ∷ [])
+      (act_taken judged v from words place o)
+  takes from words place (Some taken) = answered refl
+  takes from words place None = check_then (alloc_fails judged words fifth sixth from.value.pool) (answered refl)
+
+  keeps : {whys : List Refusal} (into : Numbered Cache) (place : Found (Option ℕ)) (o : Option (List CacheClass))
+      → Comes whys (act_kept v into place o)
+  keeps into place (Some classes) = answered refl
+  keeps into place None = answered refl
 
   pub refusals_of_act : (c : Call) → Right c
   refusals_of_act (call.Arena grains limit) = answered refl
@@ -296,6 +312,23 @@ module _ (marked : Bool) (judged v : World) where
       (applies v transform n (is_blocked v (pairs_of v.state n)))))
   refusals_of_act (call.TransformDrop transform) =
       value_then (transform_fails v transform first) (λ (n : ℕ). answered refl)
+  refusals_of_act (call.Cache cache pool count sizes limits) =
+      check_then (taken_fails v cache first) (value_then (pool_fails v pool second) (λ (of : Numbered Pool).
+      check_then (when_fails (not (may_have_cache of.value.kind)) refusal.WrongPool third)
+      (check_then (when_fails (not (are_class_sizes 0 (new_classes count sizes limits))) refusal.BadSize fourth)
+      (check_then (limit_fails v (length v.graph.caches) most_caches fifth) (answered refl)))))
+  refusals_of_act (call.CacheAlloc cache words place) =
+      value_then (cache_fails v cache first) (λ (from : Numbered Cache).
+      value_then (required_fails (pool_at judged from.value.pool) refusal.BadName first) (λ (p : Pool).
+      value_then (place_fails v place first second) (λ (at : Found (Option ℕ)).
+      check_then (when_fails (not (allows_size p.kind words)) refusal.BadSize third)
+      (check_then (when_fails (is_some at.value) refusal.NameTaken fourth) (takes from words at (taken_from from.value.classes words))))))
+  refusals_of_act (call.CacheFree cache place) =
+      value_then (cache_fails v cache first) (λ (into : Numbered Cache).
+      value_then (place_fails v place first second) (λ (at : Found (Option ℕ)).
+      value_then (block_fails v at third) (λ (id : ℕ).
+      check_then (when_fails (not (pool_of v id == into.value.pool)) refusal.WrongPool fourth) (keeps into at (kept_by v into.value id)))))
+  refusals_of_act (call.CacheFlush cache) = value_then (cache_fails v cache first) (λ (from : Numbered Cache). answered refl)
   refusals_of_act (call.Poke word value) =
       value_then (word_fails v word first second) (λ (at : Found AreaWord). pokes v marked value at (block_of_word v value))
   refusals_of_act (call.Peek word) = value_then (word_fails v word first second) (λ (at : Found AreaWord). answered refl)

@@ -18,7 +18,7 @@ use Rattle.mps_model.specs.Allocating.{Reserving, check_reserve, takes_head}
 use Rattle.mps_model.specs.Accessing.{same_target}
 use Rattle.mps_model.specs.Reply.{act, world_from}
 use Rattle.mps_model.specs.History.{IsAnsweredStep, IsLegalFrom, IsLegalStep, judged_world, moved_world, world_after, world_after_call, world_after_steps}
-use Rattle.mps_changes.specs.Change.{AsideIs, Change, Aside, ChainMade, TableMade, AreaMade, BlocksMade, TableDropped, AreaDropped, Closed, Committed, DependencyMade, LabelMade, Opened, PointDropped, PointMade, PoolMade, Written, Substituted, TransformDropped, TransformMade}
+use Rattle.mps_changes.specs.Change.{AsideIs, Change, Aside, ChainMade, TableMade, AreaMade, BlocksMade, TableDropped, AreaDropped, Closed, Committed, DependencyMade, LabelMade, Opened, PointDropped, PointMade, PoolMade, Written, Substituted, TransformDropped, TransformMade, CacheMade}
 use Rattle.mps_changes.proofs.ActChanges.{of_changes}
 use Rattle.mps_changes.proofs.Checks.{for_world, point_named-is}
 use Rattle.mps_changes.proofs.Lookups.{entry_at-set_other, entry_within}
@@ -159,6 +159,7 @@ module _ (marked : Bool) (c : Call) (judged v : World) (point : Name) (n : ℕ) 
     change_later u (BlocksMade name places e) = one_named u _ refl refl
     change_later u (TableDropped name k is) = one_unnamed u name (not_named name (TableThing k) is refl) refl h.there
     change_later u (AreaDropped name k is) = one_unnamed u name (not_named name (AreaThing k) is refl) refl h.there
+    change_later u (CacheMade name pool of classes e may none) = one_named u _ refl refl
     change_later u (PoolMade name p e made) = one_named u _ refl refl
     change_later u (PointMade name pool of at_rank e is may) = stays point n u.graph r (record {
       named = named_kept v.graph.names _ point (PointThing n) h.named;

@@ -1,6 +1,6 @@
 -- What each call writes of slots and names: one walk over all calls and their checks.
-use Rattle.std.proofs.Common.{◌≡◌, ℕ, ◌+◌, Bool, true, false, refl, ap, List, [], ◌∷◌, length, Option, Some, None, Ok, sym}
-use Rattle.std.specs.Prelude.{◌&&◌, if◌then◌else◌, is_none, is_some, nat_le, nat_lt, not, slice_get, slice_set}
+use Rattle.std.proofs.Common.{◌≡◌, ℕ, ◌+◌, Bool, true, false, refl, ap, List, [], ◌∷◌, length, Option, Some, None, Ok, sym, ◌⊎◌, inl, inr}
+use Rattle.std.specs.Prelude.{◌&&◌, if◌then◌else◌, is_none, is_some, nat_le, nat_lt, not, slice_get, slice_set, ◌==◌, count_by, map, option_and_then}
 use Rattle.mps_base.specs.Staleness.{is_stale}
 use Rattle.mps_base.specs.declared.names.Name.{Name}
 use Rattle.mps_base.specs.declared.names.Slot.{Slot}
@@ -9,10 +9,11 @@ use Rattle.mps_model.specs.declared.call.Call.{Call}
 use Rattle.mps_model.specs.declared.call.Call.TheVariants as call
 use Rattle.mps_model.specs.declared.reply.Reply.TheVariants as reply
 use Rattle.mps_model.specs.Dependents.{may_depend, most_dependents}
-use Rattle.mps_model.specs.Graph.{Graph, Object, Cell, NumberCell, AreaWord, Point, Reservation, dependent_in, is_taken, position_of_first, thing_named, with_last, with_target_cell}
-use Rattle.mps_model.specs.World.{World, committed, Pool, Dependency, block_of_word, id_at, is_automatic_kind, is_running, TransformPair, is_parked, pairs_in}
-use Rattle.mps_model.specs.Checked.{Act, Checked, Found, Numbered, block_place_in, cells_of_body, chain_named, dependency_named, done, label_named, tag_at, number_at, object_in, point_named, pool_named, reference_at, refuse_when, required, says, slot_in, tells, with_graph, word_in}
-use Rattle.mps_model.specs.Making.{graph_without_root, is_block_size, live_points, make_pool, may_have_point, most_chains, most_dependencies, most_labels, most_points, most_pools, refuse_at_limit, refuse_root, refuse_taken}
+use Rattle.mps_model.specs.Graph.{Graph, Object, Cell, NumberCell, AreaWord, Point, Reservation, dependent_in, is_taken, position_of_first, thing_named, with_last, with_target_cell, Cache, CacheClass, NamedThing, Slots, Thing, TableThing, without_name}
+use Rattle.mps_model.specs.World.{World, committed, Pool, Dependency, block_of_word, id_at, is_automatic_kind, is_running, TransformPair, is_parked, pairs_in, pool_at, pool_of}
+use Rattle.mps_model.specs.Checked.{Act, Checked, Found, Numbered, block_place_in, cells_of_body, chain_named, dependency_named, done, label_named, tag_at, number_at, object_in, point_named, pool_named, reference_at, refuse_when, required, says, slot_in, tells, with_graph, word_in, cache_named, as_point, as_table, as_transform, number_named, transform_named}
+use Rattle.mps_model.specs.Making.{graph_without_root, is_block_size, live_points, make_pool, may_have_point, most_chains, most_dependencies, most_labels, most_points, most_pools, refuse_at_limit, refuse_root, refuse_taken, most_caches}
+use Rattle.mps_model.specs.Caches.{act_kept, act_taken, are_class_sizes, kept_by, may_have_cache, new_classes, taken_from}
 use Rattle.mps_model.specs.Placement.{ForAlloc, ForReserve, placement_of}
 use Rattle.mps_model.specs.Allocating.{Reserving, allows_size, block_in, check_reserve, refuse_without_place, with_reservation, with_reserved_cells, words_at, world_committed}
 use Rattle.mps_model.specs.Accessing.{Poked, AsBlock, AsMarked, AsNumber, act_poke_in, act_poked, held_in, poked, same_target}
@@ -20,11 +21,7 @@ use Rattle.mps_model.specs.Collecting.{act_message_in, most_registrations}
 use Rattle.mps_model.specs.Reply.{act}
 use Rattle.mps_changes.proofs.Checks.{with_value, after_check, andthen, point_named-is, required-is, without_root, transform_named-is}
 use Rattle.mps_changes.specs.Change.{ForAct, accepted}
-use Rattle.std.proofs.Common.{◌⊎◌, inl, inr}
-use Rattle.std.specs.Prelude.{count_by, map, option_and_then}
 use Rattle.std.proofs.lemmas.Option.{none-some}
-use Rattle.mps_model.specs.Graph.{NamedThing, Slots, Thing, TableThing, without_name}
-use Rattle.mps_model.specs.Checked.{as_point, as_table, as_transform, number_named, transform_named}
 use Rattle.mps_client_laws.specs.Slots.{slot_written_by}
 use Rattle.mps_model.specs.Transforms.{has_live_reservation, is_blocked, is_old, most_pairs, most_transforms, pairs_of, world_substituted, slots_substituted}
 use Rattle.std.specs.List.{list_any}
@@ -145,6 +142,16 @@ module _ (marked : Bool) (judged v : World) where
         tables = ReplacedSlots transform (pairs_of v.state n) refl (sym (ap (λ o. option_map_or (pairs_of v.state) o [])
             (required-is (number_named v transform as_transform) refusal.BadName n e))) refl;
       })
+
+  takes : {c : Call} (from : Numbered Cache) (words : ℕ) (place : Found (Option ℕ)) (o : Option (ℕ × List CacheClass))
+      → Leads c (act_taken judged v from words place o)
+  takes from words place (Some taken) = accepted (same refl refl)
+  takes from words place None =
+      after_check (refuse_without_place (placement_of judged (ForAlloc from.value.pool words))) (accepted (same refl refl))
+
+  keeps : {c : Call} (into : Numbered Cache) (place : Found (Option ℕ)) (o : Option (List CacheClass)) → Leads c (act_kept v into place o)
+  keeps into place (Some classes) = accepted (same refl refl)
+  keeps into place None = accepted (same refl refl)
 
   pub slots_of_act : (c : Call) → Leads c (act marked judged v c)
   slots_of_act (call.Arena grains limit) = accepted (same refl refl)
@@ -292,6 +299,22 @@ module _ (marked : Bool) (judged v : World) where
         names = OneUnnamed transform (inl (no_table_of_transform transform n e)) refl;
         tables = AsBefore refl;
       }))
+  slots_of_act (call.Cache cache pool count sizes limits) =
+      after_check (refuse_taken v cache) (andthen (pool_named v pool) (λ (of : Numbered Pool).
+      after_check (refuse_when (not (may_have_cache of.value.kind)) refusal.WrongPool)
+      (after_check (refuse_when (not (are_class_sizes 0 (new_classes count sizes limits))) refusal.BadSize)
+      (after_check (refuse_at_limit (length v.graph.caches) most_caches) (accepted (named_one _ refl refl))))))
+  slots_of_act (call.CacheAlloc cache words place) =
+      andthen (cache_named v cache) (λ (from : Numbered Cache).
+      andthen (required (pool_at judged from.value.pool) refusal.BadName) (λ (p : Pool).
+      andthen (block_place_in v place) (λ (at : Found (Option ℕ)).
+      after_check (refuse_when (not (allows_size p.kind words)) refusal.BadSize)
+      (after_check (refuse_when (is_some at.value) refusal.NameTaken) (takes from words at (taken_from from.value.classes words))))))
+  slots_of_act (call.CacheFree cache place) =
+      andthen (cache_named v cache) (λ (into : Numbered Cache). andthen (block_place_in v place) (λ (at : Found (Option ℕ)).
+      andthen (block_in at) (λ (id : ℕ). after_check (refuse_when (not (pool_of v id == into.value.pool)) refusal.WrongPool)
+      (keeps into at (kept_by v into.value id)))))
+  slots_of_act (call.CacheFlush cache) = andthen (cache_named v cache) (λ (from : Numbered Cache). accepted (same refl refl))
   slots_of_act (call.Peek word) = andthen (word_in v word) (λ (at : Found AreaWord). accepted (same refl refl))
   slots_of_act (call.Pin word slot) =
       andthen (word_in v word) (λ (at : Found AreaWord). andthen (slot_in v slot) (λ (from : Found (Option ℕ)).

@@ -1,7 +1,7 @@
 -- What each call writes of objects: the one walk over all calls and their checks.
 use Rattle.std.proofs.Common.{◌≡◌, ℕ, ◌+◌, Bool, true, false, refl, ap, ◌∙◌, List, [], ◌∷◌, length, Option, Some, None, Ok, sym}
 use Rattle.std.proofs.lemmas.Bool.{and_from, eq-eqb}
-use Rattle.std.specs.Prelude.{◌&&◌, ◌==◌, ◌%◌, if◌then◌else◌, is_none, is_some, nat_le, nat_lt, not, slice_get, slice_set, count_by}
+use Rattle.std.specs.Prelude.{◌&&◌, ◌==◌, ◌%◌, if◌then◌else◌, is_none, is_some, nat_le, nat_lt, not, slice_get, slice_set, count_by, option_map}
 use Rattle.mps_base.specs.Staleness.{is_stale}
 use Rattle.mps_base.specs.declared.names.Name.{Name}
 use Rattle.mps_base.specs.declared.names.Slot.{Slot}
@@ -9,12 +9,13 @@ use Rattle.mps_base.specs.declared.refusal.Refusal.TheVariants as refusal
 use Rattle.mps_model.specs.declared.call.Call.{Call}
 use Rattle.mps_model.specs.declared.call.Call.TheVariants as call
 use Rattle.mps_model.specs.declared.reply.Reply.TheVariants as reply
-use Rattle.mps_model.specs.Graph.{Graph, Object, Cell, NumberCell, AreaWord, Point, Reservation, dependent_in, is_taken, position_of_first, thing_named, with_last, with_tag_cell, with_target_cell, graph_with_cells}
+use Rattle.mps_model.specs.Graph.{Cache, CacheClass, Graph, Object, Cell, NumberCell, AreaWord, Point, Reservation, dependent_in, is_taken, position_of_first, thing_named, with_last, with_tag_cell, with_target_cell, graph_with_cells}
 use Rattle.mps_model.specs.Tagging.{tag_count}
 use Rattle.mps_model.specs.Dependents.{may_depend, most_dependents}
-use Rattle.mps_model.specs.World.{World, committed, Pool, Dependency, block_of_word, id_at, is_automatic_kind, is_running, TransformPair, is_parked, pairs_in}
-use Rattle.mps_model.specs.Checked.{Act, Checked, Found, Numbered, block_place_in, cells_of_body, chain_named, dependency_named, done, label_named, tag_at, number_at, object_in, point_named, pool_named, reference_at, refuse_when, required, says, slot_in, tells, with_graph, word_in, as_transform, number_named, transform_named}
-use Rattle.mps_model.specs.Making.{graph_without_root, is_block_size, live_points, make_pool, may_have_point, most_chains, most_dependencies, most_labels, most_points, most_pools, refuse_at_limit, refuse_root, refuse_taken}
+use Rattle.mps_model.specs.World.{World, committed, Pool, Dependency, block_of_word, id_at, is_automatic_kind, is_running, TransformPair, is_parked, pairs_in, pool_at, pool_of}
+use Rattle.mps_model.specs.Checked.{Act, Checked, Found, Numbered, block_place_in, cells_of_body, chain_named, dependency_named, done, label_named, tag_at, number_at, object_in, point_named, pool_named, reference_at, refuse_when, required, says, slot_in, tells, with_graph, word_in, as_transform, number_named, transform_named, cache_named}
+use Rattle.mps_model.specs.Making.{graph_without_root, is_block_size, live_points, make_pool, may_have_point, most_chains, most_dependencies, most_labels, most_points, most_pools, refuse_at_limit, refuse_root, refuse_taken, most_caches}
+use Rattle.mps_model.specs.Caches.{act_kept, act_taken, are_class_sizes, graph_cleared, kept_by, may_have_cache, new_classes, taken_from}
 use Rattle.mps_model.specs.Placement.{ForAlloc, ForReserve, placement_of}
 use Rattle.mps_model.specs.Allocating.{Reserving, allows_size, block_in, check_reserve, committed_object, graph_with_word, refuse_without_place, with_reservation, with_reserved_cells, words_at, world_committed}
 use Rattle.mps_model.specs.Accessing.{Poked, AsBlock, AsMarked, AsNumber, act_poke_in, act_poked, held_in, poked, same_target}
@@ -24,7 +25,7 @@ use Rattle.mps_changes.proofs.Checks.{with_value, after_check, andthen, required
 use Rattle.mps_changes.specs.Change.{ForAct, accepted}
 use Rattle.mps_laws.specs.Held.{target_of_slot, target_found}
 use Rattle.mps_laws.proofs.FoundBy.{object_found}
-use Rattle.mps_client_laws.specs.Objects.{writes_cell, writes_word, is_this, block_of_place, pairs_named}
+use Rattle.mps_client_laws.specs.Objects.{writes_cell, writes_word, is_this, block_of_place, pairs_named, block_taken}
 use Rattle.mps_client_laws.proofs.Cells.{WritesOneCell, number_is_one_cell, target_is_one_cell, tag_is_one_cell}
 use Rattle.mps_model.specs.Transforms.{has_live_reservation, is_blocked, is_old, most_pairs, most_transforms, pairs_of, world_substituted, graph_substituted}
 use Rattle.std.specs.List.{list_any}
@@ -39,6 +40,7 @@ pub data Writes (c : Call) (v u : World) : Type 0 where
   AWord : (id k value : ℕ) → writes_word v c id k ≡ true → u.graph.objects ≡ (graph_with_word v.graph id k value).objects → Writes c v u
   Replaced : (transform : Name) (pairs : List TransformPair) → c ≡ call.TransformApply transform → pairs ≡ pairs_named v transform
       → u.graph.objects ≡ (graph_substituted v.graph pairs).objects → Writes c v u
+  Clears : (id : ℕ) → ((k : ℕ) → writes_word v c id k ≡ true) → u.graph.objects ≡ (graph_cleared v.graph id).objects → Writes c v u
 
 is_this-same : (id : ℕ) (target : Option ℕ) → target ≡ Some id → is_this id target ≡ true
 is_this-same id target e = ap (is_this id) e ∙ eq-eqb id id refl
@@ -119,6 +121,19 @@ module _ (marked : Bool) (judged v : World) where
       by_case false =
           accepted (Replaced transform (pairs_of v.state n) refl (sym (ap (λ o. option_map_or (pairs_of v.state) o [])
           (required-is (number_named v transform as_transform) refusal.BadName n e))) refl)
+
+  takes : (cache : Name) (from : Numbered Cache) (words : ℕ) (into : Slot) (place : Found (Option ℕ)) → cache_named v cache ≡ Ok from
+      → (o : Option (ℕ × List CacheClass)) → taken_from from.value.classes words ≡ o
+      → Leads (call.CacheAlloc cache words into) (act_taken judged v from words place o)
+  takes cache from words into place e (Some taken) is =
+      accepted (Clears taken.0 (λ k. is_this-same taken.0 (block_taken (cache_named v cache) words)
+      (ap (λ q. block_taken q words) e ∙ ap (option_map (λ (t : ℕ × List CacheClass). t.0)) is)) refl)
+  takes cache from words into place e None is =
+      after_check (refuse_without_place (placement_of judged (ForAlloc from.value.pool words))) (accepted (OneMore _ refl))
+
+  keeps : {c : Call} (into : Numbered Cache) (place : Found (Option ℕ)) (o : Option (List CacheClass)) → Leads c (act_kept v into place o)
+  keeps into place (Some classes) = accepted (same refl)
+  keeps into place None = accepted (same refl)
 
   pub writes_of_act : (c : Call) → Leads c (act marked judged v c)
   writes_of_act (call.Arena grains limit) = accepted (same refl)
@@ -263,6 +278,23 @@ module _ (marked : Bool) (judged v : World) where
       (after_check (refuse_when (list_any has_live_reservation v.graph.points) refusal.Open) (applies transform n e)))
   writes_of_act (call.TransformDrop transform) =
       with_value (transform_named v transform) (λ (n : ℕ) e. accepted (same refl))
+  writes_of_act (call.Cache cache pool count sizes limits) =
+      after_check (refuse_taken v cache) (andthen (pool_named v pool) (λ (of : Numbered Pool).
+      after_check (refuse_when (not (may_have_cache of.value.kind)) refusal.WrongPool)
+      (after_check (refuse_when (not (are_class_sizes 0 (new_classes count sizes limits))) refusal.BadSize)
+      (after_check (refuse_at_limit (length v.graph.caches) most_caches) (accepted (same refl))))))
+  writes_of_act (call.CacheAlloc cache words place) =
+      with_value (cache_named v cache) (λ (from : Numbered Cache) e.
+      andthen (required (pool_at judged from.value.pool) refusal.BadName) (λ (p : Pool).
+      andthen (block_place_in v place) (λ (at : Found (Option ℕ)).
+      after_check (refuse_when (not (allows_size p.kind words)) refusal.BadSize)
+      (after_check (refuse_when (is_some at.value) refusal.NameTaken)
+      (takes cache from words place at e (taken_from from.value.classes words) refl)))))
+  writes_of_act (call.CacheFree cache place) =
+      andthen (cache_named v cache) (λ (into : Numbered Cache). andthen (block_place_in v place) (λ (at : Found (Option ℕ)).
+      andthen (block_in at) (λ (id : ℕ). after_check (refuse_when (not (pool_of v id == into.value.pool)) refusal.WrongPool)
+      (keeps into at (kept_by v into.value id)))))
+  writes_of_act (call.CacheFlush cache) = andthen (cache_named v cache) (λ (from : Numbered Cache). accepted (same refl))
   writes_of_act (call.Peek word) = andthen (word_in v word) (λ (at : Found AreaWord). accepted (same refl))
   writes_of_act (call.Pin word slot) =
       andthen (word_in v word) (λ (at : Found AreaWord). andthen (slot_in v slot) (λ (from : Found (Option ℕ)).

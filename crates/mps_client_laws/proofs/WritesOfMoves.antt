@@ -7,20 +7,21 @@ use Rattle.std.specs.Prelude.{not, take, ◌&&◌, ◌==◌, if◌then◌else◌
 use Rattle.std.specs.List.{list_any}
 use Rattle.std.specs.Option.{option_map_or}
 use Rattle.mps_base.specs.Segment.{Segment, words_of_segment}
+use Rattle.mps_base.specs.declared.names.Name.{Name}
 use Rattle.mps_base.specs.declared.names.Slot.{Slot}
 use Rattle.mps_base.specs.declared.moves.Move.{Move}
 use Rattle.mps_base.specs.declared.moves.Move.TheVariants as moves
 use Rattle.mps_model.specs.declared.call.Call.{Call}
 use Rattle.mps_model.specs.declared.call.Call.TheVariants as call
-use Rattle.mps_model.specs.Graph.{Graph, Object, Body, Automatic, Manual, Cell, HeadCell, NumberCell, ReferenceCell, NamedThing, Slots, body_with_cells, dependent_in, is_reference_cell, retargeted, object_with_cells, with_target_cell, is_automatic, empty_graph, target_of_cell}
+use Rattle.mps_model.specs.Graph.{Graph, Object, Body, Automatic, Manual, Cell, HeadCell, NumberCell, ReferenceCell, NamedThing, Slots, body_with_cells, dependent_in, is_reference_cell, retargeted, object_with_cells, with_target_cell, is_automatic, empty_graph, target_of_cell, Cache}
 use Rattle.mps_model.specs.World.{World, id_at, is_copying_pool, with_tail, object_is, empty_world, ArenaState}
 use Rattle.mps_model.specs.Effect.{where_one, after_splat, world_after_move, world_after_moves, holding, segment_of_move, graph_nulled, graph_splatted, without_object, with_collection, reclaiming, segment_base_of}
 use Rattle.mps_model.specs.Policy.{units_asked}
 use Rattle.mps_model.specs.History.{after_its_moves, after_own_segment, asking, moved_world, moves_of_poll, own_segment, with_segment_for_point, with_buffer, rank_of_point}
-use Rattle.mps_model.specs.Checked.{cells_of_body}
+use Rattle.mps_model.specs.Checked.{cache_named, cells_of_body}
 use Rattle.mps_laws.proofs.Entries.{slice_get-written}
 use Rattle.mps_laws.specs.Held.{target_of_slot}
-use Rattle.mps_client_laws.specs.Objects.{identity_of, cell_at, word_at, cells_nulled, cells_splatted, is_cell, reference_cell_of, moves_leave_cell, writes_cell, writes_word, is_this, block_of_place, replaces}
+use Rattle.mps_client_laws.specs.Objects.{identity_of, cell_at, word_at, cells_nulled, cells_splatted, is_cell, reference_cell_of, moves_leave_cell, writes_cell, writes_word, is_this, block_of_place, replaces, block_taken}
 use Rattle.mps_client_laws.proofs.Cells.{this_is_changed, target_is_one_cell, identities_stay, cells_keep_identity, other_cells_stay, words_beside_cells}
 
 -- ---- what one move leaves
@@ -345,8 +346,20 @@ same_cells_written v w (call.TransformApply transform) id k names tables state c
     ∙ same_replaced v w (call.TransformApply transform) (option_and_then target_of_cell (cell_at w.graph id k)) names state
 same_cells_written v w _ id k names tables state cells = refl
 
+-- a world of these names and caches
+abbrev of_caches : List NamedThing → List Cache → World
+of_caches names caches = record empty_world { graph = record empty_graph { names = names; caches = caches } }
+
+same_taken : (v w : World) (cache : Name) (words : ℕ) → v.graph.names ≡ w.graph.names → v.graph.caches ≡ w.graph.caches
+    → block_taken (cache_named v cache) words ≡ block_taken (cache_named w cache) words
+same_taken v w cache words names caches =
+    ap (λ ns. block_taken (cache_named (of_caches ns v.graph.caches) cache) words) names
+    ∙ ap (λ qs. block_taken (cache_named (of_caches w.graph.names qs) cache) words) caches
+
 pub same_words_written : (v w : World) (c : Call) (id k : ℕ) → v.graph.names ≡ w.graph.names → v.graph.blocks ≡ w.graph.blocks
-    → writes_word v c id k ≡ writes_word w c id k
-same_words_written v w (call.Store place word value) id k names blocks =
+    → v.graph.caches ≡ w.graph.caches → writes_word v c id k ≡ writes_word w c id k
+same_words_written v w (call.Store place word value) id k names blocks caches =
     ap (λ t. is_this id t && word == k) (same_block v w place names blocks)
-same_words_written v w _ id k names blocks = refl
+same_words_written v w (call.CacheAlloc cache words place) id k names blocks caches =
+    ap (is_this id) (same_taken v w cache words names caches)
+same_words_written v w _ id k names blocks caches = refl

@@ -1,5 +1,5 @@
 -- No object is lost: what every step leaves of every object, and what alone may write its cells and words.
-use Rattle.std.specs.Prelude.{◌≡◌, ℕ, Bool, true, false, not, ◌&&◌, ◌==◌, if◌then◌else◌, IsTrue, Option, Some, None, option_map, option_and_then, List, [], ◌∷◌, ◌++◌, slice_get, refl}
+use Rattle.std.specs.Prelude.{◌≡◌, ℕ, Bool, true, false, not, ◌&&◌, ◌==◌, if◌then◌else◌, IsTrue, Option, Some, None, option_map, option_and_then, Ok, Err, List, [], ◌∷◌, ◌++◌, slice_get, refl}
 use Rattle.std.specs.List.{list_any}
 use Rattle.std.specs.Option.{option_map_or}
 use Rattle.mps_base.specs.Address.{Id}
@@ -12,10 +12,11 @@ use Rattle.mps_model.specs.declared.call.Call.TheVariants as call
 use Rattle.mps_model.specs.declared.reply.Reply.TheVariants as reply
 use Rattle.mps_model.specs.Answer.{Replied}
 use Rattle.mps_model.specs.Step.{Step, History}
-use Rattle.mps_model.specs.Graph.{Graph, Object, Automatic, Manual, Cell, HeadCell, NumberCell, ReferenceCell, TableThing, BlocksThing, object_at, size_of, is_automatic, is_weak_object, is_reference_cell, target_of_cell, dependent_in, TransformThing, empty_graph}
+use Rattle.mps_model.specs.Graph.{Graph, Object, Automatic, Manual, Cell, HeadCell, NumberCell, ReferenceCell, TableThing, BlocksThing, object_at, size_of, is_automatic, is_weak_object, is_reference_cell, target_of_cell, dependent_in, TransformThing, empty_graph, Cache, CacheThing}
 use Rattle.mps_model.specs.World.{World, Parked, TransformPair, id_at, empty_world}
-use Rattle.mps_model.specs.Checked.{as_transform, number_named, block_place_in, cells_of_body, head_of_body, words_of_body}
+use Rattle.mps_model.specs.Checked.{as_transform, number_named, block_place_in, cells_of_body, head_of_body, words_of_body, Checked, Numbered, cache_named}
 use Rattle.mps_model.specs.Transforms.{is_old, pairs_of}
+use Rattle.mps_model.specs.Caches.{taken_from}
 use Rattle.mps_model.specs.Effect.{world_after_move}
 use Rattle.mps_model.specs.History.{world_after, world_after_steps}
 use Rattle.mps_laws.specs.Held.{target_found, target_of_slot, letter, slot_of_t}
@@ -85,9 +86,15 @@ writes_cell w (call.TransformApply transform) id k =
     replaces w (call.TransformApply transform) (option_and_then target_of_cell (cell_at w.graph id k))
 writes_cell w _ id k = false
 
--- whether a call is one that writes word k of this block, if it is accepted
+-- the block that an allocation of n words takes from a cache. There is none if its class is missing or empty
+abbrev pub block_taken : Checked (Numbered Cache) → (words : ℕ) → Option ℕ
+block_taken (Ok q) words = option_map (λ taken. taken.0) (taken_from q.value.classes words)
+block_taken (Err why) words = None
+
+-- whether a call is one that writes word k of this block, if it is accepted. A block that is taken from a cache is cleared
 abbrev pub writes_word : World → Call → (id : Id) → (k : ℕ) → Bool
 writes_word w (call.Store place word value) id k = is_this id (block_of_place w place) && word == k
+writes_word w (call.CacheAlloc cache words place) id k = is_this id (block_taken (cache_named w cache) words)
 writes_word w _ id k = false
 
 -- a cell with its object, if it is a reference
@@ -241,3 +248,19 @@ a_transform_leaves_other_references = refl
 
 pub a_replaced_reference : cell_at (world_after with_a_transform applying).graph 1 1 ≡ Some (ReferenceCell (Some 1) 3)
 a_replaced_reference = refl
+
+-- the block 2 lies in the cache q in place of place 0
+abbrev pub with_a_cache : World
+with_a_cache = record two_objects {
+  graph = record two_objects.graph {
+    blocks = (None ∷ []) ∷ [];
+    caches = record { pool = 2; classes = record { words = 2; limit = 1; cached = 2 ∷ [] } ∷ [] } ∷ [];
+    names = record { name = letter 113; thing = CacheThing 0 } ∷ record { name = letter 98; thing = BlocksThing 0 } ∷ [];
+  };
+}
+
+pub a_block_from_a_cache_is_written : leave_word with_a_cache (stepping (call.CacheAlloc (letter 113) 2 place_of_b) [] ∷ []) 2 1 ≡ false
+a_block_from_a_cache_is_written = refl
+
+pub a_block_of_another_size_is_not : leave_word with_a_cache (stepping (call.CacheAlloc (letter 113) 3 place_of_b) [] ∷ []) 2 1 ≡ true
+a_block_of_another_size_is_not = refl

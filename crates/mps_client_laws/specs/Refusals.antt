@@ -11,7 +11,7 @@ use Rattle.mps_model.specs.Answer.{refused}
 use Rattle.mps_model.specs.Step.{Step}
 use Rattle.mps_model.specs.World.{World, committed, held_grains, empty_world}
 use Rattle.mps_model.specs.Checked.{Checked}
-use Rattle.mps_model.specs.Making.{most_chains, most_dependencies, most_labels, most_points, most_pools, most_roots, most_slots}
+use Rattle.mps_model.specs.Making.{most_caches, most_chains, most_dependencies, most_labels, most_points, most_pools, most_roots, most_slots}
 use Rattle.mps_model.specs.Allocating.{Reserving, check_reserve}
 use Rattle.mps_model.specs.Dependents.{most_dependents}
 use Rattle.mps_model.specs.Collecting.{most_registrations}
@@ -111,6 +111,13 @@ refusals_of w (call.TransformAdd transform old new) =
     refusal.BadName ∷ refusal.BadIndex ∷ refusal.NullRef ∷ refusal.NotParked ∷ refusal.OldTwice ∷ refusal.TooMany most_pairs ∷ []
 refusals_of w (call.TransformApply transform) = refusal.BadName ∷ refusal.NotParked ∷ refusal.Open ∷ []
 refusals_of w (call.TransformDrop transform) = refusal.BadName ∷ []
+-- caches
+refusals_of w (call.Cache cache pool count sizes limits) =
+    refusal.NameTaken ∷ refusal.BadName ∷ refusal.WrongPool ∷ refusal.BadSize ∷ refusal.TooMany most_caches ∷ []
+refusals_of w (call.CacheAlloc cache words place) =
+    refusal.BadName ∷ refusal.BadIndex ∷ refusal.BadSize ∷ refusal.NameTaken ∷ over_limit w words ∷ no_run w words ∷ []
+refusals_of w (call.CacheFree cache place) = refusal.BadName ∷ refusal.BadIndex ∷ refusal.NotABlock ∷ refusal.WrongPool ∷ []
+refusals_of w (call.CacheFlush cache) = refusal.BadName ∷ []
 -- areas
 refusals_of w (call.Poke word value) = refusal.BadName ∷ refusal.BadIndex ∷ []
 refusals_of w (call.Peek word) = refusal.BadName ∷ refusal.BadIndex ∷ []

@@ -11,7 +11,7 @@ use Rattle.mps_model.specs.declared.call.Call.TheVariants as call
 use Rattle.mps_model.specs.Answer.{Answer}
 use Rattle.mps_model.specs.Graph.{is_automatic}
 use Rattle.mps_model.specs.World.{World, id_at, is_copying_pool, object_is, with_tail}
-use Rattle.mps_model.specs.Checked.{Act, Checked, number_named, as_point, point_named, pool_named, block_place_in}
+use Rattle.mps_model.specs.Checked.{Act, Checked, number_named, as_point, point_named, pool_named, cache_named, block_place_in}
 use Rattle.mps_model.specs.Effect.{where_one, world_after_move, world_after_moves, holding, segment_of_move, with_collection, reclaiming, segment_base_of, without_object}
 use Rattle.mps_model.specs.LegalMove.{IsLegalFlip, AreLegalMoves}
 use Rattle.mps_model.specs.Policy.{units_asked}
@@ -21,7 +21,7 @@ use Rattle.mps_laws.specs.Staying.{is_flip}
 use Rattle.mps_laws.proofs.Acts.{ForAct, accepted, refused}
 use Rattle.mps_laws.proofs.LeftByActs.{Leaves, changes_dependencies}
 use Rattle.mps_laws.proofs.OwnSegments.{own_segment_taken}
-use Rattle.mps_laws.proofs.Positions.Places.{IsPutIn, IsMovedLegally, AreMovedLegally, move_put, all_moved_legally, is_moving, none_moved, commit_moves_none, alloc_moves_none, free_moves_none, own_segment_put, asking_put, left_put, remembered_put}
+use Rattle.mps_laws.proofs.Positions.Places.{IsPutIn, IsMovedLegally, AreMovedLegally, move_put, all_moved_legally, is_moving, none_moved, commit_moves_none, alloc_moves_none, free_moves_none, cache_alloc_moves_none, cache_free_moves_none, cache_flush_moves_none, own_segment_put, asking_put, left_put, remembered_put}
 use Rattle.mps_laws.proofs.AddedBlocks.{Accounts, AreAccounts, IsAccounted, IsFlippedSince, accounts_carried}
 use Rattle.mps_laws.proofs.FlippedZones.{AreHome, flip_accounts}
 
@@ -183,6 +183,12 @@ its_moves_carry w (call.Alloc pool words place) answer ms legal flipped due =
     client_carries w ms (ap (list_any is_moving) due ∙ alloc_moves_none w answer (pool_named w pool) words)
 its_moves_carry w (call.Free place) answer ms legal flipped due =
     client_carries w ms (ap (list_any is_moving) due ∙ free_moves_none w answer (block_place_in w place))
+its_moves_carry w (call.CacheAlloc cache words place) answer ms legal flipped due =
+    client_carries w ms (ap (list_any is_moving) due ∙ cache_alloc_moves_none w answer (cache_named w cache) words)
+its_moves_carry w (call.CacheFree cache place) answer ms legal flipped due =
+    client_carries w ms (ap (list_any is_moving) due ∙ cache_free_moves_none w answer (cache_named w cache) (block_place_in w place))
+its_moves_carry w (call.CacheFlush cache) answer ms legal flipped due =
+    client_carries w ms (ap (list_any is_moving) due ∙ cache_flush_moves_none w answer (cache_named w cache))
 its_moves_carry w _ answer ms legal flipped due = moves_carry w ms (all_moved_legally w None ms legal) flipped
 
 pub moved_world_carries : (w : World) (c : Call) (answer : Answer) (ms : List Move) → AreLegalMoves w None (moves_of_collector c ms)

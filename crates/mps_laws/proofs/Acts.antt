@@ -1,8 +1,9 @@
 -- What the calls that neither reserve nor make a block change of what lies where.
 use Rattle.std.proofs.Common.{◌≡◌, ◌∙◌, ℕ, Bool, true, false, refl, sym, ap, Option, Some, None, subst}
 use Rattle.std.proofs.lemmas.Bool.{false≢true, true≢false}
+use Rattle.std.proofs.lemmas.List.{length-replicate}
 use Rattle.std.proofs.lemmas.Option.{none-some, slice_get-map}
-use Rattle.std.specs.Prelude.{map, slice_set, option_map, not, ◌&&◌, ◌||◌, if◌then◌else◌}
+use Rattle.std.specs.Prelude.{length, map, slice_set, option_map, not, ◌&&◌, ◌||◌, if◌then◌else◌}
 use Rattle.std.specs.Option.{option_map_or}
 use Rattle.mps_base.specs.declared.names.Rank.{Rank}
 use Rattle.mps_model.specs.declared.call.Call.{Call}
@@ -13,6 +14,7 @@ use Rattle.mps_model.specs.World.{World, Pool, PointMemory, empty_run, is_weak_k
 use Rattle.mps_model.specs.Checked.{with_graph}
 use Rattle.mps_model.specs.Making.{is_weak_rank, may_have_point}
 use Rattle.mps_model.specs.Allocating.{body_with_word, graph_with_word}
+use Rattle.mps_model.specs.Caches.{body_cleared, graph_cleared}
 use Rattle.mps_model.specs.Reply.{act}
 use Rattle.mps_model.specs.Transforms.{graph_substituted, pairs_of}
 use Rattle.mps_laws.proofs.Lookups.{map-slice_set, map-with_last, slice_set-same, length-slice_set, entry_is_there}
@@ -27,7 +29,7 @@ pub use Rattle.mps_changes.specs.Change.{ForAct, accepted, refused, is_placing}
 pub use Rattle.mps_changes.proofs.Checks.{without_root, with_value, after_check, unless, for_world, required-is, named_by, point_named-is, pool_named-is}
 use Rattle.mps_changes.proofs.AsideFacts.{aside_is}
 use Rattle.mps_changes.proofs.Written.{written_length}
-use Rattle.mps_changes.specs.Change.{makes_arena, Change, Aside, CellsAre, BlockWordIs, Allocated, PoolMade, PointMade, PointDropped, Opened, Written, Closed, Committed, Substituted, Unregistered}
+use Rattle.mps_changes.specs.Change.{makes_arena, Change, Aside, CellsAre, BlockWordIs, Allocated, PoolMade, PointMade, PointDropped, Opened, Written, Closed, Committed, Substituted, Unregistered, allocates, BlockUncached}
 
 -- ---- what may change
 
@@ -108,6 +110,33 @@ module _ (limit : ℕ) (v : World) where
       of_parts true false c h e = absurd (false≢true e)
       of_parts false b c h e = absurd (true≢false h)
 
+-- a call that makes a block places something
+pub placing : (c : Call) → allocates c ≡ true → is_placing c ≡ true
+placing (call.Alloc pool words place) h = refl
+placing (call.CacheAlloc cache words place) h = refl
+placing _ h = absurd (false≢true h)
+
+-- a block that is cleared keeps its shape
+cleared_size : (b : Body) → size_of_body (body_cleared b) ≡ size_of_body b
+cleared_size (Automatic head cells is_weak) = refl
+cleared_size (Manual words) = length-replicate (length words) 0
+
+cleared_weak : (b : Body) → is_weak_body (body_cleared b) ≡ is_weak_body b
+cleared_weak (Automatic head cells is_weak) = refl
+cleared_weak (Manual words) = refl
+
+pub cleared_kept : (g : Graph) (id : ℕ) → map shape_of (graph_cleared g id).objects ≡ map shape_of g.objects
+cleared_kept g id = of_one (object_at g id) refl
+  where
+    of_one : (o : Option Object) → object_at g id ≡ o
+        → map shape_of (option_map_or (λ o. slice_set g.objects id (record o { body = body_cleared o.body })) o g.objects)
+        ≡ map shape_of g.objects
+    of_one None e = refl
+    of_one (Some o) e =
+        shapes_written g.objects id o (record o { body = body_cleared o.body }) e
+        (ap (λ n. record { pool = o.pool; words = n; is_weak = is_weak_body (body_cleared o.body) }) (cleared_size o.body)
+        ∙ ap (λ b. record { pool = o.pool; words = size_of_body o.body; is_weak = b }) (cleared_weak o.body))
+
 no_arena : (c : Call) → is_placing c ≡ false → makes_arena c ≡ false
 no_arena (call.Arena grains limit) h = absurd (true≢false h)
 no_arena _ h = refl
@@ -121,7 +150,8 @@ module _ (limit : ℕ) {c : Call} {v : World} where
       (cells_kept v.graph object.number change (written_length write)) refl)
   change_lies h (BlockWordIs id k value) =
       nothing (shapes_kept limit v (graph_with_word v.graph id k value) (word_kept limit v id k value) refl)
-  change_lies h (Allocated pool p words into place at e of kind size found) = but is_placing e refl h
+  change_lies h (Allocated p words place at is of kind size found empty) = absurd (true≢false (sym (placing c is) ∙ h))
+  change_lies h (BlockUncached name cache words into place id classes e is taken found empty) = but is_placing e refl h
   change_lies h (PoolMade name p e made) = a_pool p refl
   change_lies h (PointMade name pool of at_rank e is may) =
       a_point (record { pool = of.number; rank = at_rank; reserved = None }) (record { reserved_at = 0; buffer = empty_run }) refl refl

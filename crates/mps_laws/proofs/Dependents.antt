@@ -1,6 +1,6 @@
 -- In each world that a legal history reaches, each pair of dependents is of two live objects, the second of which may be the dependent of
 -- the first: a block that is freed takes its pairs along.
-use Rattle.std.proofs.Common.{◌≡◌, ◌∙◌, ℕ, ◌+◌, Bool, true, false, refl, sym, ap, subst, List, [], ◌∷◌, ◌++◌, map, Option, Some, None, inl, inr}
+use Rattle.std.proofs.Common.{◌≡◌, ◌∙◌, ℕ, Bool, true, false, refl, sym, ap, subst, List, [], ◌∷◌, ◌++◌, map, Option, Some, None, inl, inr}
 use Rattle.std.proofs.lemmas.Bool.{and_from, and_parts, cases_eq, eq-eqb, false≢true, true≢false}
 use Rattle.std.proofs.lemmas.Option.{slice_get-map}
 use Rattle.std.specs.Prelude.{◌==◌, ◌&&◌, ◌≢◌, filter, if◌then◌else◌, is_some, not, option_map, slice_get, slice_set}
@@ -25,9 +25,9 @@ use Rattle.mps_model.specs.Policy.{units_asked}
 use Rattle.mps_model.specs.Transforms.{graph_substituted, pairs_of}
 use Rattle.mps_model.specs.Reply.{act, world_from}
 use Rattle.mps_model.specs.History.{HeldAreLive, IsLegalStep, after_own_segment, asking, judged_world, moved_world, moves_of_poll, own_segment, world_after, world_after_call}
-use Rattle.mps_changes.specs.Change.{AsideIs, Linked, Unlinked, Change, Aside, CellsAre, BlockWordIs, Allocated, PoolMade, Committed, Substituted, ForAct, accepted, refused, IsInSlot}
+use Rattle.mps_changes.specs.Change.{AsideIs, Linked, Unlinked, Change, Aside, CellsAre, BlockWordIs, Allocated, PoolMade, Committed, Substituted, ForAct, accepted, refused, IsInSlot, BlockUncached}
 use Rattle.mps_changes.proofs.ActChanges.{act_changes_so}
-use Rattle.mps_laws.proofs.Acts.{word_kept}
+use Rattle.mps_laws.proofs.Acts.{cleared_kept, word_kept}
 use Rattle.mps_changes.proofs.Written.{written_length}
 use Rattle.mps_laws.proofs.Finding.{id_at-found}
 use Rattle.mps_laws.proofs.FoundBy.{object_found, slot_found}
@@ -288,7 +288,9 @@ module _ (v : World) (h : ArePaired v) where
   change_paired live (BlockWordIs id k value) =
       all_still v (with_graph v (graph_with_word v.graph id k value))
       (λ i s e. ap (λ ss. slice_get ss i) (word_kept 0 v id k value) ∙ e) (λ n p e. e) (λ j alive. alive) refl h
-  change_paired {u = u} live (Allocated pool p words into place at e of kind size found) =
+  change_paired {u = u} live (BlockUncached name cache words into place id classes e is taken found empty) =
+      all_still v u (λ i s e. ap (λ ss. slice_get ss i) (cleared_kept v.graph id) ∙ e) (λ n p e. e) (λ j alive. alive) refl h
+  change_paired {u = u} live (Allocated p words place at e of kind size found empty) =
       let o : Object = record { pool = p.number; body = Manual (Rattle.std.specs.Prelude.replicate words 0) } in
       one_more u o (Some at) (map-with_last shape_of v.graph.objects o) refl refl refl
   change_paired {u = u} live (Committed name target p r slot e there found has lives) =

@@ -19,7 +19,7 @@ use Rattle.mps_model.specs.Step.{History}
 use Rattle.mps_model.specs.Collection.{Collection}
 use Rattle.mps_model.specs.Graph.{ids_in_slots}
 use Rattle.mps_model.specs.World.{World, empty_world_of, is_running, is_unclamped}
-use Rattle.mps_model.specs.Checked.{Act, Checked, Numbered, number_named, as_point, block_place_in, chain_named, point_named, pool_named, slot_in}
+use Rattle.mps_model.specs.Checked.{Act, Checked, Numbered, number_named, as_point, block_place_in, cache_named, chain_named, point_named, pool_named, slot_in}
 use Rattle.mps_model.specs.Placement.{ForMove, placement_of}
 use Rattle.mps_model.specs.Accessing.{address_or_null}
 use Rattle.mps_model.specs.Effect.{Condemnation, Everything, Generations, condemned_by, condemned_zones, world_after_move, world_after_moves}
@@ -35,7 +35,7 @@ use Rattle.mps_laws.proofs.Acts.{ForAct, accepted, refused}
 use Rattle.mps_laws.proofs.Accounting.{move_leaves, own_segment_flips}
 use Rattle.mps_laws.proofs.LeftByActs.{Leaves, act_leaves}
 use Rattle.mps_laws.proofs.LegalHistories.{IsAnswered, legal_step}
-use Rattle.mps_laws.proofs.Positions.Places.{is_moving, commit_moves_none, alloc_moves_none, free_moves_none}
+use Rattle.mps_laws.proofs.Positions.Places.{is_moving, commit_moves_none, alloc_moves_none, free_moves_none, cache_alloc_moves_none, cache_free_moves_none, cache_flush_moves_none}
 
 -- ---- moves without a flip
 
@@ -299,6 +299,13 @@ call_once w (call.Alloc pool words place) answer ms due =
     quiet w ms (none_moving ms (ap (list_any is_moving) due ∙ alloc_moves_none w answer (pool_named w pool) words))
 call_once w (call.Free place) answer ms due =
     quiet w ms (none_moving ms (ap (list_any is_moving) due ∙ free_moves_none w answer (block_place_in w place)))
+call_once w (call.CacheAlloc cache words place) answer ms due =
+    quiet w ms (none_moving ms (ap (list_any is_moving) due ∙ cache_alloc_moves_none w answer (cache_named w cache) words))
+call_once w (call.CacheFree cache place) answer ms due =
+    quiet w ms (none_moving ms (ap (list_any is_moving) due
+    ∙ cache_free_moves_none w answer (cache_named w cache) (block_place_in w place)))
+call_once w (call.CacheFlush cache) answer ms due =
+    quiet w ms (none_moving ms (ap (list_any is_moving) due ∙ cache_flush_moves_none w answer (cache_named w cache)))
 call_once w (call.Get target source cell) answer ms due =
     quiet w ms
     (where_due (is_running w && not (is_refused answer)) ms (get_none w (segment_of_found w (slot_in w source)) ms) due)

@@ -14,7 +14,7 @@ use Rattle.mps_model.specs.WellFormed.{is_label, are_labels}
 use Rattle.mps_model.specs.Checked.{as_point}
 use Rattle.mps_model.specs.Reply.{act, world_from}
 use Rattle.mps_model.specs.History.{judged_world, moved_world, with_client_remembered, world_after}
-use Rattle.mps_changes.specs.Change.{AsideIs, ChainMade, DependencyMade, LabelMade, TransformMade, TransformDropped, Change, Aside, TableMade, AreaMade, BlocksMade, TableDropped, AreaDropped, PoolMade, PointMade, PointDropped, Substituted}
+use Rattle.mps_changes.specs.Change.{AsideIs, ChainMade, DependencyMade, LabelMade, TransformMade, TransformDropped, Change, Aside, TableMade, AreaMade, BlocksMade, TableDropped, AreaDropped, PoolMade, PointMade, PointDropped, Substituted, CacheMade}
 use Rattle.mps_changes.proofs.ActChanges.{of_changes}
 use Rattle.mps_laws.proofs.Acts.{for_world, point_named-is}
 use Rattle.mps_laws.proofs.Lookups.{slice_get-at_last, slice_get-after_last, slice_get-last}
@@ -118,6 +118,7 @@ module _ (v : World) (named : AreNamed v.graph) where
   change_named (TableMade name slots) = one_more _
   change_named (AreaMade name words) = one_more _
   change_named (BlocksMade name places e) = one_more _
+  change_named (CacheMade name pool of classes e may none) = one_more _
   change_named (PoolMade name p e made) = one_more _
   change_named (PointMade name pool of at_rank e is may) = one_more _
   change_named (TableDropped name n is) = one_less name (TableThing n) is refl

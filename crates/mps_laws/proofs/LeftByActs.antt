@@ -10,13 +10,14 @@ use Rattle.mps_model.specs.Graph.{Graph, Object, Manual, Cell, object_at, graph_
 use Rattle.mps_model.specs.Collection.{Collection}
 use Rattle.mps_model.specs.World.{World}
 use Rattle.mps_model.specs.Allocating.{body_with_word, graph_with_word, reserved_address, committed_object}
+use Rattle.mps_model.specs.Caches.{body_cleared, graph_cleared}
 use Rattle.mps_model.specs.Collecting.{without_registration}
 use Rattle.mps_model.specs.Reply.{act}
 use Rattle.mps_model.specs.Transforms.{pairs_of}
 pub use Rattle.mps_changes.specs.Change.{ForAct, accepted, refused, changes_dependencies, changes_points}
 pub use Rattle.mps_changes.proofs.Checks.{andthen}
 use Rattle.mps_changes.proofs.AsideFacts.{aside_is}
-use Rattle.mps_changes.specs.Change.{Change, Aside, CellsAre, BlockWordIs, Allocated, PoolMade, PointMade, PointDropped, Opened, Written, Closed, Committed, Substituted, Unregistered}
+use Rattle.mps_changes.specs.Change.{Change, Aside, CellsAre, BlockWordIs, Allocated, PoolMade, PointMade, PointDropped, Opened, Written, Closed, Committed, Substituted, Unregistered, allocates, BlockUncached}
 use Rattle.mps_changes.proofs.ActChanges.{of_changes, but}
 use Rattle.mps_laws.proofs.Entries.{GoesOn}
 use Rattle.mps_laws.proofs.Sound.Substituting.{owners_substituted}
@@ -37,7 +38,13 @@ IsCollectionLeft before after = (after ≡ before) ⊎ ((position : ℕ) × (aft
 abbrev pub makes_objects : Call → Bool
 makes_objects (call.Commit point target) = true
 makes_objects (call.Alloc pool words place) = true
+makes_objects (call.CacheAlloc cache words place) = true
 makes_objects _ = false
+
+allocating : (c : Call) → allocates c ≡ true → makes_objects c ≡ true
+allocating (call.Alloc pool words place) h = refl
+allocating (call.CacheAlloc cache words place) h = refl
+allocating _ h = absurd (true≢false (sym h))
 
 pub record Leaves (c : Call) (before after : World) : Type 0 where
   pub addresses : GoesOn before.addresses after.addresses
@@ -87,6 +94,16 @@ owners-graph_with_word g id k value = by_case (object_at g id) refl
     by_case None e = refl
     by_case (Some o) e = owners-set g.objects id o (record o { body = body_with_word o.body k value }) e refl
 
+pub owners-graph_cleared : (g : Graph) (id : ℕ) → owners (graph_cleared g id) ≡ owners g
+owners-graph_cleared g id = by_case (object_at g id) refl
+  where
+    by_case : (o : Option Object) → object_at g id ≡ o
+        → map (λ (x : Object). x.pool) (option_map_or (λ x. slice_set g.objects id
+        (record x { body = body_cleared x.body })) o g.objects)
+        ≡ owners g
+    by_case None e = refl
+    by_case (Some o) e = owners-set g.objects id o (record o { body = body_cleared o.body }) e refl
+
 module _ {c : Call} {v : World} where
   left_so : {u : World} → u.addresses ≡ v.addresses → u.pools ≡ v.pools → owners u.graph ≡ owners v.graph → u.flips ≡ v.flips
       → u.collection ≡ v.collection → u.dependencies ≡ v.dependencies
@@ -121,7 +138,9 @@ module _ {c : Call} {v : World} where
   change_leaves (CellsAre object change held write) =
       kept refl refl (owners-graph_with_cells v.graph object.number change) refl refl refl refl
   change_leaves (BlockWordIs id k value) = kept refl refl (owners-graph_with_word v.graph id k value) refl refl refl refl
-  change_leaves (Allocated pool p words into place at e of kind size found) = record {
+  change_leaves (BlockUncached name cache words into place id classes e is taken found empty) =
+      kept refl refl (owners-graph_cleared v.graph id) refl refl refl refl
+  change_leaves (Allocated p words place at is of kind size found empty) = record {
     addresses = one_more v.addresses (Some at);
     pools = same v.pools v.pools refl;
     owned = (_, map-append (λ (o : Object). o.pool) v.graph.objects (record { pool = p.number; body = Manual (replicate words 0) } ∷ []));
@@ -129,7 +148,7 @@ module _ {c : Call} {v : World} where
     collection = inl refl;
     dependencies = λ h. refl;
     points = λ h. refl;
-    objects = λ h. but makes_objects e refl h;
+    objects = λ h. absurd (true≢false (sym (allocating c is) ∙ h));
   }
   change_leaves (PoolMade name p e made) = record {
     addresses = same v.addresses v.addresses refl;

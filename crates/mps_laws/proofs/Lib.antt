@@ -23,6 +23,8 @@ pub mod Naming
 pub mod Labels
 pub mod Dependents
 pub mod Parked
+pub mod Caches
+pub mod OnePlace
 pub mod WellFormed
 pub mod WellFormedHistories
 pub mod MadeAgain

@@ -19,7 +19,7 @@ use Rattle.mps_model.specs.Collecting.{act_start, act_start_chain, without_regis
 use Rattle.mps_model.specs.Graph.{Object, Body, Automatic, Manual, ids_in_slots, ids_of_client, is_automatic, is_automatic_body, object_at, with_last}
 use Rattle.mps_model.specs.World.{World, Pool, ArenaState, Unclamped, Clamped, Parked, TransformPair, id_at, ids_in_pairs, ids_of_pair, is_automatic_kind, is_copying_pool, is_weak_kind, is_parked, is_parked_state, is_running, is_unclamped, is_unclamped_state, object_is, pairs_in, pool_at, with_tail}
 use Rattle.mps_model.specs.WellFormed.{is_right_body, are_right_cells}
-use Rattle.mps_model.specs.Checked.{Act, Checked, Numbered, as_point, block_place_in, chain_named, number_named, point_named, pool_named, refuse_when, slot_in}
+use Rattle.mps_model.specs.Checked.{Act, Checked, Numbered, as_point, block_place_in, cache_named, chain_named, number_named, point_named, pool_named, refuse_when, slot_in}
 use Rattle.mps_model.specs.Making.{is_block_size}
 use Rattle.mps_model.specs.Allocating.{Reserving, check_reserve}
 use Rattle.mps_model.specs.Transforms.{state_without_pairs}
@@ -43,7 +43,7 @@ use Rattle.mps_laws.proofs.LeftByActs.{Leaves, act_leaves, owners}
 use Rattle.mps_laws.proofs.LegalHistories.{IsAnswered}
 use Rattle.mps_laws.proofs.OwnSegments.{own_segment_taken}
 use Rattle.mps_laws.proofs.Positions.Occupancy.{Shape, shape_of}
-use Rattle.mps_laws.proofs.Positions.Places.{is_moving, commit_moves_none, alloc_moves_none, free_moves_none}
+use Rattle.mps_laws.proofs.Positions.Places.{is_moving, commit_moves_none, alloc_moves_none, free_moves_none, cache_alloc_moves_none, cache_free_moves_none, cache_flush_moves_none}
 use Rattle.mps_laws.proofs.SameArena.{IsLeftAlone, moved_alone}
 use Rattle.mps_laws.proofs.Sound.SoundGraph.{All, PassesOrNull, IsSoundGraph, all-last, all-weaker, auto, entry-passes}
 use Rattle.mps_laws.proofs.Sound.SoundActs.{table_passes}
@@ -158,6 +158,13 @@ module _ (w : World) (parked : is_parked w ≡ true) (rests : is_running w ≡ f
       moves_rest w ms (none_moving ms (ap (list_any is_moving) due ∙ alloc_moves_none w answer (pool_named w pool) words)) rests
   call_rests (call.Free place) answer ms plain due =
       moves_rest w ms (none_moving ms (ap (list_any is_moving) due ∙ free_moves_none w answer (block_place_in w place))) rests
+  call_rests (call.CacheAlloc cache words place) answer ms plain due =
+      moves_rest w ms (none_moving ms (ap (list_any is_moving) due ∙ cache_alloc_moves_none w answer (cache_named w cache) words)) rests
+  call_rests (call.CacheFree cache place) answer ms plain due =
+      moves_rest w ms
+      (none_moving ms (ap (list_any is_moving) due ∙ cache_free_moves_none w answer (cache_named w cache) (block_place_in w place))) rests
+  call_rests (call.CacheFlush cache) answer ms plain due =
+      moves_rest w ms (none_moving ms (ap (list_any is_moving) due ∙ cache_flush_moves_none w answer (cache_named w cache))) rests
   call_rests (call.Get target source cell) answer ms plain due =
       moves_rest w ms
       (where_due (is_running w && not (is_refused answer)) ms (get_none w (segment_of_found w (slot_in w source)) ms) due) rests

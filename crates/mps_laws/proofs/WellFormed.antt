@@ -13,6 +13,7 @@ use Rattle.mps_model.specs.World.{World, PointMemory, extent, ids_in_pairs, is_l
 use Rattle.mps_model.specs.Making.{is_weak_rank}
 use Rattle.mps_model.specs.WellFormed.{IsWellFormed, is_live_automatic, are_right_cells, is_home, is_right_at_hand, is_right_object, is_right_point, is_right_reservation, are_right_points, is_right_word, are_right_words}
 use Rattle.mps_laws.proofs.Dependents.{ArePaired}
+use Rattle.mps_laws.proofs.Caches.{AreRightCaches}
 use Rattle.mps_laws.proofs.Labels.{AreNamed, labels_from}
 use Rattle.mps_laws.proofs.Parked.{RestsWhenParked}
 use Rattle.mps_laws.proofs.Lookups.{entry_is_there}
@@ -162,9 +163,9 @@ not_both : (a b : Bool) → (a ≡ true → b ≡ false) → not (a && b) ≡ tr
 not_both true b h = ap not (h refl)
 not_both false b h = refl
 
-pub well_formed : (w : World) → HasLayout (w.grains + 1) w → IsSoundGraph w → AreNamed w.graph → ArePaired w → ClientIsLive w
-    → RestsWhenParked w → All (is_live_automatic w) (ids_in_pairs w.state) → IsWellFormed w
-well_formed w laid s named paired live rests pairs = record {
+pub well_formed : (w : World) → HasLayout (w.grains + 1) w → IsSoundGraph w → AreNamed w.graph → ArePaired w → AreRightCaches w
+    → ClientIsLive w → RestsWhenParked w → All (is_live_automatic w) (ids_in_pairs w.state) → IsWellFormed w
+well_formed w laid s named paired cached live rests pairs = record {
   segments =
       and_from (list_all (Rattle.mps_model.specs.WellFormed.is_right_segment w) w.segments)
       (Rattle.mps_model.specs.WellFormed.are_apart (map Rattle.mps_base.specs.Segment.grains_of_segment w.segments))
@@ -187,4 +188,5 @@ well_formed w laid s named paired live rests pairs = record {
   dependents = paired;
   parked = not_both (is_parked w) (is_running w) rests;
   transforms = pairs;
+  caches = cached;
 }

@@ -1,8 +1,10 @@
 -- Each legal step keeps the arena's grains, but for the one that makes the arena; so the worlds of a legal history are well-formed.
-use Rattle.std.proofs.Common.{None, ◌≡◌, ◌∙◌, ◌⊎◌, ℕ, ◌+◌, Bool, true, false, refl, sym, ap, List, [], ◌∷◌, subst, inl, inr, arith, max}
+use Rattle.std.proofs.Common.{Option, Some, None, ◌≡◌, ◌∙◌, ◌⊎◌, ℕ, ◌+◌, Bool, true, false, refl, sym, ap, List, [], ◌∷◌, subst, inl, inr, arith, max}
 use Rattle.std.proofs.lemmas.Bool.{false≢true, true≢false}
-use Rattle.std.specs.Prelude.{MatchBool, not, ◌||◌, if◌then◌else◌}
+use Rattle.std.specs.Prelude.{MatchBool, not, ◌||◌, if◌then◌else◌, is_some, option_map, slice_get}
 use Rattle.std.specs.List.{list_all, list_any}
+use Rattle.std.specs.Option.{option_map_or}
+use Rattle.std.proofs.lemmas.Option.{slice_get-map}
 use Rattle.mps_base.specs.declared.moves.Move.{Move}
 use Rattle.mps_model.specs.Layout.{Layout}
 use Rattle.mps_model.specs.declared.call.Call.{Call}
@@ -22,20 +24,19 @@ use Rattle.mps_model.specs.LegalMove.{AreLegalMoves}
 use Rattle.mps_model.specs.Effect.{world_after_moves}
 use Rattle.mps_laws.specs.WellFormed.{is_arena_made_once, ReachedWorldsAreWellFormed, WorldsInStepsAreWellFormed}
 use Rattle.mps_laws.proofs.Positions.LegalMoves.{HasLayout}
-use Rattle.mps_model.specs.Graph.{empty_graph}
+use Rattle.mps_model.specs.Graph.{empty_graph, Object, ids_in_places, is_automatic, object_at, thing_in}
 use Rattle.mps_laws.proofs.Dependents.{ArePaired, moves_paired, dependents_after}
 use Rattle.mps_laws.proofs.Held.{held_at_first}
 use Rattle.mps_laws.proofs.LegalHistories.{legal_step}
 use Rattle.mps_laws.proofs.Parked.{RestsWhenParked, none_there, pairs_after, step_rests}
-use Rattle.mps_laws.proofs.SameArena.{moved_alone}
-use Rattle.mps_model.specs.Graph.{thing_in}
-use Rattle.std.specs.Prelude.{slice_get}
+use Rattle.mps_laws.proofs.Caches.{AreRightCaches, caches_after, caches_moved, is_made}
+use Rattle.mps_laws.proofs.SameArena.{moved_alone, IsSameArena, act_same, itself, moved_same}
 use Rattle.mps_laws.proofs.Labels.{AreNamed, labels_after}
 use Rattle.mps_laws.proofs.Acts.{for_world}
 use Rattle.mps_laws.proofs.Replays.FreeSteps.{BlocksAreLive}
 use Rattle.mps_laws.proofs.Replays.Replay.{limit_after, legal_step_replayed, live_after, empty_layout}
-use Rattle.mps_laws.proofs.SameArena.{IsSameArena, act_same, itself, moved_same}
-use Rattle.mps_laws.proofs.Sound.SoundGraph.{All, IsSoundGraph, all-both, auto, untouched}
+use Rattle.mps_laws.proofs.Sound.SoundGraph.{All, IsSoundGraph, all-both, auto, untouched, all-weaker, manual, manual_parts}
+use Rattle.mps_laws.proofs.Positions.Occupancy.{shape_of}
 use Rattle.mps_laws.proofs.Sound.SoundHistories.{SlotsAreLive, step_sound}
 use Rattle.mps_laws.proofs.WellFormed.{well_formed}
 
@@ -70,6 +71,7 @@ record IsKeptWell (w : World) : Type 0 where
   pub sound : IsSoundGraph w
   pub named : AreNamed w.graph
   pub paired : ArePaired w
+  pub cached : AreRightCaches w
   pub rests : RestsWhenParked w
   pub pairs : All (auto w) (ids_in_pairs w.state)
 
@@ -103,6 +105,16 @@ no_arena_limit : (limit : ℕ) (c : Call) → makes_arena c ≡ false → limit_
 no_arena_limit limit (call.Arena grains most) h = absurd (true≢false h)
 no_arena_limit limit _ h = refl
 
+-- each block in a place was made
+places_made : (w : World) → IsSoundGraph w → list_all (is_made w) (ids_in_places w.graph) ≡ true
+places_made w s = all-weaker (manual w) (is_made w) (λ id h. of_object id (object_at w.graph id) refl h) (ids_in_places w.graph)
+    (manual_parts w s).0
+  where
+    of_object : (id : ℕ) (o : Option Object) → object_at w.graph id ≡ o → option_map_or (λ x. not (is_automatic x)) o false ≡ true
+        → is_made w id ≡ true
+    of_object id None e h = absurd (false≢true h)
+    of_object id (Some x) e h = ap is_some (slice_get-map shape_of w.graph.objects id ∙ ap (option_map shape_of) e)
+
 step_kept : (w : World) (s : Step) → makes_arena s.call ≡ false → IsKeptWell w → IsLegalStep w s → IsKeptWell (world_after w s)
 step_kept w s plain k legal =
     let r = legal_step_replayed (w.grains + 1) 0 s.line w k.layout k.blocks s.call s.moves s.answer legal in
@@ -116,6 +128,7 @@ step_kept w s plain k legal =
       sound = sound.0;
       named = labels_after w s k.named;
       paired = dependents_after w s k.paired legal;
+      cached = caches_after w s (places_made w k.sound) k.cached legal;
       rests = rests_after w s k.rests legal;
       pairs = automatic_after w s k.sound sound.0 k.pairs legal;
     }
@@ -154,6 +167,7 @@ empty_kept formats = record {
   sound = empty_sound formats;
   named = none_labelled;
   paired = refl;
+  cached = refl;
   rests = λ h. refl;
   pairs = refl;
 }
@@ -176,6 +190,7 @@ first_arena formats line grains most ms answer legal =
       sound = sound.0;
       named = labels_after w s k.named;
       paired = dependents_after w s k.paired legal;
+      cached = caches_after w s (places_made w k.sound) k.cached legal;
       rests = rests_after w s k.rests legal;
       pairs = automatic_after w s k.sound sound.0 k.pairs legal;
     }
@@ -238,7 +253,7 @@ pub reached_are_well_formed : ReachedWorldsAreWellFormed
 reached_are_well_formed formats history once legal =
     let k = reached_kept formats history once legal in
     let w = reached formats history in
-    well_formed w k.layout k.sound k.named k.paired k.held.client k.rests (live_pairs w k.held k.rests k.pairs)
+    well_formed w k.layout k.sound k.named k.paired k.cached k.held.client k.rests (live_pairs w k.held k.rests k.pairs)
 
 -- ---- in the middle of a step
 
@@ -259,4 +274,5 @@ worlds_in_steps_are_well_formed formats history ms once legal moves live =
     let v = world_after_moves w ms in
     well_formed (with_state v Unclamped) (in_layout w ms k.layout moves)
     (untouched v (with_state v Unclamped) (moves_well w None ms k.sound moves).sound refl (λ n p e. e) refl refl refl refl refl refl refl
-    refl) named (moves_paired w ms k.paired) live (λ h. absurd (false≢true h)) refl
+    refl) named (moves_paired w ms k.paired) (caches_moved w v alone.shapes alone.pools alone.caches k.cached) live
+    (λ h. absurd (false≢true h)) refl

@@ -5,4 +5,5 @@ pub mod Staying
 pub mod Depending
 pub mod WellFormed
 pub mod Flipping
+pub mod OnePlace
 pub use Rattle.mps_changes.specs.Change

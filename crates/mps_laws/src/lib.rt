@@ -7,6 +7,7 @@ ghost use Rattle.mps_laws.specs.Held.{HeldObjectsAreLive, GetsReachLiveObjects};
 ghost use Rattle.mps_laws.specs.Staying.{HeldBlocksStay, HeldThroughoutStays, AddressesStayRight};
 ghost use Rattle.mps_laws.specs.Depending.{FreshDependenciesHold};
 ghost use Rattle.mps_laws.specs.Replay.{StepReplaysToLiveBlocks, LogReplaysToLiveBlocks, LabelledLogReplays};
+ghost use Rattle.mps_laws.specs.OnePlace.{BlocksAreInOnePlace};
 ghost use Rattle.mps_laws.specs.Flipping.{StepFlipsOnceAtMost, FlipsAreNoMoreThanSteps};
 ghost use Rattle.mps_laws.specs.WellFormed.{ReachedWorldsAreWellFormed, WorldsInStepsAreWellFormed, ArenaMadeAgainLeavesSegments};
 
@@ -30,7 +31,7 @@ pub fn a_labelled_log_replays()
 {}
 
 /// What a client holds is live, after each step: whatever stands in a slot, a hold of an area word, a message, a live
-/// reservation or a table of blocks; and if no collection runs, whatever a live object refers to or a pair of a transform names.
+/// reservation, a table of blocks or a cache; and if no collection runs, whatever a live object refers to or a pair of a transform names.
 pub fn held_objects_are_live()
     ensures { HeldObjectsAreLive }
 {}
@@ -59,6 +60,12 @@ pub fn addresses_stay_right()
 /// unless it is live no more.
 pub fn fresh_dependencies_hold()
     ensures { FreshDependenciesHold }
+{}
+
+/// No manual block is in two of the places of tables of blocks and of caches, nor twice in one of them. So what is freed, kept in a
+/// cache or taken from it is shown by no other place.
+pub fn a_block_is_in_one_place()
+    ensures { BlocksAreInOnePlace }
 {}
 
 /// A legal step flips at most once, whatever its call is; so a legal history has no more flips than steps.

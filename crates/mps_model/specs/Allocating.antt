@@ -164,6 +164,13 @@ abbrev pub graph_allocated : Graph → (pool words : ℕ) → Found (Option ℕ)
 graph_allocated g pool words place =
     with_block_place (with_object g (record { pool = pool; body = Manual (replicate words 0) })) place (Some (length g.objects))
 
+-- the world with a new block of a pool in a place, at its placement in the world in which the call is judged
+abbrev pub world_allocated : (judged after : World) → (pool words : ℕ) → Found (Option ℕ) → World
+world_allocated judged after pool words place = record after {
+  graph = graph_allocated after.graph pool words place;
+  addresses = with_last after.addresses (Some (address_of_placement (placement_of judged (ForAlloc pool words))));
+}
+
 abbrev pub act_alloc : (judged after : World) → (pool : Name) → (words : ℕ) → Slot → Checked Act
 act_alloc judged after pool words into = do
   from ← pool_named judged pool
@@ -172,10 +179,7 @@ act_alloc judged after pool words into = do
   refuse_when (not (allows_size from.value.kind words)) refusal.BadSize
   refuse_when (is_some place.value) refusal.NameTaken
   refuse_without_place (placement_of judged (ForAlloc from.number words))
-  done (record after {
-    graph = graph_allocated after.graph from.number words place;
-    addresses = with_last after.addresses (Some (address_of_placement (placement_of judged (ForAlloc from.number words))));
-  })
+  done (world_allocated judged after from.number words place)
 
 -- the id of the block in a place
 abbrev pub block_in : Found (Option ℕ) → Checked ℕ

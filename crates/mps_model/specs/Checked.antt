@@ -7,7 +7,7 @@ use Rattle.mps_base.specs.declared.refusal.Refusal.TheVariants as refusal
 use Rattle.mps_model.specs.declared.reply.Reply.{Reply}
 use Rattle.mps_model.specs.declared.reply.Reply.TheVariants as reply
 use Rattle.mps_model.specs.Answer.{Answer, Replied}
-use Rattle.mps_model.specs.Graph.{Graph, Cell, HeadCell, NumberCell, ReferenceCell, Body, Automatic, Manual, Object, Point, AreaWord, Thing, ChainThing, PoolThing, TableThing, AreaThing, BlocksThing, PointThing, DependencyThing, TransformThing, LabelThing, thing_named, entry_at, object_at, with_last}
+use Rattle.mps_model.specs.Graph.{Graph, Cell, HeadCell, NumberCell, ReferenceCell, Body, Automatic, Manual, Object, Point, AreaWord, Thing, ChainThing, PoolThing, TableThing, AreaThing, BlocksThing, PointThing, DependencyThing, TransformThing, LabelThing, thing_named, entry_at, object_at, with_last, CacheThing, Cache}
 use Rattle.mps_model.specs.World.{World, Pool, Dependency}
 
 -- an answer, and the world after it
@@ -86,6 +86,10 @@ abbrev pub as_transform : Thing → Option ℕ
 as_transform (TransformThing number) = Some number
 as_transform _ = None
 
+abbrev pub as_cache : Thing → Option ℕ
+as_cache (CacheThing number) = Some number
+as_cache _ = None
+
 abbrev pub as_label : Thing → Option ℕ
 as_label (LabelThing number) = Some number
 as_label _ = None
@@ -123,6 +127,11 @@ abbrev pub dependency_named : World → Name → Checked (Numbered Dependency)
 dependency_named w name = do
   number ← required (number_named w name as_dependency) refusal.BadName
   numbered number (slice_get w.dependencies number)
+
+abbrev pub cache_named : World → Name → Checked (Numbered Cache)
+cache_named w name = do
+  number ← required (number_named w name as_cache) refusal.BadName
+  numbered number (slice_get w.graph.caches number)
 
 -- the label of this name
 abbrev pub label_named : World → Name → Checked (Numbered Name)

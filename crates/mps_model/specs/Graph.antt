@@ -129,6 +129,11 @@ with_last xs x = xs ++ x ∷ []
 abbrev pub contains : List ℕ → ℕ → Bool
 contains ns n = list_any (λ m. m == n) ns
 
+-- how often a number stands in a list
+abbrev pub occurrences : List ℕ → ℕ → ℕ
+occurrences [] n = 0
+occurrences (m ∷ ms) n = (if m == n then 1 else 0) + occurrences ms n
+
 -- where in a list a number first stands
 abbrev pub position_of_first : List ℕ → ℕ → Option ℕ
 position_of_first [] n = None
@@ -315,8 +320,20 @@ abbrev pub ids_in_reservations : Graph → List ℕ
 ids_in_reservations g = flat_map targets_of_point g.points
 
 -- the ids in the places of tables of blocks
+abbrev pub ids_in_places : Graph → List ℕ
+ids_in_places g = flat_map entries g.blocks
+
+-- the ids that lie in the classes of a cache
+abbrev pub ids_of_cache : Cache → List ℕ
+ids_of_cache q = flat_map (λ (k : CacheClass). k.cached) q.classes
+
+-- the ids that lie in caches
+abbrev pub ids_in_caches : Graph → List ℕ
+ids_in_caches g = flat_map ids_of_cache g.caches
+
+-- the manual blocks that the client has: those in places, and those in caches
 abbrev pub ids_in_blocks : Graph → List ℕ
-ids_in_blocks g = flat_map entries g.blocks
+ids_in_blocks g = ids_in_places g ++ ids_in_caches g
 
 -- what the client holds: the ids in slots, holds, messages and live reservations. From here reachability begins
 abbrev pub ids_of_client : Graph → List ℕ

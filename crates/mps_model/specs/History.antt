@@ -21,12 +21,13 @@ use Rattle.mps_model.specs.declared.call.Call.TheVariants as call
 use Rattle.mps_model.specs.Answer.{Answer, is_accepted, is_block, is_refused, is_unsupported}
 use Rattle.mps_model.specs.Step.{Step, History}
 use Rattle.mps_model.specs.Replay.{Store, Block, with_block}
-use Rattle.mps_model.specs.Graph.{Reservation, Point, entry_at, ids_of_client, ids_in_blocks, targets}
+use Rattle.mps_model.specs.Graph.{Reservation, Point, Cache, CacheClass, entry_at, ids_of_client, ids_in_blocks, targets}
 use Rattle.mps_model.specs.Collection.{Collection, is_condemned, is_kept_in_place, MaySurvive}
 use Rattle.mps_model.specs.World.{World, PointMemory, empty_world_of, empty_world, is_live, is_running, is_unclamped, ids_in_pairs, live_ids, address_of, segment_of, pool_of, words_of, is_copying_pool, is_copying_object, is_any_size_kind, is_empty_segment, pool_is, block_of_word}
 use Rattle.mps_model.specs.Placement.{ForReserve, ForAlloc, placement_of}
-use Rattle.mps_model.specs.Checked.{Checked, Found, Numbered, number_named, as_point, chain_named, pool_named, point_named, slot_in, block_place_in}
+use Rattle.mps_model.specs.Checked.{Checked, Found, Numbered, number_named, as_point, chain_named, pool_named, point_named, cache_named, slot_in, block_place_in}
 use Rattle.mps_model.specs.Allocating.{Reserving, check_reserve, reserved_address, address_of_placement}
+use Rattle.mps_model.specs.Caches.{taken_from, kept_by, flushed}
 use Rattle.mps_model.specs.Accessing.{Poked, AsBlock, AsNumber, AsMarked, poked, address_or_null}
 use Rattle.mps_model.specs.Reply.{act, reply_to, world_from}
 use Rattle.mps_model.specs.Effect.{Everything, Generations, holding, segment_of_move, with_collection, world_after_moves}
@@ -166,6 +167,37 @@ abbrev pub moves_of_free : World → Checked (Found (Option ℕ)) → List Move
 moves_of_free w (Ok found) = option_map_or (λ id. free_of w (address_or_null w id)) found.value []
 moves_of_free w (Err why) = []
 
+-- an object is freed, if it is live
+abbrev pub free_of_object : World → (id : Id) → List Move
+free_of_object w id = option_map_or (free_of w) (address_of w id) []
+
+-- objects are freed one after the other, each in the world that the moves before leave
+abbrev pub moves_of_frees : World → List Id → List Move
+moves_of_frees w [] = []
+moves_of_frees w (id ∷ ids) = free_of_object w id ++ moves_of_frees (world_after_moves w (free_of_object w id)) ids
+
+-- none if a block was taken from the cache, and else those that make one
+abbrev pub moves_if_not_taken : World → (pool words : ℕ) → Option (Id × List CacheClass) → List Move
+moves_if_not_taken w pool words (Some taken) = []
+moves_if_not_taken w pool words None = alloc_at pool words (placement_of w (ForAlloc pool words))
+
+abbrev pub moves_of_cache_alloc : World → Checked (Numbered Cache) → (words : ℕ) → List Move
+moves_of_cache_alloc w (Ok q) words = moves_if_not_taken w q.value.pool words (taken_from q.value.classes words)
+moves_of_cache_alloc w (Err why) words = []
+
+-- none if a block is kept in the cache, and else those that free it
+abbrev pub moves_if_not_kept : World → (id : Id) → Option (List CacheClass) → List Move
+moves_if_not_kept w id (Some classes) = []
+moves_if_not_kept w id None = free_of_object w id
+
+abbrev pub moves_of_cache_free : World → Checked (Numbered Cache) → Checked (Found (Option ℕ)) → List Move
+moves_of_cache_free w (Ok q) (Ok found) = option_map_or (λ id. moves_if_not_kept w id (kept_by w q.value id)) found.value []
+moves_of_cache_free w _ _ = []
+
+abbrev pub moves_of_cache_flush : World → Checked (Numbered Cache) → List Move
+moves_of_cache_flush w (Ok q) = moves_of_frees w (flushed q.value)
+moves_of_cache_flush w (Err why) = []
+
 -- these moves, unless the call was refused: then none
 abbrev pub unless_refused : Answer → List Move → List Move
 unless_refused answer moves = if is_refused answer then [] else moves
@@ -243,6 +275,11 @@ AreMovesOf w (call.Reserve point head) answer moves = AreMovesOfReserve w point 
 AreMovesOf w (call.Commit point target) answer moves = moves ≡ if_accepted answer (moves_of_commit w (point_named w point))
 AreMovesOf w (call.Alloc pool words place) answer moves = moves ≡ unless_refused answer (moves_of_alloc w (pool_named w pool) words)
 AreMovesOf w (call.Free place) answer moves = moves ≡ unless_refused answer (moves_of_free w (block_place_in w place))
+AreMovesOf w (call.CacheAlloc cache words place) answer moves =
+    moves ≡ unless_refused answer (moves_of_cache_alloc w (cache_named w cache) words)
+AreMovesOf w (call.CacheFree cache place) answer moves =
+    moves ≡ unless_refused answer (moves_of_cache_free w (cache_named w cache) (block_place_in w place))
+AreMovesOf w (call.CacheFlush cache) answer moves = moves ≡ unless_refused answer (moves_of_cache_flush w (cache_named w cache))
 AreMovesOf w (call.Get target source cell) answer moves = AreMovesOfGet w source answer moves
 AreMovesOf w call.Start answer moves = moves ≡ unless_refused answer (flip_act w Everything)
 AreMovesOf w (call.StartChain chain oldest) answer moves = moves ≡ unless_refused answer (flip_act_of_chain w (chain_named w chain) oldest)
@@ -257,11 +294,14 @@ moves_of_collector (call.Reserve point head) moves = moves_of_poll moves
 moves_of_collector (call.Commit point target) moves = []
 moves_of_collector (call.Alloc pool words place) moves = []
 moves_of_collector (call.Free place) moves = []
+moves_of_collector (call.CacheAlloc cache words place) moves = []
+moves_of_collector (call.CacheFree cache place) moves = []
+moves_of_collector (call.CacheFlush cache) moves = []
 moves_of_collector _ moves = moves
 
 -- ---- what holds after a call
 
--- what the client holds is live, and so are the blocks in its tables of blocks. If no collection runs, so is what a live
+-- what the client holds is live, and so are the blocks in its tables of blocks and in caches. If no collection runs, so is what a live
 -- object refers to, and so are the objects in pairs of transforms. If one runs there are no such pairs
 pub record HeldAreLive (w : World) : Type 0 where
   pub client : IsTrue (list_all (is_live w) (ids_of_client w.graph))

@@ -18,6 +18,7 @@ pub mod Tagging
 pub mod Labelling
 pub mod Dependents
 pub mod Transforms
+pub mod Caches
 pub mod Dependency
 pub mod Collecting
 pub mod Reply

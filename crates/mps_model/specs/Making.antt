@@ -35,6 +35,9 @@ most_dependencies = 256
 abbrev pub most_labels : ℕ
 most_labels = 256
 
+abbrev pub most_caches : ℕ
+most_caches = 16
+
 -- how many tables, areas and tables of blocks are live
 abbrev pub live_roots : Graph → ℕ
 live_roots g = count_by is_some g.tables + count_by is_some g.areas + length g.blocks

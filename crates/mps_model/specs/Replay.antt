@@ -1,5 +1,5 @@
 -- Replaying a log: which blocks are live at its end. The blocks stand in ascending order of their addresses.
-use Rattle.std.specs.Prelude.{◌≡◌, ℕ, Bool, ◌==◌, nat_lt, if◌then◌else◌, Option, Some, None, option_and_then, is_some, List, [], ◌∷◌, slice_index, refl}
+use Rattle.std.specs.Prelude.{◌≡◌, ℕ, Bool, ◌==◌, if◌then◌else◌, Option, Some, None, option_and_then, is_some, List, [], ◌∷◌, slice_index, refl}
 use Rattle.mps_base.specs.Address.{Address}
 use Rattle.mps_base.specs.Put.{put}
 use Rattle.mps_base.specs.Record.{Record, commit_code, alloc_code, move_code, stay_code, post_code, free_code}

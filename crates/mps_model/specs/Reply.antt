@@ -18,6 +18,7 @@ use Rattle.mps_model.specs.Tagging.{act_set_tag, act_tag}
 use Rattle.mps_model.specs.Labelling.{act_intern, act_label}
 use Rattle.mps_model.specs.Dependents.{act_depend, act_undepend}
 use Rattle.mps_model.specs.Transforms.{act_transform, act_transform_add, act_transform_apply, act_transform_drop}
+use Rattle.mps_model.specs.Caches.{act_cache, act_cache_alloc, act_cache_free, act_cache_flush}
 use Rattle.mps_model.specs.Dependency.{act_dependency, act_dependency_reset, act_dependency_add, act_dependency_merge, act_dependency_stale}
 use Rattle.mps_model.specs.Collecting.{act_start, act_start_chain, act_step, act_collect, act_clamp, act_park, act_release, act_finalize, act_definalize, act_message, act_live, act_dump}
 
@@ -64,6 +65,9 @@ act_in w (call.Transform transform) = act_transform w transform
 act_in w (call.TransformAdd transform old new) = act_transform_add w transform old new
 act_in w (call.TransformApply transform) = act_transform_apply w transform
 act_in w (call.TransformDrop transform) = act_transform_drop w transform
+act_in w (call.Cache cache pool count sizes limits) = act_cache w cache pool count sizes limits
+act_in w (call.CacheFree cache place) = act_cache_free w cache place
+act_in w (call.CacheFlush cache) = act_cache_flush w cache
 act_in w (call.Peek word) = act_peek w word
 act_in w (call.Pin word slot) = act_pin w word slot
 act_in w (call.Take slot word) = act_take w slot word
@@ -88,6 +92,7 @@ act_in w _ = says reply.Unsupported w
 abbrev pub act : (marked : Bool) → (judged after : World) → Call → Checked Act
 act marked judged after (call.Reserve point head) = act_reserve judged after point head
 act marked judged after (call.Alloc pool words place) = act_alloc judged after pool words place
+act marked judged after (call.CacheAlloc cache words place) = act_cache_alloc judged after cache words place
 act marked judged after (call.Get target source cell) = act_get judged after target source cell
 act marked judged after (call.Poke word value) = act_poke marked after word value
 act marked judged after call.Start = act_start judged after

@@ -9,11 +9,12 @@ use Rattle.mps_base.specs.Segment.{Segment, same_rank, words_of_segment, grains_
 use Rattle.mps_base.specs.declared.names.Name.{Name}
 use Rattle.mps_base.specs.declared.names.Kind.TheVariants as kind
 use Rattle.mps_base.specs.declared.names.Rank.TheVariants as rank
-use Rattle.mps_model.specs.Graph.{Graph, Thing, TableThing, LabelThing, NamedThing, thing_named, Cell, HeadCell, NumberCell, ReferenceCell, Body, Automatic, Manual, Object, Reservation, Point, AreaWord, PlainWord, Hold, is_automatic, is_weak_object, new_cells, targets_of_cells, with_target_cell, graph_with_cells, empty_graph, ids_in_slots, ids_in_blocks}
+use Rattle.mps_model.specs.Graph.{Graph, Thing, TableThing, LabelThing, NamedThing, thing_named, Cell, HeadCell, NumberCell, ReferenceCell, Body, Automatic, Manual, Object, Reservation, Point, AreaWord, PlainWord, Hold, is_automatic, is_weak_object, new_cells, targets_of_cells, with_target_cell, graph_with_cells, empty_graph, ids_in_slots, ids_in_blocks, Cache, CacheClass, size_of}
 use Rattle.mps_model.specs.Collection.{empty_collection}
-use Rattle.mps_model.specs.World.{World, Pool, PointMemory, Tail, is_automatic_kind, is_weak_kind, pool_is, pool_at, is_live, is_live_and, live_ids, object_is, pool_of, words_of, extent, covered, shown_word, lies_in, Collected, Parked, TransformPair, is_parked, is_running, ids_in_pairs, empty_run, empty_world}
+use Rattle.mps_model.specs.World.{World, Pool, PointMemory, Tail, is_automatic_kind, is_weak_kind, pool_is, pool_at, is_live, is_live_and, live_ids, object_is, pool_of, words_of, extent, covered, shown_word, lies_in, Collected, Parked, TransformPair, is_parked, is_running, ids_in_pairs, empty_run, empty_world, OneSize, AnySize}
 use Rattle.mps_model.specs.Making.{is_weak_rank, is_block_size}
 use Rattle.mps_model.specs.Dependents.{may_depend}
+use Rattle.mps_model.specs.Caches.{may_have_cache}
 
 -- ---- runs of words
 
@@ -130,6 +131,19 @@ are_labels g number (name ∷ names) = is_label number (thing_named g name) && a
 abbrev pub is_right_pair : World → Id × Id → Bool
 is_right_pair w p = is_live w p.0 && (is_live w p.1 && object_is (λ holder. object_is (may_depend w holder) w p.1) w p.0)
 
+-- ---- caches
+
+-- whether a block may lie in a class of n words over a pool: it is of this pool and size
+abbrev pub is_right_block : World → (pool words : ℕ) → (id : Id) → Bool
+is_right_block w pool words id = object_is (λ o. o.pool == pool && size_of o == words) w id
+
+abbrev pub is_right_class : World → (pool : ℕ) → CacheClass → Bool
+is_right_class w pool k = list_all (is_right_block w pool k.words) k.cached
+
+-- whether a cache stands over a pool of blocks of any sizes, and each block in it is of this pool and of the size of its class
+abbrev pub is_right_cache : World → Cache → Bool
+is_right_cache w q = pool_is may_have_cache w q.pool && list_all (is_right_class w q.pool) q.classes
+
 abbrev pub is_live_automatic : World → (id : Id) → Bool
 is_live_automatic w id = is_live w id && object_is is_automatic w id
 
@@ -147,7 +161,7 @@ pub record IsWellFormed (w : World) : Type 0 where
   pub places : IsTrue (list_all (is_right_place w) (live_ids w))
   pub points : IsTrue (are_right_points w w.graph.points w.point_memories)
   pub tails : IsTrue (list_all (λ t. is_right_at_hand w t.pool t.words) w.tails)
-  -- slots and area words hold automatic objects, places of tables of blocks hold manual ones
+  -- slots and area words hold automatic objects, places of tables of blocks and caches hold manual ones
   pub slots : IsTrue (list_all (object_is is_automatic w) (ids_in_slots w.graph))
   pub words : IsTrue (list_all (are_right_words w) w.graph.areas)
   pub blocks : IsTrue (list_all (object_is (λ o. not (is_automatic o)) w) (ids_in_blocks w.graph))
@@ -162,6 +176,8 @@ pub record IsWellFormed (w : World) : Type 0 where
   pub parked : IsTrue (not (is_parked w && is_running w))
   -- both objects of each pair of a transform are live and automatic
   pub transforms : IsTrue (list_all (is_live_automatic w) (ids_in_pairs w.state))
+  -- what lies in a cache is a block of its pool, and of the size of its class
+  pub caches : IsTrue (list_all (is_right_cache w) w.graph.caches)
 
 -- the name of a label
 abbrev ring : Name
@@ -216,6 +232,7 @@ small_world_is_well_formed = record {
   dependents = refl;
   parked = refl;
   transforms = refl;
+  caches = refl;
 }
 
 -- what breaks it, a fact at a time
@@ -283,6 +300,36 @@ pub a_transform_of_a_freed_object : IsWellFormed (record small_world {
   addresses = Some 0x1000 ∷ None ∷ [];
 }) → ⊥
 a_transform_of_a_freed_object w = let h : false ≡ true = w.transforms in absurd cc
+
+-- a manual block of 2 words at 0x1000, in a cache over the pool 0, whose pools are these
+abbrev with_cached : List Pool → CacheClass → World
+with_cached pools k = record empty_world {
+  graph = record empty_graph {
+    objects = record { pool = 0; body = Manual (0 ∷ 0 ∷ []) } ∷ [];
+    caches = record { pool = 0; classes = k ∷ [] } ∷ [];
+  };
+  grains = 1;
+  limit = 1;
+  pools = pools;
+  segments = record { base = 0x1000; grains = 1; pool = 0; generation = 0; rank = rank.Exact } ∷ [];
+  addresses = Some 0x1000 ∷ [];
+}
+
+abbrev any_sizes : List Pool
+any_sizes = record { kind = AnySize; format = 0; chain = None } ∷ []
+
+pub a_cached_block : list_all (is_right_cache (with_cached any_sizes (record { words = 2; limit = 1; cached = 0 ∷ [] })))
+    (with_cached any_sizes (record { words = 2; limit = 1; cached = 0 ∷ [] })).graph.caches ≡ true
+a_cached_block = refl
+
+pub a_block_in_the_class_of_another_size :
+    IsWellFormed (with_cached any_sizes (record { words = 3; limit = 1; cached = 0 ∷ [] })) → ⊥
+a_block_in_the_class_of_another_size w = let h : false ≡ true = w.caches in absurd cc
+
+pub a_cache_over_a_pool_of_one_size :
+    IsWellFormed (with_cached (record { kind = OneSize 2; format = 0; chain = None } ∷ [])
+    (record { words = 2; limit = 1; cached = 0 ∷ [] })) → ⊥
+a_cache_over_a_pool_of_one_size w = let h : false ≡ true = w.caches in absurd cc
 
 pub a_reference_to_nothing : IsWellFormed (record small_world {
   graph = graph_with_cells small_world.graph 1

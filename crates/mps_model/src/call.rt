@@ -232,6 +232,32 @@ pub enum Call {
         transform: Name,
     },
 
+    // Allocation caches.
+    /// `cache Q P CLASSES`: makes an allocation cache over a pool. Its classes are the first `count` of eight pairs: the size of the
+    /// blocks in words, and how many of them it keeps at most. A size above 65,536, which is refused, stands here as 65,537.
+    Cache {
+        cache: Name,
+        pool: Name,
+        count: u8,
+        sizes: [u32; 8],
+        limits: [u8; 8],
+    },
+    /// `calloc Q SIZE B.I`: puts the block that was cached last in the class of this size, in words, into a place, or makes one.
+    CacheAlloc {
+        cache: Name,
+        words: u64,
+        place: Slot,
+    },
+    /// `cfree Q B.I`: caches the block in a place if its class has room, and frees it else.
+    CacheFree {
+        cache: Name,
+        place: Slot,
+    },
+    /// `cflush Q`: frees all blocks in a cache.
+    CacheFlush {
+        cache: Name,
+    },
+
     // Areas.
     /// `poke A.I VALUE`: stores a word into an area.
     Poke {

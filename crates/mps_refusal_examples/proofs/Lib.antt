@@ -5,4 +5,5 @@ pub mod Collecting
 pub mod Labelling
 pub mod Dependents
 pub mod Transforms
+pub mod Caches
 pub mod Placing

@@ -8,6 +8,7 @@ ghost use Rattle.mps_refusal_examples.specs.Accessing.{CellsAnswer, SlotsAnswer,
 ghost use Rattle.mps_refusal_examples.specs.Labelling.{TagsAnswer, LabelsAnswer};
 ghost use Rattle.mps_refusal_examples.specs.Dependents.{DependentsAnswer};
 ghost use Rattle.mps_refusal_examples.specs.Transforms.{TransformsAnswer};
+ghost use Rattle.mps_refusal_examples.specs.Caches.{CachesAnswer};
 ghost use Rattle.mps_refusal_examples.specs.Collecting.{CollectionsAnswer, FinalizationAnswers, DependenciesAnswer};
 ghost use Rattle.mps_refusal_examples.specs.Placing.{AreGapsByRank, AreBuffersByPoint};
 
@@ -104,4 +105,9 @@ pub fn dependents_answer()
 /// `transform`, `transadd`, `transapply` and `transdrop`, in an arena that is parked and in one that isn't.
 pub fn transforms_answer()
     ensures { TransformsAnswer }
+{}
+
+/// `cache`, also if no cache is left, `calloc`, `cfree` and `cflush`.
+pub fn caches_answer()
+    ensures { CachesAnswer }
 {}

@@ -10,13 +10,14 @@ use Rattle.mps_base.specs.Placement.{Placement, Place, NewSegment, OverLimit, No
 use Rattle.mps_base.specs.Run.{Run}
 use Rattle.mps_base.specs.Segment.{Segment, with_segment, words_of_segment}
 use Rattle.mps_model.specs.Answer.{Answer, is_refused}
-use Rattle.mps_model.specs.Graph.{Object, Manual, Point, Reservation, contains, entry_at, with_last, targets_of_cells, targets_of_point, targets_of_reservation, ids_of_client, ids_in_slots, ids_in_holds, ids_in_reservations}
+use Rattle.mps_model.specs.Graph.{Object, Manual, Cache, CacheClass, Point, Reservation, contains, entry_at, with_last, targets_of_cells, targets_of_point, targets_of_reservation, ids_of_client, ids_in_slots, ids_in_holds, ids_in_reservations}
 use Rattle.mps_model.specs.World.{World, PointMemory, Pool, Tail, extent, extents_of, extent_of_reservation, is_copying_pool, with_tail, is_live}
 use Rattle.mps_model.specs.Placement.{ForAlloc, placement_of}
 use Rattle.mps_model.specs.Checked.{Checked, Found, Numbered, with_graph}
 use Rattle.mps_model.specs.Allocating.{with_reservation, reserved_address, committed_object, world_committed, graph_allocated}
+use Rattle.mps_model.specs.Caches.{taken_from}
 use Rattle.mps_model.specs.Effect.{holding, segment_of_move, world_after_moves}
-use Rattle.mps_model.specs.History.{alloc_at, moves_of_alloc, unless_refused}
+use Rattle.mps_model.specs.History.{alloc_at, moves_if_not_taken, moves_of_alloc, moves_of_cache_alloc, unless_refused}
 use Rattle.mps_model.specs.WellFormed.{IsWellFormed}
 use Rattle.mps_abstract.specs.Colours.{AreDifferent}
 use Rattle.mps_abstract.specs.Collecting.{Collecting, Running, is_white_in}
@@ -124,6 +125,7 @@ module _ (x : Collecting) (run : Running x) (as_many : length x.world.addresses 
       } in
       aside_keeps made (made_keeps x run new at as_many different (λ t none. absurd (false≢true none)))
       x.world (slice_set x.world.graph.blocks place.number (slice_set place.list place.index (Some (length x.world.graph.objects))))
+      x.world.graph.caches
 
 -- ---- the segment that an alloc takes
 
@@ -143,6 +145,21 @@ placed_more w pool words (NewSegment grain grains) = segment_more w (segment_of_
     (is_copying_pool w pool)
 placed_more w pool words (OverLimit committed need limit) = holds_no_more
 placed_more w pool words (NoFreeRun need longest) = holds_no_more
+
+-- the moves of a call that takes a block from a cache, or makes one
+pub take_moves_more : (w : World) (m : Checked (Numbered Cache)) (words : ℕ) (answer : Answer)
+    → MayHoldMore w (world_after_moves w (unless_refused answer (moves_of_cache_alloc w m words)))
+take_moves_more w m words answer = by_case (is_refused answer) m
+  where
+    if_taken : (pool : ℕ) (o : Option (ℕ × List CacheClass)) → MayHoldMore w (world_after_moves w (moves_if_not_taken w pool words o))
+    if_taken pool None = placed_more w pool words (placement_of w (ForAlloc pool words))
+    if_taken pool (Some taken) = holds_no_more
+
+    by_case : (b : Bool) (m : Checked (Numbered Cache))
+        → MayHoldMore w (world_after_moves w (if b then [] else moves_of_cache_alloc w m words))
+    by_case true m = holds_no_more
+    by_case false (Ok q) = if_taken q.value.pool (taken_from q.value.classes words)
+    by_case false (Err why) = holds_no_more
 
 moves_more : (w : World) (m : Checked (Numbered Pool)) (words : ℕ) (refused : Bool)
     → MayHoldMore w (world_after_moves w (if refused then [] else moves_of_alloc w m words))

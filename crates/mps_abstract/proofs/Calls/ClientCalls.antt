@@ -12,21 +12,22 @@ use Rattle.mps_model.specs.Answer.{Answer, is_accepted, is_block}
 use Rattle.mps_model.specs.Graph.{Graph, Object, Point, Reservation, position_of_first, without_first, ids_of_client, ids_in_blocks}
 use Rattle.mps_model.specs.World.{World, is_live}
 use Rattle.mps_model.specs.WellFormed.{IsWellFormed}
-use Rattle.mps_model.specs.Checked.{Act, Checked, Found, Numbered, ◌>>=◌, required, done, slot_in, object_in, block_place_in, pool_named, point_named, number_named, as_point}
+use Rattle.mps_model.specs.Checked.{Act, Checked, Found, Numbered, ◌>>=◌, required, done, slot_in, object_in, block_place_in, cache_named, pool_named, point_named, number_named, as_point}
 use Rattle.mps_model.specs.Collecting.{act_definalize, without_registration}
 use Rattle.mps_model.specs.Effect.{world_after_moves}
 use Rattle.mps_model.specs.Policy.{units_asked}
 use Rattle.mps_model.specs.Reply.{act, world_from}
-use Rattle.mps_model.specs.History.{moves_of_collector, moves_of_poll, own_segment, after_own_segment, judged_world, moved_world, asking, remembering, with_client_remembered, world_after, world_after_call, AreMovesOf, moves_of_commit, commit_of, unless_refused, moves_of_free}
+use Rattle.mps_model.specs.History.{moves_of_collector, moves_of_poll, own_segment, after_own_segment, judged_world, moved_world, asking, remembering, with_client_remembered, world_after, world_after_call, AreMovesOf, moves_of_commit, commit_of, unless_refused, moves_of_free, moves_of_cache_flush, moves_of_cache_free}
 use Rattle.mps_abstract.specs.Colours.{AreDifferent}
 use Rattle.mps_abstract.specs.Collecting.{Collecting, Running}
 use Rattle.mps_abstract.specs.ClientLaws.{AreApartFrom, IsWellPlaced, position_taken, collection_without, next_without, IsMarkedKept, IsReadKept, ClientsKeepRunning}
-use Rattle.mps_changes.specs.Change.{ForAct, accepted, refused, Change, Unchanged}
+use Rattle.mps_changes.specs.Change.{ForAct, accepted, refused, allocates, Change, Unchanged}
 use Rattle.mps_changes.proofs.ActChanges.{act_changes_so}
 use Rattle.mps_abstract.proofs.Calls.ClientByChanges.{unregisters, moves_itself, reserves, act_runs}
 use Rattle.mps_abstract.proofs.Calls.ClientRegistrations.{first_stands, definalized_keeps, remembered_keeps}
-use Rattle.mps_abstract.proofs.Calls.ClientBlocks.{MayHoldMore, alloc_moves_more, more_keeps}
+use Rattle.mps_abstract.proofs.Calls.ClientBlocks.{MayHoldMore, alloc_moves_more, more_keeps, take_moves_more}
 use Rattle.mps_abstract.proofs.Calls.ClientFrees.{freeing_keeps}
+use Rattle.mps_abstract.proofs.Calls.ClientCaches.{cache_flush_keeps, cache_free_keeps}
 use Rattle.mps_abstract.proofs.Calls.ClientReserves.{MayOwn, own_segment_owned, owned_asking, owned_graph, owned_keeps}
 use Rattle.mps_abstract.proofs.Calls.ClientReads.{HasTables, moves_leave}
 
@@ -135,6 +136,22 @@ module _ (w : World) (x : Collecting) (run : Running x) (formed : IsWellFormed x
         same_graph = λ h. absurd (true≢false (sym (reserve_moves c h) ∙ quiet));
       }) stays) placed.different
 
+  -- a call whose moves free blocks
+  freed_keeps : (c : Call) (ms : List Move) (answer : Answer) → Running (record x { world = world_after_moves w ms })
+      → IsMarkedKept (record x { world = world_after_moves w ms }) c answer → IsReadKept (record x { world = world_after_moves w ms }) c
+      → moves_itself c ≡ true → allocates c ≡ false → reserves c ≡ false → unregisters c ≡ false
+      → IsWellPlaced (world_from (world_after_moves w ms) (act (is_block answer) w (world_after_moves w ms) c))
+      → Running (record x { world = world_from (world_after_moves w ms) (act (is_block answer) w (world_after_moves w ms) c) })
+  freed_keeps c ms answer runs marked read itself none other stays placed =
+      act_runs (record x { world = world_after_moves w ms }) runs w c answer (record {
+        tables = moves_leave w ms;
+        marked = marked;
+        read = read;
+        as_many = λ h. absurd (true≢false (sym h ∙ none));
+        formed = λ h. absurd (true≢false (sym itself ∙ h));
+        same_graph = λ h. absurd (true≢false (sym h ∙ other));
+      }) stays placed.different
+
   call_keeps : (c : Call) (ms : List Move) (answer : Answer)
       → asking (units_asked w c) (world_after_moves w (moves_of_collector c ms)) ≡ x.world → AreMovesOf w c answer ms
       → IsMarkedKept x c answer → IsReadKept x c → IsWellPlaced (After c ms answer)
@@ -198,6 +215,37 @@ module _ (w : World) (x : Collecting) (run : Running x) (formed : IsWellFormed x
         formed = λ h. absurd (true≢false h);
         same_graph = λ h. absurd (false≢true h);
       }) refl placed.different
+  call_keeps (call.CacheAlloc cache words place) ms answer led due marked read placed =
+      let after = world_after_moves w ms in
+      let c = call.CacheAlloc cache words place in
+      let more = more_keeps x run after
+      (subst (λ v. MayHoldMore v after) led (subst (λ those. MayHoldMore w (world_after_moves w those)) (sym due)
+      (take_moves_more w (cache_named w cache) words answer)))
+      (subst (AreApartFrom 1) (act_segments (is_block answer) w after c) placed.apart) in
+      act_runs (record x { world = after }) more.0 w c answer (record {
+        tables = moves_leave w ms;
+        marked = tt;
+        read = tt;
+        as_many = λ h. more.1 ∙ (formed.addresses ∙ sym more.2);
+        formed = λ h. absurd (true≢false h);
+        same_graph = λ h. absurd (false≢true h);
+      }) refl placed.different
+  call_keeps (call.CacheFree cache place) ms answer led due marked read placed =
+      freed_keeps (call.CacheFree cache place) ms answer
+      (subst (λ those. Running (record x { world = world_after_moves w those })) (sym due)
+      (subst (λ v. Running (record x {
+        world = world_after_moves v (unless_refused answer (moves_of_cache_free v (cache_named v cache) (block_place_in v place)));
+      })) (sym led) (cache_free_keeps x run formed live (cache_named x.world cache) place answer)))
+      tt tt refl refl refl refl placed
+  call_keeps (call.CacheFlush cache) ms answer led due marked read placed =
+      freed_keeps (call.CacheFlush cache) ms answer
+      (subst (λ those. Running (record x { world = world_after_moves w those })) (sym due)
+      (subst (λ v. Running (record x {
+        world = world_after_moves v
+            (unless_refused answer (moves_of_cache_flush v (cache_named v cache)));
+      }))
+      (sym led) (cache_flush_keeps x run formed cache answer)))
+      tt tt refl refl refl refl placed
   call_keeps (call.Definalize slot) ms answer led due marked read placed =
       subst (λ v. Running (record x {
         world = world_from v (act_definalize v slot);

@@ -10,7 +10,7 @@ use Rattle.mps_base.specs.Segment.{Segment, is_in_segment, without_segment}
 use Rattle.mps_base.specs.declared.moves.Move.TheVariants as moves
 use Rattle.mps_base.specs.declared.names.Slot.{Slot}
 use Rattle.mps_model.specs.Answer.{Answer, is_refused}
-use Rattle.mps_model.specs.Graph.{Object, Body, Automatic, Manual, Cell, Point, Reservation, contains, entries, entry_at, object_at, targets, targets_of, targets_of_body, targets_of_cells, targets_of_point, targets_of_reservation, is_automatic, size_of, ids_in_slots, ids_in_holds, ids_in_reservations, ids_in_blocks, new_cells, without_first}
+use Rattle.mps_model.specs.Graph.{Object, Body, Automatic, Manual, Cell, Point, Reservation, contains, entries, entry_at, object_at, targets, targets_of, targets_of_body, targets_of_cells, targets_of_point, targets_of_reservation, is_automatic, size_of, ids_in_slots, ids_in_holds, ids_in_reservations, ids_in_blocks, ids_in_caches, ids_in_places, new_cells, without_first}
 use Rattle.mps_model.specs.World.{World, Pool, PoolKind, Collected, OneSize, AnySize, PointMemory, extent, is_live, is_live_and, object_is, words_of, pool_at, pool_is, is_automatic_kind, is_any_size_kind, segment_at, segment_of, begins_in, lies_in, is_empty_segment, shown_words, is_copying_object, is_weak_kind, is_word_in}
 use Rattle.mps_model.specs.Accessing.{address_or_null}
 use Rattle.mps_model.specs.Effect.{after_free, after_unseg, giving_back, with_address, where_one, world_after_moves, reclaiming, segment_base_of, with_collection, without_object}
@@ -21,7 +21,7 @@ use Rattle.mps_model.specs.WellFormed.{IsWellFormed, is_live_automatic, is_right
 use Rattle.mps_model.specs.Making.{is_weak_rank}
 use Rattle.mps_model.proofs.Reaching.{list_all-contains}
 use Rattle.mps_abstract.specs.Collecting.{Collecting, Running}
-use Rattle.mps_abstract.proofs.Lists.{contains_append}
+use Rattle.mps_abstract.proofs.Lists.{contains_append, contains_left}
 use Rattle.mps_abstract.proofs.Addresses.{id_at-live}
 use Rattle.mps_abstract.proofs.Joining.{from_some}
 use Rattle.mps_abstract.specs.ClientLaws.{AreApartFrom}
@@ -143,7 +143,7 @@ used_automatic x run formed id (is_to_be_scanned h) = run.grey.grey_automatic id
 
 -- ---- a manual object lies in a segment of a manual pool
 
-manual_is : (w : World) (id : Id) → object_is (λ o. not (is_automatic o)) w id ≡ true → object_is is_automatic w id ≡ false
+pub manual_is : (w : World) (id : Id) → object_is (λ o. not (is_automatic o)) w id ≡ true → object_is is_automatic w id ≡ false
 manual_is w id h = of_object (object_at w.graph id) h
   where
     of_automatic : (b : Bool) → not b ≡ true → b ≡ false
@@ -159,7 +159,7 @@ module _ (x : Collecting) (run : Running x) (formed : IsWellFormed x.world) (id 
   abbrev w : World
   w = x.world
 
-  elsewhere : (base : Address) (s : Segment) (o : Object) (at : Address) → contains x.running.condemned_segments base ≡ true
+  pub elsewhere : (base : Address) (s : Segment) (o : Object) (at : Address) → contains x.running.condemned_segments base ≡ true
       → segment_at w base ≡ Some s → object_at w.graph id ≡ Some o → entry_at w.addresses id ≡ Some at
       → begins_in s (extent at (size_of o)) ≡ true → ⊥
   elsewhere base s o at is e there lying begins =
@@ -245,7 +245,7 @@ module _ (x : Collecting) (run : Running x) (formed : IsWellFormed x.world) wher
       → Running (record x { world = world_after_moves v (give_back_empty v (segment_of x.world at)) })) (sym leads)
       (λ ordered. give_back_keeps (record x { world = without_object x.world id })
       (aside_keeps (record x { world = with_address x.world id None }) (manual_freed_keeps x run formed id manual)
-      (without_object x.world id) x.world.graph.blocks)
+      (without_object x.world id) x.world.graph.blocks x.world.graph.caches)
       (segments_ordered x.world formed) (segment_of x.world at)
       (λ s e. (find_among (λ t. is_in_segment t at) x.world.segments s e).0) ordered) fine
     where
@@ -279,12 +279,13 @@ module _ (x : Collecting) (run : Running x) (formed : IsWellFormed x.world) wher
       of_value (Some id) each ordered = let it = each id refl in free_of_keeps id it.0 it.1 ordered
 
   -- a place of a table of blocks has a live manual block
-  block_right : list_all (is_live x.world) (ids_in_blocks x.world.graph) ≡ true → (place : Slot) (f : Found (Option ℕ)) (id : Id)
+  pub block_right : list_all (is_live x.world) (ids_in_blocks x.world.graph) ≡ true → (place : Slot) (f : Found (Option ℕ)) (id : Id)
       → block_place_in x.world place ≡ Ok f → f.value ≡ Some id → (is_live x.world id ≡ true) × (object_is is_automatic x.world id ≡ false)
   block_right live place f id e value =
       let there = found (slice_get x.world.graph.blocks) f (number_named x.world place.name as_blocks) place.index e in
-      let among = among_all entries x.world.graph.blocks f.number f.list id there.list
-      (among_entries f.list f.index id (there.value ∙ ap Some value)) in (
+      let among = contains_left (ids_in_places x.world.graph) (ids_in_caches x.world.graph) id
+      (among_all entries x.world.graph.blocks f.number f.list id there.list
+      (among_entries f.list f.index id (there.value ∙ ap Some value))) in (
         list_all-contains (is_live x.world) (ids_in_blocks x.world.graph) id live among,
         manual_is x.world id (list_all-contains (object_is (λ o. not (is_automatic o)) x.world)
             (ids_in_blocks x.world.graph) id formed.blocks among),

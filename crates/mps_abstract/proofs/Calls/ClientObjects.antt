@@ -1,6 +1,7 @@
 -- The calls that write into objects and manual blocks.
 use Rattle.std.proofs.Common.{◌≡◌, ◌∙◌, ◌⊎◌, ℕ, true, false, refl, sym, ap, List, [], ◌++◌, length, Option, Some, None, subst, inl, inr, arith}
 use Rattle.std.proofs.lemmas.Bool.{cases_eq}
+use Rattle.std.proofs.lemmas.List.{length-replicate}
 use Rattle.std.specs.Prelude.{slice_get, slice_set}
 use Rattle.std.specs.List.{list_any}
 use Rattle.std.specs.Option.{option_map_or}
@@ -9,6 +10,7 @@ use Rattle.mps_model.specs.Graph.{Object, Body, Automatic, Manual, Cell, contain
 use Rattle.mps_model.specs.World.{World, is_copying_pool, begins_in, reserved_extents}
 use Rattle.mps_model.specs.Checked.{with_graph}
 use Rattle.mps_model.specs.Allocating.{body_with_word, graph_with_word}
+use Rattle.mps_model.specs.Caches.{body_cleared, graph_cleared}
 use Rattle.mps_abstract.specs.Collecting.{Collecting, Running}
 use Rattle.mps_abstract.proofs.Lists.{slice_get-set_same, slice_get-set_other, index_below}
 use Rattle.mps_abstract.proofs.Calls.ClientChange.{IsChange, change_keeps}
@@ -170,3 +172,39 @@ module _ (x : Collecting) (run : Running x) where
           }))
       of_object None e = run
       of_object (Some o) e = rewritten_keeps id o (record o { body = body_with_word o.body k value }) e (with_word_so o k value)
+
+  -- a manual block is cleared
+  cleared_so : (o : Object) → IsRewritten IsHeld o (record o { body = body_cleared o.body })
+  cleared_so o = record {
+    pool = refl;
+    automatic = automatic_so o.body;
+    weak = weak_so o.body;
+    size = size_so o.body;
+    referred = λ t h. inl (refers_so o.body t h);
+  }
+    where
+      automatic_so : (b : Body) → is_automatic_body (body_cleared b) ≡ is_automatic_body b
+      automatic_so (Automatic head cells is_weak) = refl
+      automatic_so (Manual words) = refl
+
+      weak_so : (b : Body) → is_weak_body (body_cleared b) ≡ is_weak_body b
+      weak_so (Automatic head cells is_weak) = refl
+      weak_so (Manual words) = refl
+
+      size_so : (b : Body) → size_of_body (body_cleared b) ≡ size_of_body b
+      size_so (Automatic head cells is_weak) = refl
+      size_so (Manual words) = length-replicate (length words) 0
+
+      refers_so : (b : Body) (t : Id) → contains (targets_of_body (body_cleared b)) t ≡ true → contains (targets_of_body b) t ≡ true
+      refers_so (Automatic head cells is_weak) t h = h
+      refers_so (Manual words) t h = h
+
+  pub cleared_keeps : (id : ℕ) → P (with_graph w (graph_cleared w.graph id))
+  cleared_keeps id = of_object (object_at w.graph id) refl
+    where
+      of_object : (o : Option Object) → object_at w.graph id ≡ o
+          → P (with_graph w (record w.graph {
+            objects = option_map_or (λ p. slice_set w.graph.objects id (record p { body = body_cleared p.body })) o w.graph.objects;
+          }))
+      of_object None e = run
+      of_object (Some o) e = rewritten_keeps id o (record o { body = body_cleared o.body }) e (cleared_so o)

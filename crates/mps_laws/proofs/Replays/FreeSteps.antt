@@ -11,17 +11,23 @@ use Rattle.mps_base.specs.declared.moves.Move.{Move}
 use Rattle.mps_base.specs.declared.moves.Move.TheVariants as moves
 use Rattle.mps_base.specs.declared.names.Slot.{Slot}
 use Rattle.mps_base.specs.declared.refusal.Refusal.TheVariants as refusal
+use Rattle.mps_base.specs.declared.names.Name.{Name}
+use Rattle.mps_model.specs.declared.call.Call.{Call}
 use Rattle.mps_model.specs.declared.call.Call.TheVariants as call
 use Rattle.mps_model.specs.Answer.{Answer, is_refused, is_unsupported}
-use Rattle.mps_model.specs.Graph.{Slots, entries, entry_at, ids_in_blocks}
+use Rattle.mps_model.specs.Graph.{Cache, CacheClass, Slots, entries, entry_at, ids_in_blocks, ids_in_caches, ids_in_places}
 use Rattle.mps_model.specs.World.{World, id_at, is_live, segment_of, is_any_size_kind, is_copying_kind, is_empty_segment, pool_is}
-use Rattle.mps_model.specs.Checked.{Checked, Found, ◌>>=◌, required, block_place_in, entry_in, number_named, numbered, as_blocks}
+use Rattle.mps_model.specs.Checked.{Checked, Found, Numbered, ◌>>=◌, required, block_place_in, cache_named, entry_in, number_named, numbered, as_blocks}
 use Rattle.mps_model.specs.Accessing.{address_or_null}
+use Rattle.mps_model.specs.Caches.{flushed, kept_by}
+use Rattle.mps_model.proofs.Appending.{replay_from-append}
+use Rattle.mps_model.proofs.Cutting.{world_after_moves-append}
+use Rattle.mps_changes.specs.Change.{is_placing}
 use Rattle.mps_model.specs.Effect.{world_after_moves, after_free, where_one}
 use Rattle.mps_model.specs.Log.{records_of, records_of_step}
 use Rattle.mps_model.specs.Replay.{replay_from, after_freeing}
 use Rattle.mps_model.specs.Flip.{at_address}
-use Rattle.mps_model.specs.History.{world_after, free_of, give_back_empty, moves_of_free, unless_refused}
+use Rattle.mps_model.specs.History.{world_after, free_of, free_of_object, give_back_empty, moves_if_not_kept, moves_of_cache_flush, moves_of_cache_free, moves_of_free, moves_of_frees, unless_refused}
 use Rattle.mps_laws.proofs.Positions.Occupancy.{Occupancy, occupancy_of}
 use Rattle.mps_laws.proofs.Positions.LaidOut.{kind_in}
 use Rattle.mps_laws.proofs.Finding.{id_at-there}
@@ -100,7 +106,8 @@ pub block_is_live : (w : World) (place : Slot) (found : Found (Option ℕ)) (id 
     → found.value ≡ Some id → is_live w id ≡ true
 block_is_live w place found id live e f =
     let x = place_is w.graph.blocks place.index (number_named w place.name as_blocks) found e in
-    of_entry (is_live w) x.slots x.index id (x.entry ∙ ap Some f) (of_tables (is_live w) w.graph.blocks x.number x.slots x.table live)
+    of_entry (is_live w) x.slots x.index id (x.entry ∙ ap Some f) (of_tables (is_live w) w.graph.blocks x.number x.slots x.table
+    (all_parts (is_live w) (ids_in_places w.graph) (ids_in_caches w.graph) live).0)
 
 -- ---- the moves of a free
 
@@ -192,3 +199,85 @@ module _ (limit pools line : ℕ) (w : World) (laid : HasLayout limit w) where
       (replay_from (blocks_of (occupancy_of w)) (records_of ns line))) (sym due)
       (moves_replayed_unless (is_refused answer) (moves_of_free w (block_place_in w place))
       (of_place place live (block_place_in w place) refl)))
+
+-- ---- several objects are freed
+
+records_append : (ms ns : List Move) (line : ℕ) → records_of (ms ++ ns) line ≡ records_of ms line ++ records_of ns line
+records_append [] ns line = refl
+records_append (m ∷ ms) ns line = ap (λ rest. Rattle.mps_model.specs.Log.record_of m line ∷ rest) (records_append ms ns line)
+
+module _ (limit line : ℕ) where
+  abbrev pub AreReplayed : World → List Move → Type 0
+  AreReplayed w ms = IsReplayed limit w (world_after_moves w ms) (replay_from (blocks_of (occupancy_of w)) (records_of ms line))
+
+  then_these : (w : World) (ms ns : List Move) → AreReplayed w ms → AreReplayed (world_after_moves w ms) ns → AreReplayed w (ms ++ ns)
+  then_these w ms ns first second = record {
+    layout = subst (HasLayout limit) (sym (world_after_moves-append w ms ns)) second.layout;
+    blocks = ap (replay_from (blocks_of (occupancy_of w))) (records_append ms ns line)
+        ∙ replay_from-append (blocks_of (occupancy_of w)) (records_of ms line) (records_of ns line)
+        ∙ ap (λ o. option_and_then (λ after. replay_from after (records_of ns line)) o) first.blocks
+        ∙ second.blocks ∙ ap (λ v. Some (blocks_of (occupancy_of v))) (sym (world_after_moves-append w ms ns));
+  }
+
+  -- an object is freed, if it is live
+  pub object_replayed : (w : World) → HasLayout limit w → (id : ℕ) → AreReplayed w (free_of_object w id)
+  object_replayed w laid id = of_address (entry_at w.addresses id) refl
+    where
+      of_address : (o : Option ℕ) → entry_at w.addresses id ≡ o → AreReplayed w (option_map_or (free_of w) o [])
+      of_address None e = record { layout = laid; blocks = refl }
+      of_address (Some at) e =
+          let at_it : address_or_null w id ≡ at = ap (λ o. option_map_or (λ (a : ℕ). a) o 0) e in
+          subst (λ (a : ℕ). AreReplayed w (free_of w a)) at_it (free_replayed limit 0 line w laid id (ap is_some e))
+
+  -- so are several, one after the other
+  pub frees_replayed : (w : World) → HasLayout limit w → (ids : List ℕ) → AreReplayed w (moves_of_frees w ids)
+  frees_replayed w laid [] = record { layout = laid; blocks = refl }
+  frees_replayed w laid (id ∷ ids) =
+      let first = object_replayed w laid id in
+      let v = world_after_moves w (free_of_object w id) in
+      then_these w (free_of_object w id) (moves_of_frees v ids) first (frees_replayed v first.layout ids)
+
+module _ (limit pools line : ℕ) (w : World) (laid : HasLayout limit w) where
+  of_kept : (id : ℕ) (kept : Option (List CacheClass)) → AreReplayed limit line w (moves_if_not_kept w id kept)
+  of_kept id None = object_replayed limit line w laid id
+  of_kept id (Some classes) = record { layout = laid; blocks = refl }
+
+  cache_free_replayed : (q : Checked (Numbered Cache)) (p : Checked (Found (Option ℕ)))
+      → AreReplayed limit line w (moves_of_cache_free w q p)
+  cache_free_replayed (Ok q) (Ok found) = of_value found.value
+    where
+      of_value : (o : Option ℕ) → AreReplayed limit line w (option_map_or (λ id. moves_if_not_kept w id (kept_by w q.value id)) o [])
+      of_value None = record { layout = laid; blocks = refl }
+      of_value (Some id) = of_kept id (kept_by w q.value id)
+  cache_free_replayed (Ok q) (Err why) = record { layout = laid; blocks = refl }
+  cache_free_replayed (Err why) p = record { layout = laid; blocks = refl }
+
+  cache_flush_replayed : (q : Checked (Numbered Cache)) → AreReplayed limit line w (moves_of_cache_flush w q)
+  cache_flush_replayed (Ok q) = frees_replayed limit line w laid (flushed q.value)
+  cache_flush_replayed (Err why) = record { layout = laid; blocks = refl }
+
+  abbrev StepReplayed : Call → List Move → Answer → Type 0
+  StepReplayed c ms answer =
+      IsReplayed limit w (world_after w (record { line = line; call = c; moves = ms; answer = answer }))
+      (replay_from (blocks_of (occupancy_of w)) (records_of_step pools (record { line = line; call = c; moves = ms; answer = answer })))
+
+  -- a call that places nothing and makes these moves unless it is refused
+  due_step : (c : Call) (ms due : List Move) (answer : Answer) → is_unsupported answer ≡ false → is_placing c ≡ false
+      → ms ≡ unless_refused answer due → AreReplayed limit line w due → StepReplayed c ms answer
+  due_step c ms due answer supported plain is replayed =
+      plain_step limit pools line w c ms answer supported plain
+      (subst (AreReplayed limit line w) (sym is) (moves_replayed_unless limit pools line w laid (is_refused answer) due replayed))
+
+  pub cache_free_step : (cache : Name) (place : Slot) (ms : List Move) (answer : Answer) → is_unsupported answer ≡ false
+      → ms ≡ unless_refused answer (moves_of_cache_free w (cache_named w cache) (block_place_in w place))
+      → StepReplayed (call.CacheFree cache place) ms answer
+  cache_free_step cache place ms answer supported due =
+      due_step (call.CacheFree cache place) ms (moves_of_cache_free w (cache_named w cache) (block_place_in w place))
+      answer supported refl due
+      (cache_free_replayed (cache_named w cache) (block_place_in w place))
+
+  pub cache_flush_step : (cache : Name) (ms : List Move) (answer : Answer) → is_unsupported answer ≡ false
+      → ms ≡ unless_refused answer (moves_of_cache_flush w (cache_named w cache)) → StepReplayed (call.CacheFlush cache) ms answer
+  cache_flush_step cache ms answer supported due =
+      due_step (call.CacheFlush cache) ms (moves_of_cache_flush w (cache_named w cache)) answer supported refl due
+      (cache_flush_replayed (cache_named w cache))

@@ -1,8 +1,8 @@
 -- The law of replay for steps that make and free manual blocks.
-use Rattle.std.proofs.Common.{◌≡◌, ◌∙◌, ℕ, ◌<◌, Bool, true, false, refl, sym, ap, List, Option, Some, None, Ok, Err, subst, arith}
+use Rattle.std.proofs.Common.{◌≡◌, ◌∙◌, ℕ, ◌<◌, Bool, true, false, refl, sym, ap, List, [], Option, Some, None, Ok, Err, subst, arith}
 use Rattle.std.proofs.lemmas.Bool.{false≢true, and_parts, leb-true}
 use Rattle.std.proofs.lemmas.List.{length-replicate}
-use Rattle.std.specs.Prelude.{map, option_and_then, not, replicate, nat_le, ◌==◌, is_some, if◌then◌else◌}
+use Rattle.std.specs.Prelude.{map, option_and_then, slice_get, not, replicate, nat_le, ◌==◌, is_some, if◌then◌else◌}
 use Rattle.std.specs.Option.{option_map_or}
 use Rattle.mps_base.specs.Address.{Address, word_of, address_of_word, address_of_grain, grains_needed}
 use Rattle.mps_base.specs.Placement.{Placement, Place, NewSegment, OverLimit, NoFreeRun}
@@ -16,18 +16,19 @@ use Rattle.mps_base.specs.declared.refusal.Refusal.{Refusal}
 use Rattle.mps_base.specs.declared.refusal.Refusal.TheVariants as refusal
 use Rattle.mps_model.specs.declared.call.Call.TheVariants as call
 use Rattle.mps_model.specs.Answer.{Answer, is_unsupported}
-use Rattle.mps_model.specs.Graph.{Manual, with_last}
-use Rattle.mps_model.specs.World.{World, Pool, PoolKind, Collected, OneSize, AnySize, covered, is_automatic_kind, is_copying_pool, with_tail}
-use Rattle.mps_model.specs.Checked.{Act, Checked, Found, Numbered, ◌>>=◌, ◌>>◌, refuse_when, done, pool_named, block_place_in}
+use Rattle.mps_model.specs.Graph.{Cache, CacheClass, Manual, thing_in, with_last}
+use Rattle.mps_model.specs.World.{World, Pool, PoolKind, Collected, OneSize, AnySize, covered, is_automatic_kind, is_copying_pool, pool_at, with_tail}
+use Rattle.mps_model.specs.Checked.{Act, Checked, Found, Numbered, ◌>>=◌, ◌>>◌, required, refuse_when, done, numbered, as_cache, cache_named, pool_named, block_place_in, with_graph}
+use Rattle.mps_model.specs.Caches.{act_cache_alloc, act_taken, graph_uncached, taken_from}
 use Rattle.mps_model.specs.Making.{is_block_size}
-use Rattle.mps_model.specs.Allocating.{act_alloc, allows_size, graph_allocated, refuse_without_place, address_of_placement}
+use Rattle.mps_model.specs.Allocating.{act_alloc, allows_size, graph_allocated, refuse_without_place, address_of_placement, world_allocated}
 use Rattle.mps_model.specs.Placement.{ForAlloc, placement_of, placement_in_gaps, new_segment_for}
 use Rattle.mps_model.specs.Effect.{world_after_moves, after_segment, holding, segment_of_move}
 use Rattle.mps_model.specs.LegalMove.{IsPlaceAt}
 use Rattle.mps_model.specs.Reply.{answer_from, world_from}
 use Rattle.mps_model.specs.Log.{records_of, records_of_step}
 use Rattle.mps_model.specs.Replay.{Store, replay_from, after_making}
-use Rattle.mps_model.specs.History.{world_after, alloc_at, moves_of_alloc, unless_refused}
+use Rattle.mps_model.specs.History.{world_after, alloc_at, moves_if_not_taken, moves_of_alloc, moves_of_cache_alloc, unless_refused}
 use Rattle.mps_laws.proofs.Lookups.{map-with_last}
 use Rattle.mps_laws.proofs.Positions.Occupancy.{Shape, shape_of, occupancy_of}
 use Rattle.mps_laws.proofs.Positions.LaidOut.{IsLaidOut, IsRightShape}
@@ -39,8 +40,10 @@ use Rattle.mps_laws.proofs.Positions.LegalMoves.{HasLayout, IsReplayed, blocks_o
 use Rattle.mps_laws.proofs.Positions.Making.{IsRoom, block_laid_out, room_free}
 use Rattle.mps_laws.proofs.Sound.PoolKinds.{manual_not_copying}
 use Rattle.mps_laws.proofs.Positions.Segments.{among_new}
-use Rattle.mps_laws.proofs.Acts.{pool_named-is}
-use Rattle.mps_laws.proofs.Replays.Steps.{answered_step}
+use Rattle.mps_changes.proofs.ActChanges.{sized_is_manual}
+use Rattle.mps_laws.proofs.Acts.{cleared_kept, pool_named-is, shapes_kept}
+use Rattle.mps_laws.proofs.SameArena.{moved_alone}
+use Rattle.mps_laws.proofs.Replays.Steps.{answered_step, as_replayed}
 
 -- ---- what an alloc comes to
 
@@ -276,3 +279,115 @@ module _ (limit pools line : ℕ) (w : World) (laid : HasLayout limit w) where
       (alloc_replayed pool words ms (act_alloc w (world_after_moves w ms) pool words into)
       (alloc_case w (world_after_moves w ms) pool words into)
       (due ∙ ap (λ b. unless_refused b (moves_of_alloc w (pool_named w pool) words)) is))
+
+-- ---- a block from a cache
+
+-- what it comes to
+data TakeCase (w v : World) (cache : Name) (words : ℕ) : Checked Act → Type 0 where
+  no_block : (why : Refusal) → TakeCase w v cache words (Err why)
+  takes : (q : Numbered Cache) (place : Found (Option ℕ)) (taken : ℕ × List CacheClass) → cache_named v cache ≡ Ok q
+      → taken_from q.value.classes words ≡ Some taken
+      → TakeCase w v cache words (done (with_graph v (graph_uncached v.graph q taken.1 place taken.0)))
+  makes_new : (q : Numbered Cache) (p : Pool) (place : Found (Option ℕ)) → cache_named v cache ≡ Ok q → pool_at w q.value.pool ≡ Some p
+      → allows_size p.kind words ≡ true → taken_from q.value.classes words ≡ None
+      → refuse_without_place (placement_of w (ForAlloc q.value.pool words)) ≡ Ok tt
+      → TakeCase w v cache words (done (world_allocated w v q.value.pool words place))
+
+module _ (w v : World) (cache : Name) (words : ℕ) where
+  take_placed : (q : Numbered Cache) (p : Pool) (place : Found (Option ℕ)) (x : Checked (Unit {0})) → cache_named v cache ≡ Ok q
+      → pool_at w q.value.pool ≡ Some p → allows_size p.kind words ≡ true → taken_from q.value.classes words ≡ None
+      → refuse_without_place (placement_of w (ForAlloc q.value.pool words)) ≡ x
+      → TakeCase w v cache words (x >> done (world_allocated w v q.value.pool words place))
+  take_placed q p place (Err why) e f s n g = no_block why
+  take_placed q p place (Ok u) e f s n g = makes_new q p place e f s n g
+
+  take_class : (q : Numbered Cache) (p : Pool) (place : Found (Option ℕ)) (o : Option (ℕ × List CacheClass)) → cache_named v cache ≡ Ok q
+      → pool_at w q.value.pool ≡ Some p → allows_size p.kind words ≡ true → taken_from q.value.classes words ≡ o
+      → TakeCase w v cache words (act_taken w v q words place o)
+  take_class q p place (Some taken) e f s n = takes q place taken e n
+  take_class q p place None e f s n =
+      take_placed q p place (refuse_without_place (placement_of w (ForAlloc q.value.pool words))) e f s n refl
+
+  take_sized : (q : Numbered Cache) (p : Pool) (place : Found (Option ℕ)) (b c : Bool) → cache_named v cache ≡ Ok q
+      → pool_at w q.value.pool ≡ Some p → allows_size p.kind words ≡ b
+      → TakeCase w v cache words (refuse_when (not b) refusal.BadSize
+      >> (refuse_when c refusal.NameTaken >> act_taken w v q words place (taken_from q.value.classes words)))
+  take_sized q p place false c e f s = no_block refusal.BadSize
+  take_sized q p place true true e f s = no_block refusal.NameTaken
+  take_sized q p place true false e f s = take_class q p place (taken_from q.value.classes words) e f s refl
+
+  take_in : (q : Numbered Cache) (p : Pool) (x : Checked (Found (Option ℕ))) → cache_named v cache ≡ Ok q
+      → pool_at w q.value.pool ≡ Some p
+      → TakeCase w v cache words (x >>= (λ place. refuse_when (not (allows_size p.kind words)) refusal.BadSize
+      >> (refuse_when (is_some place.value) refusal.NameTaken >> act_taken w v q words place (taken_from q.value.classes words))))
+  take_in q p (Err why) e f = no_block why
+  take_in q p (Ok place) e f = take_sized q p place (allows_size p.kind words) (is_some place.value) e f refl
+
+  take_pool : (q : Numbered Cache) (into : Slot) (o : Option Pool) → cache_named v cache ≡ Ok q → pool_at w q.value.pool ≡ o
+      → TakeCase w v cache words (required o refusal.BadName >>= (λ p. block_place_in v into >>= (λ place.
+      refuse_when (not (allows_size p.kind words)) refusal.BadSize
+      >> (refuse_when (is_some place.value) refusal.NameTaken >> act_taken w v q words place (taken_from q.value.classes words)))))
+  take_pool q into None e f = no_block refusal.BadName
+  take_pool q into (Some p) e f = take_in q p (block_place_in v into) e f
+
+  take_case : (into : Slot) → TakeCase w v cache words (act_cache_alloc w v cache words into)
+  take_case into = of_cache (cache_named v cache) refl
+    where
+      of_cache : (x : Checked (Numbered Cache)) → cache_named v cache ≡ x
+          → TakeCase w v cache words (x >>= (λ q. required (pool_at w q.value.pool) refusal.BadName >>= (λ p.
+          block_place_in v into >>= (λ place. refuse_when (not (allows_size p.kind words)) refusal.BadSize
+          >> (refuse_when (is_some place.value) refusal.NameTaken
+          >> act_taken w v q words place (taken_from q.value.classes words))))))
+      of_cache (Err why) e = no_block why
+      of_cache (Ok q) e = take_pool q into (pool_at w q.value.pool) e refl
+
+-- moves leave what a cache's name means
+pub same_cache : (w : World) (ms : List Move) (cache : Name) → cache_named (world_after_moves w ms) cache ≡ cache_named w cache
+same_cache w ms cache =
+    let alone = moved_alone w call.Park ms in
+    ap (λ names. required (option_and_then as_cache (thing_in names cache)) refusal.BadName
+    >>= (λ number. numbered number (slice_get (world_after_moves w ms).graph.caches number))) alone.names
+    ∙ ap (λ caches. required (option_and_then as_cache (thing_in w.graph.names cache)) refusal.BadName
+    >>= (λ number. numbered number (slice_get caches number))) alone.caches
+
+module _ (limit pools line : ℕ) (w : World) (laid : HasLayout limit w) where
+  take_replayed : (cache : Name) (words : ℕ) (ms : List Move) (x : Checked Act) → TakeCase w (world_after_moves w ms) cache words x
+      → ms ≡ unless_refused (answer_from x) (moves_of_cache_alloc w (cache_named w cache) words)
+      → IsReplayed limit w (world_from (world_after_moves w ms) x) (replay_from (blocks_of (occupancy_of w)) (records_of ms line))
+  take_replayed cache words ms (Err _) (no_block why) due =
+      subst (λ (ns : List Move). IsReplayed limit w (world_after_moves w ns)
+      (replay_from (blocks_of (occupancy_of w)) (records_of ns line))) (sym due)
+      (record { layout = laid; blocks = refl })
+  take_replayed cache words ms (Ok _) (takes q place taken e is) due =
+      let none : ms ≡ [] = due ∙ ap (λ x. moves_of_cache_alloc w x words) (sym (same_cache w ms cache) ∙ e)
+      ∙ ap (moves_if_not_taken w q.value.pool words) is in
+      subst (λ (ns : List Move). IsReplayed limit w
+      (with_graph (world_after_moves w ns) (graph_uncached (world_after_moves w ns).graph q taken.1 place taken.0))
+      (replay_from (blocks_of (occupancy_of w)) (records_of ns line))) (sym none)
+      (as_replayed limit w w (with_graph w (graph_uncached w.graph q taken.1 place taken.0)) (Some (blocks_of (occupancy_of w)))
+      (shapes_kept limit w (graph_uncached w.graph q taken.1 place taken.0) (cleared_kept w.graph taken.0) refl)
+      (record { layout = laid; blocks = refl }))
+  take_replayed cache words ms (Ok _) (makes_new q p place e there size none room) due =
+      let number = q.value.pool in
+      let at = placement_of w (ForAlloc number words) in
+      let is : ms ≡ alloc_at number words at = due ∙ ap (λ x. moves_of_cache_alloc w x words) (sym (same_cache w ms cache) ∙ e)
+      ∙ ap (moves_if_not_taken w number words) none in
+      let some = some_words p.kind words size in
+      subst (λ (ns : List Move). IsReplayed limit w (record (world_after_moves w ns) {
+        graph = graph_allocated (world_after_moves w ns).graph number words place;
+        addresses = with_last (world_after_moves w ns).addresses (Some (address_of_placement at));
+      }) (replay_from (blocks_of (occupancy_of w)) (records_of ns line))) (sym is)
+      (made_at_placement limit w (record { number = number; value = p }) words some line place at laid
+      (manual_not_copying w.pools number p there (sized_is_manual p.kind words size)) refl room)
+
+  pub take_step : (cache : Name) (words : ℕ) (into : Slot) (ms : List Move) (answer : Answer) → is_unsupported answer ≡ false
+      → ms ≡ unless_refused answer (moves_of_cache_alloc w (cache_named w cache) words)
+      → answer ≡ answer_from (act_cache_alloc w (world_after_moves w ms) cache words into)
+      → IsReplayed limit w (world_after w (record { line = line; call = call.CacheAlloc cache words into; moves = ms; answer = answer }))
+      (replay_from (blocks_of (occupancy_of w)) (records_of_step pools
+      (record { line = line; call = call.CacheAlloc cache words into; moves = ms; answer = answer })))
+  take_step cache words into ms answer supported due is =
+      answered_step limit pools line w (call.CacheAlloc cache words into) ms answer supported
+      (take_replayed cache words ms (act_cache_alloc w (world_after_moves w ms) cache words into)
+      (take_case w (world_after_moves w ms) cache words into)
+      (due ∙ ap (λ b. unless_refused b (moves_of_cache_alloc w (cache_named w cache) words)) is))

@@ -24,8 +24,8 @@ use Rattle.mps_laws.proofs.Positions.LegalMoves.{HasLayout, IsReplayed, blocks_o
 use Rattle.mps_laws.proofs.Replays.ReplayOfMoves.{moves_replayed}
 use Rattle.mps_laws.proofs.Positions.Making.{arena_laid_out}
 use Rattle.mps_laws.proofs.Replays.Steps.{with_command, answered_step, plain_step, commit_step}
-use Rattle.mps_laws.proofs.Replays.ManualSteps.{alloc_step}
-use Rattle.mps_laws.proofs.Replays.FreeSteps.{BlocksAreLive, free_step}
+use Rattle.mps_laws.proofs.Replays.ManualSteps.{alloc_step, take_step}
+use Rattle.mps_laws.proofs.Replays.FreeSteps.{BlocksAreLive, cache_flush_step, cache_free_step, free_step}
 use Rattle.mps_laws.proofs.Replays.ReserveReplayed.{reserve_step}
 
 -- segments lie below a limit; an arena that is made may raise it
@@ -72,6 +72,12 @@ module _ (limit pools line : ℕ) (w : World) (laid : HasLayout limit w) (live :
       alloc_step limit pools line w laid pool words place ms answer supported legal.moves_are_due legal.answer_is_due
   of_call (call.Free place) ms answer supported legal =
       free_step limit pools line w laid place ms answer live supported legal.moves_are_due
+  of_call (call.CacheAlloc cache words place) ms answer supported legal =
+      take_step limit pools line w laid cache words place ms answer supported legal.moves_are_due legal.answer_is_due
+  of_call (call.CacheFree cache place) ms answer supported legal =
+      cache_free_step limit pools line w laid cache place ms answer supported legal.moves_are_due
+  of_call (call.CacheFlush cache) ms answer supported legal =
+      cache_flush_step limit pools line w laid cache ms answer supported legal.moves_are_due
   of_call c ms answer supported legal =
       plain_step limit pools line w c ms answer supported refl (moves_replayed limit w None ms line laid legal.moves_are_legal)
 

@@ -9,11 +9,12 @@ use Rattle.std.specs.List.{list_all, flat_map}
 use Rattle.std.specs.Option.{option_map_or}
 use Rattle.mps_base.specs.declared.names.Rank.{Rank}
 use Rattle.mps_model.specs.Layout.{Layout}
-use Rattle.mps_model.specs.Graph.{Graph, NumberCell, ReferenceCell, new_cells, new_cells_from, Point, Reservation, AreaWord, PlainWord, Slots, entries, entry_at, held_by_word, holds_of, ids_in_blocks, ids_in_holds, ids_in_reservations, ids_in_slots, ids_of_client, slots_of, targets_of_cells, targets_of_point, targets_of_reservation, with_last}
+use Rattle.mps_model.specs.Graph.{Graph, NumberCell, ReferenceCell, new_cells, new_cells_from, Point, Reservation, AreaWord, PlainWord, Slots, entries, entry_at, held_by_word, holds_of, ids_in_blocks, ids_in_caches, ids_in_holds, ids_in_places, ids_in_reservations, ids_in_slots, ids_of_client, slots_of, targets_of_cells, targets_of_point, targets_of_reservation, with_last}
 use Rattle.mps_model.specs.Checked.{Found, Numbered}
 use Rattle.mps_model.specs.Allocating.{with_block_place, with_reservation, with_slot}
 use Rattle.mps_model.specs.Accessing.{with_word}
 use Rattle.mps_changes.proofs.Lookups.{map-slice_set}
+use Rattle.mps_changes.proofs.OneMore.{parts_pass}
 
 -- ---- lists
 
@@ -285,12 +286,17 @@ module _ (test : ℕ → Bool) (g : Graph) (a : All test (ids_in_blocks g)) wher
   pub place_written : (found : Found (Option ℕ)) (block : Option ℕ) → slice_get g.blocks found.number ≡ Some found.list
       → PassesOrNull test block → All test (ids_in_blocks (with_block_place g found block))
   place_written found block there passes =
-      all-set test entries g.blocks found.number (slice_set found.list found.index block) a
-      (entries-set test found.list found.index block (all-at test entries g.blocks found.number found.list a there) passes)
+      let parts = parts_pass test (ids_in_places g) (ids_in_caches g) a in
+      all-append test (ids_in_places (with_block_place g found block)) (ids_in_caches g)
+      (all-set test entries g.blocks found.number (slice_set found.list found.index block) parts.0
+      (entries-set test found.list found.index block (all-at test entries g.blocks found.number found.list parts.0 there) passes)) parts.1
 
   -- a table of blocks is made, of empty places
   pub blocks_made : (places : ℕ) → All test (ids_in_blocks (record g { blocks = with_last g.blocks (replicate places None) }))
-  blocks_made places = all-last test entries g.blocks (replicate places None) a (entries-none test places)
+  blocks_made places =
+      let parts = parts_pass test (ids_in_places g) (ids_in_caches g) a in
+      all-append test (ids_in_places (record g { blocks = with_last g.blocks (replicate places None) })) (ids_in_caches g)
+      (all-last test entries g.blocks (replicate places None) parts.0 (entries-none test places)) parts.1
 
 -- ---- cells
 

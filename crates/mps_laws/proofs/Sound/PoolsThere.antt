@@ -21,12 +21,12 @@ use Rattle.mps_model.specs.Reply.{act, world_from}
 use Rattle.mps_model.specs.History.{after_its_moves, after_own_segment, asking, judged_world, moved_world, moves_of_poll, own_segment, with_client_remembered, world_after}
 use Rattle.mps_model.specs.Policy.{units_asked}
 use Rattle.mps_laws.proofs.Entries.{GoesOn}
-use Rattle.mps_changes.specs.Change.{Change, Unchanged, CellsAre, BlockWordIs, Allocated, PoolMade, PointMade, PointDropped, Opened, Written, Closed, Committed, Substituted}
+use Rattle.mps_changes.specs.Change.{Change, Unchanged, CellsAre, BlockWordIs, Allocated, PoolMade, PointMade, PointDropped, Opened, Written, Closed, Committed, Substituted, BlockUncached}
 use Rattle.mps_model.specs.Transforms.{pairs_of}
 use Rattle.mps_laws.proofs.Sound.Substituting.{owners_substituted}
 use Rattle.mps_changes.proofs.ActChanges.{of_changes}
 use Rattle.mps_laws.proofs.Acts.{pool_named-is, point_named-is, ForAct, accepted, refused}
-use Rattle.mps_laws.proofs.LeftByActs.{owners, owners-graph_with_cells, owners-graph_with_word, owners-splatted}
+use Rattle.mps_laws.proofs.LeftByActs.{owners, owners-graph_with_cells, owners-graph_with_word, owners-graph_cleared, owners-splatted}
 use Rattle.mps_laws.proofs.LegalHistories.{IsAnswered}
 use Rattle.mps_laws.proofs.OwnSegments.{own_segment_taken}
 
@@ -203,9 +203,13 @@ module _ (v : World) (h : HasPools v) where
     of_objects = subst (AllByRecursion (IsPoolThere v.pools)) (sym (owners-graph_with_word v.graph id k value)) h.of_objects;
     of_points = h.of_points;
   }
-  change_has_pools {judged = judged} same (Allocated pool p words into place at e is kind size found) = record {
+  change_has_pools same (BlockUncached name cache words into place id classes e is taken found empty) = record {
+    of_objects = subst (AllByRecursion (IsPoolThere v.pools)) (sym (owners-graph_cleared v.graph id)) h.of_objects;
+    of_points = h.of_points;
+  }
+  change_has_pools {judged = judged} same (Allocated p words place at e is kind size found empty) = record {
     of_objects = object_there (record { pool = p.number; body = Manual (replicate words 0) })
-        (subst (λ (pools : List Pool). p.number < length pools) (sym same) (named_pool judged pool p is));
+        (subst (λ (pools : List Pool). p.number < length pools) (sym same) (slice_get_within judged.pools p.number p.value is));
     of_points = h.of_points;
   }
   change_has_pools same (PoolMade name p e made) =

@@ -1,20 +1,22 @@
 -- What calls leave of a sound graph, but for those that make objects or reserve: a sound graph.
 use Rattle.std.proofs.Common.{◌≡◌, ◌∙◌, ◌⊎◌, ℕ, ◌+◌, ◌-◌, ◌*◌, ◌<◌, Bool, true, false, refl, sym, ap, List, [], ◌∷◌, length, Option, Some, None, Ok, subst, inl, inr, arith}
 use Rattle.std.proofs.lemmas.Bool.{false≢true, true≢false, and_parts, and_from, cases_Bool, cases_eq, leb-true, ltb-true, lt-ltb, le-leb, eqb-true, eq-eqb}
+use Rattle.std.proofs.lemmas.List.{length-replicate}
 use Rattle.std.proofs.lemmas.Option.{none-some, same_Some, slice_get-map}
 use Rattle.std.specs.Prelude.{map, slice_get, slice_set, not, ◌&&◌, ◌||◌, ◌==◌, nat_lt, nat_le, if◌then◌else◌, is_some, find}
 use Rattle.std.specs.Option.{option_map_or}
 use Rattle.std.specs.List.{list_all, flat_map}
 use Rattle.mps_base.specs.declared.names.Slot.{Slot}
-use Rattle.mps_model.specs.Graph.{Graph, Object, Body, Automatic, Manual, Cell, HeadCell, NumberCell, ReferenceCell, Point, Reservation, AreaWord, PlainWord, Hold, Slots, Thing, ChainThing, PoolThing, TableThing, AreaThing, BlocksThing, PointThing, DependencyThing, TransformThing, CacheThing, entries, entry_at, object_at, size_of, size_of_body, is_automatic, target_of_cell, targets_of_cells, slots_of, ids_in_slots, ids_in_blocks, with_last, without_first, body_with_cells, object_with_cells, graph_with_cells, with_target_cell, new_cells}
+use Rattle.mps_model.specs.Graph.{Graph, Object, Body, Automatic, Manual, Cell, HeadCell, NumberCell, ReferenceCell, Cache, CacheClass, ids_in_caches, ids_in_places, Point, Reservation, AreaWord, PlainWord, Hold, Slots, Thing, ChainThing, PoolThing, TableThing, AreaThing, BlocksThing, PointThing, DependencyThing, TransformThing, CacheThing, entries, entry_at, object_at, size_of, size_of_body, is_automatic, target_of_cell, targets_of_cells, slots_of, ids_in_slots, ids_in_blocks, with_last, without_first, body_with_cells, object_with_cells, graph_with_cells, with_target_cell, new_cells}
 use Rattle.mps_model.specs.World.{World, Pool, is_live, is_live_and, words_of, is_copying_object, is_word_in, lies_in, live_ids, block_of_word, pool_at, is_automatic_kind, is_weak_kind}
 use Rattle.mps_model.specs.WellFormed.{are_shaped, are_right_cells, is_right_body, is_right_object, is_live_automatic}
 use Rattle.mps_model.specs.Checked.{Found, Numbered, slot_in, word_in, cells_of_body, reference_at, with_graph}
 use Rattle.mps_model.specs.Allocating.{with_slot, with_block_place, with_reservation, graph_with_word, body_with_word}
 use Rattle.mps_model.specs.Accessing.{with_word, hold_of, address_or_null}
+use Rattle.mps_model.specs.Caches.{body_cleared, graph_cleared, with_classes}
 use Rattle.mps_model.specs.Making.{is_block_size}
 use Rattle.mps_laws.proofs.Lookups.{slice_get-set_same, slice_get-set_other, length-slice_set, entry_is_there, entry_within_set, entry_at-last, entry_within}
-use Rattle.mps_laws.proofs.Sound.SoundGraph.{All, PassesOrNull, AreRight, IsSoundGraph, IsAlike, Grows, IsEdited, auto, manual, is_sound_word, is_sound_reservation, all-weaker, all-at, all-written, all-last, all-contains, entries-written, entry-passes, entries-none, each-written, each-at, each-replicated, edited, grows_alike, untouched}
+use Rattle.mps_laws.proofs.Sound.SoundGraph.{All, PassesOrNull, AreRight, IsSoundGraph, IsAlike, Grows, IsEdited, auto, manual, is_sound_word, is_sound_reservation, all-weaker, all-at, all-written, all-last, all-contains, all-append, manual_parts, entries-written, entry-passes, entries-none, each-written, each-at, each-replicated, edited, grows_alike, untouched}
 use Rattle.mps_laws.proofs.FoundBy.{slot_found, word_found, reference_found}
 
 -- ---- what is found passes
@@ -61,7 +63,7 @@ module _ (v : World) (s : IsSoundGraph v) where
       → (g.tables ≡ v.graph.tables) ⊎ All (auto v) (flat_map slots_of g.tables)
       → (g.areas ≡ v.graph.areas) ⊎ ((n : ℕ) (area : List AreaWord) → entry_at g.areas n ≡ Some area
       → list_all (is_sound_word v) area ≡ true)
-      → (g.blocks ≡ v.graph.blocks) ⊎ All (manual v) (flat_map entries g.blocks)
+      → (ids_in_blocks g ≡ ids_in_blocks v.graph) ⊎ All (manual v) (ids_in_blocks g)
       → (g.registered ≡ v.graph.registered) ⊎ All (is_live_automatic v) g.registered
       → (g.messages ≡ v.graph.messages) ⊎ All (auto v) g.messages → IsSoundGraph (with_graph v g)
   held_written g objects points tables areas blocks registered messages =
@@ -89,7 +91,7 @@ module _ (v : World) (s : IsSoundGraph v) where
             elim blocks [
               | inl same ↦ inl same
               | inr new ↦ inr (all-weaker (manual v) (manual w) (Rattle.mps_laws.proofs.Sound.SoundGraph.manual_kept v w grows)
-                  (flat_map entries g.blocks) new)
+                  (ids_in_blocks g) new)
             ];
         registered =
             elim registered [
@@ -312,10 +314,54 @@ module _ (v : World) (s : IsSoundGraph v) where
   pub place_written : (place : Found (Option ℕ)) (block : Option ℕ) → All (manual v) (entries place.list) → PassesOrNull (manual v) block
       → IsSoundGraph (with_graph v (with_block_place v.graph place block))
   place_written place block others passes =
+      let parts = manual_parts v s in
       held_written v s (with_block_place v.graph place block) refl refl (inl refl) (inl refl)
-      (inr (all-written (manual v) entries v.graph.blocks place.number (slice_set place.list place.index block) s.blocks
-      (entries-written (manual v) place.list place.index block others passes)))
+      (inr (all-append (manual v) (ids_in_places (with_block_place v.graph place block)) (ids_in_caches v.graph)
+      (all-written (manual v) entries v.graph.blocks place.number (slice_set place.list place.index block) parts.0
+      (entries-written (manual v) place.list place.index block others passes)) parts.1))
       (inl refl) (inl refl)
+
+  -- caches have other blocks
+  pub cached_written : (cache : Numbered Cache) (classes : List CacheClass)
+      → All (manual v) (ids_in_caches (with_classes v.graph cache classes))
+      → IsSoundGraph (with_graph v (with_classes v.graph cache classes))
+  cached_written cache classes passes =
+      held_written v s (with_classes v.graph cache classes) refl refl (inl refl) (inl refl)
+      (inr (all-append (manual v) (ids_in_places v.graph) (ids_in_caches (with_classes v.graph cache classes))
+      (manual_parts v s).0 passes)) (inl refl) (inl refl)
+
+  -- a manual block is cleared
+  pub block_cleared : (id : ℕ) → IsSoundGraph (with_graph v (graph_cleared v.graph id))
+  block_cleared id = of_object (object_at v.graph id) refl
+    where
+      size_kept : (b : Body) → size_of_body (body_cleared b) ≡ size_of_body b
+      size_kept (Automatic head cells is_weak) = refl
+      size_kept (Manual words) = length-replicate (length words) 0
+
+      kind_kept : (b : Body) → Rattle.mps_model.specs.Graph.is_automatic_body (body_cleared b)
+          ≡ Rattle.mps_model.specs.Graph.is_automatic_body b
+      kind_kept (Automatic head cells is_weak) = refl
+      kind_kept (Manual words) = refl
+
+      body_right : (p : Pool) (b : Body) → is_right_body v p b ≡ true → is_right_body v p (body_cleared b) ≡ true
+      body_right p (Automatic head cells is_weak) h = h
+      body_right p (Manual words) h =
+          subst (λ (n : ℕ). (not (is_automatic_kind p.kind) && is_block_size n) ≡ true) (sym (length-replicate (length words) 0)) h
+
+      object_right : (o : Object) (x : Option Pool) → option_map_or (λ p. is_right_body v p o.body) x false ≡ true
+          → option_map_or (λ p. is_right_body v p (body_cleared o.body)) x false ≡ true
+      object_right o None h = absurd (false≢true h)
+      object_right o (Some p) h = body_right p o.body h
+
+      of_object : (x : Option Object) → object_at v.graph id ≡ x
+          → IsSoundGraph (with_graph v (record v.graph {
+            objects = option_map_or (λ o. slice_set v.graph.objects id (record o { body = body_cleared o.body })) x v.graph.objects;
+          }))
+      of_object None e = held_written v s v.graph refl refl (inl refl) (inl refl) (inl refl) (inl refl) (inl refl)
+      of_object (Some o) e =
+          object_written v s id o (record o { body = body_cleared o.body }) e
+          (record { pool = refl; size = size_kept o.body; kind = kind_kept o.body })
+          (object_right o (pool_at v o.pool) (s.objects id o e))
 
   -- a word of a manual block is written
   pub block_word_written : (id k value : ℕ) → IsSoundGraph (with_graph v (graph_with_word v.graph id k value))

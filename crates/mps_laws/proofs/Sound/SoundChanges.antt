@@ -1,13 +1,13 @@
 -- A world stays sound through the effects of a call that aren't writes of ids: things are made and dropped, registrations and
 -- messages come and go, numbers of the world change, an object is made.
-use Rattle.std.proofs.Common.{◌≡◌, ◌∙◌, inl, inr, ℕ, zero, suc, ◌<◌, Bool, true, false, true≢false, refl, sym, ap, subst, List, [], ◌∷◌, length, Option, Some, None, arith}
+use Rattle.std.proofs.Common.{◌≡◌, ◌∙◌, inl, inr, ℕ, zero, suc, ◌<◌, Bool, true, false, true≢false, refl, sym, ap, subst, List, [], ◌∷◌, ◌++◌, length, Option, Some, None, arith}
 use Rattle.std.proofs.lemmas.Bool.{and_from, and_parts, cases_eq, cases_lt, eq-eqb}
 use Rattle.std.specs.Prelude.{◌≢◌, ◌&&◌, ◌==◌, not, is_some, replicate, slice_get, slice_set}
-use Rattle.std.specs.List.{flat_map, list_all}
+use Rattle.std.specs.List.{list_all}
 use Rattle.std.specs.Option.{option_map_or}
 use Rattle.mps_base.specs.declared.names.Name.{Name}
 use Rattle.mps_base.specs.declared.names.Rank.{Rank}
-use Rattle.mps_model.specs.Graph.{Graph, Object, PlainWord, entry_at, ids_in_blocks, ids_in_holds, ids_in_reservations, ids_in_slots, targets, entries, targets_of, with_last, without_name}
+use Rattle.mps_model.specs.Graph.{Graph, Object, Cache, PlainWord, entry_at, ids_in_blocks, ids_in_places, ids_in_holds, ids_in_reservations, ids_in_slots, targets, targets_of, with_last, without_name}
 use Rattle.mps_model.specs.Collection.{Collection}
 use Rattle.mps_model.specs.World.{World, ArenaState, Pool, empty_world, ids_in_pairs, is_live, is_running}
 use Rattle.mps_model.specs.Checked.{with_graph}
@@ -18,6 +18,9 @@ use Rattle.mps_model.specs.Effect.{with_address}
 use Rattle.mps_laws.proofs.LeftByActs.{owners}
 use Rattle.mps_laws.proofs.Entries.{entry_at-append, entry_at-written}
 use Rattle.mps_laws.proofs.Lookups.{entry_at-set_other, entry_at-last, entry_at-after_last, entry_within}
+use Rattle.mps_model.specs.Caches.{graph_with_cache}
+use Rattle.mps_changes.specs.Change.{are_empty_classes}
+use Rattle.mps_changes.proofs.OneMore.{cache_added}
 use Rattle.mps_laws.proofs.QuietSteps.{IsSound}
 use Rattle.mps_laws.proofs.Sound.HeldIds.{All, AreHeld, area_dropped, area_made, blocks_made, message_taken, point_dropped, point_made, all-weaker, table_dropped, table_made, weaker_test, held_again}
 use Rattle.mps_laws.proofs.Sound.Referred.{AreReferred, SoundParts, object_made, sound_parts, sound_world}
@@ -72,14 +75,22 @@ module _ (w : World) (sound : IsSound w) where
   parts = sound_parts w sound
 
   -- a graph that differs in what is held, as a function of the test
-  changed : (h : Graph) → owners h ≡ owners w.graph → h.objects ≡ w.graph.objects → h.blocks ≡ w.graph.blocks
+  changed : (h : Graph) → owners h ≡ owners w.graph → h.objects ≡ w.graph.objects → ids_in_blocks h ≡ ids_in_blocks w.graph
       → ((test : ℕ → Bool) → AreHeld test w.graph → AreHeld test h) → IsSound (with_graph w h)
   changed h owned objects blocks held =
       graph_sound w sound h owned (held (is_live w) parts.held)
-      (subst (λ bs. All (is_live w) (flat_map entries bs)) (sym blocks) parts.blocks)
+      (subst (All (is_live w)) (sym blocks) parts.blocks)
       (λ rest. subst (λ os. (id : ℕ) → is_live w id ≡ true → All (is_live w) (option_map_or targets_of (slice_get os id) [])) (sym objects)
       (parts.referred rest))
       (λ c e. held (is_held_rightly w c) (parts.kept c e))
+
+  -- a cache is made, in which nothing lies
+  pub cache_sound : (name : Name) (q : Cache) → are_empty_classes q.classes ≡ true
+      → IsSound (with_graph w (graph_with_cache w.graph name q))
+  cache_sound name q none =
+      let h = graph_with_cache w.graph name q in
+      changed h refl refl (ap (λ ids. ids_in_places w.graph ++ ids) (cache_added w.graph.caches q none))
+      (λ test a. held_again test w.graph h refl refl refl refl a)
 
   -- registrations come and go
   pub registrations_sound : (registered : List ℕ) → IsSound (with_graph w (record w.graph { registered = registered }))

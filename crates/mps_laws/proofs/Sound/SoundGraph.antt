@@ -6,7 +6,7 @@ use Rattle.std.proofs.lemmas.Option.{none-some, same_Some, slice_get-map}
 use Rattle.std.specs.Prelude.{map, slice_get, slice_set, not, ◌&&◌, ◌||◌, ◌==◌, nat_lt, if◌then◌else◌, is_some, option_map, replicate}
 use Rattle.std.specs.Option.{option_map_or}
 use Rattle.std.specs.List.{list_all, flat_map}
-use Rattle.mps_model.specs.Graph.{Graph, Object, Body, Automatic, Manual, Cell, HeadCell, NumberCell, ReferenceCell, Point, Reservation, AreaWord, PlainWord, Hold, contains, entries, entry_at, object_at, size_of, is_automatic, target_of_cell, targets_of_cells, slots_of, ids_in_slots, ids_in_blocks, with_last, without_first, retargeted, tagged, with_tag_cell, with_target_cell}
+use Rattle.mps_model.specs.Graph.{Graph, Object, Body, Automatic, Manual, Cell, HeadCell, NumberCell, ReferenceCell, Point, Reservation, AreaWord, PlainWord, Hold, contains, entries, entry_at, object_at, size_of, is_automatic, target_of_cell, targets_of_cells, slots_of, ids_in_slots, ids_in_blocks, ids_in_places, ids_in_caches, with_last, without_first, retargeted, tagged, with_tag_cell, with_target_cell}
 use Rattle.mps_model.specs.World.{World, Pool, object_is, is_live, words_of, is_copying_object, is_copying_pool, pool_at, is_automatic_kind, is_weak_kind}
 use Rattle.mps_model.specs.Making.{is_weak_rank}
 use Rattle.mps_model.specs.WellFormed.{is_shaped, are_shaped, are_right_cells, is_right_body, is_right_object, is_live_automatic}
@@ -273,6 +273,10 @@ pub record IsSoundGraph (w : World) : Type 0 where
   pub registered : All (is_live_automatic w) w.graph.registered
   pub messages : All (auto w) w.graph.messages
 
+-- the blocks in places are manual, and so are those in caches
+pub manual_parts : (w : World) → IsSoundGraph w → All (manual w) (ids_in_places w.graph) × All (manual w) (ids_in_caches w.graph)
+manual_parts w s = all-parts (manual w) (ids_in_places w.graph) (ids_in_caches w.graph) s.blocks
+
 -- objects keep their pools, sizes and kinds, and pools their meanings
 pub record IsAlike (o o' : Object) : Type 0 where
   pub pool : o'.pool ≡ o.pool
@@ -392,7 +396,7 @@ module _ (w w' : World) (g : Grows w w') where
     pub slots : (w'.graph.tables ≡ w.graph.tables) ⊎ All (auto w') (ids_in_slots w'.graph)
     pub words : (w'.graph.areas ≡ w.graph.areas)
         ⊎ ((n : ℕ) (area : List AreaWord) → entry_at w'.graph.areas n ≡ Some area → list_all (is_sound_word w') area ≡ true)
-    pub blocks : (w'.graph.blocks ≡ w.graph.blocks) ⊎ All (manual w') (ids_in_blocks w'.graph)
+    pub blocks : (ids_in_blocks w'.graph ≡ ids_in_blocks w.graph) ⊎ All (manual w') (ids_in_blocks w'.graph)
     pub registered : (w'.graph.registered ≡ w.graph.registered) ⊎ All (is_live_automatic w') w'.graph.registered
     pub messages : (w'.graph.messages ≡ w.graph.messages) ⊎ All (auto w') w'.graph.messages
 
@@ -440,7 +444,7 @@ module _ (w w' : World) (g : Grows w w') where
         elim e.blocks [
           | inl same ↦
               all-weaker (manual w) (manual w') manual_kept (ids_in_blocks w'.graph)
-              (subst (λ bs. All (manual w) (flat_map entries bs)) (sym same) s.blocks)
+              (subst (All (manual w)) (sym same) s.blocks)
           | inr new ↦ new
         ];
     registered =
@@ -472,7 +476,7 @@ grows_alike w w' formats pools objects = record {
 pub untouched : (w w' : World) → IsSoundGraph w → w'.formats ≡ w.formats
     → ((n : ℕ) (p : Pool) → slice_get w.pools n ≡ Some p → slice_get w'.pools n ≡ Some p) → w'.graph.objects ≡ w.graph.objects
     → w'.graph.points ≡ w.graph.points → w'.graph.tables ≡ w.graph.tables → w'.graph.areas ≡ w.graph.areas
-    → w'.graph.blocks ≡ w.graph.blocks
+    → ids_in_blocks w'.graph ≡ ids_in_blocks w.graph
     → w'.graph.registered ≡ w.graph.registered → w'.graph.messages ≡ w.graph.messages → w'.addresses ≡ w.addresses → IsSoundGraph w'
 untouched w w' s formats pools objects points tables areas blocks registered messages addresses =
     edited w w' (grows_alike w w' formats pools objects) s (record {

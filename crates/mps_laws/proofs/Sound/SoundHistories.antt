@@ -1,5 +1,5 @@
 -- Each legal step leaves a sound graph, so each world that a legal history reaches has one.
-use Rattle.std.proofs.Common.{◌≡◌, ◌∙◌, ◌⊎◌, ℕ, Bool, true, false, refl, sym, ap, List, [], ◌∷◌, ◌++◌, Option, Some, None, Ok, Err, subst, inl, inr}
+use Rattle.std.proofs.Common.{◌≡◌, ◌∙◌, ◌⊎◌, ℕ, Bool, true, false, refl, sym, List, [], ◌∷◌, ◌++◌, Option, Some, None, Ok, Err, subst, inl, inr}
 use Rattle.std.proofs.lemmas.Bool.{false≢true, and_parts, cases_Bool}
 use Rattle.std.specs.Prelude.{MatchBool, slice_get, option_and_then, not, ◌&&◌, if◌then◌else◌}
 use Rattle.std.specs.Option.{option_map_or}
@@ -9,26 +9,32 @@ use Rattle.mps_base.specs.Placement.{Placement, Place, NewSegment, OverLimit, No
 use Rattle.mps_base.specs.Segment.{Segment, words_of_segment}
 use Rattle.mps_base.specs.declared.moves.Move.{Move}
 use Rattle.mps_base.specs.declared.moves.Move.TheVariants as moves
+use Rattle.mps_base.specs.declared.names.Name.{Name}
 use Rattle.mps_base.specs.declared.names.Slot.{Slot}
 use Rattle.mps_model.specs.declared.call.Call.{Call}
 use Rattle.mps_model.specs.declared.call.Call.TheVariants as call
 use Rattle.mps_model.specs.Answer.{Answer, is_accepted, is_refused, is_block, is_unsupported}
-use Rattle.mps_model.specs.Graph.{Graph, Object, Reservation, contains, entry_at, is_automatic, object_at, ids_in_slots, ids_in_holds, ids_in_reservations, ids_of_client}
+use Rattle.mps_model.specs.Graph.{Graph, Object, Reservation, contains, entry_at, is_automatic, object_at, ids_in_slots, ids_in_holds, ids_in_reservations, ids_of_client, Cache, CacheClass, ids_of_cache}
 use Rattle.mps_model.specs.World.{World, Pool, id_at, ids_in_pairs, is_live, segment_of, is_copying_pool, is_empty_segment, is_any_size_kind, pool_is}
-use Rattle.mps_model.specs.Checked.{Checked, Found, Numbered, pool_named, point_named, block_place_in, number_named, as_point}
+use Rattle.mps_model.specs.Checked.{Checked, Found, Numbered, pool_named, point_named, block_place_in, number_named, as_point, cache_named}
 use Rattle.mps_model.specs.Accessing.{address_or_null}
+use Rattle.mps_model.specs.Caches.{flushed, kept_by, taken_from}
+use Rattle.mps_model.proofs.Cutting.{world_after_moves-append}
+use Rattle.mps_changes.proofs.Checks.{cache_named-is}
+use Rattle.mps_changes.proofs.OneMore.{flushed_pass}
 use Rattle.mps_model.specs.Placement.{ForAlloc, placement_of}
 use Rattle.mps_model.specs.Effect.{world_after_moves, after_free, where_one, holding, segment_of_move}
 use Rattle.mps_model.specs.Reply.{act, world_from}
 use Rattle.mps_model.specs.Step.{Step}
 use Rattle.mps_model.specs.Flip.{at_address}
 use Rattle.mps_model.specs.Policy.{units_asked}
-use Rattle.mps_model.specs.History.{IsLegalStep, IsAnsweredStep, HeldAreLive, asking, judged_world, moved_world, after_own_segment, with_buffer, rank_of_point, own_segment, moves_of_poll, with_client_remembered, world_after, world_after_call, alloc_at, moves_of_alloc, moves_of_commit, commit_of, if_accepted, unless_refused, moves_of_free, free_of, give_back_empty}
+use Rattle.mps_model.specs.History.{IsLegalStep, IsAnsweredStep, HeldAreLive, asking, judged_world, moved_world, after_own_segment, with_buffer, rank_of_point, own_segment, moves_of_poll, with_client_remembered, world_after, world_after_call, alloc_at, moves_of_alloc, moves_of_commit, commit_of, if_accepted, unless_refused, moves_of_free, free_of, free_of_object, give_back_empty, moves_if_not_kept, moves_if_not_taken, moves_of_cache_alloc, moves_of_cache_flush, moves_of_cache_free, moves_of_frees}
 use Rattle.mps_laws.proofs.Finding.{id_at-found}
+use Rattle.mps_laws.proofs.Positions.LegalMoves.{HasLayout}
 use Rattle.mps_laws.proofs.Acts.{for_world}
 use Rattle.mps_laws.proofs.Replays.Steps.{is_reserve}
-use Rattle.mps_laws.proofs.Replays.FreeSteps.{block_is_live}
-use Rattle.mps_laws.proofs.Sound.SoundGraph.{All, IsSoundGraph, PassesOrNull, auto, manual, all-parts, all-at, all-contains, entry-passes}
+use Rattle.mps_laws.proofs.Replays.FreeSteps.{block_is_live, object_replayed}
+use Rattle.mps_laws.proofs.Sound.SoundGraph.{All, IsSoundGraph, PassesOrNull, auto, manual, all-parts, all-weaker, manual_parts, all-at, all-contains, entry-passes}
 use Rattle.mps_laws.proofs.FoundBy.{found_by}
 use Rattle.mps_laws.proofs.Sound.SoundSteps.{act_sound, is_finalize, is_substituting}
 use Rattle.mps_laws.proofs.Sound.SoundReserves.{reserve_sound}
@@ -98,24 +104,41 @@ commit_well w x answer s =
     of_point (Err why) = same_well w s
     of_point (Ok p) = of_reservation p p.value.reservation
 
+-- these moves, unless the call was refused
+unless_well : (w : World) (answer : Answer) (ms : List Move) → IsSoundGraph w → IsMovedWell w (world_after_moves w ms)
+    → IsMovedWell w (world_after_moves w (unless_refused answer ms))
+unless_well w answer ms s well =
+    elim (is_refused answer) as (λ b. IsMovedWell w (world_after_moves w (if b then [] else ms))) [
+      | true ↦ same_well w s
+      | false ↦ well
+    ]
+
+placed_well : (w : World) (pool words : ℕ) (q : Placement) → IsSoundGraph w → IsMovedWell w (world_after_moves w (alloc_at pool words q))
+placed_well w pool words (Place word) s = same_well w s
+placed_well w pool words (NewSegment grain grains) s =
+    segment_well w (segment_of_move (Rattle.mps_base.specs.Address.address_of_grain grain) grains pool 0) s
+placed_well w pool words (OverLimit committed need limit) s = same_well w s
+placed_well w pool words (NoFreeRun need longest) s = same_well w s
+
 alloc_well : (w : World) (x : Checked (Numbered Pool)) (words : ℕ) (answer : Answer) → IsSoundGraph w
     → IsMovedWell w (world_after_moves w (unless_refused answer (moves_of_alloc w x words)))
-alloc_well w x words answer s =
-    elim (is_refused answer) as (λ b. IsMovedWell w (world_after_moves w (if b then [] else moves_of_alloc w x words))) [
-      | true ↦ same_well w s
-      | false ↦ of_pool x
-    ]
+alloc_well w x words answer s = unless_well w answer (moves_of_alloc w x words) s (of_pool x)
   where
-    of_placement : (pool : ℕ) (q : Placement) → IsMovedWell w (world_after_moves w (alloc_at pool words q))
-    of_placement pool (Place word) = same_well w s
-    of_placement pool (NewSegment grain grains) =
-        segment_well w (segment_of_move (Rattle.mps_base.specs.Address.address_of_grain grain) grains pool 0) s
-    of_placement pool (OverLimit committed need limit) = same_well w s
-    of_placement pool (NoFreeRun need longest) = same_well w s
-
     of_pool : (y : Checked (Numbered Pool)) → IsMovedWell w (world_after_moves w (moves_of_alloc w y words))
     of_pool (Err why) = same_well w s
-    of_pool (Ok p) = of_placement p.number (placement_of w (ForAlloc p.number words))
+    of_pool (Ok p) = placed_well w p.number words (placement_of w (ForAlloc p.number words)) s
+
+cache_alloc_well : (w : World) (x : Checked (Numbered Cache)) (words : ℕ) (answer : Answer) → IsSoundGraph w
+    → IsMovedWell w (world_after_moves w (unless_refused answer (moves_of_cache_alloc w x words)))
+cache_alloc_well w x words answer s = unless_well w answer (moves_of_cache_alloc w x words) s (of_cache x)
+  where
+    if_taken : (pool : ℕ) (o : Option (ℕ × List CacheClass)) → IsMovedWell w (world_after_moves w (moves_if_not_taken w pool words o))
+    if_taken pool None = placed_well w pool words (placement_of w (ForAlloc pool words)) s
+    if_taken pool (Some taken) = same_well w s
+
+    of_cache : (y : Checked (Numbered Cache)) → IsMovedWell w (world_after_moves w (moves_of_cache_alloc w y words))
+    of_cache (Err why) = same_well w s
+    of_cache (Ok q) = if_taken q.value.pool (taken_from q.value.classes words)
 
 given_back_well : (v : World) (o : Option Segment) → IsSoundGraph v → IsMovedWell v (world_after_moves v (give_back_empty v o))
 given_back_well v None s = same_well v s
@@ -150,45 +173,102 @@ freed_one : (w : World) (at : Address) (o : Option ℕ) → ((id : ℕ) → o �
 freed_one w at None each s = same_well w s
 freed_one w at (Some id) each s = freed_well w id at s (not_registered w id s (each id refl))
 
-free_well : (limit : ℕ) (w : World) (place : Slot) (answer : Answer) → Rattle.mps_laws.proofs.Positions.LegalMoves.HasLayout limit w
+-- a manual object is freed, if it is live
+object_well : (limit : ℕ) (w : World) → HasLayout limit w → IsSoundGraph w → (id : ℕ) → manual w id ≡ true
+    → IsMovedWell w (world_after_moves w (free_of_object w id))
+object_well limit w laid s id kind = of_address (entry_at w.addresses id) refl
+  where
+    of_address : (o : Option ℕ) → entry_at w.addresses id ≡ o → IsMovedWell w (world_after_moves w (option_map_or (free_of w) o []))
+    of_address None e = same_well w s
+    of_address (Some at) e =
+        let first = freed_one w at (id_at w at) (λ j h.
+        subst (λ (k : ℕ). manual w k ≡ true)
+        (Rattle.mps_laws.proofs.Positions.LegalMoves.different limit
+        (Rattle.mps_laws.proofs.Positions.Occupancy.occupancy_of w) laid id j at e (id_at-found w at j h)) kind) s in
+        let v = where_one w (id_at w at) (λ n. after_free w n at) in
+        then_well w v (world_after_moves v (give_back_empty v (segment_of w at))) first (given_back_well v (segment_of w at) first.sound)
+
+-- so are several, one after the other
+frees_well : (limit : ℕ) (w : World) → HasLayout limit w → IsSoundGraph w → (ids : List ℕ) → All (manual w) ids
+    → IsMovedWell w (world_after_moves w (moves_of_frees w ids))
+frees_well limit w laid s [] all = same_well w s
+frees_well limit w laid s (id ∷ ids) all =
+    let parts = and_parts (manual w id) (list_all (manual w) ids) all in
+    let first = object_well limit w laid s id parts.0 in
+    let v = world_after_moves w (free_of_object w id) in
+    let later = all-weaker (manual w) (manual v) (Rattle.mps_laws.proofs.Sound.SoundGraph.manual_kept w v first.grown) ids parts.1 in
+    subst (IsMovedWell w) (sym (world_after_moves-append w (free_of_object w id) (moves_of_frees v ids)))
+    (then_well w v (world_after_moves v (moves_of_frees v ids)) first
+    (frees_well limit v (object_replayed limit 0 w laid id).layout first.sound ids later))
+
+-- the block in a place is manual
+placed_is_manual : (w : World) (place : Slot) (found : Found (Option ℕ)) (id : ℕ) → IsSoundGraph w → block_place_in w place ≡ Ok found
+    → found.value ≡ Some id → manual w id ≡ true
+placed_is_manual w place found id s e f =
+    let g = found_by (number_named w place.name Rattle.mps_model.specs.Checked.as_blocks)
+    (λ n. slice_get w.graph.blocks n) place.index found e in
+    subst (PassesOrNull (manual w)) f (entry-passes (manual w) found.list found.index found.value
+    (all-at (manual w) Rattle.mps_model.specs.Graph.entries w.graph.blocks found.number found.list (manual_parts w s).0 g.0) g.1)
+
+free_well : (limit : ℕ) (w : World) (place : Slot) (answer : Answer) → HasLayout limit w
     → Rattle.mps_laws.proofs.Replays.FreeSteps.BlocksAreLive w → IsSoundGraph w
     → IsMovedWell w (world_after_moves w (unless_refused answer (moves_of_free w (block_place_in w place))))
 free_well limit w place answer laid live s =
-    elim (is_refused answer) as (λ b. IsMovedWell w (world_after_moves w (if b then [] else moves_of_free w (block_place_in w place)))) [
-      | true ↦ same_well w s
-      | false ↦ of_place (block_place_in w place) refl
-    ]
+    unless_well w answer (moves_of_free w (block_place_in w place)) s (of_place (block_place_in w place) refl)
   where
-    at_address_there : (id : ℕ) (o : Option ℕ) → entry_at w.addresses id ≡ o → is_live w id ≡ true
-        → entry_at w.addresses id ≡ Some (option_map_or (λ at. at) o 0)
-    at_address_there id None e h = absurd (false≢true (sym (ap Rattle.std.specs.Prelude.is_some e) ∙ h))
-    at_address_there id (Some at) e h = e
-
-    address_there : (id : ℕ) → is_live w id ≡ true → entry_at w.addresses id ≡ Some (address_or_null w id)
-    address_there id h = at_address_there id (entry_at w.addresses id) refl h
+    of_live : (id : ℕ) → is_live w id ≡ true → IsMovedWell w (world_after_moves w (free_of_object w id))
+        → IsMovedWell w (world_after_moves w (free_of w (address_or_null w id)))
+    of_live id h well = of_address (entry_at w.addresses id) h well
+      where
+        of_address : (o : Option ℕ) → Rattle.std.specs.Prelude.is_some o ≡ true
+            → IsMovedWell w (world_after_moves w (option_map_or (free_of w) o []))
+            → IsMovedWell w (world_after_moves w (free_of w (option_map_or (λ at. at) o 0)))
+        of_address None k well = absurd (false≢true k)
+        of_address (Some at) k well = well
 
     of_value : (found : Found (Option ℕ)) (o : Option ℕ) → block_place_in w place ≡ Ok found → found.value ≡ o
         → IsMovedWell w (world_after_moves w (option_map_or (λ id. free_of w (address_or_null w id)) o []))
     of_value found None e f = same_well w s
     of_value found (Some id) e f =
-        let g = found_by (number_named w place.name Rattle.mps_model.specs.Checked.as_blocks)
-        (λ n. slice_get w.graph.blocks n) place.index found e in
-        let kind : manual w id ≡ true =
-        subst (PassesOrNull (manual w)) f (entry-passes (manual w) found.list found.index found.value
-        (all-at (manual w) Rattle.mps_model.specs.Graph.entries w.graph.blocks found.number found.list s.blocks g.0) g.1) in
-        let at = address_or_null w id in
-        let there = address_there id (block_is_live w place found id live e f) in
-        let first = freed_one w at (id_at w at) (λ j h.
-        subst (λ (k : ℕ). manual w k ≡ true)
-        (Rattle.mps_laws.proofs.Positions.LegalMoves.different limit
-        (Rattle.mps_laws.proofs.Positions.Occupancy.occupancy_of w) laid id j at there
-        (id_at-found w at j h)) kind) s in
-        let v = where_one w (id_at w at) (λ n. after_free w n at) in
-        then_well w v (world_after_moves v (give_back_empty v (segment_of w at))) first (given_back_well v (segment_of w at) first.sound)
+        of_live id (block_is_live w place found id live e f)
+        (object_well limit w laid s id (placed_is_manual w place found id s e f))
 
     of_place : (x : Checked (Found (Option ℕ))) → block_place_in w place ≡ x → IsMovedWell w (world_after_moves w (moves_of_free w x))
     of_place (Err why) e = same_well w s
     of_place (Ok found) e = of_value found found.value e refl
+
+cache_free_well : (limit : ℕ) (w : World) (q : Checked (Numbered Cache)) (place : Slot) (answer : Answer) → HasLayout limit w
+    → IsSoundGraph w → IsMovedWell w (world_after_moves w (unless_refused answer (moves_of_cache_free w q (block_place_in w place))))
+cache_free_well limit w q place answer laid s =
+    unless_well w answer (moves_of_cache_free w q (block_place_in w place)) s (of_both q (block_place_in w place) refl)
+  where
+    of_kept : (id : ℕ) → manual w id ≡ true → (o : Option (List CacheClass))
+        → IsMovedWell w (world_after_moves w (moves_if_not_kept w id o))
+    of_kept id kind None = object_well limit w laid s id kind
+    of_kept id kind (Some classes) = same_well w s
+
+    of_value : (q : Numbered Cache) (found : Found (Option ℕ)) (o : Option ℕ) → block_place_in w place ≡ Ok found → found.value ≡ o
+        → IsMovedWell w (world_after_moves w (option_map_or (λ id. moves_if_not_kept w id (kept_by w q.value id)) o []))
+    of_value q found None e f = same_well w s
+    of_value q found (Some id) e f = of_kept id (placed_is_manual w place found id s e f) (kept_by w q.value id)
+
+    of_both : (q : Checked (Numbered Cache)) (x : Checked (Found (Option ℕ))) → block_place_in w place ≡ x
+        → IsMovedWell w (world_after_moves w (moves_of_cache_free w q x))
+    of_both (Ok q) (Ok found) e = of_value q found found.value e refl
+    of_both (Ok q) (Err why) e = same_well w s
+    of_both (Err why) x e = same_well w s
+
+cache_flush_well : (limit : ℕ) (w : World) (name : Name) (answer : Answer) → HasLayout limit w
+    → IsSoundGraph w → IsMovedWell w (world_after_moves w (unless_refused answer (moves_of_cache_flush w (cache_named w name))))
+cache_flush_well limit w name answer laid s =
+    unless_well w answer (moves_of_cache_flush w (cache_named w name)) s (of_cache (cache_named w name) refl)
+  where
+    of_cache : (x : Checked (Numbered Cache)) → cache_named w name ≡ x → IsMovedWell w (world_after_moves w (moves_of_cache_flush w x))
+    of_cache (Err why) e = same_well w s
+    of_cache (Ok q) e =
+        frees_well limit w laid s (flushed q.value)
+        (flushed_pass (manual w) q.value.classes
+        (all-at (manual w) ids_of_cache w.graph.caches q.number q.value (manual_parts w s).1 (cache_named-is w name q e)))
 
 -- ---- steps
 
@@ -257,6 +337,23 @@ module _ (limit line : ℕ) (w : World) (laid : Rattle.mps_laws.proofs.Positions
       finished (call.Free place) ms answer supported
       (acted (is_block answer) (world_after_moves w ms) (call.Free place)
       (subst (λ ns. IsMovedWell w (world_after_moves w ns)) (sym legal.moves_are_due) (free_well limit w place answer laid live s))
+      (λ h. absurd (false≢true h)) (λ h. absurd (false≢true h)) refl)
+  of_call (call.CacheAlloc cache words place) ms answer supported legal =
+      finished (call.CacheAlloc cache words place) ms answer supported
+      (acted (is_block answer) (world_after_moves w ms) (call.CacheAlloc cache words place)
+      (subst (λ ns. IsMovedWell w (world_after_moves w ns)) (sym legal.moves_are_due)
+      (cache_alloc_well w (cache_named w cache) words answer s))
+      (λ h. absurd (false≢true h)) (λ h. absurd (false≢true h)) refl)
+  of_call (call.CacheFree cache place) ms answer supported legal =
+      finished (call.CacheFree cache place) ms answer supported
+      (acted (is_block answer) (world_after_moves w ms) (call.CacheFree cache place)
+      (subst (λ ns. IsMovedWell w (world_after_moves w ns)) (sym legal.moves_are_due)
+      (cache_free_well limit w (cache_named w cache) place answer laid s))
+      (λ h. absurd (false≢true h)) (λ h. absurd (false≢true h)) refl)
+  of_call (call.CacheFlush cache) ms answer supported legal =
+      finished (call.CacheFlush cache) ms answer supported
+      (acted (is_block answer) (world_after_moves w ms) (call.CacheFlush cache)
+      (subst (λ ns. IsMovedWell w (world_after_moves w ns)) (sym legal.moves_are_due) (cache_flush_well limit w cache answer laid s))
       (λ h. absurd (false≢true h)) (λ h. absurd (false≢true h)) refl)
   of_call (call.Finalize slot) ms answer supported legal =
       finished (call.Finalize slot) ms answer supported

@@ -46,7 +46,8 @@ quiet w w' s formats pools graph addresses = record {
   sound =
       untouched w w' s formats (λ n p e. ap (λ ps. slice_get ps n) pools ∙ e) (ap (λ (g : Graph). g.objects) graph)
       (ap (λ (g : Graph). g.points) graph) (ap (λ (g : Graph). g.tables) graph) (ap (λ (g : Graph). g.areas) graph)
-      (ap (λ (g : Graph). g.blocks) graph) (ap (λ (g : Graph). g.registered) graph) (ap (λ (g : Graph). g.messages) graph) addresses;
+      (ap Rattle.mps_model.specs.Graph.ids_in_blocks graph) (ap (λ (g : Graph). g.registered) graph)
+      (ap (λ (g : Graph). g.messages) graph) addresses;
   grown = grows_same w w' formats pools (ap (λ (g : Graph). g.objects) graph);
 }
 

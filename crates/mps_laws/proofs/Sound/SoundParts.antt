@@ -9,14 +9,14 @@ use Rattle.mps_base.specs.declared.names.Name.{Name}
 use Rattle.mps_base.specs.declared.names.Rank.{Rank}
 use Rattle.mps_base.specs.declared.names.Slot.{Slot}
 use Rattle.mps_model.specs.Layout.{Layout}
-use Rattle.mps_model.specs.Graph.{Object, Cell, NumberCell, ReferenceCell, Point, Reservation, AreaWord, PlainWord, Hold, entries, entry_at, object_at, slots_of, ids_in_slots, targets_of_cells, with_last, new_cells, new_cells_from}
+use Rattle.mps_model.specs.Graph.{Object, Cell, NumberCell, ReferenceCell, Point, Reservation, AreaWord, PlainWord, Hold, entries, entry_at, object_at, slots_of, ids_in_caches, ids_in_places, ids_in_slots, targets_of_cells, with_last, new_cells, new_cells_from}
 use Rattle.mps_model.specs.World.{World, Pool, is_live, pool_at}
 use Rattle.mps_model.specs.WellFormed.{are_shaped, are_right_cells}
 use Rattle.mps_model.specs.Checked.{Found, Numbered, slot_in, object_in, with_graph}
 use Rattle.mps_model.specs.Making.{graph_with_table, graph_with_area, graph_with_blocks, with_point, without_point}
 use Rattle.mps_model.specs.Accessing.{held_in}
 use Rattle.mps_laws.proofs.Lookups.{entry_at-last, entry_at-at_last, entry_at-after_last, entry_within_set}
-use Rattle.mps_laws.proofs.Sound.SoundGraph.{All, PassesOrNull, AreRight, IsSoundGraph, IsRightPoint, auto, manual, is_sound_word, is_sound_reservation, all-last, entry-passes, entries-none, each-replicated, edited, grows_alike}
+use Rattle.mps_laws.proofs.Sound.SoundGraph.{All, PassesOrNull, AreRight, IsSoundGraph, IsRightPoint, auto, manual, is_sound_word, is_sound_reservation, all-append, all-last, manual_parts, entry-passes, entries-none, each-replicated, edited, grows_alike}
 use Rattle.mps_laws.proofs.Sound.SoundActs.{table_passes, slot_passes, held_written}
 use Rattle.mps_laws.proofs.FoundBy.{slot_found, object_found}
 
@@ -79,7 +79,9 @@ module _ (v : World) (s : IsSoundGraph v) where
   pub new_blocks : (name : Name) (n : ℕ) → IsSoundGraph (with_graph v (graph_with_blocks v.graph name n))
   new_blocks name n =
       held_written v s (graph_with_blocks v.graph name n) refl refl (inl refl) (inl refl)
-      (inr (all-last (manual v) entries v.graph.blocks (replicate n None) s.blocks (entries-none (manual v) n))) (inl refl) (inl refl)
+      (inr (all-append (manual v) (ids_in_places (graph_with_blocks v.graph name n)) (ids_in_caches v.graph)
+      (all-last (manual v) entries v.graph.blocks (replicate n None) (manual_parts v s).0 (entries-none (manual v) n))
+      (manual_parts v s).1)) (inl refl) (inl refl)
 
   pub new_area : (name : Name) (n : ℕ) → IsSoundGraph (with_graph v (graph_with_area v.graph name n))
   new_area name n =

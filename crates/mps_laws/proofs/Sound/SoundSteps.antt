@@ -1,9 +1,9 @@
 -- Each change but a reservation leaves a sound graph, and so does each call but a reserve.
-use Rattle.std.proofs.Common.{◌≡◌, ◌∙◌, ℕ, Bool, true, false, refl, sym, ap, subst, List, length, Option, Some, None, Ok, inl, inr}
+use Rattle.std.proofs.Common.{◌≡◌, ◌∙◌, ℕ, Bool, true, false, refl, sym, ap, subst, List, ◌++◌, length, Option, Some, None, Ok, inl, inr}
 use Rattle.std.proofs.lemmas.Bool.{false≢true, true≢false, and_parts, and_from}
 use Rattle.std.proofs.lemmas.Option.{none-some, same_Some}
 use Rattle.std.proofs.lemmas.List.{length-replicate}
-use Rattle.std.specs.Prelude.{slice_get, slice_set, option_map, not, ◌&&◌, ◌||◌, ◌==◌, replicate}
+use Rattle.std.specs.Prelude.{map, slice_get, slice_set, option_map, not, ◌&&◌, ◌||◌, ◌==◌, replicate}
 use Rattle.std.specs.Option.{option_map_or}
 use Rattle.std.specs.List.{list_all}
 use Rattle.mps_base.specs.declared.names.Name.{Name}
@@ -11,12 +11,13 @@ use Rattle.mps_base.specs.declared.names.Rank.{Rank}
 use Rattle.mps_base.specs.declared.names.Slot.{Slot}
 use Rattle.mps_model.specs.declared.call.Call.{Call}
 use Rattle.mps_model.specs.declared.call.Call.TheVariants as call
-use Rattle.mps_model.specs.Graph.{Object, Automatic, Manual, Point, Reservation, AreaWord, entries, entry_at, is_automatic, ids_in_slots, slots_of, Cell, without_name, with_last, without_first}
-use Rattle.mps_model.specs.World.{World, Pool, PoolKind, Collected, OneSize, AnySize, ids_in_pairs, is_live, is_automatic_kind, is_weak_kind, pool_at}
+use Rattle.mps_model.specs.Graph.{Object, Automatic, Manual, Point, Reservation, AreaWord, entries, entry_at, is_automatic, ids_in_slots, slots_of, Cell, without_name, with_last, without_first, ids_in_blocks, ids_in_places}
+use Rattle.mps_model.specs.World.{World, Pool, PoolKind, Collected, OneSize, AnySize, ids_in_pairs, is_live, is_automatic_kind, is_weak_kind, pool_at, words_of}
 use Rattle.mps_model.specs.WellFormed.{are_right_cells, is_right_object, is_live_automatic}
 use Rattle.mps_model.specs.Checked.{Found, Numbered, point_named, slot_in, block_place_in, object_in, cells_of_body, number_named, as_blocks, with_graph}
 use Rattle.mps_model.specs.Making.{with_pool, is_block_size, is_weak_rank, may_have_point}
-use Rattle.mps_model.specs.Allocating.{with_slot, allows_size, committed_object, graph_allocated, reserved_address, with_reservation, world_committed}
+use Rattle.mps_model.specs.Allocating.{with_slot, with_block_place, allows_size, committed_object, graph_allocated, reserved_address, with_reservation, world_committed}
+use Rattle.mps_model.specs.Caches.{emptied, graph_cleared, with_classes}
 use Rattle.mps_model.specs.Collecting.{without_registration}
 use Rattle.mps_model.specs.Transforms.{graph_substituted, pairs_of, world_substituted}
 use Rattle.mps_model.specs.Reply.{act}
@@ -24,11 +25,13 @@ use Rattle.mps_laws.proofs.Lookups.{slice_get-kept, entry_within_set, slice_get-
 use Rattle.mps_laws.proofs.Positions.LaidOut.{kind_in}
 use Rattle.mps_laws.proofs.Sound.PoolKinds.{kind_of_pool}
 use Rattle.mps_laws.proofs.Acts.{ForAct, point_named-is, pool_named-is}
-use Rattle.mps_laws.proofs.Sound.SoundGraph.{All, PassesOrNull, AreRight, IsSoundGraph, Grows, auto, manual, is_sound_word, is_sound_reservation, all-weaker, all-at, all-written, all-without, all-ended, entries-written, each-at, grows_alike, untouched, auto_kept, manual_kept, right_target_cell, right_tag_cell, right_number_cell}
-use Rattle.mps_laws.proofs.Sound.SoundActs.{table_passes, slot_passes, object_cells, reference_passes, held_written, slot_written, word_written, cells_changed, reservation_written, object_added, place_written, block_word_written, pin_is_sound, block_lies, hold_is_sound}
-use Rattle.mps_changes.specs.Change.{IsFoundBy, Now, Before, IsGot, GotNull, FromSlot, FromCell, FromWord, FromMessage, IsShown, ShownPlain, ShownPinned, ShownPoked, IsWritten, WritesTag, WritesReference, WritesNumber, Change, Unchanged, Aside, SlotIs, WordIs, MessageTaken, TableMade, AreaMade, BlocksMade, TableDropped, AreaDropped, CellsAre, BlockWordIs, PlaceEmptied, Allocated, PoolMade, PointMade, PointDropped, Opened, Written, Closed, Committed, Substituted, Registered, Unregistered}
+use Rattle.mps_laws.proofs.Sound.SoundGraph.{All, PassesOrNull, AreRight, IsSoundGraph, Grows, auto, manual, is_sound_word, is_sound_reservation, all-weaker, all-at, all-written, all-without, all-ended, entries-written, each-at, grows_alike, untouched, auto_kept, manual_kept, right_target_cell, right_tag_cell, right_number_cell, manual_parts, entry-passes}
+use Rattle.mps_laws.proofs.Sound.SoundActs.{table_passes, slot_passes, object_cells, reference_passes, held_written, slot_written, word_written, cells_changed, reservation_written, object_added, place_written, block_word_written, pin_is_sound, block_lies, hold_is_sound, block_cleared, cached_written}
+use Rattle.mps_changes.specs.Change.{IsFoundBy, Now, Before, IsGot, GotNull, FromSlot, FromCell, FromWord, FromMessage, IsShown, ShownPlain, ShownPinned, ShownPoked, IsWritten, WritesTag, WritesReference, WritesNumber, Change, Unchanged, Aside, SlotIs, WordIs, MessageTaken, TableMade, AreaMade, BlocksMade, TableDropped, AreaDropped, CellsAre, BlockWordIs, PlaceEmptied, Allocated, PoolMade, PointMade, PointDropped, Opened, Written, Closed, Committed, Substituted, Registered, Unregistered, CacheMade, BlockUncached, BlockCached, CacheFlushed}
 use Rattle.mps_changes.proofs.ActChanges.{but, of_changes}
 use Rattle.mps_changes.proofs.Written.{written_length}
+use Rattle.mps_changes.proofs.Checks.{cache_named-is}
+use Rattle.mps_changes.proofs.OneMore.{cache_added, cache_less, cache_more, flush_passes, less_pass, more_pass}
 use Rattle.mps_laws.proofs.FoundBy.{found_by, slot_found, word_found, object_found, number_found}
 use Rattle.mps_laws.proofs.Sound.Substituting.{pairs_of_pass, substituted_sound}
 use Rattle.mps_laws.proofs.Sound.SoundParts.{cells_sound, new_table, new_blocks, new_area, new_point, no_point, object_of_slot, id_of_slot, taken}
@@ -51,12 +54,23 @@ module _ (judged v : World) (j : IsSoundGraph judged) (grown : Grows judged v) (
   place_judged place found e =
       let f = found_by (number_named judged place.name as_blocks) (λ n. slice_get judged.graph.blocks n) place.index found e in
       all-weaker (manual judged) (manual v) (manual_kept judged v grown) (entries found.list)
-      (all-at (manual judged) entries judged.graph.blocks found.number found.list j.blocks f.0)
+      (all-at (manual judged) entries judged.graph.blocks found.number found.list (manual_parts judged j).0 f.0)
 
   place_own : (place : Slot) (found : Found (Option ℕ)) → block_place_in v place ≡ Ok found → All (manual v) (entries found.list)
   place_own place found e =
       let f = found_by (number_named v place.name as_blocks) (λ n. slice_get v.graph.blocks n) place.index found e in
-      all-at (manual v) entries v.graph.blocks found.number found.list s.blocks f.0
+      all-at (manual v) entries v.graph.blocks found.number found.list (manual_parts v s).0 f.0
+
+  place_found : (found : Found (Option ℕ)) → IsFoundBy block_place_in judged v found → All (manual v) (entries found.list)
+  place_found found (Now place e) = place_own place found e
+  place_found found (Before place e) = place_judged place found e
+
+  -- the block in a place is manual
+  placed_manual : (place : Slot) (found : Found (Option ℕ)) (id : ℕ) → block_place_in v place ≡ Ok found → found.value ≡ Some id
+      → manual v id ≡ true
+  placed_manual place found id e has =
+      let f = found_by (number_named v place.name as_blocks) (λ n. slice_get v.graph.blocks n) place.index found e in
+      subst (PassesOrNull (manual v)) has (entry-passes (manual v) found.list found.index found.value (place_own place found e) f.1)
 
   -- an object is made of a reservation
   committed_right : (p : Numbered Point) (r : Reservation) → entry_at v.graph.points p.number ≡ Some p.value → p.value.reservation ≡ Some r
@@ -143,7 +157,7 @@ module _ (judged v : World) (j : IsSoundGraph judged) (grown : Grows judged v) (
 
   -- a world of which nothing that matters was touched
   as_it_was : {w : World} → w.formats ≡ v.formats → w.pools ≡ v.pools → w.graph.objects ≡ v.graph.objects → w.graph.points ≡ v.graph.points
-      → w.graph.tables ≡ v.graph.tables → w.graph.areas ≡ v.graph.areas → w.graph.blocks ≡ v.graph.blocks
+      → w.graph.tables ≡ v.graph.tables → w.graph.areas ≡ v.graph.areas → ids_in_blocks w.graph ≡ ids_in_blocks v.graph
       → w.graph.registered ≡ v.graph.registered
       → w.graph.messages ≡ v.graph.messages → w.addresses ≡ v.addresses → IsSoundGraph w
   as_it_was {w} formats pools objects points tables areas blocks listed messages addresses =
@@ -234,10 +248,32 @@ module _ (judged v : World) (j : IsSoundGraph judged) (grown : Grows judged v) (
       let o = (object_found v held.from.value object held.is).1 in
       cells_changed v s object.number object.value change o (written_length write (cells_of_body object.value.body)) (written_right write)
   change_sound live pairs other (BlockWordIs id k value) = block_word_written v s id k value
-  change_sound live pairs other (PlaceEmptied from place e found) = place_written v s place None (place_own from place found) tt
-  change_sound live pairs other (Allocated pool p words into place at e of kind size found) =
-      allocated_sound p words place at (grown.pools p.number p.value (pool_named-is judged pool p of)) kind size
-      (place_judged into place found)
+  change_sound live pairs other (PlaceEmptied from place id e found has) = place_written v s place None (place_own from place found) tt
+  change_sound live pairs other (Allocated p words place at is of kind size found empty) =
+      allocated_sound p words place at (grown.pools p.number p.value of) kind size (place_found place found)
+  change_sound live pairs other (CacheMade name pool of classes e may none) =
+      as_it_was refl refl refl refl refl refl
+      (ap (λ ids. ids_in_places v.graph ++ ids) (cache_added v.graph.caches (record { pool = of.number; classes = classes }) none))
+      refl refl refl
+  change_sound live pairs other (BlockUncached name cache words into place id classes e is taken found empty) =
+      let v1 = with_graph v (graph_cleared v.graph id) in
+      let s1 = block_cleared v s id in
+      let less = less_pass (manual v1) (cache_less v.graph cache (cache_named-is v name cache is) words id classes taken)
+      (manual_parts v1 s1).1 in
+      let v2 = with_graph v (graph_cleared (with_classes v.graph cache classes) id) in
+      let s2 = cached_written v1 s1 cache classes less.1 in
+      let f = found_by (number_named v into.name as_blocks) (λ n. slice_get v.graph.blocks n) into.index place found in
+      place_written v2 s2 place (Some id)
+      (all-at (manual v2) entries v.graph.blocks place.number place.list (manual_parts v2 s2).0 f.0) less.0
+  change_sound live pairs other (BlockCached name cache from place id classes e is found has own kept) =
+      let v1 = with_graph v (with_block_place v.graph place None) in
+      let s1 = place_written v s place None (place_own from place found) tt in
+      cached_written v1 s1 cache classes
+      (more_pass (manual v1) (cache_more v.graph cache (cache_named-is v name cache is) (words_of v id) id classes kept)
+      (placed_manual from place id found has) (manual_parts v1 s1).1)
+  change_sound live pairs other (CacheFlushed name cache e is) =
+      cached_written v s cache (map emptied cache.value.classes)
+      (flush_passes v.graph cache (cache_named-is v name cache is) (manual v) (manual_parts v s).1)
   change_sound live pairs other (PoolMade name p e made) =
       untouched v (with_pool v name p) s refl (λ n q h. slice_get-kept v.pools p q n h) refl refl refl refl refl refl refl refl
   change_sound live pairs other (PointMade name pool of at_rank e is may) = new_point v s name of.number at_rank (

@@ -16,6 +16,7 @@ use Rattle.mps_base.specs.declared.names.Slot.{Slot}
 use Rattle.mps_base.specs.declared.refusal.Refusal.{Refusal}
 use Rattle.mps_base.specs.declared.refusal.Refusal.TheVariants as refusal
 use Rattle.mps_format.specs.Layout.{Layout}
+use Rattle.mps_changes.proofs.OneMore.{parts_pass}
 use Rattle.mps_laws.proofs.Sound.PoolsThere.{all-at}
 use Rattle.mps_laws.proofs.Same as same
 use Rattle.mps_laws.proofs.Same.{Same, fits}
@@ -27,7 +28,7 @@ use Rattle.mps_model.specs.Allocating.{act_alloc, address_of_placement, allows_s
 use Rattle.mps_model.specs.Answer.{Answer, Replied}
 use Rattle.mps_model.specs.Checked as checked
 use Rattle.mps_model.specs.Checked.{Checked, Found, Numbered, ◌>>=◌, ◌>>◌, refuse_when, required}
-use Rattle.mps_model.specs.Graph.{entries, entry_at}
+use Rattle.mps_model.specs.Graph.{ids_in_caches, ids_in_places, entries, entry_at}
 use Rattle.mps_model.specs.History.{alloc_at, moves_of_alloc, unless_refused, with_client_remembered}
 use Rattle.mps_model.specs.Making.{is_block_size}
 use Rattle.mps_model.specs.Placement.{ForAlloc, placement_of}
@@ -226,7 +227,8 @@ module _ {F : Type 0} (layout : F → Layout) (h : HeapState F) (trail : Moves) 
             of_value None e value = ap (λ a. a == 0) value
             of_value (Some id) e value =
                 let live = subst (PassesOrNull (is_live w)) e (entry-passes (is_live w) found.list place.index found.value
-                (all-in (is_live w) entries w.graph.blocks found.number found.list own.live.blocks is.has) is.there) in
+                (all-in (is_live w) entries w.graph.blocks found.number found.list
+                (parts_pass (is_live w) (ids_in_places w.graph) (ids_in_caches w.graph) own.live.blocks).0 is.has) is.there) in
                 let at = some_there (entry_at w.addresses id) live in
                 let address : into.value ≡ at.0 = value ∙ ap (λ o. option_map_or (λ x. x) o 0) at.1 in
                 ne_eqb into.value 0 (λ z. let low = (parts.image.placed.address id at.0 at.1).not_null in omega (arith, z, address, low))

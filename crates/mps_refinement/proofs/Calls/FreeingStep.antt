@@ -1,6 +1,6 @@
 -- A `free` where no collection runs: a legal step, whose moves free the block, and give its segment back where nothing is left in it.
-use Rattle.std.proofs.Common.{◌≡◌, ◌∙◌, ℕ, zero, suc, Bool, true, false, refl, sym, ap, List, [], ◌∷◌, Option, Some, None, Ok, inl, inr}
-use Rattle.std.proofs.lemmas.Bool.{ne_eqb, and_from, and_parts}
+use Rattle.std.proofs.Common.{◌≡◌, ◌∙◌, ℕ, zero, suc, Bool, true, false, refl, sym, ap, List, [], ◌∷◌, Option, Some, None, Ok, inl, inr, arith, true≢false}
+use Rattle.std.proofs.lemmas.Bool.{eq-eqb, ne_eqb, and_from, and_parts}
 use Rattle.std.proofs.lemmas.Option.{none-some}
 use Rattle.std.specs.Prelude.{◌==◌, ◌&&◌, not, slice_get, if◌then◌else◌, option_map}
 use Rattle.std.specs.List.{flat_map, list_all}
@@ -15,11 +15,11 @@ use Rattle.mps_laws.proofs.Sound.HeldIds.{All, all-append, held_again, all-weake
 use Rattle.mps_laws.proofs.QuietSteps.{IsSound}
 use Rattle.mps_laws.proofs.Sound.SoundChanges.{gone_sound, sound_again, lives_otherwise, others_live}
 use Rattle.mps_laws.proofs.Sound.SoundEffects.{place_sound}
-use Rattle.mps_laws.proofs.Sound.SoundGraph.{IsSoundGraph, auto, all-at as all-in, entry-passes}
+use Rattle.mps_laws.proofs.Sound.SoundGraph.{IsSoundGraph, all-both, auto}
 use Rattle.mps_model.proofs.AtRest.{with_collection-none}
 use Rattle.mps_model.specs.declared.reply.Reply.TheVariants as reply
 use Rattle.mps_model.specs.Answer.{Answer, Replied}
-use Rattle.mps_model.specs.Graph.{Slots, entries, entry_at, ids_in_blocks, contains, without_first}
+use Rattle.mps_model.specs.Graph.{Slots, entries, entry_at, ids_in_blocks, contains, without_first, ids_in_caches, ids_in_places, occurrences}
 use Rattle.mps_model.specs.World.{World, is_any_size_kind, is_empty_segment, pool_is, segment_of, is_live, ids_of_pair, pairs_in}
 use Rattle.mps_model.specs.Checked.{Found, ◌>>=◌, ◌>>◌, block_place_in, done, with_graph, required}
 use Rattle.mps_model.specs.Allocating.{act_free, block_in, with_block_place}
@@ -37,12 +37,6 @@ use Rattle.mps_model.specs.Collection.{Collection}
 abbrev ok : Answer
 ok = Replied reply.Ok
 
--- a fact of all blocks in places is one of each
-all_places : (test : ℕ → Bool) (blocks : List Slots) → All test (flat_map entries blocks) → (n i id : ℕ) → IsIn blocks n i id
-    → test id ≡ true
-all_places test blocks all n i id is =
-    entry-passes test is.row i (Some id) (all-in test entries blocks n is.row all is.table) is.entry
-
 -- a fact of each block in a place is one of all
 pub all_in_places : (test : ℕ → Bool) (blocks : List Slots) → ((n i id : ℕ) → IsIn blocks n i id → test id ≡ true)
     → All test (flat_map entries blocks)
@@ -58,6 +52,20 @@ all_in_places test (row ∷ rows) each =
     in_row (Some id ∷ xs) f =
         and_from (test id) (list_all test (entries xs)) (f zero id refl)
         (in_row xs (λ i j e. f (suc i) j e))
+
+-- what stands nowhere in a list is other than all in it
+none_equal : (id : ℕ) (ids : List ℕ) → occurrences ids id ≡ 0 → All (λ j. not (id == j)) ids
+none_equal id [] none = refl
+none_equal id (j ∷ js) none = of_test (j == id) refl (λ rest. none_equal id js rest)
+  where
+    of_test : (b : Bool) → (j == id) ≡ b → (occurrences js id ≡ 0 → All (λ k. not (id == k)) js) → All (λ k. not (id == k)) (j ∷ js)
+    of_test true e later =
+        let one : ◌≡◌ {A = ℕ} (if j == id then 1 else 0) 1 = ap (λ b. if b then 1 else 0) e in absurd (omega (arith, one, none))
+    of_test false e later =
+        let first : ◌≡◌ {A = ℕ} (if j == id then 1 else 0) 0 = ap (λ b. if b then 1 else 0) e in
+        and_from (not (id == j)) (list_all (λ k. not (id == k)) js)
+        (ap not (ne_eqb id j (λ same. true≢false (sym (eq-eqb j id (sym same)) ∙ e))))
+        (later (omega (arith, first, none)))
 
 module _ (w : World) (outside : (c : Collection) → w.collection ≡ Some c → (t : Segment) → IsAmong t w.segments
     → pool_is is_any_size_kind w t.pool ≡ true → contains c.condemned_segments t.base ≡ false)
@@ -133,7 +141,8 @@ module _ (w : World) (outside : (c : Collection) → w.collection ≡ Some c →
 
   -- no other place has the block
   place_others : All (λ j. not (id == j)) (ids_in_blocks (with_block_place w.graph found None))
-  place_others = all_in_places (λ j. not (id == j)) (with_block_place w.graph found None).blocks (λ n i j is.
+  place_others = all-append (λ j. not (id == j)) (ids_in_places (with_block_place w.graph found None)) (ids_in_caches w.graph)
+      (all_in_places (λ j. not (id == j)) (with_block_place w.graph found None).blocks (λ n i j is.
       elim (written_cases w.graph.blocks found.number found.index found.list None n i j has is) [
         | inl here ↦ absurd (none-some j here.2)
         | inr other ↦
@@ -142,7 +151,8 @@ module _ (w : World) (outside : (c : Collection) → w.collection ≡ Some c →
               table = has;
               entry = entry ∙ ap Some (value ∙ ap Some same);
             }))))
-      ])
+      ])) (none_equal id (ids_in_caches w.graph) (once.not_cached found.number found.index id
+      (record { row = found.list; table = has; entry = entry ∙ ap Some value })))
 
   pub sound_freed : pairs_in w.state ≡ [] → w.collection ≡ None → IsSound world_freed
   sound_freed none rest =
@@ -170,8 +180,5 @@ module _ (w : World) (outside : (c : Collection) → w.collection ≡ Some c →
   blocks_freed =
       all-weaker (lives_otherwise w id) (is_live (with_address w id None)) (others_live w id)
       (ids_in_blocks (with_block_place w.graph found None))
-      (all_in_places (lives_otherwise w id) (with_block_place w.graph found None).blocks (λ n i j is.
-      and_from (is_live w j) (not (id == j))
-      (all_places (is_live w) (with_block_place w.graph found None).blocks
-      (place_written (is_live w) w.graph blocks found None has tt) n i j is)
-      (all_places (λ j. not (id == j)) (with_block_place w.graph found None).blocks place_others n i j is)))
+      (all-both (is_live w) (λ j. not (id == j)) (ids_in_blocks (with_block_place w.graph found None))
+      (place_written (is_live w) w.graph blocks found None has tt) place_others)

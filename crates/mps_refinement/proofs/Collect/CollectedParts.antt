@@ -2,7 +2,7 @@
 use Rattle.mps_refinement.proofs.Parts.Registered.{all_now, live_at}
 use Rattle.std.proofs.Common.{◌≡◌, ◌∙◌, ℕ, ◌+◌, ◌≤◌, ◌<◌, true, false, refl, sym, ap, subst, List, [], length, map, Option, Some, None, IsSome, is_some}
 use Rattle.std.proofs.lemmas.Bool.{false≢true}
-use Rattle.std.specs.Prelude.{Bool, option_map, not}
+use Rattle.std.specs.Prelude.{Bool, option_map, not, IsTrue}
 use Rattle.std.specs.Option.{option_map_or}
 use Rattle.mps_base.specs.Address.{Id, Address, max_grains, word_of}
 use Rattle.mps_base.specs.Segment.{Segment}
@@ -13,10 +13,9 @@ use Rattle.mps_format.specs.Layout.{Layout}
 use Rattle.mps_trace_laws.specs.Image.Memory.{words_of_arena}
 use Rattle.mps_ld.proofs.Flips.{flips_after}
 use Rattle.mps_ld.specs.Flips.{AreFlips}
-use Rattle.mps_model.specs.Graph.{Object, contains, ids_in_blocks, ids_in_slots, is_automatic, object_at}
+use Rattle.mps_model.specs.Graph.{ids_in_caches, ids_in_places, Object, contains, ids_in_blocks, ids_in_slots, is_automatic, object_at}
 use Rattle.mps_model.specs.World as world
 use Rattle.mps_model.specs.World.{World, object_is}
-use Rattle.std.specs.Prelude.{IsTrue}
 use Rattle.std.specs.List.{list_all}
 use Rattle.mps_model.specs.WellFormed.{IsWellFormed, is_live_automatic}
 use Rattle.mps_model.specs.Effect.{Everything, condemned_zones, world_flipped}
@@ -124,7 +123,7 @@ module _ {F : Type 0} (layout : F → Layout) (past : Past) (h after : HeapState
       areas = areas_same w.addresses addresses past.area_number (kept after.roots.areas) w.graph.areas (λ id there. places.holds id there)
           (kept_alike parts.areas (λ key. ap (λ rows. kept rows key) heap.areas));
       blocks = heap.blocks ∙ (parts.blocks ∙ same_places w.addresses addresses w.graph.blocks
-          (λ id there. places.manual id (places_same id there)));
+          (λ id there. places.manual id (places_same id (contains_left (ids_in_places w.graph) (ids_in_caches w.graph) id there))));
       roots_counted = heap.live_roots ∙ parts.roots_counted;
       slots_counted = heap.live_slots ∙ parts.slots_counted;
       points = points_now;

@@ -14,13 +14,14 @@ use Rattle.mps_format.specs.Layout.{Layout}
 use Rattle.mps_trace_laws.specs.Image.Image.{LieApart}
 use Rattle.mps_trace_laws.specs.Image.Memory.{Setting, Lies, all_cells}
 use Rattle.mps_trace_laws.proofs.Image.Shaped.{all_at}
+use Rattle.mps_changes.proofs.OneMore.{parts_pass}
 use Rattle.mps_laws.proofs.Lookups.{there_is}
 use Rattle.mps_laws.proofs.Same.{Same, fits, refused}
 use Rattle.mps_laws.proofs.Sound.SoundGraph.{All, PassesOrNull, all-at, entry-passes}
 use Rattle.mps_model.specs.Allocating as model
 use Rattle.mps_model.specs.Allocating.{words_at}
 use Rattle.mps_model.specs.Checked.{Checked, Found, ◌>>=◌, ◌>>◌, refuse_when, required, words_of_body}
-use Rattle.mps_model.specs.Graph.{NumberCell, Body, Automatic, Manual, Object, entries, entry_at, ids_in_blocks, is_automatic, is_automatic_body, size_of, size_of_body}
+use Rattle.mps_model.specs.Graph.{NumberCell, Body, Automatic, Manual, Object, entries, entry_at, ids_in_blocks, ids_in_caches, ids_in_places, is_automatic, is_automatic_body, size_of, size_of_body}
 use Rattle.mps_model.specs.Making.{is_block_size}
 use Rattle.mps_model.specs.World as world
 use Rattle.mps_model.specs.World.{World, is_live, object_is, is_automatic_kind, pool_at}
@@ -139,7 +140,8 @@ module _ {F : Type 0} (layout : F → Layout) (past : Past) (h : HeapState F) (w
       of_value (Some id) e value =
           let passes = λ (test : ℕ → Bool) (all : All test (ids_in_blocks w.graph)).
           subst (PassesOrNull test) e (entry-passes test found.list index found.value
-          (all-at test entries w.graph.blocks found.number found.list all is.has) is.there) in
+          (all-at test entries w.graph.blocks found.number found.list
+          (parts_pass test (ids_in_places w.graph) (ids_in_caches w.graph) all).0 is.has) is.there) in
           let b = block_is id (passes (is_live w) known.live.blocks)
           (passes (object_is (λ o. not (is_automatic o)) w) known.formed.blocks) in
           let address : entry.value ≡ b.0 = value ∙ ap (λ o. option_map_or (λ x. x) o 0) b.1.address in

@@ -20,6 +20,7 @@ use Rattle.mps_trace_laws.specs.Image.SegmentWords.{AreSegmentsInOrder}
 use Rattle.mps_trace_laws.proofs.Image.ClientLaws.{block_is_committed, committed_cells_are_fixed}
 use Rattle.mps_trace_laws.proofs.Image.SegmentWords.{segments_are_home}
 use Rattle.mps_trace_laws.proofs.Image.BlockRuns.{contained_in_order}
+use Rattle.mps_changes.proofs.OneMore.{parts_pass}
 use Rattle.mps_laws.proofs.Positions.Covered.{covered-shapes, covered_ascending}
 use Rattle.mps_laws.proofs.Positions.LegalMoves.{HasLayout}
 use Rattle.mps_laws.proofs.Lookups.{entry_is_there}
@@ -306,7 +307,8 @@ module _ {F : Type 0} (layout : F → Layout) (past : Past) (h : HeapState F) (w
         tables_still w.addresses at w.graph.tables known.held.slots parts.tables,
         parts.ordered,
         areas_still w.addresses at w.graph.areas known.held.holds parts.areas,
-        parts.blocks ∙ sym (blocks_still w.addresses at w.graph.blocks known.live.blocks),
+        parts.blocks ∙ sym (blocks_still w.addresses at w.graph.blocks
+            (parts_pass (is_live w) (graph.ids_in_places w.graph) (graph.ids_in_caches w.graph) known.live.blocks).0),
         parts.roots_counted,
         parts.slots_counted,
       )

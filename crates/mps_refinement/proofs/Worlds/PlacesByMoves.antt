@@ -7,7 +7,7 @@ use Rattle.mps_base.specs.declared.moves.Move.{Move}
 use Rattle.mps_base.specs.declared.moves.Move.TheVariants as moves
 use Rattle.mps_model.specs.declared.call.Call.{Call}
 use Rattle.mps_model.specs.declared.call.Call.TheVariants as call
-use Rattle.mps_model.specs.Graph.{Graph, Object, Cell, Slots, object_at, object_with_cells, graph_with_cells, is_automatic, with_target_cell}
+use Rattle.mps_model.specs.Graph.{Graph, Object, Cell, Slots, ids_in_caches, object_at, object_with_cells, graph_with_cells, is_automatic, with_target_cell}
 use Rattle.mps_model.specs.World.{World, Pool, id_at, is_copying_pool, object_is, with_tail}
 use Rattle.mps_model.specs.Checked.{as_point, number_named}
 use Rattle.mps_model.specs.Effect.{world_after_move, world_after_moves, after_segment, after_free, after_moved, after_post, after_splat, holding, where_one, with_collection, reclaiming, segment_base_of, segment_of_move, placing, graph_nulled, without_object}
@@ -16,14 +16,15 @@ use Rattle.mps_model.specs.History.{after_own_segment, asking, judged_world, mov
 use Rattle.mps_laws.proofs.Lookups.{length-slice_set}
 use Rattle.mps_model.proofs.Nulled.{splatted_holds}
 
--- the places of tables of blocks, how many objects were made, and the pools
+-- the places of tables of blocks, the blocks in caches, how many objects were made, and the pools
 pub record Places : Type 0 where
   pub blocks : List Slots
+  pub cached : List ℕ
   pub made : ℕ
   pub pools : List Pool
 
 abbrev pub places_of : World → Places
-places_of w = record { blocks = w.graph.blocks; made = length w.graph.objects; pools = w.pools }
+places_of w = record { blocks = w.graph.blocks; cached = ids_in_caches w.graph; made = length w.graph.objects; pools = w.pools }
 
 -- ---- moves
 

@@ -1,6 +1,6 @@
 -- What the changes of calls that make no moves leave where no collection runs: a sound world, of the same formats.
 use Rattle.std.proofs.Common.{◌≡◌, ◌∙◌, ℕ, Bool, true, false, refl, sym, ap, subst, List, [], ◌∷◌, map, Option, Some, None, Ok, inl, inr}
-use Rattle.std.proofs.lemmas.Bool.{and_parts, false≢true, or_right}
+use Rattle.std.proofs.lemmas.Bool.{and_parts, false≢true, or_right, true≢false}
 use Rattle.std.proofs.lemmas.Option.{none-some, same_Some, slice_get-map}
 use Rattle.std.specs.Prelude.{◌||◌, find, if◌then◌else◌, is_some, nat_lt, option_map}
 use Rattle.std.specs.List.{flat_map, list_all}
@@ -21,7 +21,7 @@ use Rattle.mps_model.specs.Reply.{act}
 use Rattle.mps_model.specs.History.{HeldAreLive, is_held_rightly}
 use Rattle.mps_laws.proofs.Acts.{ForAct, point_named-is}
 use Rattle.mps_changes.proofs.ActChanges.{but, of_changes}
-use Rattle.mps_changes.specs.Change.{IsFoundBy, Now, Before, IsInSlot, IsGot, GotNull, FromSlot, FromCell, FromWord, FromMessage, IsShown, ShownPlain, ShownPinned, ShownPoked, IsWritten, Change, Unchanged, Aside, SlotIs, WordIs, MessageTaken, TableMade, AreaMade, BlocksMade, TableDropped, AreaDropped, CellsAre, BlockWordIs, PlaceEmptied, Allocated, PoolMade, PointMade, PointDropped, Opened, Written, Closed, Committed, Substituted, Registered, Unregistered}
+use Rattle.mps_changes.specs.Change.{IsFoundBy, Now, Before, IsInSlot, IsGot, GotNull, FromSlot, FromCell, FromWord, FromMessage, IsShown, ShownPlain, ShownPinned, ShownPoked, IsWritten, Change, Unchanged, Aside, SlotIs, WordIs, MessageTaken, TableMade, AreaMade, BlocksMade, TableDropped, AreaDropped, CellsAre, BlockWordIs, PlaceEmptied, Allocated, PoolMade, PointMade, PointDropped, Opened, Written, Closed, Committed, Substituted, Registered, Unregistered, allocates, frees, CacheMade, BlockUncached, BlockCached, CacheFlushed}
 use Rattle.mps_laws.proofs.FoundBy.{object_found, reference_found, slot_found, word_found}
 use Rattle.mps_laws.proofs.Sound.SoundGraph.{all-at, entry-passes}
 use Rattle.mps_laws.proofs.Lookups.{entry_is_there}
@@ -32,7 +32,7 @@ use Rattle.mps_abstract.proofs.Lists.{list_all-members}
 use Rattle.mps_changes.proofs.Written.{written_targets}
 use Rattle.mps_laws.proofs.Sound.Referred.{SoundParts, sound_parts, word_of_block_written, sound_world}
 use Rattle.mps_laws.proofs.Sound.SoundEffects.{MayBeHeld, cells_sound, reservation_sound, slot_passes, slot_sound, word_sound}
-use Rattle.mps_laws.proofs.Sound.SoundChanges.{area_gone_sound, area_sound, blocks_sound, message_sound, point_gone_sound, point_sound, registrations_sound, sound_again, table_gone_sound, table_sound}
+use Rattle.mps_laws.proofs.Sound.SoundChanges.{area_gone_sound, area_sound, blocks_sound, message_sound, point_gone_sound, point_sound, registrations_sound, sound_again, table_gone_sound, table_sound, cache_sound}
 use Rattle.mps_model.specs.Transforms.{object_substituted, pairs_of, world_substituted}
 use Rattle.mps_laws.proofs.Parked.{aside_pairs}
 use Rattle.mps_laws.proofs.Sound.Substituting.{body_targets_pass, others_pass, pairs_of_pass, tables_pass}
@@ -48,10 +48,24 @@ may_move (call.Reserve point head) = true
 may_move (call.Commit point target) = true
 may_move (call.Alloc pool words place) = true
 may_move (call.Free place) = true
+may_move (call.CacheAlloc cache words place) = true
+may_move (call.CacheFree cache place) = true
+may_move (call.CacheFlush cache) = true
 may_move call.Start = true
 may_move (call.StartChain chain generation) = true
 may_move call.Collect = true
 may_move _ = false
+
+-- a call that makes a block or frees one may move
+pub allocating_moves : (c : Call) → allocates c ≡ true → may_move c ≡ true
+allocating_moves (call.Alloc pool words place) h = refl
+allocating_moves (call.CacheAlloc cache words place) h = refl
+allocating_moves _ h = absurd (true≢false (sym h))
+
+pub freeing_moves : (c : Call) → frees c ≡ true → may_move c ≡ true
+freeing_moves (call.Free place) h = refl
+freeing_moves (call.CacheFree cache place) h = refl
+freeing_moves _ h = absurd (true≢false (sym h))
 
 -- where no collection runs, a world is sound where what is held is live
 pub resting_sound : (u : World) → u.collection ≡ None → HeldAreLive u → IsSound u
@@ -254,8 +268,13 @@ module _ (w : World) (rest : w.collection ≡ None) (sound : IsSound w) where
             (word_of_block_written (is_live w) w.graph (is_live w) id k value (parts.referred running)));
         transforms = sound.live.transforms;
       })) refl
-  change_sound h (PlaceEmptied from place e found) = but may_move e refl h
-  change_sound h (Allocated pool p words into place at e of kind size found) = but may_move e refl h
+  change_sound {c = c} h (PlaceEmptied from place id e found has) = absurd (true≢false (sym (freeing_moves c e) ∙ h))
+  change_sound {c = c} h (Allocated p words place at e of kind size found empty) = absurd (true≢false (sym (allocating_moves c e) ∙ h))
+  change_sound h (CacheMade name pool of classes e may none) =
+      left (cache_sound w sound name (record { pool = of.number; classes = classes }) none) refl
+  change_sound h (BlockUncached name cache words into place id classes e is taken found empty) = but may_move e refl h
+  change_sound h (BlockCached name cache from place id classes e is found has own kept) = but may_move e refl h
+  change_sound h (CacheFlushed name cache e is) = but may_move e refl h
   change_sound h (PoolMade name p e made) = renamed refl refl refl refl sound.live.transforms
   change_sound h (PointMade name pool of at_rank e is may) = left (point_sound w sound name of.number at_rank) refl
   change_sound h (PointDropped name p e is none) = left (point_gone_sound w sound name p.number) refl

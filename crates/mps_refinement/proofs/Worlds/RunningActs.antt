@@ -1,20 +1,21 @@
 -- A call that makes no moves is a legal step while a collection runs, and the collector's invariant is true after it.
-use Rattle.std.proofs.Common.{◌≡◌, ◌∙◌, ℕ, Bool, true, false, true≢false, refl, sym, ap, subst, [], None}
+use Rattle.std.proofs.Common.{◌≡◌, ◌∙◌, ℕ, Bool, true, false, true≢false, refl, sym, ap, subst, [], ◌++◌, None}
 use Rattle.std.proofs.lemmas.Bool.{false≢true}
-use Rattle.std.specs.Prelude.{not}
+use Rattle.std.specs.Prelude.{not, ◌||◌}
 use Rattle.std.specs.List.{list_all}
 use Rattle.mps_model.specs.declared.call.Call.{Call}
 use Rattle.mps_model.specs.declared.call.Call.TheVariants as call
 use Rattle.mps_model.specs.Answer.{Answer, is_block, is_unsupported}
-use Rattle.mps_model.specs.Graph.{ids_in_blocks}
+use Rattle.mps_model.specs.Graph.{ids_in_blocks, ids_in_places}
 use Rattle.mps_model.specs.World.{World, is_live}
 use Rattle.mps_model.specs.Checked.{Act, Checked}
 use Rattle.mps_model.specs.LegalMove.{AreLegalMoves}
 use Rattle.mps_model.specs.Reply.{act, world_from}
 use Rattle.mps_model.specs.History.{judged_world, moved_world, moves_of_collector}
-use Rattle.mps_changes.specs.Change.{makes_arena, Change, Unchanged, Allocated, Committed, PlaceEmptied, BlocksMade}
+use Rattle.mps_changes.specs.Change.{allocates, frees, makes_arena, Change, Unchanged, Allocated, CacheMade, BlockUncached, BlockCached, CacheFlushed, Committed, PlaceEmptied, BlocksMade}
 use Rattle.mps_changes.proofs.ActChanges.{but, of_changes}
 use Rattle.mps_changes.proofs.Checks.{for_world}
+use Rattle.mps_changes.proofs.OneMore.{cache_added}
 use Rattle.mps_laws.proofs.Sound.HeldIds.{blocks_made}
 use Rattle.mps_laws.proofs.QuietSteps.{IsQuiet}
 use Rattle.mps_abstract.specs.Colours.{AreDifferent}
@@ -38,13 +39,28 @@ is_poke _ = false
 abbrev HasLiveBlocks : World → Type 0
 HasLiveBlocks u = list_all (is_live u) (ids_in_blocks u.graph) ≡ true
 
+block_moves : (c : Call) → (allocates c || frees c) ≡ true → never_moves c ≡ false
+block_moves (call.Alloc pool words place) h = refl
+block_moves (call.CacheAlloc cache words place) h = refl
+block_moves (call.Free place) h = refl
+block_moves (call.CacheFree cache place) h = refl
+block_moves _ h = absurd (false≢true h)
+
+or_right : (a b : Bool) → b ≡ true → (a || b) ≡ true
+or_right true b h = refl
+or_right false b h = h
+
 module _ (w : World) (c : Call) (never : never_moves c ≡ true) where
   -- the call that makes a change isn't of a kind that makes moves
   moves : {A : Type 0} {d : Call} → c ≡ d → not (never_moves d) ≡ true → A
   moves is h = but (λ d. not (never_moves d)) is h (ap not never)
 
+  -- nor does it make a block or free one
+  moves_block : {A : Type 0} → (allocates c || frees c) ≡ true → A
+  moves_block h = absurd (true≢false (sym never ∙ block_moves c h))
+
   change_addresses : {marked : Bool} {u : World} → Change marked c w w u → u.addresses ≡ w.addresses
-  change_addresses (Allocated pool p words into place at e of kind size found) = moves e refl
+  change_addresses (Allocated p words place at e of kind size found empty) = moves_block (ap (λ b. b || frees c) e)
   change_addresses (Committed name target p r slot e there found has lives) = moves e refl
   change_addresses _ = refl
 
@@ -53,9 +69,15 @@ module _ (w : World) (c : Call) (never : never_moves c ≡ true) where
   change_segments _ = refl
 
   change_blocks : {marked : Bool} {u : World} → HasLiveBlocks w → Change marked c w w u → HasLiveBlocks u
-  change_blocks live (Allocated pool p words into place at e of kind size found) = moves e refl
+  change_blocks live (Allocated p words place at e of kind size found empty) = moves_block (ap (λ b. b || frees c) e)
   change_blocks live (Committed name target p r slot e there found has lives) = moves e refl
-  change_blocks live (PlaceEmptied from place e found) = moves e refl
+  change_blocks live (PlaceEmptied from place id e found has) = moves_block (or_right (allocates c) (frees c) e)
+  change_blocks live (CacheMade name pool of classes e may none) =
+      subst (λ ids. list_all (is_live w) (ids_in_places w.graph ++ ids) ≡ true)
+      (sym (cache_added w.graph.caches (record { pool = of.number; classes = classes }) none)) live
+  change_blocks live (BlockUncached name cache words into place id classes e is taken found empty) = moves e refl
+  change_blocks live (BlockCached name cache from place id classes e is found has own kept) = moves e refl
+  change_blocks live (CacheFlushed name cache e is) = moves e refl
   change_blocks live (BlocksMade name places e) = blocks_made (is_live w) w.graph live places
   change_blocks live _ = live
 
@@ -92,6 +114,9 @@ module _ (x : Collecting) (run : Running x) where
   quiet_running (call.Commit point target) answer h s kept = absurd (false≢true h)
   quiet_running (call.Alloc pool words place) answer h s kept = absurd (false≢true h)
   quiet_running (call.Free place) answer h s kept = absurd (false≢true h)
+  quiet_running (call.CacheAlloc cache words place) answer h s kept = absurd (false≢true h)
+  quiet_running (call.CacheFree cache place) answer h s kept = absurd (false≢true h)
+  quiet_running (call.CacheFlush cache) answer h s kept = absurd (false≢true h)
   quiet_running (call.Get target source cell) answer h s kept = absurd (false≢true h)
   quiet_running call.Start answer h s kept = absurd (false≢true h)
   quiet_running (call.StartChain chain generation) answer h s kept = absurd (false≢true h)
@@ -118,6 +143,9 @@ module _ (x : Collecting) (run : Running x) where
   nothing_collected line (call.Commit point target) answer h = absurd (false≢true h)
   nothing_collected line (call.Alloc pool words place) answer h = absurd (false≢true h)
   nothing_collected line (call.Free place) answer h = absurd (false≢true h)
+  nothing_collected line (call.CacheAlloc cache words place) answer h = absurd (false≢true h)
+  nothing_collected line (call.CacheFree cache place) answer h = absurd (false≢true h)
+  nothing_collected line (call.CacheFlush cache) answer h = absurd (false≢true h)
   nothing_collected line _ answer h = refl
 
   none_is_legal : (c : Call) → AreLegalMoves w None (moves_of_collector c [])
@@ -125,6 +153,9 @@ module _ (x : Collecting) (run : Running x) where
   none_is_legal (call.Commit point target) = tt
   none_is_legal (call.Alloc pool words place) = tt
   none_is_legal (call.Free place) = tt
+  none_is_legal (call.CacheAlloc cache words place) = tt
+  none_is_legal (call.CacheFree cache place) = tt
+  none_is_legal (call.CacheFlush cache) = tt
   none_is_legal _ = tt
 
   module _ (line : ℕ) (c : Call) (answer : Answer) (is : IsQuietCall x c answer) where
@@ -176,6 +207,9 @@ moves_not_at_rest (call.Reserve point head) h = absurd (false≢true h)
 moves_not_at_rest (call.Commit point target) h = absurd (false≢true h)
 moves_not_at_rest (call.Alloc pool words place) h = absurd (false≢true h)
 moves_not_at_rest (call.Free place) h = absurd (false≢true h)
+moves_not_at_rest (call.CacheAlloc cache words place) h = absurd (false≢true h)
+moves_not_at_rest (call.CacheFree cache place) h = absurd (false≢true h)
+moves_not_at_rest (call.CacheFlush cache) h = absurd (false≢true h)
 moves_not_at_rest call.Start h = absurd (false≢true h)
 moves_not_at_rest (call.StartChain chain generation) h = absurd (false≢true h)
 moves_not_at_rest call.Collect h = absurd (false≢true h)
