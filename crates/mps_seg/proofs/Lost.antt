@@ -1,7 +1,7 @@
 -- Blocks that weren't kept are freed one after the other.
 use Rattle.std.proofs.Common.{ℕ, suc, ◌+◌, ◌-◌, ◌*◌, ◌%◌, ◌<◌, ◌≡◌, Bool, true, false, not, List, [], ◌∷◌, length, refl, sym, ap, ◌∙◌, subst, inl, inr, arith}
 use Rattle.std.specs.Prelude.{filter, if◌then◌else◌}
-use Rattle.std.proofs.lemmas.Bool.{cond-true, cond-false}
+use Rattle.std.proofs.lemmas.Bool.{cond-true, cond-false, cases_Bool}
 use Rattle.mps_base.specs.Address.{Address, Word, word_of, bytes_of_word, words_of_grain}
 use Rattle.mps_base.specs.Run.{Run, end_of, runs_within}
 use Rattle.mps_base.proofs.Runs.{IsAscending-without_run}
@@ -147,3 +147,18 @@ module _ (s : SegsState) (moves : Moves) (base end : Address) (low : Word) (s' :
       span = span_without s' r base end so_far.span;
       long = so_far.long;
     }
+
+    -- the next block stays if it is kept, and is freed if it isn't
+    pub freed_unless_kept : {x : SegsState} {m : Moves}
+        → (bit s'.marks.kept r.from ≡ true → (x ≡ s') × (m ≡ moves'))
+        → (bit s'.marks.kept r.from ≡ false → x ≡ without_block r s')
+        → (bit s'.marks.kept r.from ≡ false → m ≡ with_move moves' (Free (at_word r.from)))
+        → AreFreedBelow s moves base end (end_of r) x m
+    freed_unless_kept kept freed noted = elim (cases_Bool (bit s'.marks.kept r.from)) [
+      | inl stays ↦ freed_same refl (kept stays).0 (kept stays).1 (freed_kept stays)
+      | inr lost ↦ freed_same refl (freed lost) (noted lost) (freed_lost lost)
+    ]
+
+    -- there is room for the Free of the next block
+    pub room_for_a_free : bit s'.marks.kept r.from ≡ false → 0 < moves'.spare
+    room_for_a_free lost = omega (arith, lost_fewer low (word_of end) s' r some next lost, so_far.room)

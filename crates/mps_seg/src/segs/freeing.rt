@@ -1,12 +1,15 @@
 // The blocks of a segment that a collection didn't keep are freed.
 #![tactic(auto)]
 
-ghost use Rattle.std.specs.Prelude.{◌≡◌, ◌+◌, ◌%◌, ◌<◌, ◌≤◌, Some, [], ◌∷◌, length, IfSome, IfNone, Contains};
-ghost use Rattle.mps_base.specs.Address.{word_of, bytes_of_word};
+ghost use Rattle.std.specs.Prelude.{◌≡◌, ◌+◌, ◌*◌, ◌%◌, ◌<◌, ◌≤◌, true, false, Some, [], ◌∷◌, length, IfSome, IfNone, Contains};
+ghost use Rattle.mps_base.specs.Address.{word_of, bytes_of_word, words_of_grain};
 ghost use Rattle.mps_base.specs.Run.{runs_within};
 ghost use Rattle.mps_base.specs.Segment.{Segment, segment_over};
+ghost use Rattle.mps_base.specs.Trail.{with_move};
+ghost use Rattle.mps_base.specs.declared.moves.Move.TheVariants.{Free};
+ghost use Rattle.mps_seg.specs.Collecting.{is_kept_at};
 ghost use Rattle.mps_seg.specs.Moving.{run_at};
-ghost use Rattle.mps_seg.specs.Reclaiming.{IsSpan, CanReclaim, lost_between, without_blocks, moves_freed, freed_in, moves_freed_in};
+ghost use Rattle.mps_seg.specs.Reclaiming.{IsSpan, CanReclaim, lost_between, without_block, without_blocks, moves_freed, freed_in, moves_freed_in};
 
 use super::Segs;
 use mps_base::{Addr, BYTES_OF_GRAIN, BYTES_OF_WORD, Move, Trail};
@@ -59,11 +62,24 @@ fn free_lost(segs: &mut Segs, trail: &mut Trail, base: Addr, end: Addr)
 {
     let _ = segs.grains();
     let mut from = base;
-    while let Some(Block { at, words }) = segs.next_block(base, from, end) {
-        if !segs.is_kept(at) {
-            segs.drop_block(at, words);
-            trail.push(Move::Free { at });
-        }
-        from = Addr(at.0 + BYTES_OF_WORD * u64::from(words));
+    while let Some(block) = segs.next_block(base, from, end) {
+        free_unless_kept(segs, trail, block);
+        from = Addr(block.at.0 + BYTES_OF_WORD * u64::from(block.words));
+    }
+}
+
+/// Frees a block, with a Free, unless the collection kept it.
+#[inline(always)]
+fn free_unless_kept(segs: &mut Segs, trail: &mut Trail, block: Block)
+    requires there { Contains segs.old.blocks (run_at block.at.0 block.words) }
+    requires inside { word_of block.at.0 < words_of_grain * (segs.old.grains + 1) }
+    requires fits { is_kept_at segs.old block.at.0 ≡ false → 0 < trail.old.spare }
+    ensures kept { is_kept_at segs.old block.at.0 ≡ true → (segs.new ≡ segs.old) × (trail.new ≡ trail.old) }
+    ensures freed { is_kept_at segs.old block.at.0 ≡ false → segs.new ≡ without_block (run_at block.at.0 block.words) segs.old }
+    ensures moves { is_kept_at segs.old block.at.0 ≡ false → trail.new ≡ with_move trail.old (Free block.at) }
+{
+    if !segs.is_kept(block.at) {
+        segs.drop_block(block.at, block.words);
+        trail.push(Move::Free { at: block.at });
     }
 }

@@ -4,9 +4,9 @@ use Rattle.mps_seg.proofs.Lost.{AreFreedBelow}
 use Rattle.mps_seg.proofs.segs.freeing.free_lost.Given as goal
 
 -- the blocks passed so far are freed, and the rest are to go as they were at first
-abbrev pub invariant-loop-at : goal.invariant-loop-at
-invariant-loop-at l =
+abbrev pub invariant-loop-block : goal.invariant-loop-block
+invariant-loop-block l =
     AreFreedBelow l.initial.segs l.initial.trail l.base.0 l.end.0 (word_of l.from.0) l.segs l.trail
 
-abbrev pub decreases-loop-at : goal.decreases-loop-at
-decreases-loop-at l = word_of l.end.0 - word_of l.from.0
+abbrev pub decreases-loop-block : goal.decreases-loop-block
+decreases-loop-block l = word_of l.end.0 - word_of l.from.0
