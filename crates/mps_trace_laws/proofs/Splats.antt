@@ -9,3 +9,4 @@ pub mod Scanned
 pub mod CanSplat
 pub mod Alike
 pub mod Words
+pub mod WeakScan

@@ -5,7 +5,7 @@
 ghost use Rattle.mps_trace_laws.specs.Fix.Finding.{AnObjectIsFound};
 ghost use Rattle.mps_trace_laws.specs.Fix.Steps.{AFixIsAStep};
 ghost use Rattle.mps_trace_laws.specs.Fix.Scanning.{AScanIsAScan};
-ghost use Rattle.mps_trace_laws.specs.Barrier.Laws.{AnAccessIsABarrier, AnAccessCanBeDone};
+ghost use Rattle.mps_trace_laws.specs.Barrier.Laws.{AnAccessIsABarrier, AnAccessCanBeDone, AReclaimNeedsNoBarrier};
 ghost use Rattle.mps_trace_laws.specs.Reclaim.Laws.{AReclaimIsAUnit};
 ghost use Rattle.mps_trace_laws.specs.Begin.Begun.{ACollectionBegins};
 ghost use Rattle.mps_trace_laws.specs.Begin.MovesOfObjects.{RoomIsEnough};
@@ -29,10 +29,12 @@ pub fn a_scan_is_a_scan<F>()
     ensures { AScanIsAScan F }
 {}
 
-/// What `access` does with a segment while objects are traced is the read barrier of the abstract collector there, and can be done.
+/// What `access` does with a segment is the read barrier of the abstract collector there, also where weak blocks are scanned as such, and
+/// can be done. Once a collection reclaims nothing is to be done.
 pub fn an_access_is_a_barrier<F>()
     ensures barrier { AnAccessIsABarrier F }
     ensures ready { AnAccessCanBeDone F }
+    ensures none_while_reclaiming { AReclaimNeedsNoBarrier }
 {}
 
 /// The reclaim of the next condemned segment is a unit of the abstract collector, and the segments stand for the world after it.

@@ -1,5 +1,5 @@
 -- The objects of a heap at rest: what is registered is live and automatic, none that a collection moves is weak, and none has a dependent.
-use Rattle.std.proofs.Common.{None, ◌≡◌, ◌∙◌, ℕ, true, false, refl, sym, ap, Option, Some}
+use Rattle.std.proofs.Common.{None, ◌≡◌, ◌∙◌, ℕ, true, false, refl, sym, ap, Option, Some, length}
 use Rattle.std.proofs.lemmas.Bool.{and_parts, false≢true}
 use Rattle.std.specs.Prelude.{IsTrue, slice_get}
 use Rattle.std.specs.Option.{option_map_or}
@@ -32,9 +32,9 @@ automatic_at w id is = of_object (object_at w.graph id) refl
     of_object (Some o) e = (o, e, sym (ap (λ (x : Option Object). option_map_or is_automatic x false) e) ∙ is)
 
 -- in a well-formed world each registration is due: its object is live and automatic
-pub registered_are_due : (w : World) → IsWellFormed w → AreDue w.addresses w.graph.objects w.graph.registered 0
+pub registered_are_due : (w : World) → IsWellFormed w → AreDue w.addresses w.graph.objects w.graph.registered 0 (length w.graph.registered)
 registered_are_due w formed = record {
-  lived = λ position id at_least there. live_at w id (right position id there);
+  lived = λ position id at_least below there. live_at w id (right position id there);
   automatic = λ position id there.
       automatic_at w id (and_parts (is_live w id) (object_is is_automatic w id) (right position id there)).1;
 }

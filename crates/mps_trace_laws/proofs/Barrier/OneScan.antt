@@ -1,6 +1,6 @@
 -- One scan of a barrier: it is of a grey object in the segment, and the state represents the abstract collector after it.
 use Rattle.std.proofs.Common.{◌≡◌, ◌∙◌, ◌<◌, true, false, sym, ap, subst, List, [], ◌++◌, Option, Some, arith}
-use Rattle.std.proofs.lemmas.Bool.{and_from, or_right}
+use Rattle.std.proofs.lemmas.Bool.{and_from, or_right, true≢false}
 use Rattle.std.specs.Prelude.{◌||◌, Contains}
 use Rattle.std.specs.Option.{option_map_or}
 use Rattle.mps_base.specs.Address.{Address, Id, Word, address_of_grain, address_of_word, grain_of}
@@ -16,18 +16,20 @@ use Rattle.mps_seg.specs.Collecting.{lowest_grey_in}
 use Rattle.mps_seg.specs.Marks.{MarkTables, grey_of}
 use Rattle.mps_trace.specs.GenState.{ChainsState}
 use Rattle.mps_trace.specs.Scan.{Scanned}
+use Rattle.mps_trace.specs.Splat.{Splatted}
 use Rattle.mps_trace.specs.Trace.{Traced}
 use Rattle.mps_laws.proofs.Positions.Segments.{among_aligned}
 use Rattle.mps_model.specs.Accessing.{address_or_null}
-use Rattle.mps_model.specs.Graph.{Graph, Object, contains, entry_at, targets, targets_of, is_automatic}
+use Rattle.mps_model.specs.Graph.{Graph, Object, contains, entry_at, targets, targets_of, is_automatic, is_weak_object}
 use Rattle.mps_model.specs.World.{is_live_and}
 use Rattle.mps_abstract.specs.Colours.{is_grey}
-use Rattle.mps_abstract.specs.Collecting.{Collecting, units_left, is_tracing_band}
-use Rattle.mps_abstract.specs.Fixing.{Fixes}
-use Rattle.mps_abstract.specs.Units.{collecting_after_scan, is_grey_in}
-use Rattle.mps_abstract.proofs.Addresses.{address_of-live}
+use Rattle.mps_abstract.specs.Collecting.{Collecting, Running, units_left, is_reclaiming_band, is_tracing_band}
+use Rattle.mps_abstract.specs.Units.{BarrierDone, barrier_scans, barrier_splats, collecting_after_scan, is_grey_in, splats_by}
+use Rattle.mps_abstract.proofs.Addresses.{address_of-live, id_at-live}
 use Rattle.mps_abstract.proofs.KeptPlaces.{running_may_keep}
 use Rattle.mps_abstract.proofs.Leavings.{fixes_move}
+use Rattle.mps_abstract.proofs.Scanning.{scanned_fewer, scanned_running}
+use Rattle.mps_abstract.proofs.Splatting.{are_splatted}
 use Rattle.mps_abstract.proofs.UnitScans.{scanned_rightly, targets_may_be_fixed}
 use Rattle.mps_trace_laws.specs.Image.Memory.{pool_layout}
 use Rattle.mps_trace_laws.specs.Image.Image.{AreShaped}
@@ -39,6 +41,8 @@ use Rattle.mps_trace_laws.proofs.Fix.Ranks.{scanned_keeps_ranks}
 use Rattle.mps_trace_laws.proofs.Units.Entering.{held_in_order}
 use Rattle.mps_trace_laws.proofs.Fix.Scanned.{scan_is_a_scan}
 use Rattle.mps_trace_laws.proofs.Fix.Referring.{body_refers}
+use Rattle.mps_trace_laws.proofs.Splats.WeakScan.{weak_scan}
+use Rattle.mps_trace_laws.proofs.Splats.Words.{splats_keep_ranks}
 
 -- a block that is grey by one rank is grey
 grey_either : (rank : Rank) (n : Word) (m : MarkTables) → bit (grey_of rank m) n ≡ true → (bit m.exact n || bit m.weak n) ≡ true
@@ -53,17 +57,16 @@ pub record IsGreyObject (t : Segment) (y : Collecting) (at : Addr) : Type 0 wher
   pub grey : is_grey y.colours id ≡ true
   pub found : IsToBeScanned y id at.0 object
 
--- it was scanned
+-- it was scanned, as the first step of a barrier. Fewer units are left
 pub record IsOneScan {F : Type 0} (layout : F → Layout) (formats : List (Option (Policy F))) (of : ChainsState)
     (at_flip : List (Option Address)) (t : Segment) (x z : Traced) (y : Collecting) : Type 0 where
-  pub id : Id
-  pub inside : is_grey_in t y id ≡ true
   pub moves : List Move
   pub after : Collecting
-  pub fixes : Fixes y (targets y.world.graph id) moves after
-  pub stands : StandsForBarrier layout formats of at_flip z (collecting_after_scan after id)
+  pub barrier : (ms : List Move) (last : Collecting) → BarrierDone t after ms last → BarrierDone t y (moves ++ ms) last
+  pub band : after.band ≡ y.band
+  pub stands : StandsForBarrier layout formats of at_flip z after
   pub trail : z.moves.moves ≡ x.moves.moves ++ moves
-  pub fewer : units_left (collecting_after_scan after id) < units_left y
+  pub fewer : units_left after < units_left y
 
 module _ {F : Type 0} (layout : F → Layout) (formats : List (Option (Policy F))) (of : ChainsState) (at_flip : List (Option Address))
     (t : Segment) (x : Traced) (y : Collecting) (stands : StandsForBarrier layout formats of at_flip x y)
@@ -116,31 +119,72 @@ module _ {F : Type 0} (layout : F → Layout) (formats : List (Option (Policy F)
           };
         }
 
-    -- its scan
-    pub one_scan : (z : Traced) (at : Addr) → lowest_grey_in x.segs t ≡ Some at → Scanned layout formats of x at z
-        → IsOneScan layout formats of at_flip t x z y
-    one_scan z at lowest is =
+    -- while objects are traced its scan is one of the abstract collector
+    pub one_scan : is_tracing_band y.band ≡ true → (z : Traced) (at : Addr) → lowest_grey_in x.segs t ≡ Some at
+        → Scanned layout formats of x at z → IsOneScan layout formats of at_flip t x z y
+    one_scan tracing z at lowest is =
         let g = grey_object at lowest in
         let scan = scan_is_a_scan layout formats of at_flip x z y g.id at g.object stands.shaped stands.traces g.found is in
-        let right = scanned_rightly y scan.after g.id scan.moves stands.running stands.band g.grey scan.fixes in
-        let may = targets_may_be_fixed y g.id stands.running stands.band g.grey in
+        let right = scanned_rightly y scan.after g.id scan.moves stands.running tracing g.grey scan.fixes in
+        let may = targets_may_be_fixed y g.id stands.running tracing g.grey in
         let left = fixes_move scan.fixes (running_may_keep y stands.running) (λ n h. (may n h).0) in
         record {
-          id = g.id;
-          inside = g.inside;
           moves = scan.moves;
-          after = scan.after;
-          fixes = scan.fixes;
+          after = collecting_after_scan scan.after g.id;
+          barrier = λ ms last done. barrier_scans g.id tracing g.inside scan.fixes done;
+          band = right.fixed.further.band;
           stands = record {
             running = right.running;
-            band = ap is_tracing_band right.fixed.further.band ∙ stands.band;
+            band = ap is_reclaiming_band right.fixed.further.band ∙ stands.band;
             shaped =
                 subst (λ (h : Graph). AreShaped h.objects (pool_layout scan.after.world)) (sym right.fixed.further.graph)
                 (subst (AreShaped y.world.graph.objects) (sym (ap pool_layout left.world)) stands.shaped);
             traces = scan.stands;
             ranked =
                 scanned_keeps_ranks layout formats of x z at is (held_in_order z.segs scan.stands.state.held) stands.ranked;
+            none_dependent = λ later. absurd (true≢false (sym tracing ∙ ap is_tracing_band (sym right.fixed.further.band) ∙ later));
           };
           trail = scan.trail;
           fewer = right.fewer;
         }
+
+    -- and then it is a sequence of splats
+    module _ (later : is_tracing_band y.band ≡ false) where
+      pub grey_is_weak : (at : Addr) (g : IsGreyObject t y at) → is_weak_object g.object ≡ true
+      grey_is_weak at g =
+          sym (ap (λ p. option_map_or is_weak_object p false) g.found.object) ∙ stands.running.band.drained later g.id g.grey
+
+      pub one_splat_scan : (z : Traced) (at : Addr) → lowest_grey_in x.segs t ≡ Some at → Splatted layout formats x at z
+          → IsOneScan layout formats of at_flip t x z y
+      one_splat_scan z at lowest is =
+          let g = grey_object at lowest in
+          let scan =
+          weak_scan layout formats of at_flip x y stands.traces g.id at g.object g.found g.grey (grey_is_weak at g)
+          (stands.none_dependent later) stands.shaped z is
+          in
+          let there = id_at-live y.world g.id stands.running.different (stands.running.grey.grey_live g.id g.grey) in
+          let splatted =
+          are_splatted scan.splats stands.running later stands.band g.grey (address_or_null y.world g.id) there
+          in
+          let left =
+          scanned_fewer scan.splatted splatted.running g.id splatted.kept (ap (λ k. is_grey k g.id) splatted.colours ∙ g.grey)
+          in
+          let same = splatted.left in
+          record {
+            moves = splats_by y g.id scan.cells;
+            after = collecting_after_scan scan.splatted g.id;
+            barrier = λ ms last done. barrier_splats g.id later g.inside scan.splats done;
+            band = splatted.band;
+            stands =
+                subst (StandsForBarrier layout formats of at_flip z) (sym scan.after_is)
+                (record {
+                  running = subst Running scan.after_is (scanned_running scan.splatted splatted.running g.id splatted.kept);
+                  band = stands.band;
+                  shaped = scan.shaped;
+                  traces = scan.traces;
+                  ranked = splats_keep_ranks layout formats x z at is stands.ranked;
+                  none_dependent = stands.none_dependent;
+                });
+            trail = scan.trail;
+            fewer = omega (arith, left, same);
+          }

@@ -1,8 +1,9 @@
 -- The act of a flip, in words, is the abstract collector's: slots and messages are fixed, and the state stands before the first unit.
-use Rattle.std.proofs.Common.{◌≡◌, ◌∙◌, ◌<◌, false, refl, sym, ap, ap₂, subst, List, [], ◌∷◌, ◌++◌, length, Option, Some, arith}
+use Rattle.mps_trace_laws.proofs.Units.TwoLists.{all_due, mix}
+use Rattle.std.proofs.Common.{◌≡◌, ◌∙◌, ◌<◌, false, refl, sym, ap, ap₂, subst, List, [], ◌∷◌, ◌++◌, length, Option, Some, arith, ◌-◌}
 use Rattle.std.proofs.lemmas.List.{append_assoc, length-map}
 use Rattle.std.specs.Option.{option_map_or}
-use Rattle.std.specs.Prelude.{Bool, ℕ, IsTrue, map, take, drop, slice_get}
+use Rattle.std.specs.Prelude.{Bool, ℕ, IsTrue, map, slice_get}
 use Rattle.std.specs.List.{flat_map}
 use Rattle.mps_base.specs.Address.{Address, Id}
 use Rattle.mps_base.specs.Segment.{Segment}
@@ -45,7 +46,7 @@ use Rattle.mps_trace_laws.proofs.Flip.Condemned.{flip_is_the_models}
 use Rattle.mps_trace_laws.proofs.Flip.Reservations.{no_reservation_is_live}
 use Rattle.mps_trace_laws.specs.Units.Finals.{address_of_id, AreDue}
 use Rattle.mps_trace_laws.proofs.Begin.FinalsThen.{AreFinalsAfter, messages_after, messages_are}
-use Rattle.mps_trace_laws.specs.Units.Standing.{AreFinalsOf, AreCondemnedUnreserved, AreObjectsKnown, UnitStands, tracing}
+use Rattle.mps_trace_laws.specs.Units.Standing.{AreFinalsOf, AreCondemnedUnreserved, AreObjectsKnown, UnitStands, band_of, tracing}
 use Rattle.mps_trace_laws.specs.Begin.Before.{StandsBefore}
 use Rattle.mps_trace_laws.specs.Begin.Begun.{AFlipStands, AreRootsHeld, IsFlipStanding, IsActDone, ACollectionBegins}
 use Rattle.mps_format.specs.declared.pool.Policy.{Policy}
@@ -151,8 +152,8 @@ module _ {F : Type 0} (flip_stands : AFlipStands F) (layout : F → Layout) (t :
       (λ id i is. fixed.leaves.black id (subst (λ ids. IsTrue (is_black ids after.colours id)) fixed.same_condemned is))
       fixed.stands
 
-  unreserved : AreCondemnedUnreserved z.segs after.world.graph.points after.world.point_memories
-  unreserved u there condemned point l r n lies =
+  unreserved : AreCondemnedUnreserved z.segs (is_copying_pool after.world) after.world.graph.points after.world.point_memories
+  unreserved u there condemned copying point l r n lies =
       absurd ((no_reservation_is_live w.graph.points w.point_memories).not_live point r
       (ap (λ (g : Graph). live_reservation (entry_at g.points point)) (sym fixed.same.graph) ∙ lies.reserved))
 
@@ -170,10 +171,13 @@ module _ {F : Type 0} (flip_stands : AFlipStands F) (layout : F → Layout) (t :
   finals_then = record {
     registrations =
         finals_after.registered ∙ held.registered
-        ∙ ap₂
-        (λ (n : ℕ) (ids : List Id). map (address_of_id after.world.addresses) (take n ids)
-        ++ map (address_of_id w.addresses) (drop n ids))
-        (sym nothing_examined) (sym registered_same);
+        ∙ sym (all_due (address_of_id after.world.addresses) (address_of_id w.addresses) w.graph.registered)
+        ∙ ap (λ (due : ℕ). mix (address_of_id after.world.addresses) (address_of_id w.addresses) 0 due w.graph.registered)
+        (let long : length w.graph.registered ≡ length w.graph.registered - 0 = omega arith in long)
+        ∙ ap₂ (λ (n : ℕ) (ids : List Id). mix (address_of_id after.world.addresses) (address_of_id w.addresses) n
+        (length w.graph.registered - n) ids) (sym nothing_examined) (sym registered_same)
+        ∙ ap (λ (b : ℕ). mix (address_of_id after.world.addresses) (address_of_id w.addresses) after.next (b - after.next)
+        after.world.graph.registered) (sym (fixed_same fixes).registered_before);
     waiting =
         messages_are after finals'.messages w.graph.messages (finals_after.as_many ∙ held.waiting) all.messages
         ∙ ap (λ (g : Graph). map (address_of_id after.world.addresses) g.messages) (sym fixed.same.graph);
@@ -182,16 +186,20 @@ module _ {F : Type 0} (flip_stands : AFlipStands F) (layout : F → Layout) (t :
   stands : UnitStands layout t.formats t.chains w.addresses z finals' run after
   stands = record {
     running = begun_running w fixed.moves after before.objects.rest some fixes;
+    same_band = ap (λ (r : RunningState). band_of r.band) begins.run_is ∙ sym far.band;
     next = ap (λ (r : RunningState). r.next) begins.run_is ∙ sym nothing_examined;
     before =
         ap (λ (r : RunningState). r.registered_before) begins.run_is
         ∙ (ap (λ (xs : List Address). length xs) held.registered ∙ length-map w.graph.registered (address_of_id w.addresses))
         ∙ sym (fixed_same fixes).registered_before;
     finals = finals_then;
-    all = (fixed_same fixes).registered_before ∙ ap (λ (ids : List Id). length ids) (sym registered_same);
     due =
-        subst (λ (n : ℕ). AreDue w.addresses after.world.graph.objects after.world.graph.registered n) (sym nothing_examined)
-        (subst (λ (g : Graph). AreDue w.addresses g.objects g.registered 0) (sym fixed.same.graph) before.objects.due);
+        subst (λ (n : ℕ). AreDue w.addresses after.world.graph.objects after.world.graph.registered n after.running.registered_before)
+        (sym nothing_examined)
+        (subst (λ (n : ℕ). AreDue w.addresses after.world.graph.objects after.world.graph.registered 0 n)
+        (sym (fixed_same fixes).registered_before)
+        (subst (λ (g : Graph). AreDue w.addresses g.objects g.registered 0 (length w.graph.registered)) (sym fixed.same.graph)
+        before.objects.due));
     cursor = ap (λ (r : RunningState). r.cursor.0) begins.run_is ∙ sym far.cursor;
     moving = moving_still layout t.formats t.chains y.world after.world fixed.same fixed.stands.state.pools flip.moving;
     unreserved = unreserved;

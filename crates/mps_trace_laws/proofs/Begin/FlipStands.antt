@@ -184,7 +184,7 @@ module _ {F : Type 0} (layout : F → Layout) (t : TraceState F) (s : SegsState)
         b.segments.housed;
     ranked = ranked_areas t.formats roots.areas g (ranked layout t s m points w b);
     moving = moving;
-    unreserved = λ u there is point l r n lies. absurd (none_live.not_live point r lies.reserved);
+    unreserved = λ u there is copying point l r n lies. absurd (none_live.not_live point r lies.reserved);
     trail = ap (λ (move : Move). m.moves ++ move ∷ []) (models layout t s m points w b).move;
   }
 

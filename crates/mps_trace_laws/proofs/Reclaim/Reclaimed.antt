@@ -1,5 +1,5 @@
 -- A condemned segment is reclaimed: given back, or some of its blocks are left. The image stands for the objects that are left.
-use Rattle.std.proofs.Common.{◌≡◌, ◌∙◌, ℕ, ◌+◌, ◌<◌, ◌≤◌, Bool, true, false, not, refl, sym, ap, subst, List, [], ◌∷◌, ◌++◌, Option, Some, Contains, inl, inr, arith}
+use Rattle.std.proofs.Common.{◌≡◌, ◌∙◌, ◌⊎◌, ℕ, ◌+◌, ◌<◌, ◌≤◌, Bool, true, false, not, refl, sym, ap, subst, List, [], ◌∷◌, ◌++◌, Option, Some, Contains, inl, inr, arith}
 use Rattle.std.proofs.lemmas.Bool.{cases_eq, ne_eqb, false≢true}
 use Rattle.std.proofs.lemmas.Option.{none-some, same_Some}
 use Rattle.std.specs.Prelude.{slice_get, slice_index, option_map, ◌==◌}
@@ -22,7 +22,7 @@ use Rattle.mps_trace_laws.specs.Image.Image.{Stands, ImageStands, black_cells}
 use Rattle.mps_trace_laws.proofs.Image.ArenaLaws.{segments_change}
 use Rattle.mps_trace_laws.specs.Reclaim.Freed.{addresses_of, addresses_without}
 use Rattle.mps_trace_laws.specs.Fix.Housed.{AreHoused}
-use Rattle.mps_trace_laws.specs.Reclaim.Left.{IsUnreserved, setting_freeing_in, StandsFreeing, IsReclaimShown}
+use Rattle.mps_trace_laws.specs.Reclaim.Left.{AreReservationsUnwritten, setting_freeing_in, StandsFreeing, IsReclaimShown}
 use Rattle.mps_trace_laws.proofs.Reclaim.Around.{image_around, among_within, covered_by, contains_left}
 use Rattle.mps_trace_laws.proofs.Image.BlockRuns.{extent_there, run_there, contained_in_order}
 use Rattle.mps_trace_laws.proofs.Reclaim.FreedImage.{lost_blocks_are_freed}
@@ -38,6 +38,17 @@ pub grains_after : (rs : List Run) (g : SegsState) → (without_blocks rs g).gra
 grains_after [] g = refl
 grains_after (r ∷ rs) g = grains_after rs (without_block r g)
 
+-- a reclaim writes no word outside its segment
+pub outside_unwritten : (g : SegsState) (moves : Moves) (base : Addr) (g' : SegsState) (moves' : Moves) (t : Segment) → t.base ≡ base.0
+    → segment_over g.segments t.base ≡ Some t → IsSwept g moves base g' moves' → (n : Word)
+    → (n < word_of t.base) ⊎ (word_of (end_of_segment t) ≤ n) → slice_index g'.words n ≡ slice_index g.words n
+outside_unwritten g moves base g' moves' t begins over (is_given u found empty state trail) n outside =
+    ap (λ (s : SegsState). slice_index s.words n) state ∙ ap (λ ws. slice_index ws n) (words_after (lost_of g u) g)
+outside_unwritten g moves base g' moves' t begins over (is_used u found used state unwritten trail) n outside =
+    let same : t ≡ u = same_Some t u (sym over ∙ ap (segment_over g.segments) begins ∙ found) in
+    let end = ap (λ (v : Segment). word_of (end_of_segment v)) same in
+    unwritten.outside n (elim outside [ inl low ↦ inl (omega (arith, low, begins)) | inr high ↦ inr (omega (arith, high, end)) ])
+
 white_unread : (w : Bool) → not w ≡ true → w ≡ false
 white_unread true h = absurd (false≢true h)
 white_unread false h = refl
@@ -45,8 +56,7 @@ white_unread false h = refl
 module _ (g : SegsState) (objects : List Object) (points : List (Option Point)) (memories : List PointMemory) (layout : ℕ → Layout)
     (condemned : List Id) (k : Colours) (addresses : List (Option Address)) (t : Segment)
     (swept : StandsFreeing g objects points memories layout condemned k addresses) (scanned : AreAllScanned k)
-    (held : Contains g.segments t) (is_condemned : bit g.condemned (grain_of t.base) ≡ true)
-    (unreserved : IsUnreserved points memories t) where
+    (held : Contains g.segments t) (is_condemned : bit g.condemned (grain_of t.base) ≡ true) where
   abbrev s : Setting
   s = setting_freeing_in g objects points memories layout condemned k
 
@@ -104,8 +114,8 @@ module _ (g : SegsState) (objects : List Object) (points : List (Option Point)) 
 
   -- ---- something is left in the segment
 
-  module _ (words : List ℕ)
-      (unwritten : AreBlocksUnwritten low high (runs_within low high freed.blocks) g.words words) where
+  module _ (words : List ℕ) (unwritten : AreBlocksUnwritten low high (runs_within low high freed.blocks) g.words words)
+      (reserved : AreReservationsUnwritten points memories g.words words) where
     abbrev used_state : SegsState
     used_state = record freed { words = words }
 
@@ -140,7 +150,7 @@ module _ (g : SegsState) (objects : List Object) (points : List (Option Point)) 
         image_around s (memory_in freed) words left k (black_cells condemned k) refl
         (unwritten.long ∙ ap (λ ws. Rattle.std.specs.Prelude.length ws) (sym old_words))
         (λ id i o n l. inside_same id i o n l ∙ ap (λ ws. slice_index ws n) (sym old_words))
-        (λ point i r n l. unwritten.outside n (unreserved point i r n l) ∙ ap (λ ws. slice_index ws n) (sym old_words))
+        (λ point i r n l. reserved point i r n l ∙ ap (λ ws. slice_index ws n) (sym old_words))
         freed_stands
 
     pub swept_used : IsReclaimShown g objects points memories layout condemned k addresses t used_state
@@ -244,8 +254,9 @@ module _ (g : SegsState) (objects : List Object) (points : List (Option Point)) 
   same_segment base u is found = same_Some t u (sym (over_base g.segments swept.order t held) ∙ ap (segment_over g.segments) is ∙ found)
 
   pub reclaimed_sweeps : (moves : Moves) (base : Addr) (g' : SegsState) (moves' : Moves) → t.base ≡ base.0
-      → IsSwept g moves base g' moves' → IsReclaimShown g objects points memories layout condemned k addresses t g'
-  reclaimed_sweeps moves base g' moves' is (is_given u found empty state trail) =
+      → IsSwept g moves base g' moves' → AreReservationsUnwritten points memories g.words g'.words
+      → IsReclaimShown g objects points memories layout condemned k addresses t g'
+  reclaimed_sweeps moves base g' moves' is (is_given u found empty state trail) reserved =
       let one = same_segment base u is found in
       let emptied : runs_within low high freed.covered ≡ [] =
       subst (λ (x : Segment). runs_within (word_of x.base) (word_of (end_of_segment x)) (freed_in g x).covered ≡ []) (sym one) empty.empty
@@ -256,14 +267,15 @@ module _ (g : SegsState) (objects : List Object) (points : List (Option Point)) 
       ∙ ap (λ b. record freed { segments = without_segment g.segments b }) (sym is)
       in
       subst (IsReclaimShown g objects points memories layout condemned k addresses t) (sym given) (swept_given emptied)
-  reclaimed_sweeps moves base g' moves' is (is_used u found used state unwritten trail) =
+  reclaimed_sweeps moves base g' moves' is (is_used u found used state unwritten trail) reserved =
       let one = same_segment base u is found in
       let same : AreBlocksUnwritten low high (runs_within low high freed.blocks) g.words g'.words =
       subst (λ b. AreBlocksUnwritten (word_of b) high (runs_within (word_of b) high freed.blocks) g.words g'.words) (sym is)
       (subst (λ (x : Segment). AreBlocksUnwritten (word_of base.0) (word_of (end_of_segment x))
       (runs_within (word_of base.0) (word_of (end_of_segment x)) (freed_in g x).blocks) g.words g'.words) (sym one) unwritten)
       in
-      let left_state : g' ≡ used_state g'.words same =
+      let left_state : g' ≡ used_state g'.words same reserved =
       state ∙ ap (λ (x : Segment). record (freed_in g x) { words = g'.words }) (sym one)
       in
-      subst (IsReclaimShown g objects points memories layout condemned k addresses t) (sym left_state) (swept_used g'.words same)
+      subst (IsReclaimShown g objects points memories layout condemned k addresses t) (sym left_state)
+      (swept_used g'.words same reserved)

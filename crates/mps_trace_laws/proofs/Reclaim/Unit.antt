@@ -38,7 +38,7 @@ use Rattle.mps_trace_laws.specs.Image.AtRest.{StandsAtRest}
 use Rattle.mps_trace.specs.Condemned.{IsNextCondemned}
 use Rattle.mps_trace_laws.proofs.Reclaim.Ending.{image_at_rest}
 use Rattle.mps_trace_laws.specs.Reclaim.Freed.{addresses_of, addresses_without}
-use Rattle.mps_trace_laws.specs.Reclaim.Left.{IsUnreserved, StandsFreeing, IsReclaimShown, setting_freeing_in}
+use Rattle.mps_trace_laws.specs.Reclaim.Left.{AreReservationsUnwritten, StandsFreeing, IsReclaimShown, setting_freeing_in}
 use Rattle.mps_trace_laws.specs.Reclaim.Units.{FreesFor, GoesOnSo, IsUnitReclaimed, EndsSo}
 use Rattle.mps_trace_laws.specs.Reclaim.Laws.{AReclaimIsAUnit}
 use Rattle.mps_trace_laws.proofs.Reclaim.SegmentBounds.{aligned_in}
@@ -261,12 +261,12 @@ module _ (x : Collecting) (g : SegsState) (layout : ℕ → Layout) (base : Addr
       in
       goes_on g' shown swept_collection false not_last (still_used u found used) refl (used_frees g' shown segments)
 
-  pub is_unit : (moves : Moves) (g' : SegsState) (moves' : Moves) → IsUnreserved w.graph.points w.point_memories t
-      → IsSwept g moves base g' moves' → IsUnitReclaimed x t freed layout g'
-  is_unit moves g' moves' unreserved reclaimed =
+  pub is_unit : (moves : Moves) (g' : SegsState) (moves' : Moves) → IsSwept g moves base g' moves'
+      → AreReservationsUnwritten w.graph.points w.point_memories g.words g'.words → IsUnitReclaimed x t freed layout g'
+  is_unit moves g' moves' reclaimed reserved =
       let shown =
       reclaimed_sweeps g w.graph.objects w.graph.points w.point_memories layout x.running.condemned x.colours w.addresses t f.stands scanned
-      next.listed next.condemned unreserved moves base g' moves' next.begins reclaimed
+      next.listed next.condemned moves base g' moves' next.begins reclaimed reserved
       in
       record {
         goes_on = goes_on_so moves g' moves' shown reclaimed;
@@ -333,14 +333,14 @@ module _ (x : Collecting) (g : SegsState) (layout : ℕ → Layout) (base : Addr
           }
 
   pub ends : (moves : Moves) (g' : SegsState) (moves' : Moves) → layout ≡ pool_layout w
-      → IsUnreserved w.graph.points w.point_memories t → is_last_condemned x.running t.base ≡ true
+      → AreReservationsUnwritten w.graph.points w.point_memories g.words g'.words → is_last_condemned x.running t.base ≡ true
       → IsSwept g moves base g' moves' → EndsSo x t freed g'
-  ends moves g' moves' same unreserved last reclaimed = by_case reclaimed
+  ends moves g' moves' same reserved last reclaimed = by_case reclaimed
     where
       shown : IsReclaimShown g w.graph.objects w.graph.points w.point_memories layout x.running.condemned x.colours w.addresses t g'
       shown =
           reclaimed_sweeps g w.graph.objects w.graph.points w.point_memories layout x.running.condemned x.colours w.addresses t f.stands
-          scanned next.listed next.condemned unreserved moves base g' moves' next.begins reclaimed
+          scanned next.listed next.condemned moves base g' moves' next.begins reclaimed reserved
 
       by_case : IsSwept g moves base g' moves' → EndsSo x t freed g'
       by_case (is_given u found empty state trail) =
@@ -362,15 +362,15 @@ the_moves_are_the_models x g layout base moves g' moves' run scanned examined f 
     moves_are x g layout base run scanned examined f next moves g' moves' reclaimed
 
 pub a_reclaim_is_a_unit : AReclaimIsAUnit
-a_reclaim_is_a_unit x g layout base moves g' moves' run scanned examined f next unreserved reclaimed =
-    is_unit x g layout base run scanned examined f next moves g' moves' unreserved reclaimed
+a_reclaim_is_a_unit x g layout base moves g' moves' run scanned examined f next reclaimed reserved =
+    is_unit x g layout base run scanned examined f next moves g' moves' reclaimed reserved
 
 -- after the last reclaim, once marks and condemned bits are ended, the segments stand for a world at rest
 pub the_last_reclaim_ends : (x : Collecting) (g : SegsState) (base : Addr) (moves : Moves) (g' : SegsState)
     (moves' : Moves) → Running x
     → AreAllScanned x.colours → AreAllExamined x → FreesFor g x.world x.running x.colours (pool_layout x.world)
-    → (next : IsNextCondemned g x.cursor base.0) → IsUnreserved x.world.graph.points x.world.point_memories next.segment
-    → IsSwept g moves base g' moves' → IsTrue (is_last_condemned x.running next.segment.base)
+    → (next : IsNextCondemned g x.cursor base.0) → IsSwept g moves base g' moves'
+    → AreReservationsUnwritten x.world.graph.points x.world.point_memories g.words g'.words → IsTrue (is_last_condemned x.running next.segment.base)
     → EndsSo x next.segment (addresses_of (lost_of g next.segment)) g'
-the_last_reclaim_ends x g base moves g' moves' run scanned examined f next unreserved reclaimed last =
-    ends x g (pool_layout x.world) base run scanned examined f next moves g' moves' refl unreserved last reclaimed
+the_last_reclaim_ends x g base moves g' moves' run scanned examined f next reclaimed reserved last =
+    ends x g (pool_layout x.world) base run scanned examined f next moves g' moves' refl reserved last reclaimed

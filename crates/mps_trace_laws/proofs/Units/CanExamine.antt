@@ -1,8 +1,8 @@
 -- The next registration can be examined.
-use Rattle.std.proofs.Common.{◌≡◌, ◌∙◌, ℕ, zero, suc, ◌+◌, ◌<◌, ◌≤◌, false, refl, sym, ap, subst, List, [], ◌∷◌, ◌++◌, length, map, Option, arith}
+use Rattle.std.proofs.Common.{◌∙◌, ℕ, ◌+◌, ◌<◌, ◌≤◌, false, refl, sym, ap, subst, List, length, Option, arith, ◌-◌}
 use Rattle.std.proofs.lemmas.Bool.{false≢true, le-leb}
-use Rattle.std.specs.Prelude.{count_by, nat_le, take, drop}
-use Rattle.mps_base.specs.Address.{Address, Id}
+use Rattle.std.specs.Prelude.{count_by, nat_le}
+use Rattle.mps_base.specs.Address.{Address}
 use Rattle.mps_base.specs.Placement.{Placement, Place, NewSegment, OverLimit, NoFreeRun}
 use Rattle.mps_base.specs.Trail.{Moves}
 use Rattle.mps_base.specs.declared.address.Addr.{Addr}
@@ -30,6 +30,7 @@ use Rattle.mps_trace_laws.proofs.Fix.EachFix.{fix_is_a_step}
 use Rattle.mps_trace_laws.proofs.Units.Entering.{due_before, due_is_traced}
 use Rattle.mps_trace_laws.proofs.Units.Examining.{IsNextTarget, next_target}
 use Rattle.mps_trace_laws.proofs.Units.Posted.{one_due}
+use Rattle.mps_trace_laws.proofs.Units.TwoLists.{length-mix}
 
 -- ---- room
 
@@ -61,12 +62,6 @@ segment_is_left y run =
     omega (arith, more)
 
 -- ---- the registration is there
-
-length-mix : (A B : Id → Address) (n : ℕ) (ids : List Id) → length (map A (take n ids) ++ map B (drop n ids)) ≡ length ids
-length-mix A B zero [] = refl
-length-mix A B (suc n) [] = refl
-length-mix A B zero (x ∷ ids) = ap suc (length-mix A B zero ids)
-length-mix A B (suc n) (x ∷ ids) = ap suc (length-mix A B n ids)
 
 module _ {F : Type 0} (layout : F → Layout) (t : TraceState F) (s : SegsState) (m : Moves) (at_flip : List (Option Address))
     (f : FinalsState) (run : RunningState) (y : Collecting)
@@ -111,13 +106,14 @@ module _ {F : Type 0} (layout : F → Layout) (t : TraceState F) (s : SegsState)
   can_examine = record {
     listed =
         let before = due_before layout t.formats t.chains at_flip x f run y stands due in
-        let all = stands.all in
+        let existing = stands.running.examined.existing in
         let next = stands.next in
         let same =
         ap (λ (l : List Address). length l) stands.finals.registrations
-        ∙ length-mix (address_of_id y.world.addresses) (address_of_id at_flip) y.next y.world.graph.registered
+        ∙ length-mix (address_of_id y.world.addresses) (address_of_id at_flip) y.next (y.running.registered_before - y.next)
+        y.world.graph.registered
         in
-        omega (arith, before, all, next, same);
+        omega (arith, before, existing, next, same);
     can =
         subst (λ (n : ℕ). CanExamine layout t.formats t.chains x (registration_of f n)) (sym stands.next) can;
   }

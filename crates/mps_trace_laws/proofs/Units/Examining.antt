@@ -1,9 +1,8 @@
 -- An examination is a unit of the abstract collector.
-use Rattle.std.proofs.Common.{◌≡◌, ◌∙◌, ℕ, zero, suc, ◌<◌, true, refl, sym, ap, List, [], ◌∷◌, ◌++◌, map, length, Option, Some, None, subst, inr, arith}
+use Rattle.std.proofs.Common.{◌≡◌, ◌∙◌, ℕ, zero, suc, ◌<◌, true, refl, sym, ap, List, [], ◌∷◌, ◌++◌, length, Option, Some, None, subst, inr, arith, ◌-◌}
 use Rattle.std.proofs.lemmas.Bool.{true≢false}
 use Rattle.std.proofs.lemmas.List.{append-nil, append_assoc}
-use Rattle.std.proofs.lemmas.Option.{none-some, same_Some}
-use Rattle.std.specs.Prelude.{take, drop, slice_get, slice_index_or, IsTrue}
+use Rattle.std.specs.Prelude.{slice_get, slice_index_or, IsTrue}
 use Rattle.std.specs.Option.{option_map_or}
 use Rattle.mps_base.specs.Address.{Address, Id}
 use Rattle.mps_base.specs.declared.address.Addr.{Addr}
@@ -40,13 +39,7 @@ use Rattle.mps_trace_laws.specs.Units.Examining.{IsOneDueIn, ExaminationsAreUnit
 use Rattle.mps_trace_laws.proofs.Fix.EachFix.{fix_is_a_step}
 use Rattle.mps_trace_laws.proofs.Fix.Finding.{object_found}
 use Rattle.mps_trace_laws.proofs.Units.Finals.{finals_passed, finals_posted}
-
--- what stands at the position that is examined
-at_next : (A B : Id → Address) (n : ℕ) (regs : List Id) (id : Id) → slice_get regs n ≡ Some id
-    → slice_index_or (map A (take n regs) ++ map B (drop n regs)) n 0 ≡ B id
-at_next A B n [] id e = absurd (none-some id e)
-at_next A B zero (r ∷ regs) id e = ap B (same_Some r id e)
-at_next A B (suc n) (r ∷ regs) id e = at_next A B n regs id e
+use Rattle.mps_trace_laws.proofs.Units.TwoLists.{due_mix, mix}
 
 pub there_at : (xs : List Id) (n : ℕ) → n < length xs → (id : Id) × (slice_get xs n ≡ Some id)
 there_at [] n less = absurd (omega (arith, less))
@@ -103,14 +96,21 @@ module _ (F : Type 0) (layout : F → Layout) (formats : List (Option (Policy F)
   next : IsExaminedNext y id
   next = record { drained = given.drained; before_flip = given.before; registered = one.1 }
 
+  abbrev lived : (from : Address) × (entry_at at_flip id ≡ Some from)
+  lived = given.due.lived y.next id (omega arith) given.before one.1
+
   abbrev from : Address
-  from = (given.due.lived y.next id (omega arith) one.1).0
+  from = lived.0
 
   entry_is : slice_index_or f.registered y.next 0 ≡ from
   entry_is =
+      let due : ℕ = y.running.registered_before - suc y.next in
+      let before = given.before in
       ap (λ l. slice_index_or l y.next 0) given.finals.registrations
-      ∙ at_next (address_of_id y.world.addresses) (address_of_id at_flip) y.next regs id one.1
-      ∙ ap (λ o. option_map_or (λ at. at) o 0) (given.due.lived y.next id (omega arith) one.1).1
+      ∙ ap (λ (n : ℕ). slice_index_or (mix (address_of_id y.world.addresses) (address_of_id at_flip) y.next n regs) y.next 0)
+      (let one_more : y.running.registered_before - y.next ≡ suc due = omega (arith, before) in one_more)
+      ∙ due_mix (address_of_id y.world.addresses) (address_of_id at_flip) y.next due regs id one.1
+      ∙ ap (λ o. option_map_or (λ at. at) o 0) lived.1
 
   abbrev now : Address
   now = address_or_null y.world id
@@ -123,7 +123,7 @@ module _ (F : Type 0) (layout : F → Layout) (formats : List (Option (Policy F)
 
   target : Target (setting_of x.segs at_flip y) y.world.addresses id (slice_index_or f.registered y.next 0) now object.0
   target = record {
-    means = inr ((given.due.lived y.next id (omega arith) one.1).1 ∙ ap (λ a. Some a) (sym entry_is));
+    means = inr (lived.1 ∙ ap (λ a. Some a) (sym entry_is));
     there = now_there;
     object = object.1;
     automatic = object.2;
@@ -142,7 +142,7 @@ module _ (F : Type 0) (layout : F → Layout) (formats : List (Option (Policy F)
       → IsUnit y [] (record y { band = Final; next = suc y.next })
       × AreFinalsOf at_flip (record y { band = Final; next = suc y.next }) (with_registered_at f y.next to.0)
   is_passed to (there to' is black) =
-      (examines id next black, finals_passed at_flip y f id to.0 one.1 (now_there ∙ ap (λ a. Some a) (sym is)) given.finals)
+      (examines id next black, finals_passed at_flip y f id to.0 given.before one.1 (now_there ∙ ap (λ a. Some a) (sym is)) given.finals)
 
   pub examined : (to : Addr) → FindsTo layout formats x.segs (registration_of f y.next) (Some to)
       → IsUnit y [] (record y { band = Final; next = suc y.next })

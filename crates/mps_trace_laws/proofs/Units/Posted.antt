@@ -1,5 +1,5 @@
 -- The examination of a registration is a unit after which the state stands, whether its object was found or posted.
-use Rattle.std.proofs.Common.{◌≡◌, ◌∙◌, ℕ, suc, ◌+◌, ◌≤◌, true, refl, sym, ap, subst, List, [], ◌∷◌, ◌++◌, length, Option, Some, None, inl, inr, arith}
+use Rattle.std.proofs.Common.{◌≡◌, ◌∙◌, ℕ, suc, ◌+◌, ◌≤◌, true, refl, sym, ap, subst, List, [], ◌∷◌, ◌++◌, Option, Some, None, inl, inr, arith, ◌-◌}
 use Rattle.std.proofs.lemmas.Bool.{cases_lt, false≢true}
 use Rattle.std.specs.Prelude.{IsTrue}
 use Rattle.mps_base.specs.Address.{Address, Id}
@@ -17,7 +17,7 @@ use Rattle.mps_trace.specs.Trace.{Traced, KeepsTo}
 use Rattle.mps_trace.specs.declared.running.Running.{Running as RunningState}
 use Rattle.mps_model.specs.Collection.{Collection}
 use Rattle.mps_model.specs.Graph.{Graph, Object, without_first}
-use Rattle.mps_model.specs.World.{is_live}
+use Rattle.mps_model.specs.World.{is_copying_pool, is_live}
 use Rattle.mps_abstract.specs.Colours.{is_black}
 use Rattle.mps_abstract.specs.Collecting.{Collecting, Final}
 use Rattle.mps_abstract.specs.Fixing.{fixes_no_more, kept_by}
@@ -25,7 +25,7 @@ use Rattle.mps_abstract.specs.Units.{collecting_after_post}
 use Rattle.mps_abstract.proofs.Kept.{IsKept, keeps_leaves}
 use Rattle.mps_abstract.proofs.Lists.{contains_at, contains_cases}
 use Rattle.mps_abstract.proofs.PostLegal.{stands_first}
-use Rattle.mps_abstract.proofs.Registrations.{StandsFirst, length-without_first, slice_get-without_before, slice_get-without_after}
+use Rattle.mps_abstract.proofs.Registrations.{StandsFirst, slice_get-without_before, slice_get-without_after}
 use Rattle.mps_abstract.proofs.Rows.{unit_shown}
 use Rattle.mps_trace_laws.specs.Image.Image.{black_cells}
 use Rattle.mps_trace_laws.specs.Fix.Housed.{AreHoused, AreLive}
@@ -47,19 +47,20 @@ use Rattle.mps_trace_laws.proofs.Units.Still.{IsStill, kept_is_still, unreserved
 -- ---- what is due
 
 -- after a registration was passed
-due_passed : (at_flip : List (Option Address)) (objects : List Object) (registered : List Id) (next : ℕ)
-    → AreDue at_flip objects registered next → AreDue at_flip objects registered (suc next)
-due_passed at_flip objects registered next due = record {
-  lived = λ position id up e. due.lived position id (omega (arith, up)) e;
+due_passed : (at_flip : List (Option Address)) (objects : List Object) (registered : List Id) (next before : ℕ)
+    → AreDue at_flip objects registered next before → AreDue at_flip objects registered (suc next) before
+due_passed at_flip objects registered next before due = record {
+  lived = λ position id up below e. due.lived position id (omega (arith, up)) below e;
   automatic = due.automatic;
 }
 
 -- and after one was posted
-due_posted : (at_flip : List (Option Address)) (objects : List Object) (registered : List Id) (id : Id) (next : ℕ)
-    → StandsFirst registered id next → AreDue at_flip objects registered next → AreDue at_flip objects (without_first registered id) next
-due_posted at_flip objects registered id next first due = record {
-  lived = λ position n up e.
-      due.lived (suc position) n (omega (arith, up)) (sym (slice_get-without_after registered id next position first up) ∙ e);
+due_posted : (at_flip : List (Option Address)) (objects : List Object) (registered : List Id) (id : Id) (next before : ℕ)
+    → StandsFirst registered id next → AreDue at_flip objects registered next before
+    → AreDue at_flip objects (without_first registered id) next (before - 1)
+due_posted at_flip objects registered id next before first due = record {
+  lived = λ position n up below e.
+      due.lived (suc position) n (omega (arith, up)) (omega (arith, below)) (sym (slice_get-without_after registered id next position first up) ∙ e);
   automatic = λ position n e. elim (cases_lt position next) [
     | inl less ↦ due.automatic position n (sym (slice_get-without_before registered id next position first less) ∙ e)
     | inr most ↦ due.automatic (suc position) n (sym (slice_get-without_after registered id next position first most) ∙ e)
@@ -123,12 +124,12 @@ module _ {F : Type 0} (layout : F → Layout) (formats : List (Option (Policy F)
           unit = shown.0;
           stands = record {
             running = (unit_shown stands.running shown.0).running;
+            same_band = refl;
             next = let same = stands.next in omega (arith, same);
             before = stands.before;
             finals = subst (λ (n : ℕ). Rattle.mps_trace_laws.specs.Units.Standing.AreFinalsOf at_flip y₁ (with_registered_at f n to.0))
                 (sym stands.next) shown.1;
-            all = stands.all;
-            due = due_passed at_flip y.world.graph.objects y.world.graph.registered y.next stands.due;
+            due = due_passed at_flip y.world.graph.objects y.world.graph.registered y.next y.running.registered_before stands.due;
             cursor = stands.cursor;
             moving = stands.moving;
             unreserved = stands.unreserved;
@@ -174,23 +175,15 @@ module _ {F : Type 0} (layout : F → Layout) (formats : List (Option (Policy F)
     first : StandsFirst regs id y.next
     first = stands_first y stands.running id posted.next posted.white
 
-    registered_then : after.world.graph.registered ≡ without_first regs id
-    registered_then = ap (λ (g : Graph). without_first g.registered id) stays.graph
-
     before_then : posted.kept.c.registered_before ≡ y.running.registered_before
     before_then = ap (λ (c : Collection). c.registered_before) left.running
 
-    all_then : after.running.registered_before ≡ length after.world.graph.registered
-    all_then =
-        let one_less = length-without_first regs id y.next first in
-        let same = ap (λ (ns : List Id). length ns) registered_then in
-        let all = stands.all in
-        omega (arith, one_less, same, all, before_then)
-
-    due_then : AreDue at_flip after.world.graph.objects after.world.graph.registered after.next
+    due_then : AreDue at_flip after.world.graph.objects after.world.graph.registered after.next after.running.registered_before
     due_then =
-        subst (λ (g : Graph). AreDue at_flip g.objects (without_first g.registered id) y.next) (sym stays.graph)
-        (due_posted at_flip y.world.graph.objects regs id y.next first stands.due)
+        subst (λ (g : Graph). AreDue at_flip g.objects (without_first g.registered id) y.next after.running.registered_before)
+        (sym stays.graph)
+        (subst (λ (n : ℕ). AreDue at_flip y.world.graph.objects (without_first regs id) y.next (n - 1)) (sym before_then)
+        (due_posted at_flip y.world.graph.objects regs id y.next y.running.registered_before first stands.due))
 
     moving_then : AreObjectsKnown layout formats of after.world
     moving_then = let m = stays.moving stands.moving in record {
@@ -200,7 +193,7 @@ module _ {F : Type 0} (layout : F → Layout) (formats : List (Option (Policy F)
       none_dependent = m.none_dependent;
     }
 
-    unreserved_then : AreCondemnedUnreserved z.segs after.world.graph.points after.world.point_memories
+    unreserved_then : AreCondemnedUnreserved z.segs (is_copying_pool after.world) after.world.graph.points after.world.point_memories
     unreserved_then =
         let s = st.traces.state in
         unreserved_still layout formats of x.segs z.segs y y' s.held s.segments.same_segments s.condemned posted.state.held
@@ -252,12 +245,12 @@ module _ {F : Type 0} (layout : F → Layout) (formats : List (Option (Policy F)
       unit = posted.unit;
       stands = record {
         running = (unit_shown stands.running posted.unit).running;
+        same_band = refl;
         next = stands.next;
         before = let before = stands.before in omega (arith, before, before_then);
         finals =
             subst (λ (n : ℕ). Rattle.mps_trace_laws.specs.Units.Standing.AreFinalsOf at_flip after
             (finals_after_post (with_registered_at f n to.0) n)) (sym stands.next) posted.finals;
-        all = all_then;
         due = due_then;
         cursor = stands.cursor;
         moving = moving_then;

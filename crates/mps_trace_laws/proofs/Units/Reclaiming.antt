@@ -1,10 +1,10 @@
 -- A reclaim is a unit of the abstract collector, and the state stands for it then.
-use Rattle.std.proofs.Common.{◌≡◌, ◌∙◌, suc, ◌+◌, ◌*◌, ◌≤◌, true, false, not, refl, sym, ap, subst, List, [], ◌∷◌, ◌++◌, length, Option, Contains, inl, inr, arith}
+use Rattle.std.proofs.Common.{◌≡◌, ◌∙◌, suc, ◌+◌, ◌*◌, ◌≤◌, true, false, not, refl, sym, ap, subst, List, [], ◌∷◌, ◌++◌, Option, Contains, inl, inr, arith, ℕ}
 use Rattle.std.proofs.lemmas.Bool.{cases_Bool, true≢false}
 use Rattle.std.proofs.lemmas.Option.{same_Some}
-use Rattle.std.specs.Prelude.{◌==◌}
+use Rattle.std.specs.Prelude.{◌==◌, slice_index}
 use Rattle.mps_base.specs.Address.{Address, grain_of, word_of, words_of_grain}
-use Rattle.mps_base.specs.Segment.{Segment, end_of_segment}
+use Rattle.mps_base.specs.Segment.{Segment, end_of_segment, segment_over}
 use Rattle.mps_base.specs.declared.address.Addr.{Addr}
 use Rattle.mps_extents.specs.Table.{bit}
 use Rattle.mps_format.specs.Layout.{Layout}
@@ -16,7 +16,7 @@ use Rattle.mps_model.specs.Collection.{Collection}
 use Rattle.mps_model.specs.Effect.{world_after_moves}
 use Rattle.mps_model.specs.Flip.{end_where}
 use Rattle.mps_model.specs.Units.{is_last_condemned}
-use Rattle.mps_model.specs.World.{World}
+use Rattle.mps_model.specs.World.{World, is_copying_pool}
 use Rattle.mps_abstract.specs.Collecting.{Reclaim, Collecting}
 use Rattle.mps_abstract.specs.Units.{IsReclaimedNext, reclaim_by, collecting_after_reclaim}
 use Rattle.mps_abstract.proofs.Reclaimed.{final_world, final_collection, frees}
@@ -29,10 +29,10 @@ use Rattle.mps_trace.specs.declared.running.Running.{Running as RunningState}
 use Rattle.mps_trace_laws.proofs.Reclaim.Next.{next_reclaimed}
 use Rattle.mps_trace_laws.proofs.Reclaim.HeldSegments.{was_held, over_base}
 use Rattle.mps_trace_laws.proofs.Reclaim.LastBand.{known}
-use Rattle.mps_trace_laws.proofs.Reclaim.Reclaimed.{condemned_after}
+use Rattle.mps_trace_laws.proofs.Reclaim.Reclaimed.{condemned_after, outside_unwritten}
 use Rattle.mps_trace_laws.proofs.Reclaim.Unit.{a_reclaim_is_a_unit, the_moves_are_the_models, the_last_reclaim_ends}
 use Rattle.mps_trace_laws.specs.Reclaim.Freed.{addresses_of}
-use Rattle.mps_trace_laws.specs.Reclaim.Left.{IsUnreserved}
+use Rattle.mps_trace_laws.specs.Reclaim.Left.{AreReservationsUnwritten, IsUnreserved}
 use Rattle.mps_trace_laws.specs.Reclaim.Units.{FreesFor, GoesOnSo}
 use Rattle.mps_abstract.proofs.KeptPlaces.{reclaim_stays, last_stays}
 use Rattle.mps_trace.specs.State.{FinalsState}
@@ -103,11 +103,23 @@ module _ {F : Type 0} (layout : F → Layout) (formats : List (Option (Policy F)
   pub is_next : IsReclaimedNext y t freed
   is_next = next_reclaimed y x.segs (pool_layout y.world) base.0 stands.running last_band.scanned last_band.examined last_band.frees lowest
 
-  unreserved : IsUnreserved y.world.graph.points y.world.point_memories t
-  unreserved = stands.unreserved t lowest.listed lowest.condemned
-
   swept : IsSwept x.segs x.moves base z.segs z.moves
   swept = next.reclaimed.swept
+
+  -- live reservations keep their words: none lies in a segment whose blocks move, and in any other no word is written
+  pub reserved : AreReservationsUnwritten y.world.graph.points y.world.point_memories x.segs.words z.segs.words
+  reserved point l r n lies =
+      let over = over_base x.segs.segments last_band.frees.stands.order t lowest.listed in
+      let its = next.reclaimed in
+      let same : t ≡ its.segment = same_Some t its.segment (sym over ∙ ap (segment_over x.segs.segments) lowest.begins ∙ its.over) in
+      elim (cases_Bool (is_copying_pool y.world t.pool)) [
+        | inl copying ↦
+            outside_unwritten x.segs x.moves base z.segs z.moves t lowest.begins over swept n
+            (stands.unreserved t lowest.listed lowest.condemned copying point l r n lies)
+        | inr staying ↦
+            ap (λ ws. slice_index ws n) (its.unwritten (stands.moving.pools.moves_is its.segment.pool its.format its.listed
+            ∙ ap (λ (v : Segment). is_copying_pool y.world v.pool) (sym same) ∙ staying))
+      ]
 
   pub trail_is : z.moves.moves ++ end_where (is_last_condemned y.running t.base) ≡ x.moves.moves ++ reclaim_by y t.base freed
   trail_is =
@@ -147,7 +159,7 @@ module _ {F : Type 0} (layout : F → Layout) (formats : List (Option (Policy F)
     on : GoesOnSo y t freed (pool_layout y.world) z.segs
     on =
         (a_reclaim_is_a_unit y x.segs (pool_layout y.world) base x.moves z.segs z.moves stands.running last_band.scanned
-        last_band.examined last_band.frees lowest unreserved swept).goes_on more
+        last_band.examined last_band.frees lowest swept reserved).goes_on more
 
     leads : world_after_moves y.world (reclaim_by y t.base freed) ≡ final_world y stands.running t freed is_next
     leads = goes_on_leads y stands.running t freed is_next more
@@ -209,23 +221,26 @@ module _ {F : Type 0} (layout : F → Layout) (formats : List (Option (Policy F)
     finals_on =
         finals_stay at_flip y (collecting_after_reclaim y t.base freed on.collection) f stands.running
         (reclaim_stays y stands.running t freed is_next on.collection more on.runs).in_place refl
+        (ap (λ (c : Collection). c.registered_before) collection_is)
         (ap (λ (w : World). w.graph.registered) leads) (ap (λ (w : World). w.graph.messages) leads) stands.finals
 
     stands_on : UnitStands layout formats of at_flip z f (reclaimed_at base run) (collecting_after_reclaim y t.base freed on.collection)
     stands_on = record {
       running = (reclaims_shown y stands.running t freed is_next on.collection more on.runs).running;
+      same_band = refl;
       next = stands.next;
       before = stands.before ∙ sym (ap (λ (c : Collection). c.registered_before) collection_is);
       finals = finals_on;
-      all =
-          ap (λ (c : Collection). c.registered_before) collection_is ∙ stands.all
-          ∙ ap (λ (w : World). length w.graph.registered) (sym leads);
-      due = subst (λ (w : World). AreDue at_flip w.graph.objects w.graph.registered y.next) (sym leads) stands.due;
+      due =
+          subst (λ (w : World). AreDue at_flip w.graph.objects w.graph.registered y.next on.collection.registered_before) (sym leads)
+          (subst (λ (n : ℕ). AreDue at_flip y.world.graph.objects y.world.graph.registered y.next n)
+          (sym (ap (λ (c : Collection). c.registered_before) collection_is)) stands.due);
       cursor = let begins = lowest.begins in omega (arith, begins);
       moving = subst (AreObjectsKnown layout formats of) (sym leads) moving_on;
-      unreserved = λ u held condemned.
+      unreserved = λ u held condemned copying.
           subst (λ (w : World). IsUnreserved w.graph.points w.point_memories u) (sym leads)
-          (stands.unreserved u (among.was u held) (sym (ap (λ bs. bit bs (grain_of u.base)) among.condemned) ∙ condemned));
+          (stands.unreserved u (among.was u held) (sym (ap (λ bs. bit bs (grain_of u.base)) among.condemned) ∙ condemned)
+          (sym (ap (λ (w : World). is_copying_pool w u.pool) leads) ∙ copying));
       band = reclaiming reclaiming_on;
     }
 
@@ -263,18 +278,18 @@ the_last_unit_is_done layout formats of at_flip x z f run y stands unit =
     let low = lowest layout formats of at_flip x unit.before f run y unit.base stands next in
     let last = is_last layout formats of at_flip x unit.before f run y unit.base stands next unit.last in
     let next_is = is_next layout formats of at_flip x unit.before f run y unit.base stands next in
-    let there = stands.unreserved low.segment low.listed low.condemned in
+    let there = reserved layout formats of at_flip x unit.before f run y unit.base stands next in
     let swept = next.reclaimed.swept in
     let freed = addresses_of (lost_of x.segs low.segment) in
     let shown =
     a_reclaim_is_a_unit y x.segs (pool_layout y.world) unit.base x.moves unit.before.segs unit.before.moves stands.running band.scanned
-    band.examined band.frees low there swept
+    band.examined band.frees low swept there
     in
     let among = are_among x.segs x.moves unit.base unit.before.segs unit.before.moves swept in
     let sizes = last_size layout formats of at_flip x unit.before f run y unit.base stands next last in
     let end =
     the_last_reclaim_ends y x.segs unit.base x.moves unit.before.segs unit.before.moves stands.running band.scanned band.examined
-    band.frees low there swept last
+    band.frees low swept there last
     in
     record {
       moves = reclaim_by y low.segment.base freed;
@@ -297,7 +312,7 @@ the_last_unit_is_done layout formats of at_flip x z f run y stands unit =
           }))
           (sym (last_leads y stands.running low.segment freed next_is last))
           (finals_at_end at_flip (world_after_moves y.world (reclaim_by y low.segment.base freed)).addresses y.world.graph.registered
-          y.world.graph.messages y.next f (band.examined ∙ stands.all)
+          y.world.graph.messages y.next y.running.registered_before f band.examined
           (finals_in_place at_flip (world_after_moves y.world (reclaim_by y low.segment.base freed)).addresses y f stands.running
           (last_stays y stands.running low.segment freed next_is last) stands.finals));
       trail =

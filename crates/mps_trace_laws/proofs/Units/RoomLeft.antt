@@ -37,14 +37,14 @@ pub spare_after : (g : SegsState) (moves : Moves) (base : Addr) (g' : SegsState)
     → moves.spare ≤ moves'.spare + length (lost_of g t) + 1
 spare_after g moves base g' moves' t over begins (is_given u found empty state trail) =
     let same : t ≡ u = same_Some t u (sym over ∙ ap (segment_over g.segments) begins ∙ found) in
-    let after_it = ap (λ (m : Moves). m.spare) trail in
+    let spare_then = ap (λ (m : Moves). m.spare) trail in
     subst (λ (v : Segment). moves.spare ≤ moves'.spare + length (lost_of g v) + 1) (sym same)
-    (let freed = room_freed (lost_of g u) moves in omega (arith, freed, after_it))
+    (let freed = room_freed (lost_of g u) moves in omega (arith, freed, spare_then))
 spare_after g moves base g' moves' t over begins (is_used u found used state unwritten trail) =
     let same : t ≡ u = same_Some t u (sym over ∙ ap (segment_over g.segments) begins ∙ found) in
-    let after_it = ap (λ (m : Moves). m.spare) trail in
+    let spare_then = ap (λ (m : Moves). m.spare) trail in
     subst (λ (v : Segment). moves.spare ≤ moves'.spare + length (lost_of g v) + 1) (sym same)
-    (let freed = room_freed (lost_of g u) moves in omega (arith, freed, after_it))
+    (let freed = room_freed (lost_of g u) moves in omega (arith, freed, spare_then))
 
 -- ---- the moves that are left
 

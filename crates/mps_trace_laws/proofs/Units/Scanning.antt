@@ -1,7 +1,7 @@
 -- A scan of a grey block is a unit of the abstract collector, and each grey block can be scanned.
 use Rattle.std.proofs.Common.{◌≡◌, ◌∙◌, ℕ, true, false, sym, ap, subst, List, [], Option, Some, inl, inr, arith}
 use Rattle.std.proofs.lemmas.Bool.{cases_Bool, false≢true, or_right}
-use Rattle.std.specs.Prelude.{◌||◌, length}
+use Rattle.std.specs.Prelude.{◌||◌}
 use Rattle.std.specs.Option.{option_map_or}
 use Rattle.mps_base.specs.Address.{Address, Id, Word, word_of, address_of_word}
 use Rattle.mps_extents.specs.Table.{bit}
@@ -10,7 +10,7 @@ use Rattle.mps_trace.specs.GenState.{ChainsState}
 use Rattle.mps_seg.specs.Segs.{at_word, SegsState}
 use Rattle.mps_model.specs.Accessing.{address_or_null}
 use Rattle.mps_model.specs.Graph.{Graph, Object, contains, entry_at, targets, targets_of, is_automatic, is_weak_object}
-use Rattle.mps_model.specs.World.{object_is}
+use Rattle.mps_model.specs.World.{is_copying_pool, object_is}
 use Rattle.mps_abstract.specs.Colours.{is_grey}
 use Rattle.mps_abstract.specs.Collecting.{Collecting, is_tracing_band, is_reclaiming_band}
 use Rattle.mps_abstract.specs.Units.{scans, collecting_after_scan}
@@ -168,7 +168,7 @@ module _ {F : Type 0} (layout : F
     ranked : AreMarksRanked z.segs
     ranked = scan_keeps_ranks layout formats of x z one (held_in_order z.segs scan.stands.state.held) st.ranked
 
-    unreserved_then : AreCondemnedUnreserved z.segs scan.after.world.graph.points scan.after.world.point_memories
+    unreserved_then : AreCondemnedUnreserved z.segs (is_copying_pool scan.after.world) scan.after.world.graph.points scan.after.world.point_memories
     unreserved_then =
         unreserved_still layout formats of x.segs z.segs y scan.after st.traces.state.held st.traces.state.segments.same_segments
         st.traces.state.condemned scan.stands.state.held scan.stands.state.segments.same_segments scan.stands.state.condemned stays
@@ -177,7 +177,7 @@ module _ {F : Type 0} (layout : F
     finals : AreFinalsOf at_flip (collecting_after_scan scan.after g.id) f
     finals =
         finals_stay at_flip y (collecting_after_scan scan.after g.id) f stands.running
-        (fixes_stay scan.fixes (running_may_keep y stands.running) live).in_place stays.next
+        (fixes_stay scan.fixes (running_may_keep y stands.running) live).in_place stays.next (fixed_same scan.fixes).registered_before
         (ap (λ (h : Graph). h.registered) stays.graph) (ap (λ (h : Graph). h.messages) stays.graph) stands.finals
 
     pub scan_done : IsTracedUnitDone layout formats of at_flip x y z f run
@@ -187,15 +187,17 @@ module _ {F : Type 0} (layout : F
       unit = scans g.id g.grey strong scan.fixes;
       stands = record {
         running = (scans_shown y scan.after g.id scan.moves stands.running g.grey strong scan.fixes).running;
+        same_band = stands.same_band ∙ sym stays.band;
         next = stands.next ∙ sym stays.next;
         before = stands.before ∙ sym (fixed_same scan.fixes).registered_before;
         finals = finals;
-        all =
-            (fixed_same scan.fixes).registered_before ∙ stands.all
-            ∙ ap (λ (h : Graph). length h.registered) (sym stays.graph);
         due =
-            subst (λ (n : ℕ). AreDue at_flip scan.after.world.graph.objects scan.after.world.graph.registered n) (sym stays.next)
-            (subst (λ (h : Graph). AreDue at_flip h.objects h.registered y.next) (sym stays.graph) stands.due);
+            subst (λ (n : ℕ). AreDue at_flip scan.after.world.graph.objects scan.after.world.graph.registered n
+            scan.after.running.registered_before) (sym stays.next)
+            (subst (λ (n : ℕ). AreDue at_flip scan.after.world.graph.objects scan.after.world.graph.registered y.next n)
+            (sym (fixed_same scan.fixes).registered_before)
+            (subst (λ (h : Graph). AreDue at_flip h.objects h.registered y.next y.running.registered_before) (sym stays.graph)
+            stands.due));
         cursor = stands.cursor ∙ sym stays.cursor;
         moving = stays.moving stands.moving;
         unreserved = unreserved_then;

@@ -1,6 +1,7 @@
 -- What fixes leave of a world between two units: its objects and pools, and the segments that were held.
-use Rattle.std.proofs.Common.{◌≡◌, ◌∙◌, true, refl, sym, ap, subst, List, Option, Some}
-use Rattle.std.specs.Prelude.{◌==◌, Contains}
+use Rattle.std.proofs.Common.{◌≡◌, ◌∙◌, true, false, refl, sym, ap, subst, List, Option, Some}
+use Rattle.std.specs.Prelude.{◌==◌, Contains, slice_get}
+use Rattle.std.specs.Option.{option_map_or}
 use Rattle.mps_base.specs.Address.{Address, Id}
 use Rattle.mps_base.specs.Segment.{Segment}
 use Rattle.mps_base.specs.declared.moves.Move.{Move}
@@ -10,7 +11,7 @@ use Rattle.mps_seg.specs.Segs.{SegsState}
 use Rattle.mps_trace.specs.GenState.{ChainsState}
 use Rattle.mps_model.specs.Collection.{Collection}
 use Rattle.mps_model.specs.Graph.{Graph, contains}
-use Rattle.mps_model.specs.World.{World, PointMemory, is_live}
+use Rattle.mps_model.specs.World.{World, Pool, PointMemory, is_copying_kind, is_copying_pool, is_live}
 use Rattle.mps_abstract.specs.Collecting.{Collecting, Running, is_tracing_band}
 use Rattle.mps_abstract.specs.Fixing.{Fixes, fixes_no_more, passes, keeps, Keeps, kept_by}
 use Rattle.mps_abstract.proofs.Kept.{held_in, keeps_leaves}
@@ -29,6 +30,7 @@ pub record IsStill {F : Type 0} (layout : F
   pub next : y.next ≡ x.next
   pub band : y.band ≡ x.band
   pub graph : y.world.graph ≡ x.world.graph
+  pub pools : y.world.pools ≡ x.world.pools
   pub memories : y.world.point_memories ≡ x.world.point_memories
   pub bases : y.running.condemned_segments ≡ x.running.condemned_segments
   pub held : (base : Address) (s : Segment) → held_in x.world.segments base ≡ Some s → held_in y.world.segments base ≡ Some s
@@ -50,6 +52,7 @@ module _ {F : Type 0} (layout : F → Layout) (formats : List (Option (Policy F)
         next = refl;
         band = refl;
         graph = ap (λ (w : World). w.graph) r.world;
+        pools = ap (λ (w : World). w.pools) r.world;
         memories = ap (λ (w : World). w.point_memories) r.world;
         bases = ap (λ (d : Collection). d.condemned_segments) r.running;
         held = λ base s e. ap (λ (w : World). held_in w.segments base) r.world ∙ r.held base s e;
@@ -63,6 +66,7 @@ module _ {F : Type 0} (layout : F → Layout) (formats : List (Option (Policy F)
     next = refl;
     band = refl;
     graph = refl;
+    pools = refl;
     memories = refl;
     bases = refl;
     held = λ base s e. e;
@@ -81,6 +85,7 @@ module _ {F : Type 0} (layout : F → Layout) (formats : List (Option (Policy F)
         next = after.next;
         band = after.band;
         graph = after.graph ∙ before.graph;
+        pools = after.pools ∙ before.pools;
         memories = after.memories ∙ before.memories;
         bases = after.bases ∙ before.bases;
         held = λ base s e. after.held base s (before.held base s e);
@@ -90,9 +95,9 @@ module _ {F : Type 0} (layout : F → Layout) (formats : List (Option (Policy F)
   module _ (s s' : SegsState) (x y : Collecting) (was : AreHeld s) (segments : s.segments ≡ x.world.segments)
       (condemned : AreCondemnedAt s x.running.condemned_segments) (now : AreHeld s') (segments' : s'.segments ≡ y.world.segments)
       (condemned' : AreCondemnedAt s' y.running.condemned_segments) (stays : IsStill layout formats of x y)
-      (unreserved : AreCondemnedUnreserved s x.world.graph.points x.world.point_memories) where
-    pub unreserved_still : AreCondemnedUnreserved s' y.world.graph.points y.world.point_memories
-    unreserved_still u held is =
+      (unreserved : AreCondemnedUnreserved s (is_copying_pool x.world) x.world.graph.points x.world.point_memories) where
+    pub unreserved_still : AreCondemnedUnreserved s' (is_copying_pool y.world) y.world.graph.points y.world.point_memories
+    unreserved_still u held is copying =
         let before : contains x.running.condemned_segments u.base ≡ true =
         ap (λ bs. contains bs u.base) (sym stays.bases) ∙ sym (condemned'.is_bit u held) ∙ is
         in
@@ -109,6 +114,11 @@ module _ {F : Type 0} (layout : F → Layout) (formats : List (Option (Policy F)
         (found_held (λ v. v.base == t.base) y.world.segments t (stays.held t.base t found))
         in
         let same = same_base s'.segments (held_in_order s' now) t u there held one.2 in
+        let copying_then : is_copying_pool x.world t.pool ≡ true =
+        sym (ap (λ ps. option_map_or (λ (p : Pool). is_copying_kind p.kind) (slice_get ps t.pool) false) stays.pools)
+        ∙ ap (λ (v : Segment). is_copying_pool y.world v.pool) same ∙ copying
+        in
         subst (λ (v : Segment). IsUnreserved y.world.graph.points y.world.point_memories v) same
         (subst (λ (g : Graph). IsUnreserved g.points y.world.point_memories t) (sym stays.graph)
-        (subst (λ (ms : List PointMemory). IsUnreserved x.world.graph.points ms t) (sym stays.memories) (unreserved t one.1 bit_then)))
+        (subst (λ (ms : List PointMemory). IsUnreserved x.world.graph.points ms t) (sym stays.memories)
+        (unreserved t one.1 bit_then copying_then)))

@@ -50,7 +50,7 @@ pub record ArePoolsKnown {F : Type 0} (layout : F → Layout) (t : TraceState F)
 -- a world at rest, and its objects. Those that are registered are live and automatic, those that move aren't weak, and none has a dependent
 pub record AreObjectsAtRest (w : World) : Type 0 where
   pub rest : IsAtRest w
-  pub due : AreDue w.addresses w.graph.objects w.graph.registered 0
+  pub due : AreDue w.addresses w.graph.objects w.graph.registered 0 (length w.graph.registered)
   pub strong_moving : AreStrongMoving w
   pub none_dependent : w.graph.dependents ≡ []
   pub shaped : AreShaped w.graph.objects (pool_layout w)

@@ -12,7 +12,7 @@ use Rattle.mps_root.specs.State.{RootsState}
 use Rattle.mps_model.specs.Effect.{Everything, condemned_by, world_after_moves}
 use Rattle.mps_model.specs.Flip.{flip_act, flip_of, is_nothing}
 use Rattle.mps_model.specs.Graph.{entries, ids_in_slots}
-use Rattle.mps_model.specs.World.{World, area_words, live_ids}
+use Rattle.mps_model.specs.World.{World, area_words, is_copying_pool, live_ids}
 use Rattle.mps_abstract.specs.Collecting.{Collecting, units_left}
 use Rattle.mps_abstract.specs.FlipLaws.{collecting_after_flip, FixesHeld}
 use Rattle.mps_trace_laws.specs.Image.AtRest.{StandsAtRest}
@@ -43,8 +43,8 @@ pub record IsFlipStanding {F : Type 0} (layout : F → Layout) (t : TraceState F
   pub housed : AreHoused w.graph.objects x.segs.segments w.addresses
   pub ranked : AreMarksRanked x.segs
   pub moving : AreObjectsKnown layout t.formats t.chains (collecting_after_flip w Everything []).world
-  pub unreserved : AreCondemnedUnreserved x.segs (collecting_after_flip w Everything []).world.graph.points
-      (collecting_after_flip w Everything []).world.point_memories
+  pub unreserved : AreCondemnedUnreserved x.segs (is_copying_pool (collecting_after_flip w Everything []).world)
+      (collecting_after_flip w Everything []).world.graph.points (collecting_after_flip w Everything []).world.point_memories
   pub trail : x.moves.moves ≡ m.moves ++ flip_of w Everything ∷ []
 
 -- if something is condemned

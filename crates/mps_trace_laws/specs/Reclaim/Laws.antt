@@ -9,7 +9,7 @@ use Rattle.mps_abstract.specs.Collecting.{Collecting, Running, AreAllExamined}
 use Rattle.mps_abstract.specs.Colours.{AreAllScanned}
 use Rattle.mps_trace.specs.Condemned.{IsNextCondemned}
 use Rattle.mps_trace_laws.specs.Reclaim.Freed.{addresses_of}
-use Rattle.mps_trace_laws.specs.Reclaim.Left.{IsUnreserved}
+use Rattle.mps_trace_laws.specs.Reclaim.Left.{AreReservationsUnwritten}
 use Rattle.mps_trace_laws.specs.Reclaim.Units.{FreesFor, IsUnitReclaimed}
 
 -- ---- units of the abstract collector
@@ -19,6 +19,6 @@ abbrev pub AReclaimIsAUnit : Type 0
 AReclaimIsAUnit =
     (x : Collecting) (g : SegsState) (layout : ℕ → Layout) (base : Addr) (moves : Moves) (g' : SegsState) (moves' : Moves)
     → Running x → AreAllScanned x.colours → AreAllExamined x → FreesFor g x.world x.running x.colours layout
-    → (next : IsNextCondemned g x.cursor base.0) → IsUnreserved x.world.graph.points x.world.point_memories next.segment
-    → IsSwept g moves base g' moves'
+    → (next : IsNextCondemned g x.cursor base.0) → IsSwept g moves base g' moves'
+    → AreReservationsUnwritten x.world.graph.points x.world.point_memories g.words g'.words
     → IsUnitReclaimed x next.segment (addresses_of (lost_of g next.segment)) layout g'

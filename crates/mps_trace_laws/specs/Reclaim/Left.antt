@@ -1,5 +1,5 @@
 -- What is left of an arena once a condemned segment is reclaimed.
-use Rattle.std.specs.Prelude.{◌≡◌, ◌⊎◌, ℕ, ◌<◌, ◌≤◌, true, Option, List, []}
+use Rattle.std.specs.Prelude.{◌≡◌, ◌⊎◌, ℕ, ◌<◌, ◌≤◌, true, Option, List, [], slice_index}
 use Rattle.mps_base.specs.Address.{Address, Id, Word, word_of}
 use Rattle.mps_base.specs.Segment.{Segment, end_of_segment, without_segment}
 use Rattle.mps_format.specs.Layout.{Layout}
@@ -20,6 +20,11 @@ abbrev pub IsUnreserved : List (Option Point) → List PointMemory → Segment �
 IsUnreserved points memories t =
     (point l : ℕ) (r : Reservation) (n : Word) → LiesReserved points memories point l r n
     → (n < word_of t.base) ⊎ (word_of (end_of_segment t) ≤ n)
+
+-- the words of live reservations are as they were
+abbrev pub AreReservationsUnwritten : List (Option Point) → List PointMemory → (words words' : List ℕ) → Type 0
+AreReservationsUnwritten points memories words words' =
+    (point l : ℕ) (r : Reservation) (n : Word) → LiesReserved points memories point l r n → slice_index words' n ≡ slice_index words n
 
 -- the setting of objects and points in an arena in the last band of a collection that condemned these objects
 abbrev pub setting_freeing_in : SegsState → List Object → List (Option Point) → List PointMemory → (layout : ℕ → Layout)

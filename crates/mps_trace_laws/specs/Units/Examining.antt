@@ -24,7 +24,7 @@ use Rattle.mps_trace_laws.specs.Units.Standing.{AreFinalsOf}
 pub record IsOneDueIn (at_flip : List (Option Address)) (y : Collecting) (f : FinalsState) : Type 0 where
   pub running : Running y
   pub finals : AreFinalsOf at_flip y f
-  pub due : AreDue at_flip y.world.graph.objects y.world.graph.registered y.next
+  pub due : AreDue at_flip y.world.graph.objects y.world.graph.registered y.next y.running.registered_before
   pub drained : IsDrainedIn y
   pub before : y.next < y.running.registered_before
 

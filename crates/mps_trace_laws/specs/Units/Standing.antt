@@ -1,5 +1,5 @@
 -- When the segments and the moves of a collector represent the abstract collector between two units of a collection.
-use Rattle.std.specs.Prelude.{◌≡◌, ◌+◌, ◌*◌, ◌≤◌, true, false, Option, List, [], length, Contains}
+use Rattle.std.specs.Prelude.{◌≡◌, ℕ, ◌+◌, ◌*◌, ◌≤◌, Bool, true, false, IsTrue, Option, List, [], Contains}
 use Rattle.mps_base.specs.Address.{Address, word_of, words_of_grain, grain_of}
 use Rattle.mps_base.specs.Segment.{Segment, end_of_segment}
 use Rattle.mps_extents.specs.Table.{bit}
@@ -9,10 +9,12 @@ use Rattle.mps_trace.specs.GenState.{ChainsState}
 use Rattle.mps_model.specs.Graph.{Point}
 use Rattle.mps_model.specs.World.{World, PointMemory, is_automatic_kind, is_copying_pool, generations_of, pool_is}
 use Rattle.mps_abstract.specs.Colours.{AreAllScanned}
-use Rattle.mps_abstract.specs.Collecting.{Collecting, Running, AreAllExamined, is_reclaiming_band}
+use Rattle.mps_abstract.specs.Collecting.{Band, Exact, Final, Weak, Reclaim, Collecting, Running, AreAllExamined, is_reclaiming_band}
 use Rattle.mps_trace_laws.specs.Image.Memory.{pool_layout}
 use Rattle.mps_trace_laws.specs.Image.Image.{AreShaped, black_cells}
 use Rattle.mps_trace.specs.Trace.{Traced}
+use Rattle.mps_trace.specs.declared.running.Band.{Band as RunningBand}
+use Rattle.mps_trace.specs.declared.running.Band.TheVariants as working
 use Rattle.mps_trace.specs.declared.running.Running.{Running as RunningState}
 use Rattle.mps_trace_laws.specs.Fix.Housed.{AreHoused, AreStrongMoving}
 use Rattle.mps_trace_laws.specs.Fix.Ranks.{AreMarksRanked}
@@ -33,10 +35,11 @@ pub record AreObjectsKnown {F : Type 0} (layout : F → Layout) (formats : List 
   pub strong_moving : AreStrongMoving w
   pub none_dependent : w.graph.dependents ≡ []
 
--- no live reservation lies in a condemned segment
-abbrev pub AreCondemnedUnreserved : SegsState → List (Option Point) → List PointMemory → Type 0
-AreCondemnedUnreserved s points memories =
-    (t : Segment) → Contains s.segments t → bit s.condemned (grain_of t.base) ≡ true → IsUnreserved points memories t
+-- no live reservation lies in a condemned segment of a pool that moves its blocks
+abbrev pub AreCondemnedUnreserved : SegsState → (is_copying : ℕ → Bool) → List (Option Point) → List PointMemory → Type 0
+AreCondemnedUnreserved s is_copying points memories =
+    (t : Segment) → Contains s.segments t → bit s.condemned (grain_of t.base) ≡ true → IsTrue (is_copying t.pool)
+    → IsUnreserved points memories t
 
 -- the segments lie in the arena
 abbrev pub AreInArena : SegsState → Type 0
@@ -67,22 +70,29 @@ pub data StandsInBand {F : Type 0} (layout : F → Layout) (formats : List (Opti
     tracing : StandsTracing layout formats of at_flip x y → StandsInBand layout formats of at_flip x y
     reclaiming : StandsReclaiming x y → StandsInBand layout formats of at_flip x y
 
+-- the band of the abstract collector that a collection works in
+abbrev pub band_of : RunningBand → Band
+band_of working.Exact = Exact
+band_of working.Final = Final
+band_of working.Weak = Weak
+band_of working.Reclaim = Reclaim
+
 -- registrations and messages by what collects
 abbrev pub AreFinalsOf : (at_flip : List (Option Address)) → Collecting → FinalsState → Type 0
-AreFinalsOf at_flip y f = AreFinals at_flip y.world.addresses y.world.graph.registered y.world.graph.messages y.next f
+AreFinalsOf at_flip y f =
+    AreFinals at_flip y.world.addresses y.world.graph.registered y.world.graph.messages y.next y.running.registered_before f
 
--- between two units: the abstract collector runs, and has examined and reclaimed as much
+-- between two units: the abstract collector runs, works in the same band, and has examined and reclaimed as much
 pub record UnitStands {F : Type 0} (layout : F → Layout) (formats : List (Option (Policy F))) (of : ChainsState)
     (at_flip : List (Option Address)) (x : Traced) (f : FinalsState) (run : RunningState) (y : Collecting) : Type 0 where
   pub running : Running y
+  pub same_band : band_of run.band ≡ y.band
   pub next : run.next ≡ y.next
   pub before : run.registered_before ≡ y.running.registered_before
   pub finals : AreFinalsOf at_flip y f
-  -- each registration was made before the flip
-  pub all : y.running.registered_before ≡ length y.world.graph.registered
   -- those that are still to be examined are of objects that were live then
-  pub due : AreDue at_flip y.world.graph.objects y.world.graph.registered y.next
+  pub due : AreDue at_flip y.world.graph.objects y.world.graph.registered y.next y.running.registered_before
   pub cursor : run.cursor.0 ≡ y.cursor
   pub moving : AreObjectsKnown layout formats of y.world
-  pub unreserved : AreCondemnedUnreserved x.segs y.world.graph.points y.world.point_memories
+  pub unreserved : AreCondemnedUnreserved x.segs (is_copying_pool y.world) y.world.graph.points y.world.point_memories
   pub band : StandsInBand layout formats of at_flip x y
