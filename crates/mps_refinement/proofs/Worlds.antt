@@ -20,3 +20,4 @@ pub mod Staying
 pub mod Appending
 pub mod Room
 pub mod Unreserved
+pub mod InSteps

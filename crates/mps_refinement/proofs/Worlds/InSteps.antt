@@ -1,0 +1,291 @@
+-- What is known of the worlds in the middle of a step: those to which a read barrier, units or the end of a collection lead from one that
+-- a history reaches.
+use Rattle.std.proofs.Common.{◌≡◌, ◌∙◌, ◌+◌, true, false, refl, sym, ap, subst, List, [], ◌∷◌, Some, None, inl, inr}
+use Rattle.std.proofs.lemmas.Bool.{cases_Bool, false≢true, or_right}
+use Rattle.std.specs.Prelude.{ℕ, Bool, ◌&&◌, ◌||◌, is_some, not}
+use Rattle.std.specs.List.{flat_map, list_all}
+use Rattle.mps_base.specs.Address.{Id}
+use Rattle.mps_base.specs.Segment.{Segment}
+use Rattle.mps_base.specs.declared.moves.Move.{Move}
+use Rattle.mps_abstract.specs.Collecting.{Collecting, Running, is_white_in}
+use Rattle.mps_abstract.specs.Laws.{AreLastUnitsDone}
+use Rattle.mps_abstract.specs.Leaving.{IsButCollected}
+use Rattle.mps_abstract.specs.Units.{BarrierDone, Ends, GoesOn, asked}
+use Rattle.mps_abstract.proofs.Addresses.{listed_is_live}
+use Rattle.mps_abstract.proofs.Barrier.{barrier_is_done}
+use Rattle.mps_abstract.proofs.BarrierLeavings.{a_barrier_leaves_the_rest, a_kept_object_stays_at_a_barrier}
+use Rattle.mps_abstract.proofs.Keeping.{not_white_outside}
+use Rattle.mps_abstract.proofs.KeptPlaces.{ends_stay, units_stay}
+use Rattle.mps_abstract.proofs.Leavings.{ends_move, units_move}
+use Rattle.mps_abstract.proofs.LeftRightly.{left_rightly}
+use Rattle.mps_abstract.proofs.Lists.{contains_here, contains_later, list_all-members}
+use Rattle.mps_abstract.proofs.Rows.{last_units_done, still_runs, units_done}
+use Rattle.mps_laws.proofs.Parked.{none_there}
+use Rattle.mps_laws.proofs.Positions.LaidOut.{IsLaidOut}
+use Rattle.mps_laws.proofs.Positions.LegalMoves.{HasLayout}
+use Rattle.mps_laws.proofs.Replays.ReplayOfMoves.{moves_replayed}
+use Rattle.mps_laws.proofs.Replays.Steps.{asking_kept}
+use Rattle.mps_laws.proofs.SameArena.{moved_alone}
+use Rattle.mps_laws.proofs.Sound.HeldIds.{all-append}
+use Rattle.mps_laws.proofs.Sound.PoolsThere.{HasPools, moves_leave_pools}
+use Rattle.mps_laws.proofs.Sound.SoundGraph.{IsSoundGraph}
+use Rattle.mps_laws.proofs.Sound.SoundMoves.{moves_well}
+use Rattle.mps_laws.proofs.WellFormedHistories.{worlds_in_steps_are_well_formed}
+use Rattle.mps_model.specs.declared.call.Call.TheVariants as call
+use Rattle.mps_model.specs.Collecting.{with_state}
+use Rattle.mps_model.specs.Collection.{is_condemned}
+use Rattle.mps_model.specs.Effect.{world_after_moves}
+use Rattle.mps_model.specs.Graph.{contains, ids_in_blocks, ids_of_client, is_automatic, object_at, targets}
+use Rattle.mps_model.specs.History.{HeldAreLive, asking}
+use Rattle.mps_model.specs.LegalMove.{AreLegalMoves}
+use Rattle.mps_model.specs.WellFormed.{IsWellFormed, is_live_automatic}
+use Rattle.mps_model.specs.World.{World, Unclamped, address_of, ids_in_pairs, is_live, is_parked, is_running, live_ids, object_is}
+use Rattle.mps_model.proofs.Reaching.{list_all-contains}
+use Rattle.mps_seg.specs.Segs.{SegsState}
+use Rattle.mps_refinement.specs.StandsFor.{IsInTime, IsReached, Time}
+use Rattle.mps_refinement.proofs.Worlds.Known.{IsKnown, known_of, not_both}
+use Rattle.mps_refinement.proofs.Worlds.PlacedOnce.{ArePlacedOnce, placed_once}
+use Rattle.mps_refinement.proofs.Worlds.PlacesByMoves.{moved_kept, places_of}
+use Rattle.mps_refinement.proofs.Worlds.Reached.{reached_has_pools, reached_live, reached_well_formed}
+use Rattle.mps_refinement.proofs.Worlds.ReachedGraph.{reached_graph}
+use Rattle.mps_refinement.proofs.Worlds.Ready.{laid_out}
+
+-- ---- an arena in which a collection runs isn't parked
+
+running_unparked : (w : World) → IsWellFormed w → is_running w ≡ true → is_parked w ≡ false
+running_unparked w formed running =
+    of_bools (is_parked w) (ap (λ b. not (is_parked w && b)) (sym running) ∙ formed.parked)
+  where
+    of_bools : (b : Bool) → not (b && true) ≡ true → b ≡ false
+    of_bools true e = absurd (false≢true e)
+    of_bools false e = refl
+
+-- a world that isn't parked is well-formed if it is so in an unclamped arena
+formed_again : (w : World) → is_parked w ≡ false → IsWellFormed (with_state w Unclamped) → IsWellFormed w
+formed_again w unparked f = record {
+  segments = f.segments;
+  addresses = f.addresses;
+  apart = f.apart;
+  objects = f.objects;
+  places = f.places;
+  points = f.points;
+  tails = f.tails;
+  slots = f.slots;
+  words = f.words;
+  blocks = f.blocks;
+  registered = f.registered;
+  messages = f.messages;
+  labels = f.labels;
+  dependents = f.dependents;
+  parked = ap (λ b. not (b && is_running w)) unparked;
+  transforms = ap (list_all (is_live_automatic w)) (none_there w.state unparked);
+  caches = f.caches;
+}
+
+-- ---- manual blocks
+
+-- they are never condemned
+pub manual_not_white : (x : Collecting) → Running x → (id : Id) → object_is (λ o. not (is_automatic o)) x.world id ≡ true
+    → is_white_in x id ≡ false
+manual_not_white x run id manual =
+    not_white_outside x.running.condemned x.colours id (elim (cases_Bool (is_condemned x.running id)) [
+      | inl is ↦ absurd (not_both (object_at x.world.graph id) (run.condemned.objects id is) manual)
+      | inr isnt ↦ isnt
+    ])
+
+-- ---- what is held is live
+
+-- while a collection runs
+pub live_while_running : (y : Collecting) → Running y → list_all (is_live y.world) (ids_in_blocks y.world.graph) ≡ true
+    → HeldAreLive y.world
+live_while_running y run blocks = record {
+  client = (left_rightly y run).held_live;
+  blocks = blocks;
+  referred = ap (λ o. is_some o || list_all (is_live y.world) (flat_map (targets y.world.graph) (live_ids y.world))) run.runs;
+  transforms = ap (λ o. is_some o || list_all (is_live y.world) (ids_in_pairs y.world.state)) run.runs;
+}
+
+all_flat : (p : ℕ → Bool) (next : ℕ → List ℕ) (xs : List ℕ) → ((x : ℕ) → contains xs x ≡ true → list_all p (next x) ≡ true)
+    → list_all p (flat_map next xs) ≡ true
+all_flat p next [] each = refl
+all_flat p next (x ∷ xs) each =
+    all-append p (next x) (flat_map next xs) (each x (contains_here x xs))
+    (all_flat p next xs (λ y h. each y (contains_later x xs y h)))
+
+-- and where it has ended
+pub live_at_the_end : (x : Collecting) (count : ℕ) (ms : List Move) → AreLastUnitsDone x count ms
+    → is_parked (world_after_moves x.world ms) ≡ false
+    → list_all (is_live (world_after_moves x.world ms)) (ids_in_blocks (world_after_moves x.world ms).graph) ≡ true
+    → HeldAreLive (world_after_moves x.world ms)
+live_at_the_end x count ms last unparked blocks =
+    let v = world_after_moves x.world ms in
+    record {
+      client = list_all-members (is_live v) (ids_of_client v.graph) last.held_live;
+      blocks = blocks;
+      referred = or_right (is_running v) (list_all (is_live v) (flat_map (targets v.graph) (live_ids v)))
+          (all_flat (is_live v) (targets v.graph) (live_ids v) (λ id listed.
+          list_all-members (is_live v) (targets v.graph id) (λ target refers.
+          last.referred_live id target (listed_is_live v id listed) refers)));
+      transforms = or_right (is_running v) (list_all (is_live v) (ids_in_pairs v.state))
+          (ap (list_all (is_live v)) (none_there v.state unparked));
+    }
+
+-- ---- the world after a collector's moves
+
+module _ (x : Collecting) (run : Running x) (reach : IsReached x.world) (ms : List Move) (legal : AreLegalMoves x.world None ms)
+    (left : IsButCollected x.world (world_after_moves x.world ms))
+    (in_place : (id : Id) → is_white_in x id ≡ false → address_of (world_after_moves x.world ms) id ≡ address_of x.world id) where
+  abbrev w : World
+  w = x.world
+
+  abbrev v : World
+  v = world_after_moves w ms
+
+  formed_before : IsWellFormed w
+  formed_before = reached_well_formed w reach
+
+  pub unparked : is_parked v ≡ false
+  unparked = ap is_parked left.world ∙ running_unparked w formed_before (still_runs w x.running run.runs)
+
+  -- manual blocks stay live
+  pub blocks_live : list_all (is_live v) (ids_in_blocks v.graph) ≡ true
+  blocks_live =
+      ap (λ (u : World). list_all (is_live v) (ids_in_blocks u.graph)) left.world
+      ∙ list_all-members (is_live v) (ids_in_blocks w.graph) (λ id there.
+      ap is_some (in_place id (manual_not_white x run id
+      (list_all-contains (object_is (λ o. not (is_automatic o)) w) (ids_in_blocks w.graph) id formed_before.blocks there)))
+      ∙ list_all-contains (is_live w) (ids_in_blocks w.graph) id (reached_live w reach).blocks there)
+
+  pub laid_then : HasLayout (v.grains + 1) v
+  laid_then =
+      subst (λ (n : ℕ). HasLayout (n + 1) v) (sym (moved_alone w call.Park ms).grains)
+      (moves_replayed (w.grains + 1) w None ms 0 (laid_out w reach) legal).layout
+
+  pub graph_then : IsSoundGraph v
+  graph_then = (moves_well w None ms (reached_graph w reach) legal).sound
+
+  pools_then : HasPools v
+  pools_then = (moves_leave_pools w ms).there (reached_has_pools w reach)
+
+  once_then : ArePlacedOnce (places_of v)
+  once_then = subst ArePlacedOnce (sym (moved_kept w call.Park ms)) (placed_once w reach)
+
+  module _ (live : HeldAreLive v) where
+    formed_then : IsWellFormed v
+    formed_then =
+        formed_again v unparked
+        (subst (λ (u : World). IsWellFormed (with_state (world_after_moves u ms) Unclamped)) (sym reach.is)
+        (worlds_in_steps_are_well_formed w.formats reach.history ms reach.once reach.legal
+        (subst (λ u. AreLegalMoves u None ms) reach.is legal)
+        (subst (λ u. list_all (is_live (world_after_moves u ms)) (ids_of_client (world_after_moves u ms).graph) ≡ true) reach.is
+        live.client)))
+
+    pub known_then : (now : Time) (s : SegsState) → IsInTime now s v → IsKnown now v
+    known_then now s time = known_of now s v formed_then live laid_then graph_then pools_then once_then time
+
+    -- also once units are asked of the collection
+    pub known_asked : (count : ℕ) (now : Time) (s : SegsState) → HeldAreLive (asking (Some count) v)
+        → IsInTime now s (asking (Some count) v) → IsKnown now (asking (Some count) v)
+    known_asked count now s live_then time =
+        let u = asking (Some count) v in
+        let f = formed_then in
+        let g = graph_then in
+        known_of now s u (record {
+          segments = f.segments;
+          addresses = f.addresses;
+          apart = f.apart;
+          objects = f.objects;
+          places = f.places;
+          points = f.points;
+          tails = f.tails;
+          slots = f.slots;
+          words = f.words;
+          blocks = f.blocks;
+          registered = f.registered;
+          messages = f.messages;
+          labels = f.labels;
+          dependents = f.dependents;
+          parked = ap (λ b. not (b && is_running u)) unparked;
+          transforms = f.transforms;
+          caches = f.caches;
+        }) live_then (subst (IsLaidOut (v.grains + 1)) (sym (asking_kept (Some count) v)) laid_then) (record {
+          objects = g.objects;
+          reservations = g.reservations;
+          points = g.points;
+          slots = g.slots;
+          words = g.words;
+          blocks = g.blocks;
+          registered = g.registered;
+          messages = g.messages;
+        }) pools_then once_then time
+
+-- ---- after a barrier
+
+pub known_after_barrier : (now : Time) (s : SegsState) (t : Segment) (x y : Collecting) (ms : List Move) → IsReached x.world → Running x
+    → BarrierDone t x ms y → IsInTime now s y.world → IsKnown now y.world
+known_after_barrier now s t x y ms reach run barrier time =
+    let done = barrier_is_done t x y ms run barrier in
+    let left = subst (IsButCollected x.world) (sym done.leads) (a_barrier_leaves_the_rest t x y ms run barrier) in
+    let stays = (a_kept_object_stays_at_a_barrier t x y ms run barrier).in_place in
+    let in_place = λ (id : Id) (black : is_white_in x id ≡ false). ap (λ (u : World). address_of u id) done.leads ∙ stays id black in
+    let blocks = blocks_live x run reach ms done.legal left in_place in
+    let live =
+    live_while_running y done.running
+    (subst (λ (u : World). list_all (is_live u) (ids_in_blocks u.graph) ≡ true) done.leads blocks)
+    in
+    subst (IsKnown now) done.leads
+    (known_then x run reach ms done.legal left in_place (subst HeldAreLive (sym done.leads) live) now s
+    (subst (IsInTime now s) (sym done.leads) time))
+
+-- ---- after units
+
+module _ (x y : Collecting) (count : ℕ) (ms : List Move) (reach : IsReached x.world) (run : Running x) (units : GoesOn x count ms y) where
+  leads : world_after_moves x.world ms ≡ y.world
+  leads = (units_done x y count ms run units).leads
+
+  left_then : IsButCollected x.world (world_after_moves x.world ms)
+  left_then = subst (IsButCollected x.world) (sym leads) (units_move run units)
+
+  stays_then : (id : Id) → is_white_in x id ≡ false → address_of (world_after_moves x.world ms) id ≡ address_of x.world id
+  stays_then id black = ap (λ (u : World). address_of u id) leads ∙ (units_stay run units).in_place id black
+
+  pub blocks_after_units : list_all (is_live y.world) (ids_in_blocks y.world.graph) ≡ true
+  blocks_after_units =
+      subst (λ (u : World). list_all (is_live u) (ids_in_blocks u.graph) ≡ true) leads
+      (blocks_live x run reach ms (units_done x y count ms run units).legal left_then stays_then)
+
+  live_then : HeldAreLive (world_after_moves x.world ms)
+  live_then = subst HeldAreLive (sym leads) (live_while_running y (units_done x y count ms run units).running blocks_after_units)
+
+  pub known_after_units : (now : Time) (s : SegsState) → IsInTime now s y.world → IsKnown now y.world
+  known_after_units now s time =
+      subst (IsKnown now) leads
+      (known_then x run reach ms (units_done x y count ms run units).legal left_then stays_then live_then now s
+      (subst (IsInTime now s) (sym leads) time))
+
+  -- which a call asks for
+  pub known_after_asked_units : (now : Time) (s : SegsState) → IsInTime now s (asked y count).world → IsKnown now (asked y count).world
+  known_after_asked_units now s time =
+      subst (λ u. IsKnown now (asking (Some count) u)) leads
+      (known_asked x run reach ms (units_done x y count ms run units).legal left_then stays_then live_then count now s
+      (subst (λ u. HeldAreLive (asking (Some count) u)) (sym leads)
+      (live_while_running (asked y count) (units_done x y count ms run units).asked_running blocks_after_units))
+      (subst (λ u. IsInTime now s (asking (Some count) u)) (sym leads) time))
+
+-- ---- where the collection has ended
+
+pub live_after_last_units : (x : Collecting) (count : ℕ) (ms : List Move) → IsReached x.world → Running x → Ends x count ms
+    → HeldAreLive (world_after_moves x.world ms)
+live_after_last_units x count ms reach run ends =
+    let last = last_units_done x count ms run ends in
+    let left = (ends_move run ends).but_collected in
+    let in_place = ends_stay run ends in
+    live_at_the_end x count ms last (unparked x run reach ms last.legal left in_place) (blocks_live x run reach ms last.legal left in_place)
+
+pub known_after_last_units : (now : Time) (s : SegsState) (x : Collecting) (count : ℕ) (ms : List Move) → IsReached x.world → Running x
+    → Ends x count ms → IsInTime now s (world_after_moves x.world ms) → IsKnown now (world_after_moves x.world ms)
+known_after_last_units now s x count ms reach run ends time =
+    let last = last_units_done x count ms run ends in
+    let left = (ends_move run ends).but_collected in
+    let in_place = ends_stay run ends in
+    known_then x run reach ms last.legal left in_place (live_after_last_units x count ms reach run ends) now s time
