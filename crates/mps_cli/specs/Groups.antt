@@ -24,6 +24,7 @@ reads_words (call.Null slot) = true
 reads_words (call.Head slot) = true
 reads_words (call.Address slot) = true
 reads_words (call.Load place word) = true
+reads_words (call.Tag slot cell) = true
 reads_words _ = false
 
 -- a call that writes a slot, or a word of an object, a reservation or a manual block
@@ -36,6 +37,7 @@ writes_words (call.Clear slot) = true
 writes_words (call.InitNumber point cell value) = true
 writes_words (call.InitReference point cell source) = true
 writes_words (call.Store place word value) = true
+writes_words (call.SetTag slot cell tag) = true
 writes_words _ = false
 
 -- a call of the groups that a script has most of

@@ -62,6 +62,14 @@ const COLLECTED: &[u8] =
 const COLLECTED_ANSWERS: &[u8] =
     b"ok\nok\nok\nok\nok\nok\nok\n7\n0x1000\nok\n0x2000\n1\n0x100000301 0x0 0x7\n";
 
+/// A reference keeps its tag where its target is put and where its block moves, and a number has none.
+const TAGGED: &[u8] =
+    b"arena 8 8\ntable t 4\npool p amc front\nap x p exact\nreserve x f:3:1\ncommit x t.0\nsettag t.0 1 5\nput t.0 1 t.0\ntag t.0 1\n\
+    collect\ntag t.0 1\naddr t.0\ndump 0x2000\ntag t.0 2\nsettag t.0 3 1\nsettag t.1 1 1\n";
+
+const TAGGED_ANSWERS: &[u8] =
+    b"ok\nok\nok\nok\nok\nok\nok\nok\n5\nok\n5\n0x2000\n0x100000301 0x2005 0x0\nrefused 5\nrefused 3\nrefused 4\n";
+
 /// Heads of one digit and of more, with spaces around them, and one that breaks the rules.
 const HEADS: &[u8] =
     b"arena 8 8\ntable t 1\npool p amc front\nap x p exact\nreserve x   f:2:0  \ncommit x t.0\nhead t.0\n\

@@ -1,5 +1,5 @@
 -- The ranges of the numbers of a call, as a script has them.
-use Rattle.std.specs.Prelude.{Bool, true, false, ℕ, ◌≤◌, ◌≡◌, nat_le, IsTrue, refl}
+use Rattle.std.specs.Prelude.{Bool, true, false, ℕ, ◌<◌, ◌≤◌, ◌≡◌, nat_le, IsTrue, refl}
 use Rattle.std.specs.List.{list_all}
 use Rattle.mps_base.specs.Address.{max_grains}
 use Rattle.mps_base.specs.declared.names.Kind.{Kind}
@@ -7,6 +7,7 @@ use Rattle.mps_base.specs.declared.names.Kind.TheVariants as kind
 use Rattle.mps_model.specs.declared.call.Call.{Call}
 use Rattle.mps_model.specs.declared.call.Call.TheVariants as call
 use Rattle.mps_model.specs.Making.{most_slots}
+use Rattle.mps_model.specs.Tagging.{tag_count}
 
 -- the most generations of a chain
 abbrev pub most_generations : ℕ
@@ -44,6 +45,7 @@ IsInRange (call.PoolOnChain pool kind format chain) = IsTrue (may_be_on_chain ki
 IsInRange (call.Table table length) = IsLength length
 IsInRange (call.Area area length) = IsLength length
 IsInRange (call.Blocks blocks length) = IsLength length
+IsInRange (call.SetTag slot cell tag) = tag < tag_count
 IsInRange _ = Unit {0}
 
 pub a_limit_of_all_grains : are_grains 2048 ≡ true

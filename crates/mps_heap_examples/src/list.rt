@@ -16,6 +16,9 @@ const NUMBER: u64 = 1;
 /// The cell of the next item.
 const NEXT: u64 = 2;
 
+/// The tag of the reference to the next item in an item that is marked.
+const MARKED: u8 = 1;
+
 /// The name that has one letter.
 pub const fn named(letter: u8) -> Name {
     Name {
@@ -64,6 +67,21 @@ pub fn push(heap: &mut Heap<Tail>, trail: &mut Trail, number: u64) -> Result<(),
 /// Drops the first item.
 pub fn pop(heap: &mut Heap<Tail>) -> Result<(), Refusal> {
     heap.get(first(), first(), NEXT)
+}
+
+/// Marks the first items of the list up to one that is marked, at most `most` of them, and returns how many they are. As items come
+/// before the others, these are the new ones. A mark is the tag of the reference to the next item: it takes no word of an item, and
+/// stays where the item moves.
+pub fn mark_new(heap: &mut Heap<Tail>, most: u64) -> Result<u64, Refusal> {
+    heap.copy(cursor(), first())?;
+    for count in 0..most {
+        if heap.is_null(cursor())? || heap.tag(cursor(), NEXT)? == MARKED {
+            return Ok(count);
+        }
+        heap.set_tag(cursor(), NEXT, MARKED)?;
+        heap.get(cursor(), cursor(), NEXT)?;
+    }
+    Ok(most)
 }
 
 /// Collects all that was dropped, if that can be done, with a trail that has room for it. Returns whether it was done.

@@ -2,7 +2,7 @@
 ghost use Rattle.std.specs.Prelude.{◌<◌};
 
 use crate::list::named;
-use crate::{HEAD, Tail, collect, make, pop, push, sum};
+use crate::{HEAD, Tail, collect, make, mark_new, pop, push, sum};
 use mps_base::{Kind, Rank, Refusal, Slot, Trail};
 use mps_format::Leaf;
 use mps_heap::Heap;
@@ -97,6 +97,7 @@ fn push_one(alloc: Global, heap: &mut Heap<Tail>, number: u64) -> Result<(), Ref
 fn collect_list(rt: &impl Abort, alloc: Global, heap: &mut Heap<Tail>) {
     assert!(rt; make(heap).is_ok());
     assert!(rt; push_five(alloc, heap).is_ok());
+    assert!(rt; mark_new(heap, 10) == Ok(5));
     assert!(rt; pop(heap) == Ok(()));
     assert!(rt; pop(heap) == Ok(()));
     assert!(rt; sum(heap, 10) == Ok(6));
@@ -106,6 +107,7 @@ fn collect_list(rt: &impl Abort, alloc: Global, heap: &mut Heap<Tail>) {
     assert!(rt; heap.live() == (3, 12));
     assert!(rt; push_one(alloc, heap, 10).is_ok());
     assert!(rt; sum(heap, 10) == Ok(16));
+    assert!(rt; mark_new(heap, 10) == Ok(1));
 }
 
 #[test]

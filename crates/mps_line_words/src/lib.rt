@@ -16,7 +16,7 @@ pub use arguments::{
 pub use head::only_head;
 pub use names::{WrittenName, name_of, names_are_unique, next_name};
 pub use number::{next_decimal, next_value, number_of, number_within, prefixed_hexadecimal};
-pub use slots::WrittenSlot;
+pub use slots::{WrittenSlot, next_slot};
 pub use words::{
     MAX_LINE_BYTES, after_spaces, is_blank, is_word, next_word, only_word, strip_word,
 };

@@ -16,7 +16,7 @@ use Rattle.mps_numerals.specs.Decimal.{decimal_number}
 use Rattle.mps_answers.specs.Number.{number_of, number_within, prefixed_hexadecimal}
 use Rattle.mps_answers.specs.Name.{name_of, slot_of}
 use Rattle.mps_answers.specs.Head.{head_of}
-use Rattle.mps_script.specs.Form.{Form, kinds, kinds_on_chains, formats, ranks, keyword, grains_from, length_of_root, capacities, padded, chain, automatic_pool, pool_on_chain, pool_mfs, pool_mvff, pool, init, start, a_to_b_forms, c_forms, d_to_f_forms, g_to_k_forms, l_forms, m_to_o_forms, p_to_r_forms, s_to_z_forms, forms, call_in, command_call}
+use Rattle.mps_script.specs.Form.{Form, kinds, kinds_on_chains, formats, ranks, keyword, grains_from, length_of_root, tag_number, capacities, padded, chain, automatic_pool, pool_on_chain, pool_mfs, pool_mvff, pool, init, start, a_to_b_forms, c_forms, d_to_f_forms, g_to_k_forms, l_forms, m_to_o_forms, p_to_r_forms, s_to_z_forms, forms, call_in, command_call}
 use Rattle.mps_script.specs.Line.{begins_comment, or_bad, call_of_words, call_of_line}
 use Rattle.mps_script.specs.declared.line.BadLine.{BadLine}
 use Rattle.mps_commands.specs.Range.{IsInRange, are_grains, may_be_on_chain, IsFormat}
@@ -156,6 +156,14 @@ area_in_range ws = and_then_in_range (λ p. call.Area p.0 p.1) (pair name_of len
 
 blocks_in_range : FormInRange (two name_of length_of_root call.Blocks)
 blocks_in_range ws = and_then_in_range (λ p. call.Blocks p.0 p.1) (pair name_of length_of_root ws) (root_within ws)
+
+tag_in_range : FormInRange (three slot_of decimal_number tag_number call.SetTag)
+tag_in_range ws =
+    and_then_in_range (λ p. call.SetTag p.0 p.1.0 p.1.1) (onto slot_of (pair decimal_number tag_number) ws) (λ p e.
+    let within = (onto_gives Anything (λ q. IsWithin 0 7 q.1) slot_of (pair decimal_number tag_number) (λ word x e. tt)
+    (λ ws q e. (onto_gives Anything (IsWithin 0 7) decimal_number (single tag_number) (λ word x e. tt)
+    (single_gives (IsWithin 0 7) tag_number (within_range 0 7)) ws q e).1) ws p e).1 in
+    omega (arith, within.1))
 
 -- ---- chains
 
@@ -418,16 +426,22 @@ s_to_z_in_range : AllInRange s_to_z_forms
 s_to_z_in_range = (
   three_in_range slot_of decimal_number number_of call.SetNumber (λ x y z. tt),
   (
-    two_in_range slot_of slot_of call.Same (λ x y. tt),
+    tag_in_range,
     (
-      three_in_range slot_of decimal_number number_of call.Store (λ x y z. tt),
+      two_in_range slot_of decimal_number call.Tag (λ x y. tt),
       (
-        start_in_range,
+        two_in_range slot_of slot_of call.Same (λ x y. tt),
         (
-          one_in_range decimal_number call.Step (λ x. tt),
+          three_in_range slot_of decimal_number number_of call.Store (λ x y z. tt),
           (
-            table_in_range,
-            (two_in_range slot_of slot_of call.Take (λ x y. tt), tt),
+            start_in_range,
+            (
+              one_in_range decimal_number call.Step (λ x. tt),
+              (
+                table_in_range,
+                (two_in_range slot_of slot_of call.Take (λ x y. tt), tt),
+              ),
+            ),
           ),
         ),
       ),

@@ -149,6 +149,18 @@ no_cells :
     ≡ true
 no_cells = refl
 
+tags :
+    calls (codes "settag t.0 1 0" ∷ codes "settag t.0 1 7" ∷ codes "tag t.0 1" ∷ [])
+    ≡ Some (call.SetTag (t 0) 1 0) ∷ Some (call.SetTag (t 0) 1 7) ∷ Some (call.Tag (t 0) 1) ∷ []
+tags = refl
+
+no_tags :
+    are_wrong (codes "settag t.0 1" ∷ codes "settag t 1 2" ∷ codes "settag t.0 x 2" ∷ codes "settag t.0 1 8" ∷ codes "settag t.0 1 05"
+    ∷ codes "settag t.0 1 0x5" ∷ codes "settag t.0 1 2 3" ∷ codes "tag" ∷ codes "tag t.0" ∷ codes "tag t 1" ∷ codes "tag t.0 x"
+    ∷ codes "tag t.0 1 2" ∷ [])
+    ≡ true
+no_tags = refl
+
 slots :
     calls (codes "copy t.0 t.1" ∷ codes "clear t.0" ∷ codes "same t.0 t.1" ∷ codes "null t.0" ∷ codes "head t.0" ∷ codes "addr t.0" ∷ [])
     ≡ Some (call.Copy (t 0) (t 1)) ∷ Some (call.Clear (t 0)) ∷ Some (call.Same (t 0) (t 1)) ∷ Some (call.Null (t 0))
@@ -219,5 +231,5 @@ no_dependencies_and_no_states :
     ≡ true
 no_dependencies_and_no_states = refl
 
-no_commands : are_wrong (codes "foo" ∷ codes "nums t.0 2" ∷ codes "nu t.0 2" ∷ codes "settag t.0 1" ∷ []) ≡ true
+no_commands : are_wrong (codes "foo" ∷ codes "nums t.0 2" ∷ codes "nu t.0 2" ∷ codes "tags t.0 1" ∷ []) ≡ true
 no_commands = refl

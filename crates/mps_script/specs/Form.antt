@@ -45,6 +45,10 @@ keyword text word = if bytes_eq word text then Some word else None
 abbrev pub max_slots : ℕ
 max_slots = 65536
 
+-- the greatest tag of a reference
+abbrev pub max_tag : ℕ
+max_tag = 7
+
 -- the most generations of a chain
 abbrev pub max_generations : ℕ
 max_generations = 8
@@ -56,6 +60,10 @@ grains_from least = number_within least max_grains
 -- the length of a root
 abbrev pub length_of_root : List ℕ → Option ℕ
 length_of_root = number_within 1 max_slots
+
+-- the tag of a reference
+abbrev pub tag_number : List ℕ → Option ℕ
+tag_number = number_within 0 max_tag
 
 -- the capacities of a chain, one to eight
 abbrev pub capacities : List (List ℕ) → Option (List ℕ)
@@ -170,6 +178,8 @@ p_to_r_forms =
 abbrev pub s_to_z_forms : List Form
 s_to_z_forms =
     (codes "setnum", three slot_of decimal_number number_of call.SetNumber)
+    ∷ (codes "settag", three slot_of decimal_number tag_number call.SetTag)
+    ∷ (codes "tag", two slot_of decimal_number call.Tag)
     ∷ (codes "same", two slot_of slot_of call.Same)
     ∷ (codes "store", three slot_of decimal_number number_of call.Store)
     ∷ (codes "start", start)

@@ -8,12 +8,13 @@ ghost use Rattle.mps_line_words.specs.Name.{name_of, slot_of};
 ghost use Rattle.mps_line_words.specs.Head.{head_of};
 ghost use Rattle.mps_script.specs.Calls.{none, one, two, three};
 ghost use Rattle.mps_script.specs.Filled.{filled};
-ghost use Rattle.mps_script.specs.Form.{call_in, grains_from, length_of_root, l_forms, m_to_o_forms, p_to_r_forms, s_to_z_forms};
+ghost use Rattle.mps_script.specs.Form.{call_in, grains_from, length_of_root, tag_number, l_forms, m_to_o_forms, p_to_r_forms, s_to_z_forms};
 
 use crate::grains::grains;
 use crate::pools::pool;
 use crate::roots::name_length;
 use crate::several::{alone, name_head, start};
+use crate::tags::slot_decimal_tag;
 use mps_line_words::{
     decimal, name, name_name, name_slot, slot, slot_decimal, slot_decimal_slot, slot_decimal_value,
     slot_slot, slot_value, strip_word,
@@ -95,6 +96,10 @@ pub fn call_of_s_to_z(line: &[u8], into: &mut Call) -> Option<()>
 {
     if let Some(arguments) = strip_word(line, b"setnum") {
         set_number(arguments, into)
+    } else if let Some(arguments) = strip_word(line, b"settag") {
+        set_tag(arguments, into)
+    } else if let Some(arguments) = strip_word(line, b"tag") {
+        tag(arguments, into)
     } else if let Some(arguments) = strip_word(line, b"same") {
         same(arguments, into)
     } else if let Some(arguments) = strip_word(line, b"store") {
@@ -337,6 +342,20 @@ fn set_number(arguments: &[u8], into: &mut Call) -> Option<()>
     Some(())
 }
 
+/// `settag S K N`.
+#[inline(always)]
+fn set_tag(arguments: &[u8], into: &mut Call) -> Option<()>
+    ensures { filled result into.new ≡ three slot_of decimal_number tag_number call.SetTag (words arguments.now) }
+{
+    let (slot, (cell, tag)) = slot_decimal_tag(arguments)?;
+    *into = Call::SetTag {
+        slot: slot.slot(),
+        cell,
+        tag,
+    };
+    Some(())
+}
+
 /// `step N`.
 fn step(arguments: &[u8], into: &mut Call) -> Option<()>
     ensures { filled result into.new ≡ one decimal_number call.Step (words arguments.now) }
@@ -377,6 +396,19 @@ fn take(arguments: &[u8], into: &mut Call) -> Option<()>
     *into = Call::Take {
         slot: slot.slot(),
         word: word.slot(),
+    };
+    Some(())
+}
+
+/// `tag S K`.
+#[inline(always)]
+fn tag(arguments: &[u8], into: &mut Call) -> Option<()>
+    ensures { filled result into.new ≡ two slot_of decimal_number call.Tag (words arguments.now) }
+{
+    let (slot, cell) = slot_decimal(arguments)?;
+    *into = Call::Tag {
+        slot: slot.slot(),
+        cell,
     };
     Some(())
 }

@@ -12,6 +12,7 @@ mod pools;
 mod roots;
 mod script;
 mod several;
+mod tags;
 
 pub use laws::a_script_grows_line_by_line;
 pub use line::{BadLine, call_of};

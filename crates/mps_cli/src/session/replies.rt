@@ -55,6 +55,16 @@ pub fn number(came: Result<u64, Refusal>) -> Reply
     }
 }
 
+/// Of a call that reads a tag.
+pub fn tag(came: Result<u8, Refusal>) -> Reply
+    ensures { Tells result (answer_to says_number came) }
+{
+    match came {
+        Ok(n) => Reply::Number(u64::from(n)),
+        Err(why) => Reply::Refused(why),
+    }
+}
+
 /// Of a call that reads a head.
 pub fn head(came: Result<u64, Refusal>) -> Reply
     ensures { Tells result (answer_to says_head came) }

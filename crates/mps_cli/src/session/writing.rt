@@ -1,5 +1,6 @@
 // Answers the calls that write a slot, or a word of an object, a reservation or a manual block.
 ghost use Rattle.std.specs.Prelude.{◌≡◌, [], true};
+ghost use Rattle.mps_commands.specs.Range.{IsInRange};
 ghost use Rattle.mps_cli.specs.Groups.{writes_words};
 ghost use Rattle.mps_cli.specs.Standing.{IsAnswered};
 
@@ -23,6 +24,7 @@ pub fn writes_words(call: &Call) -> bool
             | Call::InitNumber { .. }
             | Call::InitReference { .. }
             | Call::Store { .. }
+            | Call::SetTag { .. }
     )
 }
 
@@ -30,6 +32,7 @@ pub fn writes_words(call: &Call) -> bool
 #[inline(never)]
 pub fn answer(heap: &mut Heap<AnyFormat>, call: &Call, reply: &mut Reply)
     requires which { writes_words call.now ≡ true }
+    requires range { IsInRange call.now }
     ensures { IsAnswered heap.old call.now [] reply.new heap.new }
 {
     *reply = match *call {
@@ -53,6 +56,7 @@ pub fn answer(heap: &mut Heap<AnyFormat>, call: &Call, reply: &mut Reply)
             source,
         } => done(heap.init_ref(point, cell, source)),
         Call::Store { place, word, value } => done(heap.store(place, word, value)),
+        Call::SetTag { slot, cell, tag } => done(heap.set_tag(slot, cell, tag as u8)),
         _ => unreachable!(),
     };
 }

@@ -108,6 +108,7 @@ fn is_in_range(call: &Call) -> bool
         Call::Blocks { length, .. } => 1 <= length && length <= 65536,
         Call::Limit { .. } | Call::Chain { .. } | Call::PoolOnChain { .. } => false,
         Call::Area { length, .. } => 1 <= length && length <= 65536,
+        Call::SetTag { tag, .. } => tag < 8,
         _ => true,
     }
 }

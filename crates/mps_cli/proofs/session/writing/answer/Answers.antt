@@ -24,3 +24,6 @@ returns-in-InitReference c = answered c.in-InitReference.is c.done-in-InitRefere
 
 pub returns-in-Store : goal.returns-in-Store
 returns-in-Store c = answered c.in-Store.is c.done-in-Store.ensures c.store.ensures.right
+
+pub returns-in-SetTag : goal.returns-in-SetTag
+returns-in-SetTag c = answered c.in-SetTag.is c.done-in-SetTag.ensures c.set_tag.ensures.right
