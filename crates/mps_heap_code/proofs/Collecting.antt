@@ -31,6 +31,7 @@ module _ {F : Type 0} (layout : F → Layout) (h : HeapState F) (m : Moves) wher
     finals = h'.finals;
     points = points_after_flip seen.points;
     epochs = ld.epochs_after_flip seen.epochs (zones_of (moving_of formats seen.segs.segments));
+    tails = h'.tails;
     arena = arena.Parked;
   }
 

@@ -26,7 +26,7 @@ use mps_ld::{Epochs, Ld};
 use mps_names::Names;
 use mps_root::Roots;
 use mps_seg::Segs;
-use mps_trace::Pools;
+use mps_trace::{Pools, Running};
 use std::alloc::{AllocError, Global};
 use std::marker::Model;
 
@@ -44,6 +44,7 @@ pub struct State<F: Format> {
     pools: Pools<F>,
     names: Names,
     arena: ArenaState,
+    running: Option<Running>,
 }
 
 impl<F: Format> Model for State<F> {
@@ -63,8 +64,10 @@ impl<F: Format> Model for State<F> {
       dependencies = s.dependencies.items;
       pools = s.pools.pools;
       sizes = s.pools.sizes;
+      tails = s.pools.tails;
       names = s.names;
       arena = s.arena;
+      running = s.running;
     } };
 }
 
@@ -99,6 +102,7 @@ impl<F: Format> State<F> {
             pools: Pools::new(alloc),
             names,
             arena: ArenaState::Unclamped,
+            running: None,
         })
     }
 
@@ -126,6 +130,7 @@ impl<F: Format> State<F> {
             pools,
             names,
             arena: _,
+            running: _,
         } = self;
         let mut segs = segs;
         points.finish(&mut segs);

@@ -1,9 +1,10 @@
 -- The outcomes of the calls on the arena, and the heap of a new one.
-use Rattle.std.specs.Prelude.{ℕ, ◌≡◌, true, nat_lt, [], Contains}
+use Rattle.std.specs.Prelude.{ℕ, ◌≡◌, true, nat_lt, None, [], Contains}
 use Rattle.mps_base.specs.Address.{Address, word_of}
 use Rattle.mps_base.specs.Run.{total}
 use Rattle.mps_base.specs.declared.refusal.Refusal.TheVariants as refusal
 use Rattle.mps_buffer.specs.Points.{no_points}
+use Rattle.mps_trace.specs.AmcState.{no_pools}
 use Rattle.mps_trace.specs.State.{no_finals}
 use Rattle.mps_trace.specs.LdState.{no_flips}
 use Rattle.mps_model.specs.Checked.{Checked, ◌>>◌, refuse_when}
@@ -31,8 +32,10 @@ module _ {F : Type 0} where
     dependencies = [];
     pools = [];
     sizes = [];
+    tails = no_pools;
     names = names;
     arena = arena.Unclamped;
+    running = None;
   }
 
   -- how many grains are held

@@ -39,5 +39,6 @@ module _ {F : Type 0} where
       finals = h'.finals;
       points = points_after_flip h.points;
       epochs = ld.epochs_after_flip h.epochs (zones_of (moving_of before.formats h.segs.segments));
+      tails = h'.tails;
       arena = arena.Parked;
     }

@@ -6,6 +6,7 @@ use Rattle.mps_base.specs.declared.names.Rank.{Rank}
 use Rattle.mps_base.specs.declared.refusal.Refusal.{Refusal}
 use Rattle.mps_base.specs.declared.refusal.Refusal.TheVariants as refusal
 use Rattle.mps_buffer.specs.Points.{IsMade, new_point, with_point}
+use Rattle.mps_trace.specs.AmcState.{with_pool}
 use Rattle.mps_trace.specs.LdState.{reset_at}
 use Rattle.mps_model.specs.Checked.{Checked, ◌>>=◌, ◌>>◌, required, refuse_when}
 use Rattle.mps_model.specs.Making.{most_roots, most_slots, most_points, most_pools, most_dependencies, is_block_size, is_weak_rank, refuse_at_limit}
@@ -158,7 +159,12 @@ module _ {F : Type 0} where
   pub record MakesPool (h : HeapState F) (name : Name) (p : Pool F) (number : ℕ) (after : HeapState F) : Type 0 where
     pub number_is : number ≡ length h.pools
     pub names : Updates h.names after.names name (Some (thing.Pool number))
-    pub state : after ≡ record h { pools = h.pools ++ p ∷ []; sizes = h.sizes ++ size_of_pool p ∷ []; names = after.names }
+    pub state : after ≡ record h {
+      pools = h.pools ++ p ∷ [];
+      sizes = h.sizes ++ size_of_pool p ∷ [];
+      tails = with_pool h.tails 1;
+      names = after.names;
+    }
 
   -- ---- dependencies
 

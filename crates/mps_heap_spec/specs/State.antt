@@ -6,8 +6,10 @@ use Rattle.mps_buffer.specs.declared.point.Held.{Held}
 use Rattle.mps_buffer.specs.declared.point.Point.{Point}
 use Rattle.mps_buffer.specs.Points.{PointsState, point_at, run_of_held}
 use Rattle.mps_seg.specs.Buffer.{IsAtHand}
+use Rattle.mps_trace.specs.AmcState.{AmcState}
 use Rattle.mps_trace.specs.State.{FinalsState}
 use Rattle.mps_trace.specs.LdState.{EpochsState, LdState}
+use Rattle.mps_trace.specs.declared.running.Running.{Running}
 use Rattle.mps_names.specs.State.{NamesState}
 use Rattle.mps_root.specs.State.{RootsState}
 use Rattle.mps_seg.specs.Segs.{SegsState}
@@ -31,8 +33,12 @@ pub record HeapState (F : Type 0) : Type 0 where
   pub pools : List (Pool F)
   -- the size of each pool's blocks, 0 if it has blocks of any sizes or is automatic
   pub sizes : List ℕ
+  -- by pool and generation, the tails to which a collection moves blocks
+  pub tails : AmcState
   pub names : NamesState
   pub arena : ArenaState
+  -- the collection that runs between two calls, if one does
+  pub running : Option Running
 
 module _ {F : Type 0} where
   -- the pool of the segment that is held over an address

@@ -25,3 +25,4 @@ pub mod CommittedParts
 pub mod AllocatedParts
 pub mod PointImage
 pub mod PoolImage
+pub mod GreyRanks

@@ -21,3 +21,4 @@ pub mod Appending
 pub mod Room
 pub mod Unreserved
 pub mod InSteps
+pub mod CollectorKept

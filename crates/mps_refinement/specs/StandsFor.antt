@@ -1,6 +1,6 @@
 -- When the state of a heap represents a world of the model.
-use Rattle.std.specs.Prelude.{◌≡◌, ℕ, ◌+◌, ◌%◌, ◌<◌, ◌≤◌, ◌==◌, Bool, true, false, not, IsTrue, Option, Some, None, option_map, IsSome, List, [], map, length, slice_get, ◌∷◌, Contains}
-use Rattle.std.proofs.Common.{◌∙◌, ap, arith, inl, inr, lit<, refl, subst, suc, sym, zero}
+use Rattle.std.specs.Prelude.{◌≡◌, ℕ, ◌+◌, ◌-◌, ◌%◌, ◌<◌, ◌≤◌, ◌==◌, Bool, true, false, not, IsTrue, Option, Some, None, option_map, IsSome, List, [], map, length, slice_get, ◌∷◌, Contains}
+use Rattle.std.proofs.Common.{◌∙◌, ap, arith, lit<, refl, subst, suc, sym, zero}
 use Rattle.std.specs.Option.{option_map_or}
 use Rattle.mps_base.specs.Address.{Address, Id, Word, max_grains, word_of, grain_of}
 use Rattle.mps_base.specs.declared.names.Name.{Name}
@@ -39,25 +39,42 @@ use Rattle.mps_refinement.specs.Numbering.{AreNumbered, AreOrdered}
 use Rattle.mps_base.specs.Segment.{Segment}
 use Rattle.mps_base.specs.declared.names.Rank.TheVariants.{Exact}
 use Rattle.mps_abstract.specs.Colours.{AreAllScanned, Colours, is_white}
-use Rattle.mps_abstract.specs.Collecting.{AreAllExamined, Collecting, Running}
-use Rattle.mps_trace_laws.specs.Image.Image.{MeansAt, Stands, no_colours}
+use Rattle.mps_abstract.specs.Collecting.{AreAllExamined, Collecting, Running, is_reclaiming_band}
+use Rattle.mps_abstract.specs.Collecting as abstract
+use Rattle.mps_trace.specs.AmcState.{AmcState, tail_of}
+use Rattle.mps_trace.specs.declared.running.Band.{Band}
+use Rattle.mps_trace.specs.declared.running.Band.TheVariants as band
+use Rattle.mps_trace.specs.declared.running.Running.{Running as RunningState}
+use Rattle.mps_trace_laws.specs.Fix.Ranks.{AreMarksRanked}
+use Rattle.mps_trace_laws.specs.Image.Image.{Stands, no_colours}
 use Rattle.mps_seg.specs.Segs.{SegsState}
 pub use Rattle.mps_trace_laws.specs.Units.Finals.{address_of_id}
 
 -- ---- whether a collection runs
 
--- What the heap doesn't keep of a running collection: the addresses at its flip, what it condemned, whose words are still read, the
--- colours of objects, and whether it has begun to reclaim.
+-- What is known of a running collection: the addresses at its flip, what it condemned, whose words are still read, the colours of
+-- objects, and whether it has begun to reclaim. Of registrations the position of the one that is examined next, and how many are left of
+-- those made before the flip.
 pub record Time : Type 0 where
   pub at_flip : List (Option Address)
   pub condemned : List Id
   pub is_read : Id → Bool
   pub colours : Colours
   pub is_reclaiming : Bool
+  pub next : ℕ
+  pub registered_before : ℕ
 
 -- that of a heap at rest: nothing is condemned or grey, and all words are read
 abbrev pub time_at_rest : Time
-time_at_rest = record { at_flip = []; condemned = []; is_read = λ id. true; colours = no_colours; is_reclaiming = false }
+time_at_rest = record {
+  at_flip = [];
+  condemned = [];
+  is_read = λ id. true;
+  colours = no_colours;
+  is_reclaiming = false;
+  next = 0;
+  registered_before = 0;
+}
 
 -- the segments of an arena represent a world at a time
 abbrev pub setting_at : Time → SegsState → World → Setting
@@ -190,11 +207,23 @@ pub record IsArena (grains : ℕ) (points : PointsState) : Type 0 where
 
 -- ---- registrations
 
--- each registration has an address that means its object: the one of now, or that at the flip
-abbrev pub AreRegistered : (addresses at_flip : List (Option Address)) → List Address → List Id → Type 0
-AreRegistered addresses at_flip [] [] = Unit {0}
-AreRegistered addresses at_flip (a ∷ ats) (id ∷ ids) = MeansAt addresses at_flip a id × AreRegistered addresses at_flip ats ids
-AreRegistered addresses at_flip _ _ = ⊥
+-- the addresses that the first of some registrations goes by, where n are examined and m were made before the flip: those of now if
+-- it was examined or made since the flip, and else those at the flip
+abbrev pub addresses_of_first : (addresses at_flip : List (Option Address)) → (next before : ℕ) → List (Option Address)
+addresses_of_first addresses at_flip zero (suc before) = at_flip
+addresses_of_first addresses at_flip next before = addresses
+
+-- each registration has the address of its object by these
+abbrev pub AreRegistered : (addresses at_flip : List (Option Address)) → (next before : ℕ) → List Address → List Id → Type 0
+AreRegistered addresses at_flip next before [] [] = Unit {0}
+AreRegistered addresses at_flip next before (a ∷ ats) (id ∷ ids) =
+    (entry_at (addresses_of_first addresses at_flip next before) id ≡ Some a)
+    × AreRegistered addresses at_flip (next - 1) (before - 1) ats ids
+AreRegistered addresses at_flip next before _ _ = ⊥
+
+-- the registrations of a heap at a time
+abbrev pub AreRegisteredAt : Time → (addresses : List (Option Address)) → List Address → List Id → Type 0
+AreRegisteredAt t addresses ats ids = AreRegistered addresses t.at_flip t.next t.registered_before ats ids
 
 -- ---- all of it
 
@@ -218,7 +247,7 @@ pub record AreParts {F : Type 0} (layout : F → Layout) (past : Past) (h : Heap
       w.graph.points
   pub points_counted : h.live_points ≡ live_points w.graph
   -- registrations and messages
-  pub registered : AreRegistered w.addresses past.time.at_flip h.finals.registered w.graph.registered
+  pub registered : AreRegisteredAt past.time w.addresses h.finals.registered w.graph.registered
   pub messages : h.finals.messages ≡ map (address_of_id w.addresses) w.graph.messages
   -- flips and dependencies
   pub flips : AreFlips h.epochs w.flips
@@ -245,12 +274,29 @@ pub record AreOfFlip (at_flip : List (Option Address)) (w : World) : Type 0 wher
 abbrev pub AreCondemnedIn : (condemned : List Bool) → List Segment → (bases : List Address) → Type 0
 AreCondemnedIn condemned held bases = (t : Segment) → Contains held t → bit condemned (grain_of t.base) ≡ contains bases t.base
 
--- what segments and a time are where no collection runs: no segment is condemned, and no block is marked as kept
-pub record Rests (t : Time) (s : SegsState) (w : World) : Type 0 where
+-- what a heap has of a collection: its segments, the tails of its pools, and the collection that runs, if one does
+pub record CollectorState : Type 0 where
+  pub segs : SegsState
+  pub tails : AmcState
+  pub running : Option RunningState
+
+abbrev pub collector_of : {F : Type 0} → HeapState F → CollectorState
+collector_of h = record { segs = h.segs; tails = h.tails; running = h.running }
+
+-- what the collector and a time are where no collection runs: no segment is condemned, and no block is marked as kept
+pub record Rests (t : Time) (s : CollectorState) (w : World) : Type 0 where
   pub none : w.collection ≡ None
   pub time : t ≡ time_at_rest
-  pub not_condemned : (grain : ℕ) → bit s.condemned grain ≡ false
-  pub not_kept : (n : Word) → bit s.marks.kept n ≡ false
+  pub not_running : s.running ≡ None
+  pub not_condemned : (grain : ℕ) → bit s.segs.condemned grain ≡ false
+  pub not_kept : (n : Word) → bit s.segs.marks.kept n ≡ false
+
+-- until it reclaims all words are read, the tails are the world's, and grey marks have the rank of their segments
+pub record IsTracing (t : Time) (s : CollectorState) (w : World) (x : Collecting) : Type 0 where
+  pub read : t.is_read ≡ (λ id. true)
+  pub band : is_reclaiming_band x.band ≡ false
+  pub tails : (pool generation : ℕ) → run_of (tail_of s.tails pool generation) ≡ world.tail_of w pool generation
+  pub ranked : AreMarksRanked s.segs
 
 -- once it reclaims, only what isn't white is read, nothing is grey, all registrations were examined, and no address at the flip counts
 pub record IsReclaiming (t : Time) (x : Collecting) : Type 0 where
@@ -259,16 +305,35 @@ pub record IsReclaiming (t : Time) (x : Collecting) : Type 0 where
   pub scanned : AreAllScanned x.colours
   pub examined : AreAllExamined x
 
--- what segments and a time are to a state of the abstract collector: a collection runs in the world, and they are those of that state
-pub record Runs (t : Time) (s : SegsState) (w : World) (x : Collecting) : Type 0 where
+-- the band of the abstract collector
+abbrev pub band_of : Band → abstract.Band
+band_of band.Exact = abstract.Exact
+band_of band.Final = abstract.Final
+band_of band.Weak = abstract.Weak
+band_of band.Reclaim = abstract.Reclaim
+
+-- a running collection is as far as the abstract one
+pub record IsAsFar (run : RunningState) (x : Collecting) : Type 0 where
+  pub band : band_of run.band ≡ x.band
+  pub cursor : run.cursor.0 ≡ x.cursor
+  pub next : run.next ≡ x.next
+  pub registered_before : run.registered_before ≡ x.running.registered_before
+
+-- what the collector and a time are to a state of the abstract collector: a collection runs in the world, and they are those of that state
+pub record Runs (t : Time) (s : CollectorState) (w : World) (x : Collecting) : Type 0 where
   pub world : x.world ≡ w
   pub invariant : Running x
+  -- the collection that the heap has
+  pub run : RunningState
+  pub running : s.running ≡ Some run
+  pub as_far : IsAsFar run x
   pub condemned_ids : t.condemned ≡ x.running.condemned
   pub colours : t.colours ≡ x.colours
-  -- until it reclaims all words are read
-  pub tracing : t.is_reclaiming ≡ false → t.is_read ≡ (λ id. true)
+  pub next : t.next ≡ x.next
+  pub registered_before : t.registered_before ≡ x.running.registered_before
+  pub tracing : t.is_reclaiming ≡ false → IsTracing t s w x
   pub reclaiming : t.is_reclaiming ≡ true → IsReclaiming t x
-  pub condemned : AreCondemnedIn s.condemned w.segments x.running.condemned_segments
+  pub condemned : AreCondemnedIn s.segs.condemned w.segments x.running.condemned_segments
   pub flip : AreOfFlip t.at_flip w
 
 -- that a collection may run between two calls: no call leaves one running yet, so nothing is of this type
@@ -276,7 +341,7 @@ abbrev pub MayRunBetweenCalls : Type 0
 MayRunBetweenCalls = ⊥
 
 -- at a time no collection runs, or one does
-pub data IsInTime (t : Time) (s : SegsState) (w : World) : Type 0 where
+pub data IsInTime (t : Time) (s : CollectorState) (w : World) : Type 0 where
   rests : Rests t s w → IsInTime t s w
   runs : (x : Collecting) → Runs t s w x → MayRunBetweenCalls → IsInTime t s w
 
@@ -291,7 +356,7 @@ pub record IsReached (w : World) : Type 0 where
 pub record StandsFor {F : Type 0} (layout : F → Layout) (h : HeapState F) (w : World) : Type 0 where
   pub past : Past
   pub parts : AreParts layout past h w
-  pub time : IsInTime past.time h.segs w
+  pub time : IsInTime past.time (collector_of h) w
   pub reached : IsReached w
 
 -- ---- vectors: object 0 was at 0x1000 at the flip, and is at 0x2000 now
@@ -302,24 +367,21 @@ now_at = Some 0x2000 ∷ []
 abbrev was_at : List (Option Address)
 was_at = Some 0x1000 ∷ []
 
-pub registered_before_the_flip : AreRegistered now_at was_at (0x1000 ∷ []) (0 ∷ [])
-registered_before_the_flip = (inr refl, tt)
+-- it is registered twice, and the first registration was examined
+pub registered_before_the_flip : AreRegistered now_at was_at 1 2 (0x2000 ∷ 0x1000 ∷ []) (0 ∷ 0 ∷ [])
+registered_before_the_flip = (refl, (refl, tt))
 
-pub registered_since_the_flip : AreRegistered now_at was_at (0x2000 ∷ []) (0 ∷ [])
-registered_since_the_flip = (inl refl, tt)
+pub registered_since_the_flip : AreRegistered now_at was_at 1 1 (0x2000 ∷ 0x2000 ∷ []) (0 ∷ 0 ∷ [])
+registered_since_the_flip = (refl, (refl, tt))
 
-pub registered_elsewhere : AreRegistered now_at was_at (0x3000 ∷ []) (0 ∷ []) → ⊥
-registered_elsewhere are = elim are.0 [
-  | inl now ↦ let e : ◌≡◌ {A = ℕ} 0x2000 0x3000 = ap (λ (o : Option Address). option_map_or (λ at. at) o 0) now in omega (arith, e)
-  | inr was ↦ let e : ◌≡◌ {A = ℕ} 0x1000 0x3000 = ap (λ (o : Option Address). option_map_or (λ at. at) o 0) was in omega (arith, e)
-]
+pub examined_at_its_old_address : AreRegistered now_at was_at 1 1 (0x1000 ∷ []) (0 ∷ []) → ⊥
+examined_at_its_old_address are =
+    let e : ◌≡◌ {A = ℕ} 0x2000 0x1000 = ap (λ (o : Option Address). option_map_or (λ at. at) o 0) are.0 in omega (arith, e)
 
 -- at rest no address at the flip counts
-pub registered_at_an_old_address : AreRegistered now_at time_at_rest.at_flip (0x1000 ∷ []) (0 ∷ []) → ⊥
-registered_at_an_old_address are = elim are.0 [
-  | inl now ↦ let e : ◌≡◌ {A = ℕ} 0x2000 0x1000 = ap (λ (o : Option Address). option_map_or (λ at. at) o 0) now in omega (arith, e)
-  | inr was ↦ let e : ◌≡◌ {A = ℕ} 0 0x1000 = ap (λ (o : Option Address). option_map_or (λ at. at) o 0) was in omega (arith, e)
-]
+pub registered_at_an_old_address : AreRegisteredAt time_at_rest now_at (0x1000 ∷ []) (0 ∷ []) → ⊥
+registered_at_an_old_address are =
+    let e : ◌≡◌ {A = ℕ} 0x2000 0x1000 = ap (λ (o : Option Address). option_map_or (λ at. at) o 0) are.0 in omega (arith, e)
 
 abbrev segment_at_0x1000 : Segment
 segment_at_0x1000 = record { base = 0x1000; grains = 1; pool = 0; generation = 0; rank = Exact }
@@ -338,7 +400,11 @@ pub more_addresses_than_objects : (w : World) → w.graph.objects ≡ [] → Are
 more_addresses_than_objects w none are =
     let made : 1 ≤ length w.graph.objects = are.made in let e : length w.graph.objects ≡ 0 = ap length none in omega (arith, made, e)
 
-pub a_condemned_segment_at_rest : (t : Time) (s : SegsState) (w : World) → s.condemned ≡ true ∷ [] → Rests t s w → ⊥
+pub a_condemned_segment_at_rest : (t : Time) (s : CollectorState) (w : World) → s.segs.condemned ≡ true ∷ [] → Rests t s w → ⊥
 unfolding bit
 a_condemned_segment_at_rest t s w condemned rest =
     let e : true ≡ false = sym (ap (λ bits. bit bits 0) condemned) ∙ rest.not_condemned 0 in absurd cc
+
+pub an_earlier_band : (run : RunningState) (x : Collecting) → run.band ≡ band.Exact → x.band ≡ abstract.Weak → IsAsFar run x → ⊥
+an_earlier_band run x exact weak as_far =
+    let e : abstract.Exact ≡ abstract.Weak = sym (ap band_of exact) ∙ as_far.band ∙ weak in absurd cc

@@ -1,8 +1,9 @@
--- A collection leaves each pool as many generations with words at hand as it had.
+-- A collection leaves each pool as many generations with words at hand as it had, and so does each step of one.
 use Rattle.std.proofs.Common.{ℕ, ◌≡◌, ◌∙◌, Option, List, [], ◌∷◌, length, map, refl, ap}
 use Rattle.std.proofs.Math.Seq.{map-set_same}
 use Rattle.std.proofs.lemmas.List.{length-set, length-replicate}
-use Rattle.std.specs.Prelude.{slice_set}
+use Rattle.std.specs.Prelude.{slice_set, IfNone, IfSome, Some, None}
+use Rattle.mps_base.specs.Segment.{Segment}
 use Rattle.mps_base.specs.Address.{Address}
 use Rattle.mps_base.specs.declared.address.Addr.{Addr}
 use Rattle.mps_seg.specs.declared.buffer.Buffer.{Buffer}
@@ -14,11 +15,14 @@ use Rattle.mps_gen.specs.State.{ChainsState}
 use Rattle.mps_root.specs.State.{RootsState}
 use Rattle.mps_amc.specs.Amc.{AmcState, row_after_flip, tails_of, with_tail}
 use Rattle.mps_trace.specs.Trace.{Traced, KeepsTo, FixesTo, moves, marks, finds, keeps, target_of}
+use Rattle.mps_trace.specs.Access as barrier
 use Rattle.mps_trace.specs.Scan as scan
 use Rattle.mps_trace.specs.Splat as splat
 use Rattle.mps_trace.specs.Roots as roots
 use Rattle.mps_trace.specs.Unit as units
 use Rattle.mps_trace.specs.Collect.{Collects, at_once, in_units}
+use Rattle.mps_trace.specs.declared.running.Band.{Band}
+use Rattle.mps_trace.specs.declared.running.Band.TheVariants.{Exact, Final, Weak, Reclaim}
 use Rattle.mps_trace.specs.declared.running.Running.{Running}
 use Rattle.mps_trace.specs.PoolsInside.{rows_of}
 use Rattle.mps_format.specs.declared.pool.Policy.{Policy}
@@ -125,3 +129,33 @@ module _ {F : Type 0} (layout : F → Layout) (formats : List (Option (Policy F)
   collected {x = x} (at_once ends) = ap (λ (w : Traced). rows_of w.amc) ends.over ∙ emptied x.amc.tails
   collected {x = x} (in_units run begins ends) =
       in_last ends.last ∙ in_units_to ends.units ∙ in_messages begins.messages ∙ in_tables begins.slots ∙ emptied x.amc.tails
+
+  -- ---- what a running collection does
+
+  pub after_unit : (x y : Traced) (f f' : FinalsState) (run : Running) (next : Option Running)
+      → IfSome next (λ run'. units.UnitTo layout formats chains x f run y f' run')
+      → IfNone next (units.LastUnitTo layout formats x run y × (f' ≡ f)) → rows_of y.amc ≡ rows_of x.amc
+  after_unit x y f f' run (Some run') one last = in_unit one
+  after_unit x y f f' run None one last = in_last last.0
+
+  pub after_units : (x y : Traced) (f f' : FinalsState) (run : Running) (most : ℕ) (next : Option Running)
+      → IfSome next (λ run'. units.UnitsTo layout formats chains x f run most y f' run')
+      → IfNone next (units.EndsWithin layout formats chains x f run most y f') → rows_of y.amc ≡ rows_of x.amc
+  after_units x y f f' run most (Some run') goes ends = in_units_to goes
+  after_units x y f f' run most None goes ends = in_last ends.last ∙ in_units_to ends.units
+
+  in_scans : {t : Segment} {x y : Traced} {count : ℕ} → barrier.ScansIn layout formats chains t x count y
+      → rows_of y.amc ≡ rows_of x.amc
+  in_scans barrier.scans_none = refl
+  in_scans (barrier.scans_one_more count at before lowest one) = scanned one ∙ in_scans before
+
+  in_splatted : {t : Segment} {x y : Traced} {count : ℕ} → barrier.SplatsIn layout formats t x count y → rows_of y.amc ≡ rows_of x.amc
+  in_splatted barrier.splats_none = refl
+  in_splatted (barrier.splats_one_more count at before lowest one) = splatted one ∙ in_splatted before
+
+  pub accessed : (band : Band) (t : Segment) (x z : Traced) → barrier.AccessesTo layout formats chains band t x z
+      → rows_of z.amc ≡ rows_of x.amc
+  accessed Exact t x z access = in_scans access.scans
+  accessed Final t x z access = in_scans access.scans
+  accessed Weak t x z access = in_splatted access.splats
+  accessed Reclaim t x z access = ap (λ (w : Traced). rows_of w.amc) access

@@ -1,9 +1,11 @@
 -- The collector knows of no pools at first, and of each that is added.
-use Rattle.std.proofs.Common.{ℕ, ◌≡◌, ◌<◌, ◌∙◌, Option, None, List, [], ◌∷◌, ◌++◌, length, replicate, get_or, sym, ap, subst, arith}
+use Rattle.std.proofs.Common.{ℕ, ◌≡◌, ◌<◌, ◌∙◌, Option, None, List, [], ◌∷◌, ◌++◌, length, map, replicate, get_or, sym, ap, subst, arith}
 use Rattle.std.proofs.lemmas.List.{map-append, replicate-append-replicate, length-append, length-map, length-replicate, get_or-map, get_or-replicate}
 use Rattle.mps_amc.specs.Amc.{tails_of}
 use Rattle.mps_gen.specs.State.{ChainsState}
 use Rattle.mps_trace.specs.Trace.{TraceState, with_pool}
+use Rattle.mps_format.specs.declared.pool.Policy.{Policy}
+use Rattle.mps_trace.specs.Pools.{PoolsState, trace_of}
 use Rattle.mps_trace.specs.PoolsCollecting.{IsTraceOf}
 use Rattle.mps_format.specs.Pools.{policy_of_pool}
 use Rattle.mps_format.specs.declared.pool.Pool.{Pool}
@@ -59,3 +61,23 @@ module _ {F : Type 0} where
     chains = ap (λ (u : TraceState F). u.chains) is ∙ sound.chains;
     rows = rows ∙ sound.rows;
   }
+
+  -- what the collector knows is what these pools and its tails say
+  pub trace_is : (pools : List (Pool F)) (t : TraceState F) → IsSoundTrace pools t → t ≡ trace_of pools t.amc
+  trace_is pools t sound =
+      ap (λ (fs : List (Option (Policy F))). let u : TraceState F = record { formats = fs; amc = t.amc; chains = t.chains } in u)
+      sound.formats
+      ∙ ap (λ (c : ChainsState).
+      let u : TraceState F = record { formats = map policy_of_pool pools; amc = t.amc; chains = c } in u) sound.chains
+
+  -- and so where the pools are seen in two ways
+  pub trace_seen : (seen value : PoolsState F) → seen ≡ value → (t : TraceState F) → seen.tails ≡ t.amc → IsSoundTrace seen.pools t
+      → t ≡ trace_of value.pools value.tails
+  trace_seen seen value is t tails sound =
+      trace_is seen.pools t sound ∙ ap (trace_of seen.pools) (sym tails) ∙ ap (λ (v : PoolsState F). trace_of v.pools v.tails) is
+
+  pub is_trace_seen : (seen value : PoolsState F) → seen ≡ value → (t : TraceState F) → seen.tails ≡ t.amc → IsSoundTrace seen.pools t
+      → IsTraceOf value.pools (trace_of value.pools value.tails)
+  is_trace_seen seen value is t tails sound =
+      subst (IsTraceOf value.pools) (trace_seen seen value is t tails sound)
+      (let P : PoolsState F → Type 0 = λ v. IsTraceOf v.pools t in subst P is (is_trace seen.pools t sound))

@@ -1,19 +1,24 @@
 // The pools of a heap.
 #![tactic(auto)]
 
-ghost use Rattle.std.specs.Prelude.{◌≡◌, ◌^◌, ◌<◌, ◌≤◌, length, map, slice_get, MatchResult};
+ghost use Rattle.std.specs.Prelude.{◌≡◌, ℕ, ◌^◌, ◌<◌, ◌≤◌, Some, None, length, map, slice_get, IfNone, IfSome, MatchResult};
 ghost use Rattle.mps_base.specs.Address.{max_grains};
+ghost use Rattle.mps_base.specs.Segment.{Segment, segment_over};
 ghost use Rattle.mps_buffer.specs.Points as buffer;
 ghost use Rattle.mps_gen.specs.State.{max_pools};
 ghost use Rattle.mps_ld.specs.State as ld;
 ghost use Rattle.mps_format.specs.Pools.{policy_of_pool};
+ghost use Rattle.mps_trace.specs.Access.{CanAccess, AccessesTo};
 ghost use Rattle.mps_trace.specs.Collect.{most_moves, most_units};
 ghost use Rattle.mps_trace.specs.Flip.{moving_of, zones_of};
-ghost use Rattle.mps_trace.specs.PoolsCollecting.{CanCollectPools, ArePoolsCollected};
-ghost use Rattle.mps_trace.specs.Pools.{none_made, with_one_more};
+ghost use Rattle.mps_trace.specs.PoolsCollecting.{CanCollectPools, ArePoolsCollected, IsTraceOf};
+ghost use Rattle.mps_trace.specs.Pools.{none_made, trace_of, with_one_more};
+ghost use Rattle.mps_trace.specs.Trace.{traced};
+ghost use Rattle.mps_trace.specs.Unit.{CanUnit, AreUnitsReady, UnitTo, LastUnitTo, UnitsTo, EndsWithin};
 
 use crate::Trace;
-use mps_base::{Trail, WORDS_OF_GRAIN};
+use crate::running::{Band, Running};
+use mps_base::{Addr, Trail, WORDS_OF_GRAIN};
 use mps_buffer::OpenPoints;
 use mps_final::Finals;
 use mps_format::{Format, Pool, policy_of_pool, size_of_pool};
@@ -38,7 +43,7 @@ impl<F: Format> Model for Pools<F> {
 
     ghost Value = { PoolsState F };
 
-    ghost view = { λ p. record { pools = p.pools.items; sizes = p.manual } };
+    ghost view = { λ p. record { pools = p.pools.items; sizes = p.manual; tails = p.trace.amc } };
 
     ghost invariant = { λ p. IsSoundTrace p.pools.items p.trace };
 }
@@ -109,7 +114,7 @@ impl<F: Format> Pools<F> {
         requires few_flips { points.old.flips < 2 ^ 63 }
         requires few_epochs { epochs.old.count < 2 ^ 63 }
         requires can { CanCollectPools F.layout self.old.pools points.old roots.old finals.old segs.old trail.old most }
-        ensures unchanged { self.new ≡ self.old }
+        ensures unchanged { self.new ≡ record self.old { tails = self.new.tails } }
         ensures collected { ArePoolsCollected F.layout self.old.pools points.old roots.old finals.old segs.old trail.old most
             roots.new finals.new segs.new trail.new }
         ensures points { points.new ≡ buffer.points_after_flip points.old }
@@ -118,6 +123,69 @@ impl<F: Format> Pools<F> {
     {
         self.trace
             .collect(segs, trail, roots, points, finals, epochs, most);
+    }
+
+    /// Does nothing: a caller knows that each pool has a tail for its one generation.
+    pub fn tails_are_listed(&self)
+        ensures { IsTraceOf self.now.pools (trace_of self.now.pools self.now.tails) }
+    {
+        let _ = &self.trace;
+    }
+
+    /// One unit of a running collection. None if the collection has ended.
+    pub fn unit(
+        &mut self,
+        segs: &mut Segs,
+        trail: &mut Trail,
+        finals: &mut Finals,
+        running: Running,
+    ) -> Option<Running>
+        requires { CanUnit F.layout (trace_of self.old.pools self.old.tails) segs.old trail.old finals.old running }
+        ensures goes_on { IfSome result (λ next. UnitTo F.layout (trace_of self.old.pools self.old.tails).formats
+            (trace_of self.old.pools self.old.tails).chains (traced (trace_of self.old.pools self.old.tails) segs.old trail.old)
+            finals.old running (traced (trace_of self.new.pools self.new.tails) segs.new trail.new) finals.new next) }
+        ensures ended { IfNone result (LastUnitTo F.layout (trace_of self.old.pools self.old.tails).formats
+            (traced (trace_of self.old.pools self.old.tails) segs.old trail.old) running
+            (traced (trace_of self.new.pools self.new.tails) segs.new trail.new) × (finals.new ≡ finals.old)) }
+        ensures unchanged { self.new ≡ record self.old { tails = self.new.tails } }
+    {
+        self.trace.unit(segs, trail, finals, running)
+    }
+
+    /// At most n units. None if the collection has ended.
+    pub fn finish(
+        &mut self,
+        segs: &mut Segs,
+        trail: &mut Trail,
+        finals: &mut Finals,
+        running: Running,
+        most: u64,
+    ) -> Option<Running>
+        requires { AreUnitsReady F.layout (trace_of self.old.pools self.old.tails) segs.old trail.old finals.old running most }
+        ensures goes_on { IfSome result (λ next. UnitsTo F.layout (trace_of self.old.pools self.old.tails).formats
+            (trace_of self.old.pools self.old.tails).chains (traced (trace_of self.old.pools self.old.tails) segs.old trail.old)
+            finals.old running most (traced (trace_of self.new.pools self.new.tails) segs.new trail.new) finals.new next) }
+        ensures ended { IfNone result (EndsWithin F.layout (trace_of self.old.pools self.old.tails).formats
+            (trace_of self.old.pools self.old.tails).chains (traced (trace_of self.old.pools self.old.tails) segs.old trail.old)
+            finals.old running most (traced (trace_of self.new.pools self.new.tails) segs.new trail.new) finals.new) }
+        ensures unchanged { self.new ≡ record self.old { tails = self.new.tails } }
+    {
+        self.trace.finish(segs, trail, finals, running, most)
+    }
+
+    /// The read barrier of a running collection for a block at `at`, before a reference in it is read.
+    pub fn access(&mut self, segs: &mut Segs, trail: &mut Trail, band: Band, at: Addr)
+        requires { (t : Segment) → segment_over segs.old.segments at.0 ≡ Some t
+            → CanAccess F.layout band (trace_of self.old.pools self.old.tails) segs.old trail.old t }
+        ensures accessed { (t : Segment) → segment_over segs.old.segments at.0 ≡ Some t
+            → AccessesTo F.layout (trace_of self.old.pools self.old.tails).formats (trace_of self.old.pools self.old.tails).chains band t
+            (traced (trace_of self.old.pools self.old.tails) segs.old trail.old)
+            (traced (trace_of self.new.pools self.new.tails) segs.new trail.new) }
+        ensures unchanged { self.new ≡ record self.old { tails = self.new.tails } }
+        ensures idle { segment_over segs.old.segments at.0 ≡ None
+            → (segs.new ≡ segs.old) × (trail.new ≡ trail.old) × (self.new ≡ self.old) }
+    {
+        self.trace.access(segs, trail, band, at);
     }
 }
 

@@ -5,7 +5,7 @@ use Rattle.std.proofs.lemmas.Option.{slice_get-map}
 use Rattle.std.specs.Prelude.{◌==◌, ◌&&◌, ◌||◌, nat_le, not, slice_get, option_map, if◌then◌else◌}
 use Rattle.std.specs.Option.{option_map_or}
 use Rattle.mps_seg.specs.Arena.{answer_of_placement}
-use Rattle.mps_base.specs.Address.{Address}
+use Rattle.mps_base.specs.Address.{Address, address_of_word}
 use Rattle.mps_base.specs.Placement.{Placement, Place, NewSegment, OverLimit, NoFreeRun}
 use Rattle.mps_base.specs.Trail.{Moves, with_move}
 use Rattle.mps_base.specs.declared.address.Addr.{Addr}
@@ -47,7 +47,7 @@ use Rattle.mps_seg.specs.Placing.{placement_in_gaps}
 use Rattle.mps_seg.specs.Segs.{moves_after, segments_after}
 use Rattle.mps_refinement.specs.Answering.{answer_to, says_ok}
 use Rattle.mps_refinement.specs.RightStep.{IsRight, IsRightIn, step_of}
-use Rattle.mps_refinement.specs.StandsFor.{AreParts, IsPool, IsReached, Past, address_of_target, AreOfFlip, IsInTime}
+use Rattle.mps_refinement.specs.StandsFor.{AreParts, IsPool, IsReached, Past, address_of_target, AreOfFlip, IsInTime, collector_of}
 use Rattle.mps_refinement.proofs.Parts.AllocatedParts.{parts_made, segments_made, noted_clear}
 use Rattle.mps_refinement.proofs.Calls.AllocatingStep as allocating
 use Rattle.mps_refinement.proofs.Calls.AllocatingStep.{alloc_empty, alloc_from, alloc_in, alloc_is, alloc_manual, alloc_placed, alloc_sized}
@@ -68,9 +68,11 @@ use Rattle.mps_laws.proofs.QuietSteps.{IsSound}
 use Rattle.mps_laws.proofs.Positions.Segments.{IsAmong}
 use Rattle.mps_laws.proofs.Replays.Steps.{remembered_kept}
 use Rattle.mps_refinement.proofs.Worlds.FlipKept.{flips_kept}
-use Rattle.mps_refinement.proofs.Parts.SegmentsTaken.{condemned_held, condemned_stay}
+use Rattle.mps_refinement.proofs.Parts.SegmentsTaken.{condemned_held, condemned_stay, over_same}
 use Rattle.mps_refinement.proofs.Worlds.RestingActs.{resting_sound}
 use Rattle.mps_refinement.proofs.Calls.RightOwn.{IsOwn, IsRightOutcome, done_is_right, outcome_is_right, refusal_is_right}
+use Rattle.mps_refinement.proofs.Parts.GreyRanks.{ranks_stay}
+use Rattle.mps_base.specs.Segment.{segment_over}
 
 -- ---- each check, against the model's
 
@@ -161,7 +163,7 @@ module _ {F : Type 0} (layout : F → Layout) (h : HeapState F) (trail : Moves) 
   outcome_is = refl
 
   module _ (w : World) (line : ℕ) (past : Past) (parts : AreParts layout past h w) (own : IsKnown past.time w)
-      (reach : IsReached w) (time : IsInTime past.time h.segs w) where
+      (reach : IsReached w) (time : IsInTime past.time (collector_of h) w) where
     is_own : IsOwn w (call.Alloc name words place)
     is_own = record {
       arena = refl;
@@ -173,6 +175,7 @@ module _ {F : Type 0} (layout : F → Layout) (h : HeapState F) (trail : Moves) 
       unasked = λ why. refl;
       still = refl;
       judged = λ ms. refl;
+      taken = λ v. refl;
     }
 
     refused_outcome : (why : Refusal) → act_alloc w w name words place ≡ Err why → IsRightAlloc w line (Err why)
@@ -288,6 +291,16 @@ module _ {F : Type 0} (layout : F → Layout) (h : HeapState F) (trail : Moves) 
                   rest = λ rest. rest;
                   not_condemned = λ not_condemned grain. noted_clear q h.segs.condemned grain (not_condemned grain);
                   not_kept = λ not_condemned not_kept. not_kept;
+                  running = refl;
+                  tails = λ pool generation. refl;
+                  world_tails = λ pool generation. refl;
+                  ranked = λ y r.
+                      ranks_stay layout past h w parts (made_at p.number into q (record { 0 = address_of_placement q })).state.segs
+                      (λ n is. is) (λ n is. is) (λ n grey.
+                      ap (λ ss. segment_over (segments_after q p.number 0 rank.Exact ss) (address_of_word n)) parts.segments
+                      ∙ over_same q p.number 0 rank.Exact (w.grains + 1) w.segments h.segs.condemned own.laid.aligned own.laid.ascending
+                      after.aligned after.ascending n grey.segment
+                      (ap (λ ss. segment_over ss (address_of_word n)) (sym parts.segments) ∙ grey.over));
                   flip = λ of.
                       let moved : AreOfFlip past.time.at_flip (world_after_moves w ms) =
                       subst (AreOfFlip past.time.at_flip) (sym (moved_is w sound q q_is room))

@@ -22,8 +22,9 @@ use Rattle.mps_heap_spec.specs.Coming.{Comes, Outcome, answered}
 use Rattle.mps_heap_spec.specs.declared.found.Entry.{Entry}
 use Rattle.mps_heap_spec.specs.State.{HeapState}
 use Rattle.mps_root.specs.declared.roots.Stored.{Stored}
+use Rattle.mps_refinement.proofs.Worlds.CollectorKept.{all_kept}
 use Rattle.mps_refinement.specs.RightStep.{IsRight}
-use Rattle.mps_refinement.specs.StandsFor.{AreParts, Past, address_of_target, stored_word, IsInTime, Time, rests, runs}
+use Rattle.mps_refinement.specs.StandsFor.{AreParts, Past, address_of_target, stored_word, IsInTime, Time, rests, runs, CollectorState}
 use Rattle.mps_refinement.proofs.Lookups.BlocksOver.{block_over_live}
 use Rattle.mps_refinement.proofs.Lookups.Found.{same_of}
 use Rattle.mps_refinement.proofs.Worlds.Known.{IsKnown}
@@ -39,7 +40,6 @@ use Rattle.mps_heap_spec.specs.Finding.{word_in as ours_word}
 use Rattle.mps_model.specs.Collection.{is_condemned, is_settled}
 use Rattle.mps_abstract.specs.Colours.{is_white}
 use Rattle.mps_abstract.specs.Collecting.{Collecting, Running}
-use Rattle.mps_seg.specs.Segs.{SegsState}
 use Rattle.std.proofs.lemmas.Bool.{false≢true}
 use Rattle.std.proofs.lemmas.Option.{same_Some}
 use Rattle.std.specs.Prelude.{if◌then◌else◌}
@@ -106,7 +106,7 @@ module _ {F : Type 0} (layout : F → Layout) (h : HeapState F) where
       object_then layout past h w parts reached slot (λ b n object.
       fits (record {
         answer = refl;
-        marks = (refl, refl);
+        keeps = all_kept h;
         formats = refl;
         has = record {
           past = past;
@@ -133,7 +133,7 @@ module _ {F : Type 0} (layout : F → Layout) (h : HeapState F) where
       (λ address id object.
       fits (record {
         answer = refl;
-        marks = (refl, refl);
+        keeps = all_kept h;
         formats = refl;
         has = record {
           past = past;
@@ -222,7 +222,7 @@ module _ {F : Type 0} (layout : F → Layout) (h : HeapState F) where
             subst (λ b. act_poked w found id word (if b then AsNumber else AsMarked) (not white) ≡ as_held id (not white)) refl
             (of_copying copying refl e)
 
-    poked_as : (t : Time) (s : SegsState) → IsInTime t s w → (id : Id) (white : Bool) → is_white t.condemned t.colours id ≡ white
+    poked_as : (t : Time) (s : CollectorState) → IsInTime t s w → (id : Id) (white : Bool) → is_white t.condemned t.colours id ≡ white
         → act_poked w found id word (poked w id) (not white) ≡ as_held id (not white)
     poked_as t s (rests rest) id white e =
         ap (λ p. act_poked w found id word p (not white)) (ap (poked_in w id) rest.none) ∙ at_rest white
@@ -243,7 +243,7 @@ module _ {F : Type 0} (layout : F → Layout) (h : HeapState F) where
     poke_leads holds o FindsNone =
         fits (record {
           answer = refl;
-          marks = (refl, refl);
+          keeps = all_kept h;
           formats = refl;
           has = record {
             past = past;
@@ -253,13 +253,13 @@ module _ {F : Type 0} (layout : F → Layout) (h : HeapState F) where
         })
     poke_leads holds o (FindsOne {id} {white} at there above e) =
         subst (Same (Leads layout says_block h past w) (Ok (poke_outcome (not white))))
-        (sym (poked_as past.time of.segs of.now id white e)) (held (not white))
+        (sym (poked_as past.time of.collector of.now id white e)) (held (not white))
       where
         held : (b : Bool) → Same (Leads layout says_block h past w) (Ok (poke_outcome b)) (as_held id b)
         held true =
             fits (record {
               answer = refl;
-              marks = (refl, refl);
+              keeps = all_kept h;
               formats = refl;
               has = record {
                 past = past;
@@ -272,7 +272,7 @@ module _ {F : Type 0} (layout : F → Layout) (h : HeapState F) where
         held false =
             fits (record {
               answer = refl;
-              marks = (refl, refl);
+              keeps = all_kept h;
               formats = refl;
               has = record {
                 past = past;
@@ -317,7 +317,7 @@ module _ {F : Type 0} (layout : F → Layout) (h : HeapState F) where
       → IsRight layout h (call.Poke place word) [] (answer_to says_block result) after
   poked_right place word result after =
       let holds = is_hold h word (block_over h.segs word) in
-      marked_is_right layout says_block h (call.Poke place word) refl supported (after_poke h place word) result after
+      marked_is_right layout says_block h (call.Poke place word) refl (λ v. refl) supported (after_poke h place word) result after
       (λ w past parts of. (
         subst (Same (Leads layout says_block h past w) (after_poke h place word))
             (sym (alike w word holds (block_of_word w word) (ours_word h place) (model_word_in w place)

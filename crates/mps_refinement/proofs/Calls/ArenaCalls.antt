@@ -1,5 +1,5 @@
 -- `limit`, `committed`, `clamp`, `park` and `release`.
-use Rattle.std.proofs.Common.{◌≡◌, ◌∙◌, ℕ, ◌+◌, false, refl, sym, ap, subst, List, [], ◌∷◌, map, Ok, true}
+use Rattle.std.proofs.Common.{◌≡◌, ◌∙◌, ℕ, ◌+◌, false, refl, sym, ap, subst, List, [], ◌∷◌, map, Ok, true, Err}
 use Rattle.std.proofs.lemmas.List.Sums.{sum_by-cons}
 use Rattle.std.specs.Prelude.{nat_lt, sum_by}
 use Rattle.mps_base.specs.Run.{Run, total}
@@ -22,13 +22,14 @@ use Rattle.mps_heap_spec.specs.Coming.{Comes}
 use Rattle.mps_heap_spec.specs.State.{HeapState}
 use Rattle.mps_heap_spec.specs.declared.arena.ArenaState.{ArenaState}
 use Rattle.mps_heap_spec.specs.declared.arena.ArenaState.TheVariants as arena
+use Rattle.mps_refinement.proofs.Worlds.CollectorKept.{all_kept}
 use Rattle.mps_refinement.specs.Answering.{answer_to, says_number, says_ok}
 use Rattle.mps_refinement.specs.RightStep.{IsRight, IsRightIn, step_of}
-use Rattle.mps_refinement.specs.StandsFor.{AreParts, Past, state_of}
+use Rattle.mps_refinement.specs.StandsFor.{AreParts, Past, state_of, collector_of}
 use Rattle.mps_refinement.proofs.Parts.PartsMade.{arena_changed}
 use Rattle.mps_refinement.proofs.Worlds.Steps.{HasParts, Leads, answer_is_right, quiet_is_right, resting_is_right}
 use Rattle.mps_refinement.proofs.Parts.Resting.{at_rest}
-use Rattle.mps_refinement.proofs.Worlds.RunningActs.{is_poke}
+use Rattle.mps_refinement.proofs.Worlds.RunningActs.{is_plain}
 use Rattle.mps_refinement.specs.QuietCalls.{never_moves}
 use Rattle.mps_refinement.proofs.Parts.BlockParts.{unpaired}
 
@@ -51,7 +52,7 @@ module _ {F : Type 0} (layout : F → Layout) (h : HeapState F) (w : World) (pas
       (ap (nat_lt limit) held_grains_are))
       (fits (record {
         answer = refl;
-        marks = (refl, refl);
+        keeps = all_kept h;
         formats = refl;
         has = record {
           past = past;
@@ -83,14 +84,14 @@ module _ {F : Type 0} (layout : F → Layout) (h : HeapState F) where
 
   -- the arena's state
   state_is_right : (c : Call) (arena : ArenaState) (after : HeapState F) → never_moves c ≡ true
-      → is_poke c ≡ false
+      → is_plain c ≡ true
       → ((w : World) → act false w w c ≡ done (with_state w (state_of arena))) → after ≡ with_arena h arena
       → IsRight layout h c [] (Replied reply.Ok) after
   state_is_right c arena after quiet once acts is =
       quiet_is_right layout says_ok h c quiet once (λ a. refl) (ours.done (with_arena h arena)) (Ok tt) after
       (λ w past parts reached.
       subst (λ x. Same (Leads layout says_ok h past w) (ours.done (with_arena h arena)) x) (sym (acts w))
-      (fits (record { answer = refl; marks = (refl, refl); formats = refl; has = state_has layout h w past parts arena })))
+      (fits (record { answer = refl; keeps = all_kept h; formats = refl; has = state_has layout h w past parts arena })))
       (record { answer = refl; state = is })
 
   pub clamp_is_right : (after : HeapState F) → after ≡ with_arena h arena.Clamped → IsRight layout h call.Clamp [] (Replied reply.Ok) after
@@ -104,7 +105,8 @@ module _ {F : Type 0} (layout : F → Layout) (h : HeapState F) where
   pub park_is_right : (after : HeapState F) → after ≡ with_arena h arena.Parked → IsRight layout h call.Park [] (Replied reply.Ok) after
   park_is_right after is w line st =
       subst (λ s. IsRightIn layout w (step_of line call.Park [] (Replied reply.Ok)) s) (sym is)
-      (resting_is_right layout w line call.Park (Replied reply.Ok) refl refl refl st.reached st.past.time h.segs
-      (done (with_state w (state_of arena.Parked))) (with_arena h arena.Parked) (at_rest st.time) (refl, refl)
+      (resting_is_right layout w line call.Park (Replied reply.Ok) refl refl refl st.reached
+      (Err refusal.NotRegistered) st.past.time (collector_of h) (done (with_state w (state_of arena.Parked))) (with_arena h arena.Parked)
+      (at_rest st.time) (all_kept h)
       (ap (λ pairs. done (with_state w (world.Parked pairs))) (ap world.pairs_in st.parts.state ∙ unpaired h.arena)) refl
       (state_has layout h w st.past st.parts arena.Parked))

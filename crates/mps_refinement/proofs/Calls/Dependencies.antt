@@ -28,15 +28,16 @@ use Rattle.mps_heap_spec.specs.Depending.{dependency_merged, dependency_reset, i
 use Rattle.mps_heap_spec.specs.declared.found.Kept.{Kept}
 use Rattle.mps_heap_spec.specs.Making.{IsMaking, MakesDependency, check_dependency, refuse_taken}
 use Rattle.mps_heap_spec.specs.State.{HeapState}
+use Rattle.mps_refinement.proofs.Worlds.CollectorKept.{KeepsAll, all_kept}
 use Rattle.mps_refinement.specs.Answering.{answer_to, says_bool, says_ok}
 use Rattle.mps_refinement.specs.Making.{IsRightMaking}
 use Rattle.mps_refinement.specs.RightStep.{IsRight}
-use Rattle.mps_refinement.specs.StandsFor.{AreParts, Past, kept_of}
+use Rattle.mps_refinement.specs.StandsFor.{AreParts, Past, kept_of, collector_of}
 use Rattle.mps_refinement.proofs.Lookups.Lookups.{IsDependencyFound, dependency_same}
 use Rattle.mps_refinement.proofs.Calls.MakingSteps.{MakesAlike, checks_then, first_passed, free_name, making_is_right, taken_same}
 use Rattle.mps_refinement.proofs.Parts.Named.{ThingsStay, named_alike, named_made}
 use Rattle.mps_refinement.proofs.Parts.PartsMade.{dependencies_changed, state_of_dependencies}
-use Rattle.mps_refinement.proofs.Worlds.Steps.{HasParts, Leads, SaysOnly, answer_is_right_in, quiet_is_right, KeepsMarks}
+use Rattle.mps_refinement.proofs.Worlds.Steps.{HasParts, Leads, SaysOnly, answer_is_right_in, quiet_is_right}
 
 module _ {F : Type 0} (layout : F → Layout) (h : HeapState F) (w : World) (past : Past) (parts : AreParts layout past h w) where
   -- a dependency on nothing, as of now
@@ -109,7 +110,7 @@ module _ {F : Type 0} (layout : F → Layout) (h : HeapState F) (w : World) (pas
         (same_refuse_when (nat_le most_dependencies (length h.dependencies)) (nat_le most_dependencies (length w.dependencies))
         (refusal.TooMany most_dependencies) (ap (nat_le most_dependencies) count_is));
     formats = refl;
-    marks = λ key after makes. subst (λ (s : HeapState F). KeepsMarks h.segs s.segs) (sym makes.state) (refl, refl);
+    keeps = λ key after makes. subst (λ (s : HeapState F). KeepsAll (collector_of h) (collector_of s)) (sym makes.state) (all_kept h);
     has = λ number after ok makes.
         dependency_parts name number after
         (free_name h name
@@ -144,7 +145,7 @@ module _ {F : Type 0} (layout : F → Layout) (h : HeapState F) (w : World) (pas
       same_then (dependency_same layout past h w parts name) (λ d e found.
       fits (record {
         answer = refl;
-        marks = (refl, refl);
+        keeps = all_kept h;
         formats = refl;
         has = dependency_written d e found
             (reset_at h.epochs) new_now reset_is;
@@ -157,7 +158,7 @@ module _ {F : Type 0} (layout : F → Layout) (h : HeapState F) (w : World) (pas
       same_then (dependency_same layout past h w parts source) (λ x y other.
       fits (record {
         answer = refl;
-        marks = (refl, refl);
+        keeps = all_kept h;
         formats = refl;
         has = dependency_written d e found (after_merge d.value x.value) (model_dependency.merged e.value y.value)
             (ap (λ z. after_merge z x.value) found.fit ∙ ap (after_merge (kept_of e.value)) other.fit);

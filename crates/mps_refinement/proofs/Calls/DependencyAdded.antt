@@ -17,6 +17,7 @@ use Rattle.mps_heap_spec.specs.Coming.{Comes}
 use Rattle.mps_heap_spec.specs.Depending.{dependency_added}
 use Rattle.mps_heap_spec.specs.declared.found.Kept.{Kept}
 use Rattle.mps_heap_spec.specs.State.{HeapState}
+use Rattle.mps_refinement.proofs.Worlds.CollectorKept.{all_kept}
 use Rattle.mps_refinement.specs.RightStep.{IsRight}
 use Rattle.mps_refinement.specs.StandsFor.{AreParts, Past, kept_of}
 use Rattle.mps_refinement.proofs.Lookups.LiveObjects.{object_then}
@@ -44,7 +45,7 @@ module _ {F : Type 0} (layout : F → Layout) (h : HeapState F) where
       object_then layout past h w parts reached slot (λ b n is.
       fits (record {
         answer = refl;
-        marks = (refl, refl);
+        keeps = all_kept h;
         formats = refl;
         has = record {
           past = past;

@@ -22,6 +22,7 @@ use Rattle.mps_root.specs.State.{RootsState, kept, without, without_key}
 use Rattle.mps_root.specs.declared.roots.Stored.{Stored}
 use Rattle.mps_heap_spec.specs.Making.{IsDropping, root_dropped, roots_without, without_root}
 use Rattle.mps_heap_spec.specs.State.{HeapState}
+use Rattle.mps_refinement.proofs.Worlds.CollectorKept.{all_kept}
 use Rattle.mps_refinement.specs.Answering.{answer_to, says_ok}
 use Rattle.mps_refinement.specs.RightStep.{IsRight}
 use Rattle.mps_refinement.specs.StandsFor.{AreParts, AreSlots, AreWords, IsThere, Past, address_of_target, numbered_thing, stored_word}
@@ -159,7 +160,7 @@ module _ {F : Type 0} (layout : F → Layout) (h : HeapState F) (name : Name) (w
         length slots,
       )) o))
       (models (Some (graph.TableThing (past.table_number key))))) (sym items.1)
-      (fits (record { answer = refl; marks = λ names. (refl, refl); formats = refl; has = table_left key items.0 e items.1 }))
+      (fits (record { answer = refl; keeps = λ names. all_kept h; formats = refl; has = table_left key items.0 e items.1 }))
   by_thing (Some (thing.Area key)) e =
       let items = some_there (kept h.roots.areas key) (parts.names.there name (thing.Area key) e) in
       subst (λ o. Alike (ours_left (option_map (λ (words : List Stored). (
@@ -169,7 +170,7 @@ module _ {F : Type 0} (layout : F → Layout) (h : HeapState F) (name : Name) (w
         length words,
       )) o))
       (models (Some (graph.AreaThing (past.area_number key))))) (sym items.1)
-      (fits (record { answer = refl; marks = λ names. (refl, refl); formats = refl; has = area_left key items.0 e items.1 }))
+      (fits (record { answer = refl; keeps = λ names. all_kept h; formats = refl; has = area_left key items.0 e items.1 }))
   by_thing (Some _) e = same.refused
 
   root_alike : DropsAlike layout h name (call.DropRoot name) (root_dropped h name) past w

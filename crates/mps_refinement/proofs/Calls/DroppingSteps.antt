@@ -14,13 +14,14 @@ use Rattle.mps_model.specs.World.{World}
 use Rattle.mps_names.specs.State.{NamesState, Updates}
 use Rattle.mps_heap_spec.specs.Making.{IsDropping, NotDropped, Dropped}
 use Rattle.mps_heap_spec.specs.State.{HeapState}
+use Rattle.mps_refinement.proofs.Worlds.CollectorKept.{KeepsAll, all_kept}
 use Rattle.mps_refinement.specs.Answering.{answer_to, says_ok}
 use Rattle.mps_refinement.specs.RightStep.{IsRight}
-use Rattle.mps_refinement.specs.StandsFor.{AreParts, Past}
-use Rattle.mps_refinement.proofs.Worlds.Steps.{HasParts, KeepsMarks, plain_is_right}
+use Rattle.mps_refinement.specs.StandsFor.{AreParts, Past, collector_of}
+use Rattle.mps_refinement.proofs.Worlds.Steps.{HasParts, plain_is_right}
 use Rattle.std.specs.Prelude.{None}
 use Rattle.mps_refinement.proofs.Worlds.Known.{IsKnown, known_now}
-use Rattle.mps_refinement.proofs.Worlds.RunningActs.{is_poke}
+use Rattle.mps_refinement.proofs.Worlds.RunningActs.{is_plain}
 use Rattle.mps_refinement.specs.QuietCalls.{never_moves}
 
 -- where the heap's checks come to something, so do the model's, and they fit
@@ -35,13 +36,13 @@ module _ {F : Type 0} (layout : F → Layout) (h : HeapState F) (name : Name) (c
   pub record DropsTo (past : Past) (w : World) (rest : NamesState → HeapState F) (a : Act) : Type 0 where
     pub answer : a.answer ≡ Replied reply.Ok
     pub formats : a.world.formats ≡ w.formats
-    pub marks : (names : NamesState) → KeepsMarks h.segs (rest names).segs
+    pub keeps : (names : NamesState) → KeepsAll (collector_of h) (collector_of (rest names))
     pub has : (names : NamesState) → Updates h.names names name None → HasParts layout past.time (rest names) a.world
 
   abbrev pub DropsAlike : Past → World → Type 0
   DropsAlike past w = Same (DropsTo past w) dropped (act false w w c)
 
-  pub dropping_is_right : never_moves c ≡ true → is_poke c ≡ false
+  pub dropping_is_right : never_moves c ≡ true → is_plain c ≡ true
       → ((w : World) (past : Past) → AreParts layout past h w → IsKnown past.time w → DropsAlike past w)
       → (result : Checked (Unit {0})) (after : HeapState F) → IsDropping h name dropped result after
       → IsRight layout h c [] (answer_to says_ok result) after
@@ -49,7 +50,7 @@ module _ {F : Type 0} (layout : F → Layout) (h : HeapState F) (name : Name) (c
     where
       refused_right : (why : Refusal) → dropped ≡ Err why → IsRight layout h c [] (answers.refused why) h
       refused_right why e = λ w line st.
-          plain_is_right layout w line c (answers.refused why) (Err why) h h quiet arena refl st (refl, refl)
+          plain_is_right layout w line c (answers.refused why) (Err why) h h quiet arena refl st (all_kept h)
           (same_err (DropsTo st.past w) dropped (act false w w c) why
           (alike w st.past st.parts (known_now st)) e) refl refl
           (record { past = st.past; timed = refl; parts = st.parts })
@@ -60,7 +61,7 @@ module _ {F : Type 0} (layout : F → Layout) (h : HeapState F) (name : Name) (c
           let y = ours_ok (DropsTo st.past w) dropped (act false w w c) rest
           (alike w st.past st.parts (known_now st)) e in
           plain_is_right layout w line c (Replied reply.Ok) (Ok y.0) h s quiet arena refl st
-          (subst (λ (z : HeapState F). KeepsMarks h.segs z.segs) (sym is) ((y.2).marks s.names)) y.1
+          (subst (λ (z : HeapState F). KeepsAll (collector_of h) (collector_of z)) (sym is) ((y.2).keeps s.names)) y.1
           (sym (y.2).answer) (y.2).formats (subst (λ z. HasParts layout st.past.time z (y.0).world) (sym is) ((y.2).has s.names names))
 
       of_dropping : {result : Checked (Unit {0})} {after : HeapState F} → IsDropping h name dropped result after

@@ -1,5 +1,5 @@
 -- The calls on registrations and messages are right: `finalize`, `definalize`, `message`.
-use Rattle.std.proofs.Common.{◌≡◌, ◌∙◌, ℕ, ◌+◌, Bool, true, false, refl, sym, ap, ap₂, subst, List, [], ◌∷◌, length, map, Option, Some, Ok, inl}
+use Rattle.std.proofs.Common.{◌≡◌, ◌∙◌, ℕ, ◌+◌, Bool, true, false, refl, sym, ap, ap₂, subst, List, [], ◌∷◌, length, map, Option, Some, Ok}
 use Rattle.std.proofs.lemmas.List.{length-map}
 use Rattle.std.specs.Prelude.{nat_le}
 use Rattle.mps_base.specs.Address.{Address, Id}
@@ -18,6 +18,7 @@ use Rattle.mps_heap_spec.specs.Coming.{Comes}
 use Rattle.mps_heap_spec.specs.declared.found.Entry.{Entry}
 use Rattle.mps_heap_spec.specs.Finalizing.{message_into, message_taken, after_finalize, with_finals}
 use Rattle.mps_heap_spec.specs.State.{HeapState}
+use Rattle.mps_refinement.proofs.Worlds.CollectorKept.{all_kept}
 use Rattle.mps_refinement.specs.RightStep.{IsRight}
 use Rattle.mps_refinement.specs.StandsFor.{AreParts, Past, address_of_id}
 use Rattle.mps_refinement.proofs.Lookups.LiveObjects.{object_then}
@@ -36,19 +37,19 @@ module _ {F : Type 0} (layout : F → Layout) (h : HeapState F) where
       (same_refuse_when (nat_le max_finals (finals_count h.finals))
       (nat_le most_registrations (length w.graph.registered + length w.graph.messages)) (refusal.TooMany max_finals)
       (ap (nat_le max_finals) (ap₂ (λ (a b : ℕ). a + b)
-      (as_many w.addresses past.time.at_flip h.finals.registered w.graph.registered parts.registered)
+      (as_many w.addresses past.time.at_flip past.time.next past.time.registered_before h.finals.registered w.graph.registered parts.registered)
       (ap length parts.messages ∙ length-map w.graph.messages (address_of_id w.addresses)))))
       (fits (record {
         answer = refl;
-        marks = (refl, refl);
+        keeps = all_kept h;
         formats = refl;
         has = record {
           past = past;
           timed = refl;
           parts = finals_written layout past h w parts (with_registration h.finals b.at) (with_last w.graph.registered n.number)
               w.graph.messages
-              (one_more w.addresses past.time.at_flip h.finals.registered w.graph.registered b.at n.number parts.registered
-              (inl is.address))
+              (one_more w.addresses past.time.at_flip past.time.next past.time.registered_before h.finals.registered w.graph.registered b.at
+              n.number parts.registered reached.before is.address)
               parts.messages;
         };
       })))
@@ -66,14 +67,14 @@ module _ {F : Type 0} (layout : F → Layout) (h : HeapState F) where
       → Same (Leads layout says_message h past w) (Ok (message_into h entry ats)) (act_message_in w found ids)
   message_in w past parts index entry found is ats [] e =
       subst (λ xs. Same (Leads layout says_message h past w) (Ok (message_into h entry xs)) (act_message_in w found [])) (sym e)
-      (fits (record { answer = refl; marks = (refl, refl); formats = refl; has = record { past = past; timed = refl; parts = parts } }))
+      (fits (record { answer = refl; keeps = all_kept h; formats = refl; has = record { past = past; timed = refl; parts = parts } }))
   message_in w past parts index entry found is ats (id ∷ ids) e =
       let rest = map (address_of_id w.addresses) ids in
       let taken = finals_written layout past h w parts (record h.finals { messages = rest }) w.graph.registered ids parts.registered refl in
       subst (λ xs. Same (Leads layout says_message h past w) (Ok (message_into h entry xs)) (act_message_in w found (id ∷ ids))) (sym e)
       (fits (record {
         answer = refl;
-        marks = (refl, refl);
+        keeps = all_kept h;
         formats = refl;
         has = record {
           past = past;

@@ -23,7 +23,7 @@ use Rattle.mps_model.specs.declared.call.Call.TheVariants as call
 use Rattle.mps_model.specs.Checked as checked
 use Rattle.mps_model.specs.Checked.{Checked, Found, ◌>>=◌, ◌>>◌, done, required}
 use Rattle.mps_model.specs.Effect.{with_address, world_after_moves}
-use Rattle.mps_model.specs.World.{World, Pool, is_any_size_kind, is_empty_segment, pool_is, is_automatic_kind, is_copying_pool, pairs_in}
+use Rattle.mps_model.specs.World.{World, Pool, is_any_size_kind, is_empty_segment, pool_is, is_automatic_kind, is_copying_pool, pairs_in, object_is}
 use Rattle.mps_heap_spec.specs.Coming.{ComesMoving, Moved}
 use Rattle.mps_heap_spec.specs.Finding.{block_place_in}
 use Rattle.mps_heap_spec.specs.declared.found.Entry.{Entry}
@@ -32,9 +32,9 @@ use Rattle.mps_heap_spec.specs.State.{HeapState}
 use Rattle.mps_format.specs.Pools.{size_of_pool}
 use Rattle.mps_refinement.specs.Answering.{answer_to, says_ok}
 use Rattle.mps_refinement.specs.RightStep.{IsRight, step_of, IsRightIn}
-use Rattle.mps_refinement.specs.StandsFor.{AreParts, IsReached, Past, IsInTime, Time, rests, runs}
+use Rattle.mps_refinement.specs.StandsFor.{AreParts, IsReached, Past, IsInTime, Time, rests, runs, collector_of}
 use Rattle.mps_refinement.proofs.Lookups.Blocks.{same_address}
-use Rattle.mps_refinement.proofs.Parts.FreedParts.{any_size_alike, freed_is, not_automatic, parts_freed, segments_freed, unused_is, flip_after, segs_condemned, segs_kept}
+use Rattle.mps_refinement.proofs.Parts.FreedParts.{any_size_alike, freed_is, not_automatic, parts_freed, segments_freed, unused_is, flip_after, segs_condemned, segs_kept, ranks_freed}
 use Rattle.mps_refinement.proofs.Calls.FreeingStep as freeing
 use Rattle.mps_refinement.proofs.Worlds.Known.{IsKnown}
 use Rattle.mps_refinement.proofs.Lookups.LiveObjects.{IsLiveBlock, live_block}
@@ -57,7 +57,7 @@ use Rattle.mps_laws.proofs.Sound.SoundGraph.{IsSoundGraph, auto}
 use Rattle.mps_laws.proofs.Replays.Steps.{remembered_kept}
 use Rattle.mps_model.specs.Collection as model_collection
 use Rattle.mps_model.specs.Collection.{Collection}
-use Rattle.mps_model.specs.Graph.{without_named, contains, entry_at}
+use Rattle.mps_model.specs.Graph.{without_named, contains, entry_at, is_automatic}
 use Rattle.mps_model.specs.History.{moves_of_free, unless_refused, with_client_remembered}
 use Rattle.mps_model.specs.Reply.{world_from}
 use Rattle.mps_refinement.proofs.Worlds.PlacesByMoves.{places_of}
@@ -67,6 +67,7 @@ use Rattle.mps_refinement.proofs.Parts.SegmentsTaken.{condemned_held, contained_
 use Rattle.mps_refinement.proofs.Worlds.RestingActs.{resting_sound}
 use Rattle.mps_refinement.proofs.Calls.RightOwn.{IsOwn, IsRightOutcome, done_is_right, outcome_is_right, refusal_is_right}
 use Rattle.mps_refinement.proofs.Parts.BlockParts.{parts_with_pairs, world_with_blocks, unpaired}
+use Rattle.mps_abstract.specs.Colours.{is_grey}
 
 -- the moves of a free, where the trail had none
 moves_are : (size : ℕ) (s : SegsState) (trail : Moves) (at : Address) (t : Segment) → trail.moves ≡ []
@@ -98,7 +99,7 @@ module _ {F : Type 0} (layout : F → Layout) (h : HeapState F) (trail : Moves) 
   IsRightFree w line o = IsRightOutcome layout h trail none (call.Free place) w line o
 
   module _ (w : World) (line : ℕ) (past : Past) (parts : AreParts layout past h w) (own : IsKnown past.time w)
-      (reach : IsReached w) (time : IsInTime past.time h.segs w) where
+      (reach : IsReached w) (time : IsInTime past.time (collector_of h) w) where
     is_own : IsOwn w (call.Free place)
     is_own = record {
       arena = refl;
@@ -110,6 +111,7 @@ module _ {F : Type 0} (layout : F → Layout) (h : HeapState F) (trail : Moves) 
       unasked = λ why. refl;
       still = refl;
       judged = λ ms. refl;
+      taken = λ v. refl;
     }
 
     sound : w.collection ≡ None → IsSound w
@@ -120,7 +122,7 @@ module _ {F : Type 0} (layout : F → Layout) (h : HeapState F) (trail : Moves) 
         → pool_is is_any_size_kind w t.pool ≡ true → contains c.condemned_segments t.base ≡ false
     outside c e t there any = of_time past.time time
       where
-        of_time : (x : Time) → IsInTime x h.segs w → contains c.condemned_segments t.base ≡ false
+        of_time : (x : Time) → IsInTime x (collector_of h) w → contains c.condemned_segments t.base ≡ false
         of_time x (rests rest) = absurd (none-some c (sym rest.none ∙ e))
         of_time x (runs y r may) =
             subst (λ (d : model_collection.Collection). contains d.condemned_segments t.base ≡ false)
@@ -304,6 +306,13 @@ module _ {F : Type 0} (layout : F → Layout) (h : HeapState F) (trail : Moves) 
                 not_kept = λ none unmarked n. ap (λ bits. bit bits n)
                     (segs_kept layout past h w parts own graph at id b time t given)
                     ∙ none_set h.segs.marks.kept (word_of at) n (unmarked n);
+                running = refl;
+                tails = λ pool generation. refl;
+                world_tails = λ pool generation. refl;
+                ranked = λ y r.
+                    ranks_freed layout past h w parts own graph at id b time t given v refl refl refl own.laid layout_freed (λ j grey.
+                    ap (λ (u : World). object_is is_automatic u j) (sym r.world)
+                    ∙ r.invariant.grey.grey_automatic j (ap (λ k. is_grey k j) (sym r.colours) ∙ grey));
                 flip = λ of_flip.
                     let after = flip_after layout past h w parts own graph at id b time v.graph.blocks v.segments of_flip in
                     record { made = after.made; still = after.still };

@@ -12,9 +12,11 @@ use Rattle.mps_model.specs.World.{World}
 use Rattle.mps_heap_spec.specs.Coming.{Comes, Outcome}
 use Rattle.mps_heap_spec.specs.Objects.{reference_got}
 use Rattle.mps_heap_spec.specs.State.{HeapState}
+use Rattle.mps_base.specs.declared.refusal.Refusal.TheVariants as refusal
+use Rattle.mps_refinement.proofs.Worlds.CollectorKept.{all_kept}
 use Rattle.mps_refinement.specs.Answering.{answer_to, says_ok}
 use Rattle.mps_refinement.specs.RightStep.{IsRight, IsRightIn, step_of}
-use Rattle.mps_refinement.specs.StandsFor.{StandsFor, Time}
+use Rattle.mps_refinement.specs.StandsFor.{StandsFor, Time, collector_of}
 use Rattle.mps_refinement.proofs.Parts.Resting.{at_rest}
 use Rattle.mps_model.specs.Answer.{refused}
 use Rattle.mps_refinement.proofs.Worlds.Known.{known_now}
@@ -32,13 +34,13 @@ module _ {F : Type 0} (layout : F → Layout) (h : HeapState F) (target source :
     of_both x y e (fits {a = out} {b = a} leads) comes =
         subst (IsRightGet result) (sym comes.state)
         (subst (λ r. IsRightGet r out.state) (sym comes.answer)
-        (resting_is_right layout w line (call.Get target source k) (says_ok out.answer) refl refl refl st.reached st.past.time h.segs (Ok a)
-        out.state (at_rest st.time) leads.marks e (sym leads.answer) leads.has))
+        (resting_is_right layout w line (call.Get target source k) (says_ok out.answer) refl refl refl st.reached
+        (Err refusal.NotRegistered) st.past.time (collector_of h) (Ok a) out.state (at_rest st.time) leads.keeps e (sym leads.answer) leads.has))
     of_both x y e (same.refused {why = why}) comes =
         subst (IsRightGet result) (sym comes.state)
         (subst (λ r. IsRightGet r h) (sym comes.answer)
-        (resting_is_right layout w line (call.Get target source k) (refused why) refl refl refl st.reached st.past.time h.segs (Err why) h
-        (at_rest st.time) (refl, refl) e refl (record { past = st.past; timed = refl; parts = st.parts })))
+        (resting_is_right layout w line (call.Get target source k) (refused why) refl refl refl st.reached
+        (Err refusal.NotRegistered) st.past.time (collector_of h) (Err why) h (at_rest st.time) (all_kept h) e refl (record { past = st.past; timed = refl; parts = st.parts })))
 
     all_black : (id : ℕ) → is_black st.past.time.condemned st.past.time.colours id ≡ true
     all_black id = ap (λ (t : Time). is_black t.condemned t.colours id) (at_rest st.time).time

@@ -35,11 +35,12 @@ use Rattle.mps_heap_spec.specs.Making.{IsDropping, IsMaking, MakesPoint, MakesPo
 use Rattle.mps_heap_spec.specs.State.{HeapState}
 use Rattle.mps_format.specs.Pools.{is_copying_pool}
 use Rattle.mps_format.specs.declared.pool.Pool.{Pool}
+use Rattle.mps_refinement.proofs.Worlds.CollectorKept.{KeepsAll, all_kept}
 use Rattle.mps_refinement.specs.Answering.{answer_to, says_ok}
 use Rattle.mps_refinement.specs.Making.{IsRightMaking}
 use Rattle.mps_refinement.specs.Numbering.{renumbered}
 use Rattle.mps_refinement.specs.RightStep.{IsRight}
-use Rattle.mps_refinement.specs.StandsFor.{AreHeldAlike, BothHeld, NoneHeld, AreParts, IsPoint, IsThere, Past, StandsAt, setting_at}
+use Rattle.mps_refinement.specs.StandsFor.{AreHeldAlike, BothHeld, NoneHeld, AreParts, IsPoint, IsThere, Past, StandsAt, setting_at, collector_of}
 use Rattle.mps_refinement.proofs.Parts.Counts.{point_dropped_points, point_made_points}
 use Rattle.mps_refinement.proofs.Calls.DroppingSteps.{DropsAlike, DropsTo, dropping_is_right, ours_ok}
 use Rattle.mps_refinement.proofs.Lookups.Found.{AreFound, same_found}
@@ -52,7 +53,7 @@ use Rattle.mps_refinement.proofs.Parts.PartsMade.{points_changed, state_of_point
 use Rattle.mps_refinement.proofs.Parts.PointImage.{dropped_back, dropped_live, extents_more, extents_without, made_back, made_live, right_points_long}
 use Rattle.mps_refinement.proofs.Parts.PointWritten.{resting_points}
 use Rattle.mps_refinement.proofs.Lookups.PoolKinds.{copying_by_number, may_have_point_alike}
-use Rattle.mps_refinement.proofs.Worlds.Steps.{HasParts, KeepsMarks}
+use Rattle.mps_refinement.proofs.Worlds.Steps.{HasParts}
 use Rattle.mps_refinement.proofs.Worlds.Known.{IsKnown}
 
 -- ---- one memory, and others
@@ -261,7 +262,7 @@ module _ {F : Type 0} (layout : F → Layout) (h : HeapState F) (w : World) (pas
       comes = comes_of (model.refuse_taken w name) (models.pool_named w pool);
       alike = same_passed (check_point h name pool at_rank) model_check check_same;
       formats = formats_of model_check;
-      marks = λ key after m. subst (λ (s : HeapState F). KeepsMarks h.segs s.segs) (sym m.makes.state) (refl, refl);
+      keeps = λ key after m. subst (λ (s : HeapState F). KeepsAll (collector_of h) (collector_of s)) (sym m.makes.state) (all_kept h);
       has = λ key after ok makes. has key after makes;
     }
       where
@@ -383,7 +384,7 @@ module _ {F : Type 0} (layout : F → Layout) (h : HeapState F) (w : World) (pas
     by_reservation p q found false e =
         fits (record {
           answer = refl;
-          marks = λ names. (refl, refl);
+          keeps = λ names. all_kept h;
           formats = refl;
           has = point_left p q found.fit found.ours
               (none_held (length w.flips) found.fit.fit.memory.reserved_at p.value.reservation q.value.reservation

@@ -31,14 +31,15 @@ use Rattle.mps_heap_spec.specs.State.{HeapState}
 use Rattle.mps_format.specs.Pools.{size_of_pool}
 use Rattle.mps_format.specs.declared.pool.Pool.{Pool}
 use Rattle.mps_format.specs.declared.pool.Pool.TheVariants as pool
+use Rattle.mps_refinement.proofs.Worlds.CollectorKept.{KeepsAll, one_more_kept}
 use Rattle.mps_refinement.specs.Making.{IsRightMaking, IsRightMakingIn, MeansLayout}
-use Rattle.mps_refinement.specs.StandsFor.{AreParts, ArePools, IsPool, Past, setting_at}
+use Rattle.mps_refinement.specs.StandsFor.{AreParts, ArePools, IsPool, Past, setting_at, collector_of}
 use Rattle.mps_refinement.proofs.Calls.MakingSteps.{MakesAlike, checks_then, first_passed, free_name, making_is_right, making_is_right_in, taken_same}
 use Rattle.mps_refinement.proofs.Parts.Named.{ThingsStay, named_made}
 use Rattle.mps_refinement.proofs.Parts.Numbering.{fitting_there}
 use Rattle.mps_refinement.proofs.Parts.PartsMade.{pools_changed, state_of_pools}
 use Rattle.mps_refinement.proofs.Parts.PoolImage.{other_formats_stand}
-use Rattle.mps_refinement.proofs.Worlds.Steps.{HasParts, KeepsMarks}
+use Rattle.mps_refinement.proofs.Worlds.Steps.{HasParts}
 use Rattle.mps_trace_laws.specs.Image.Image.{black_cells}
 use Rattle.mps_laws.proofs.LeftByActs.{owners}
 use Rattle.mps_refinement.proofs.Worlds.Known.{IsKnown}
@@ -151,7 +152,7 @@ module _ {F : Type 0} (layout : F → Layout) (h : HeapState F) (name : Name) (p
           (done (model.with_pool w name q));
       alike = same_next (taken_same layout past h w parts name) limit_same;
       formats = refl;
-      marks = λ key after makes. subst (λ (s : HeapState F). KeepsMarks h.segs s.segs) (sym makes.state) (refl, refl);
+      keeps = λ key after makes. subst (λ (s : HeapState F). KeepsAll (collector_of h) (collector_of s)) (sym makes.state) (one_more_kept h);
       has = λ number after ok makes.
           pool_parts number after
           (free_name h name (first_passed (refuse_taken h name) (refuse_at_limit (length h.pools) most_pools) tt ok).1) makes;
@@ -176,7 +177,7 @@ module _ {F : Type 0} (layout : F → Layout) (h : HeapState F) (name : Name) (p
       alike = same_next (taken_same layout past h w parts name)
           (same_next (same_refuse_when (not (is_block_size words)) (not (is_block_size words)) refusal.BadSize refl) limit_same);
       formats = refl;
-      marks = λ key after makes. subst (λ (s : HeapState F). KeepsMarks h.segs s.segs) (sym makes.state) (refl, refl);
+      keeps = λ key after makes. subst (λ (s : HeapState F). KeepsAll (collector_of h) (collector_of s)) (sym makes.state) (one_more_kept h);
       has = λ number after ok makes.
           pool_parts number after
           (free_name h name (first_passed (refuse_taken h name) (refuse_size words >> refuse_at_limit (length h.pools) most_pools) tt ok).1)

@@ -20,16 +20,17 @@ use Rattle.mps_names.specs.declared.names.Thing.TheVariants as thing
 use Rattle.mps_root.specs.State.{RootsState, kept, no_word}
 use Rattle.mps_heap_spec.specs.Making.{IsMaking, MakesArea, MakesBlocks, MakesTable, check_root, refuse_root, refuse_taken, with_root}
 use Rattle.mps_heap_spec.specs.State.{HeapState}
+use Rattle.mps_refinement.proofs.Worlds.CollectorKept.{KeepsAll, all_kept}
 use Rattle.mps_refinement.specs.Making.{IsRightMaking}
 use Rattle.mps_refinement.specs.Numbering.{AreOrdered, renumbered}
-use Rattle.mps_refinement.specs.StandsFor.{AreParts, AreSlots, AreWords, Past, address_of_target, stored_word}
+use Rattle.mps_refinement.specs.StandsFor.{AreParts, AreSlots, AreWords, Past, address_of_target, stored_word, collector_of}
 use Rattle.mps_refinement.proofs.Parts.Counts.{area_made_roots, area_made_slots, blocks_made_roots, blocks_made_slots, table_made_roots, table_made_slots}
 use Rattle.mps_refinement.proofs.Calls.MakingSteps.{MakesAlike, checks_then, first_passed, free_name, making_is_right, root_same, taken_same}
 use Rattle.mps_refinement.proofs.Parts.Named.{ThingsStay, areas_renumbered, named_made, nothing_there, tables_renumbered}
 use Rattle.mps_refinement.proofs.Parts.Numbering.{kept_alike, numbered_made, renumbered_here}
 use Rattle.mps_refinement.proofs.Parts.Ordering.{ordered_alike, ordered_made}
 use Rattle.mps_refinement.proofs.Parts.PartsMade.{AreOtherRoots, past_of_roots, roots_changed}
-use Rattle.mps_refinement.proofs.Worlds.Steps.{HasParts, KeepsMarks}
+use Rattle.mps_refinement.proofs.Worlds.Steps.{HasParts}
 
 -- what is kept under other keys is kept still
 pub kept_more : {A : Type 0} (before after : ℕ → Option A) (key : ℕ) → before key ≡ None
@@ -107,7 +108,7 @@ module _ {F : Type 0} (layout : F → Layout) (h : HeapState F) (name : Name) (s
           (done (with_graph w (graph_with_table w.graph name slots)));
       alike = same_next (taken_same layout past h w parts name) (root_same layout past h w parts slots);
       formats = refl;
-      marks = λ key after makes. subst (λ (s : HeapState F). KeepsMarks h.segs s.segs) (sym makes.state) (refl, refl);
+      keeps = λ key after makes. subst (λ (s : HeapState F). KeepsAll (collector_of h) (collector_of s)) (sym makes.state) (all_kept h);
       has = table_parts;
     }
 
@@ -175,7 +176,7 @@ module _ {F : Type 0} (layout : F → Layout) (h : HeapState F) (name : Name) (s
           (done (with_graph w (graph_with_area w.graph name slots)));
       alike = same_next (taken_same layout past h w parts name) (root_same layout past h w parts slots);
       formats = refl;
-      marks = λ key after makes. subst (λ (s : HeapState F). KeepsMarks h.segs s.segs) (sym makes.state) (refl, refl);
+      keeps = λ key after makes. subst (λ (s : HeapState F). KeepsAll (collector_of h) (collector_of s)) (sym makes.state) (all_kept h);
       has = area_parts;
     }
 
@@ -250,7 +251,7 @@ module _ {F : Type 0} (layout : F → Layout) (h : HeapState F) (name : Name) (s
           (done (with_graph w (graph_with_blocks w.graph name slots)));
       alike = same_next (taken_same layout past h w parts name) (root_same layout past h w parts slots);
       formats = refl;
-      marks = λ key after makes. subst (λ (s : HeapState F). KeepsMarks h.segs s.segs) (sym makes.state) (refl, refl);
+      keeps = λ key after makes. subst (λ (s : HeapState F). KeepsAll (collector_of h) (collector_of s)) (sym makes.state) (all_kept h);
       has = blocks_parts;
     }
 

@@ -20,13 +20,14 @@ use Rattle.mps_names.specs.State.{thing_named}
 use Rattle.mps_names.specs.declared.names.Thing.{Thing}
 use Rattle.mps_heap_spec.specs.Making.{IsMaking, IsUntouched, Refused, OutOfMemory, Made, refuse_taken, refuse_root}
 use Rattle.mps_heap_spec.specs.State.{HeapState}
+use Rattle.mps_refinement.proofs.Worlds.CollectorKept.{KeepsAll, all_kept}
 use Rattle.mps_refinement.specs.Making.{IsRightMaking, IsRightMakingIn, answer_of_making}
 use Rattle.mps_refinement.specs.RightStep.{IsRightIn, step_of}
-use Rattle.mps_refinement.specs.StandsFor.{AreParts, Past, StandsFor, numbered_thing}
+use Rattle.mps_refinement.specs.StandsFor.{AreParts, Past, StandsFor, numbered_thing, collector_of}
 use Rattle.mps_refinement.proofs.Parts.PartsMade.{untouched_stands, untouched_parts}
-use Rattle.mps_refinement.proofs.Worlds.Steps.{HasParts, KeepsMarks, plain_is_right}
+use Rattle.mps_refinement.proofs.Worlds.Steps.{HasParts, plain_is_right}
 use Rattle.mps_refinement.proofs.Worlds.Known.{IsKnown, known_now}
-use Rattle.mps_refinement.proofs.Worlds.RunningActs.{is_poke}
+use Rattle.mps_refinement.proofs.Worlds.RunningActs.{is_plain}
 use Rattle.mps_refinement.specs.QuietCalls.{never_moves}
 
 -- ---- checks that were passed
@@ -90,13 +91,13 @@ pub record MakesAlike {F : Type 0} (layout : F → Layout) (past : Past) (h : He
   pub comes : act false w w c ≡ (models >> done made)
   pub alike : Alike checks models
   pub formats : made.formats ≡ w.formats
-  pub marks : (key : ℕ) (after : HeapState F) → Makes key after → KeepsMarks h.segs after.segs
+  pub keeps : (key : ℕ) (after : HeapState F) → Makes key after → KeepsAll (collector_of h) (collector_of after)
   pub has : (key : ℕ) (after : HeapState F) → checks ≡ Ok tt → Makes key after → HasParts layout past.time after made
 
 module _ {F : Type 0} (layout : F → Layout) (h : HeapState F) (c : Call) (checks : Checked (Unit {0}))
     (Makes : ℕ → HeapState F → Type 0) where
   -- in each world that has something
-  pub making_is_right_in : (Has : World → Type 0) → never_moves c ≡ true → is_poke c ≡ false
+  pub making_is_right_in : (Has : World → Type 0) → never_moves c ≡ true → is_plain c ≡ true
       → ((w : World) (past : Past) → Has w → AreParts layout past h w → IsKnown past.time w → MakesAlike layout past h w c checks Makes)
       → (result : Result ℕ Refusal) (after : HeapState F) → IsMaking h checks Makes result after
       → IsRightMakingIn layout Has h c result after
@@ -111,7 +112,7 @@ module _ {F : Type 0} (layout : F → Layout) (h : HeapState F) (c : Call) (chec
       refused_right why e after untouched = λ w line has st.
           let m = alike w st.past has st.parts (known_now st) in
           plain_is_right layout w line c (answer_of_making {A = ℕ} (Err why)) (Err why) h after quiet arena refl st
-          (subst (λ (s : HeapState F). KeepsMarks h.segs s.segs) (sym untouched.state) (refl, refl))
+          (subst (λ (s : HeapState F). KeepsAll (collector_of h) (collector_of s)) (sym untouched.state) (all_kept h))
           (m.comes ∙ ap (λ x. x >> done m.made) (same_err (λ a b. Unit {0}) checks m.models why m.alike e)) refl refl
           (record {
             past = st.past;
@@ -123,7 +124,7 @@ module _ {F : Type 0} (layout : F → Layout) (h : HeapState F) (c : Call) (chec
       made_right : (key : ℕ) → checks ≡ Ok tt → (after : HeapState F) → Makes key after → Right (Ok key) after
       made_right key e after makes = λ w line has st.
           let m = alike w st.past has st.parts (known_now st) in
-          plain_is_right layout w line c (Replied reply.Ok) (done m.made) h after quiet arena refl st (m.marks key after makes)
+          plain_is_right layout w line c (Replied reply.Ok) (done m.made) h after quiet arena refl st (m.keeps key after makes)
           (m.comes ∙ ap (λ x. x >> done m.made) (alike_passed checks m.models m.alike e)) refl m.formats (m.has key after e makes)
 
       of_making : {result : Result ℕ Refusal} {after : HeapState F} → IsMaking h checks Makes result after
@@ -141,7 +142,7 @@ module _ {F : Type 0} (layout : F → Layout) (h : HeapState F) (c : Call) (chec
         out_of_memory = λ is. absurd cc;
       }
 
-  pub making_is_right : never_moves c ≡ true → is_poke c ≡ false
+  pub making_is_right : never_moves c ≡ true → is_plain c ≡ true
       → ((w : World) (past : Past) → AreParts layout past h w → IsKnown past.time w → MakesAlike layout past h w c checks Makes)
       → (result : Result ℕ Refusal) (after : HeapState F) → IsMaking h checks Makes result after
       → IsRightMaking layout h c result after

@@ -112,6 +112,7 @@ module _ {F : Type 0} (layout : F → Layout) (formats : ℕ → Layout) (lawful
       time = rests (record {
         none = refl;
         time = refl;
+        not_running = refl;
         not_condemned = λ grain. clear_bit (grains + 1) grain;
         not_kept = λ n. clear_bit (words_of_grain * (grains + 1)) n;
       });

@@ -26,6 +26,7 @@ use Rattle.mps_heap_spec.specs.declared.found.CellFound.{CellFound}
 use Rattle.mps_heap_spec.specs.declared.found.Entry.{Entry}
 use Rattle.mps_heap_spec.specs.Objects.{head_in, address_in, number_in, number_set, reference_got, reference_put, tag_got, tag_set, with_word}
 use Rattle.mps_heap_spec.specs.State.{HeapState}
+use Rattle.mps_refinement.proofs.Worlds.CollectorKept.{all_kept}
 use Rattle.mps_refinement.specs.RightStep.{IsRight}
 use Rattle.mps_refinement.specs.StandsFor.{AreParts, Past, address_of_target, setting_at}
 use Rattle.mps_refinement.proofs.Lookups.Cells.{retargeted_is, target_is}
@@ -225,7 +226,7 @@ module _ {F : Type 0} (layout : F → Layout) (h : HeapState F) where
       same_drop (number_same layout past h w parts b n is k) (λ cell number found.
       fits (record {
         answer = refl;
-        marks = (refl, refl);
+        keeps = all_kept h;
         formats = refl;
         has = record { past = past; timed = refl; parts = number_written layout past h w parts b n is k value cell number found };
       })))
@@ -253,7 +254,7 @@ module _ {F : Type 0} (layout : F → Layout) (h : HeapState F) where
       same_drop (reference_same layout past h w parts b n is k) (λ cell target found.
       fits (record {
         answer = refl;
-        marks = (refl, refl);
+        keeps = all_kept h;
         formats = refl;
         has = record {
           past = past;
@@ -285,7 +286,7 @@ module _ {F : Type 0} (layout : F → Layout) (h : HeapState F) where
       same_drop (reference_same layout past h w parts b n object k) (λ cell old reference.
       fits (record {
         answer = refl;
-        marks = (refl, refl);
+        keeps = all_kept h;
         formats = refl;
         has = record {
           past = past;
@@ -316,7 +317,7 @@ module _ {F : Type 0} (layout : F → Layout) (h : HeapState F) where
       same_then (fixed_reference_same layout past h w parts b n object k (black n in_slot)) (λ cell old reference.
       fits (record {
         answer = refl;
-        marks = (refl, refl);
+        keeps = all_kept h;
         formats = refl;
         has = record {
           past = past;

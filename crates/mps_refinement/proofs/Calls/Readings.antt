@@ -11,11 +11,12 @@ use Rattle.mps_model.specs.Reply.{act}
 use Rattle.mps_model.specs.World.{World}
 use Rattle.mps_heap_spec.specs.Coming.{Outcome, Comes}
 use Rattle.mps_heap_spec.specs.State.{HeapState}
+use Rattle.mps_refinement.proofs.Worlds.CollectorKept.{all_kept}
 use Rattle.mps_refinement.specs.RightStep.{IsRight}
 use Rattle.mps_refinement.specs.StandsFor.{AreParts, Past}
 pub use Rattle.mps_refinement.specs.Answering.{says_bool}
 use Rattle.mps_refinement.proofs.Worlds.Steps.{Leads, answer_to, quiet_is_right}
-use Rattle.mps_refinement.proofs.Worlds.RunningActs.{is_poke}
+use Rattle.mps_refinement.proofs.Worlds.RunningActs.{is_plain}
 use Rattle.mps_refinement.specs.QuietCalls.{never_moves}
 use Rattle.mps_refinement.proofs.Worlds.Known.{IsKnown}
 
@@ -59,13 +60,13 @@ module _ {F : Type 0} (layout : F → Layout) {A : Type 0} (says : A → Answer)
       → Same (Leads layout says h past w) (reading x) y
   reading_leads w past parts x y (fits is) = fits (record {
     answer = ap (λ (a : Act). a.answer) is;
-    marks = (refl, refl);
+    keeps = all_kept h;
     formats = ap (λ (a : Act). a.world.formats) is;
     has = record { past = past; timed = refl; parts = subst (AreParts layout past h) (sym (ap (λ (a : Act). a.world) is)) parts };
   })
   reading_leads w past parts x y same.refused = same.refused
 
-  pub reading_is_right : never_moves c ≡ true → is_poke c ≡ false → ((a : A) → is_unsupported (says a) ≡ false) → (x result : Checked A)
+  pub reading_is_right : never_moves c ≡ true → is_plain c ≡ true → ((a : A) → is_unsupported (says a) ≡ false) → (x result : Checked A)
       → ((w : World) (past : Past) → AreParts layout past h w → IsKnown past.time w → Same (IsReading w says) x (act false w w c))
       → result ≡ x → IsRight layout h c [] (answer_to says result) h
   reading_is_right quiet arena each x result reads is =

@@ -1,9 +1,10 @@
 -- The step of a `reserve` after its poll, at any time, from what its act comes to. The moves of the poll come first, and its own segment
 -- last.
-use Rattle.std.proofs.Common.{◌≡◌, ◌∙◌, ℕ, ◌+◌, ◌-◌, Bool, true, false, refl, sym, ap, subst, List, [], ◌∷◌, ◌++◌, length, take, Option, Some, None, arith}
+use Rattle.std.proofs.Common.{◌≡◌, ◌∙◌, ℕ, ◌+◌, ◌-◌, Bool, true, false, refl, sym, ap, subst, List, [], ◌∷◌, ◌++◌, length, take, Option, Some, None, arith, Err}
 use Rattle.std.proofs.lemmas.List.{append-nil, length-append}
 use Rattle.std.specs.Prelude.{if◌then◌else◌, option_and_then}
 use Rattle.std.specs.List.{list_all}
+use Rattle.mps_base.specs.declared.refusal.Refusal.TheVariants as refusal
 use Rattle.mps_base.specs.Segment.{Segment, words_of_segment}
 use Rattle.mps_base.specs.declared.address.Addr.{Addr}
 use Rattle.mps_base.specs.declared.moves.Move.{Move}
@@ -32,14 +33,15 @@ use Rattle.mps_model.specs.Reply.{answer_from, world_from}
 use Rattle.mps_model.specs.World.{World, is_copying_pool, is_live}
 use Rattle.mps_heap_spec.specs.State.{HeapState}
 use Rattle.mps_refinement.specs.RightStep.{IsRightIn, step_of}
-use Rattle.mps_refinement.specs.StandsFor.{AreCondemnedIn, AreOfFlip, IsInTime, IsReached, Time, rests, runs}
+use Rattle.mps_refinement.specs.StandsFor.{IsInTime, IsReached, Time, rests, runs, collector_of}
 use Rattle.mps_refinement.proofs.Worlds.Known.{IsKnown}
 use Rattle.mps_refinement.proofs.Worlds.RunningSteps.{IsOwnStep, placed_from_layout}
-use Rattle.mps_refinement.proofs.Worlds.Steps.{HasParts, KeepsTime, own_step_is_right, step_stands}
+use Rattle.mps_refinement.proofs.Worlds.Steps.{HasParts, KeepsTime, own_step_is_right, step_stands, run_kept}
 use Rattle.mps_refinement.proofs.Worlds.RestingSteps.{moving_step}
 use Rattle.mps_laws.proofs.QuietSteps.{IsSound}
 use Rattle.mps_model.specs.WellFormed.{IsWellFormed}
 use Rattle.mps_model.proofs.AtRest.{with_client_remembered-none}
+use Rattle.mps_refinement.proofs.Worlds.CollectorKept.{IsRunKept}
 
 -- ---- the moves of a reserve
 
@@ -224,8 +226,8 @@ module _ (w : World) (laid : HasLayout (w.grains + 1) w) (name : Name) (head : �
 
     -- it is right at any time
     pub reserved_rightly : {F : Type 0} (layout : F → Layout) (line : ℕ) (before after : HeapState F) → IsReached w
-        → IsInTime t before.segs v → HasParts layout t after (world_from u result)
-        → (v.collection ≡ None → IsSound (world_from u result)) → KeepsTime layout t before.segs v after.segs (world_from u result)
+        → IsInTime t (collector_of before) v → HasParts layout t after (world_from u result)
+        → (v.collection ≡ None → IsSound (world_from u result)) → KeepsTime layout t (collector_of before) v (collector_of after) (world_from u result)
         → (world_from u result).formats ≡ v.formats → IsRightIn layout w (step_of line c ms answer) after
     reserved_rightly layout line before after reach (rests rest) has sound keeps formats =
         let step = moving_step w line c ms answer result (record {
@@ -244,13 +246,13 @@ module _ (w : World) (laid : HasLayout (w.grains + 1) w) (name : Name) (head : �
         (rests (record {
           none = keeps.rest rest.none;
           time = rest.time;
+          not_running = keeps.running ∙ rest.not_running;
           not_condemned = keeps.not_condemned rest.not_condemned;
           not_kept = keeps.not_kept rest.not_condemned rest.not_kept;
         }))
     reserved_rightly layout line before after reach (runs y r may) has sound keeps formats =
-        own_step_is_right layout t before.segs w v y r may line c ms answer after result refl reach (own_step y r.world)
+        own_step_is_right layout t (collector_of before) w v y r may line c refl ms answer after result refl reach (own_step y r.world)
         (ap (λ o. (world_from o result).formats) moved_so ∙ formats ∙ polled.formats)
         (subst (λ o. HasParts layout t after (world_from o result)) (sym moved_so) has)
-        (subst (λ o. AreOfFlip t.at_flip (world_from o result)) (sym moved_so) (keeps.flip r.flip))
-        (subst (λ o. AreCondemnedIn after.segs.condemned (world_from o result).segments y.running.condemned_segments) (sym moved_so)
-        (keeps.condemned y r.world r.invariant r.condemned))
+        (subst (λ o. IsRunKept (Err refusal.NotRegistered) t (collector_of before) (collector_of after) v (world_from o result) y)
+        (sym moved_so) (run_kept layout keeps y r))

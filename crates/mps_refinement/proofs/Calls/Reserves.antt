@@ -30,7 +30,7 @@ use Rattle.mps_heap_spec.specs.declared.found.Reserving.{Reserving}
 use Rattle.mps_heap_spec.specs.State.{HeapState}
 use Rattle.mps_refinement.specs.Answering.{answer_to, says_ok}
 use Rattle.mps_refinement.specs.RightStep.{IsRightIn, step_of}
-use Rattle.mps_refinement.specs.StandsFor.{AreParts, IsInTime, IsReached, Past, state_of}
+use Rattle.mps_refinement.specs.StandsFor.{AreParts, IsInTime, IsReached, Past, state_of, collector_of}
 use Rattle.mps_refinement.proofs.Worlds.Known.{IsKnown}
 use Rattle.mps_refinement.proofs.Worlds.Placing.{reserve_agrees}
 use Rattle.mps_refinement.proofs.Calls.ReserveChecks.{is_unclamped, polls_for, IsReserving, reserve_checked}
@@ -126,7 +126,7 @@ no_poll_at_rest v name head rest unchained = record {
 
 -- so a `reserve` whose poll makes no moves is right at any time
 pub unpolled_is_right : {F : Type 0} (layout : F → Layout) (past : Past) (h : HeapState F) (w : World) → IsReached w
-    → AreParts layout past h w → IsKnown past.time w → IsInTime past.time h.segs w → (trail : Moves) → trail.moves ≡ []
+    → AreParts layout past h w → IsKnown past.time w → IsInTime past.time (collector_of h) w → (trail : Moves) → trail.moves ≡ []
     → (line : ℕ) (name : Name) (head : ℕ)
     → (w.collection ≡ None) ⊎ (polls_for layout h (check_reserve layout h name head) ≡ false)
     → (result : Checked (Unit {0})) (after : HeapState F) (trail_after : Moves)

@@ -39,13 +39,13 @@ use Rattle.mps_heap_spec.specs.Objects.{with_slot}
 use Rattle.mps_heap_spec.specs.State.{HeapState}
 use Rattle.mps_refinement.specs.Answering.{answer_to, says_committed}
 use Rattle.mps_refinement.specs.RightStep.{IsRight, IsRightIn, step_of}
-use Rattle.mps_refinement.specs.StandsFor.{AreParts, IsHeld, IsReached, Past, AreOfFlip, IsInTime, StandsFor, Rests}
+use Rattle.mps_refinement.specs.StandsFor.{AreParts, IsHeld, IsReached, Past, AreOfFlip, IsInTime, StandsFor, Rests, collector_of}
 use Rattle.mps_refinement.proofs.Calls.Committing.{at, block_parts, block_sound, closed_parts, blocks_live}
 use Rattle.mps_refinement.proofs.Lookups.Found.{same_found}
 use Rattle.mps_refinement.proofs.Lookups.HeldCells.{held_same}
 use Rattle.mps_refinement.proofs.Worlds.Known.{IsKnown, known_now}
 use Rattle.mps_refinement.proofs.Lookups.Lookups.{IsPointFound, IsSlotFound, point_same, slot_same}
-use Rattle.mps_refinement.proofs.Worlds.Steps.{HasParts, moving_is_right, KeepsTime, MovesTo}
+use Rattle.mps_refinement.proofs.Worlds.Steps.{HasParts, moving_is_right, KeepsTime, MovesTo, keeps_still}
 use Rattle.mps_laws.proofs.Sound.SoundEffects.{reservation_gone_sound}
 use Rattle.std.specs.List.{list_all}
 use Rattle.mps_extents.specs.Table.{bit}
@@ -64,7 +64,7 @@ use Rattle.mps_refinement.proofs.Calls.CommitKept.{after_commit_kept, kept_at_re
 use Rattle.mps_refinement.proofs.Parts.Resting.{at_rest, none_over}
 
 module _ {F : Type 0} (layout : F → Layout) (past : Past) (h : HeapState F) (w : World) (parts : AreParts layout past h w)
-    (knows : IsKnown past.time w) (reach : IsReached w) (now : IsInTime past.time h.segs w)
+    (knows : IsKnown past.time w) (reach : IsReached w) (now : IsInTime past.time (collector_of h) w)
     (wide : (at : Address) → is_white_at h.segs at ≡ true → length h.segs.marks.kept ≡ words_of_arena h.segs.grains) (trail : Moves)
     (none : trail.moves ≡ []) (line : ℕ) (name : Name) (target : Slot) where
   sound : w.collection ≡ None → IsSound w
@@ -79,7 +79,7 @@ module _ {F : Type 0} (layout : F → Layout) (past : Past) (h : HeapState F) (w
     pub sound_after : w.collection ≡ None → IsSound a.world
     pub blocks : list_all (is_live a.world) (ids_in_blocks a.world.graph) ≡ true
     pub keeps : (AreOfFlip past.time.at_flip w → AreOfFlip past.time.at_flip a.world)
-        → KeepsTime layout past.time h.segs w o.state.segs a.world
+        → KeepsTime layout past.time (collector_of h) w (collector_of o.state) a.world
     pub formats : a.world.formats ≡ w.formats
 
   module _ (k : Kept Point) (n : Numbered graph.Point) (found : IsPointFound past h w k n) (named : point_named w name ≡ Ok n)
@@ -113,13 +113,17 @@ module _ {F : Type 0} (layout : F → Layout) (past : Past) (h : HeapState F) (w
         ∙ sym (ap (moves_of_commit w) named ∙ ap (commit_of w n) open_there)
 
     keeps_made : (AreOfFlip past.time.at_flip w → AreOfFlip past.time.at_flip (world_committed w n r slot))
-        → KeepsTime layout past.time h.segs w as_block.state.segs (world_committed w n r slot)
+        → KeepsTime layout past.time (collector_of h) w (collector_of as_block.state) (world_committed w n r slot)
     keeps_made flips = record {
       rest = λ none. none;
       not_condemned = λ not_condemned. not_condemned;
       not_kept = λ not_condemned not_kept word. ap (λ b. bit (if b && not (bit h.segs.marks.kept (word_of held.at.0))
           then slice_set h.segs.marks.kept (word_of held.at.0) true else h.segs.marks.kept) word)
           (none_over h.segs not_condemned (first_grain_over h.segs held.at.0)) ∙ not_kept word;
+      running = refl;
+      tails = λ pool generation. refl;
+      world_tails = λ pool generation. refl;
+      ranked = λ y r ranked. record { exact = ranked.exact; weak = ranked.weak };
       flip = flips;
       condemned = λ y is run marked. marked;
     }
@@ -173,6 +177,10 @@ module _ {F : Type 0} (layout : F → Layout) (past : Past) (h : HeapState F) (w
         rest = λ none. none;
         not_condemned = λ not_condemned. not_condemned;
         not_kept = λ not_condemned not_kept. not_kept;
+        running = refl;
+        tails = λ pool generation. refl;
+        world_tails = λ pool generation. refl;
+        ranked = λ y r ranked. ranked;
         flip = flips;
         condemned = λ y is run marked. marked;
       };
@@ -255,8 +263,8 @@ module _ {F : Type 0} (layout : F → Layout) (past : Past) (h : HeapState F) (w
             record { different = of.different; apart = of.apart }
 
     moves_to : (after : HeapState F) → HasParts layout past.time after (world_from w result)
-        → KeepsTime layout past.time h.segs w after.segs (world_from w result) → (world_from w result).formats ≡ w.formats
-        → MovesTo layout past.time h.segs w (call.Commit name target) ms answer after result
+        → KeepsTime layout past.time (collector_of h) w (collector_of after) (world_from w result) → (world_from w result).formats ≡ w.formats
+        → MovesTo layout past.time (collector_of h) w (call.Commit name target) ms answer after result
     moves_to after has keeps formats = record {
       moving = own;
       resting = λ rest. record {
@@ -270,12 +278,12 @@ module _ {F : Type 0} (layout : F → Layout) (past : Past) (h : HeapState F) (w
       };
       formats = ap (λ (v : World). v.formats) from_same ∙ formats;
       has = subst (HasParts layout past.time after) (sym from_same) has;
-      keeps = subst (λ v. KeepsTime layout past.time h.segs w after.segs v) (sym from_same) keeps;
+      keeps = subst (λ v. KeepsTime layout past.time (collector_of h) w (collector_of after) v) (sym from_same) keeps;
     }
 
   of_both : (x : Checked (Moved F Committed)) (y : Checked Act) → act_commit w name target ≡ y → Same CommitLeads x y → IsRightOutcome x
   of_both x y theirs (fits {a = o} {b = a} leads) =
-      moving_is_right layout past.time h.segs w line (call.Commit name target) o.trail.moves (says_committed o.answer) o.state (Ok a) refl
+      moving_is_right layout past.time (collector_of h) w line (call.Commit name target) (λ v. refl) o.trail.moves (says_committed o.answer) o.state (Ok a) refl
       reach now
       (moves_to o.trail.moves (says_committed o.answer) (Ok a) theirs leads.moves_are leads.still (sym leads.answer) (supported o.answer)
       leads.sound_after leads.blocks o.state leads.has (leads.keeps flips) leads.formats)
@@ -286,16 +294,10 @@ module _ {F : Type 0} (layout : F → Layout) (past : Past) (h : HeapState F) (w
           (flips_kept false w w (call.Commit name target) past.time.at_flip knows.formed.addresses of) of)
   of_both x y theirs (same.refused {why}) =
       subst (λ ms. IsRightIn layout w (step_of line (call.Commit name target) ms (refused why)) h) (sym none)
-      (moving_is_right layout past.time h.segs w line (call.Commit name target) [] (refused why) h (Err why) refl reach now
+      (moving_is_right layout past.time (collector_of h) w line (call.Commit name target) (λ v. refl) [] (refused why) h (Err why) refl reach now
       (moves_to [] (refused why) (Err why) theirs refl refl refl refl sound knows.live.blocks h
       (record { past = past; timed = refl; parts = parts })
-      (record {
-        rest = λ none. none;
-        not_condemned = λ not_condemned. not_condemned;
-        not_kept = λ not_condemned not_kept. not_kept;
-        flip = λ of. of;
-        condemned = λ y is run marked. marked;
-      }) refl))
+      (keeps_still layout) refl))
 
   pub committed_outcome : IsRightOutcome (after_commit_kept h trail name target)
   committed_outcome = of_both (after_commit_kept h trail name target) (act_commit w name target) refl commit_same
@@ -315,7 +317,7 @@ commit_is_right layout h trail name target result after trail_after none comes =
     (state_moved h (after_commit h trail name target))) (sym comes.moves)
     (none_condemned w line st (at_rest st.time))))
   where
-    none_condemned : (w : World) (line : ℕ) (st : StandsFor layout h w) → Rests st.past.time h.segs w
+    none_condemned : (w : World) (line : ℕ) (st : StandsFor layout h w) → Rests st.past.time (collector_of h) w
         → IsRightIn layout w (step_of line (call.Commit name target) (trail_moved trail (after_commit h trail name target)).moves
         (answer_to says_committed (answer_moved (after_commit h trail name target)))) (state_moved h (after_commit h trail name target))
     none_condemned w line st rest =

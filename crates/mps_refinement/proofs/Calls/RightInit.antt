@@ -29,16 +29,17 @@ use Rattle.mps_heap_spec.specs.declared.found.Kept.{Kept}
 use Rattle.mps_heap_spec.specs.Finding as ours
 use Rattle.mps_heap_spec.specs.Objects.{with_word}
 use Rattle.mps_heap_spec.specs.State.{HeapState}
+use Rattle.mps_refinement.proofs.Worlds.CollectorKept.{KeepsAll, all_kept}
 use Rattle.mps_refinement.specs.Answering.{answer_to, says_ok}
 use Rattle.mps_refinement.specs.RightStep.{IsRight}
-use Rattle.mps_refinement.specs.StandsFor.{AreParts, IsHeld, Past, address_of_target}
+use Rattle.mps_refinement.specs.StandsFor.{AreParts, IsHeld, Past, address_of_target, collector_of}
 use Rattle.mps_refinement.proofs.Lookups.Cells.{IsReference, IsTargetAddress, number_cell_same, reference_cell_same, retargeted_is}
 use Rattle.mps_refinement.proofs.Lookups.Found.{same_drop}
 use Rattle.mps_refinement.proofs.Lookups.HeldCells.{block_of_held, held_cells, held_is_block, held_lawful, held_same, held_words}
 use Rattle.mps_refinement.proofs.Worlds.Known.{is_kept_at}
 use Rattle.mps_refinement.proofs.Lookups.LiveObjects.{reference_word, slot_passes}
 use Rattle.mps_refinement.proofs.Lookups.Lookups.{IsPointFound, point_same, slot_same}
-use Rattle.mps_refinement.proofs.Worlds.Steps.{HasParts, Leads, quiet_is_right, KeepsMarks}
+use Rattle.mps_refinement.proofs.Worlds.Steps.{HasParts, Leads, quiet_is_right}
 use Rattle.mps_refinement.proofs.Parts.WrittenReservation.{cell_is_fixed, number_is_fixed, reference_is_fixed, reservation_parts, target_address, target_lives}
 
 abbrev ok : Answer
@@ -63,14 +64,14 @@ module _ {F : Type 0} (layout : F → Layout) (past : Past) (h : HeapState F) (w
       let doomed : r.is_doomed ≡ not (held.flips == h.points.flips) = is.doomed ∙ ap (λ f. not (held.flips == f)) (sym flips) in
       record {
         answer = refl;
-        marks = marks_if (held.flips == h.points.flips);
+        keeps = keeps_if (held.flips == h.points.flips);
         formats = formats_if r.is_doomed;
         has = of_flip (held.flips == h.points.flips) refl doomed;
       }
     where
-      marks_if : (b : Bool) → KeepsMarks h.segs (if b then with_word h word value else h).segs
-      marks_if true = (refl, refl)
-      marks_if false = (refl, refl)
+      keeps_if : (b : Bool) → KeepsAll (collector_of h) (collector_of (if b then with_word h word value else h))
+      keeps_if true = all_kept h
+      keeps_if false = all_kept h
 
       formats_if : (b : Bool)
           → (if b then w else with_graph w (model.with_reservation w.graph n (Some (record r { cells = cells })))).formats ≡ w.formats

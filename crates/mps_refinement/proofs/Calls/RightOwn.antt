@@ -4,8 +4,9 @@ use Rattle.std.specs.List.{list_all}
 use Rattle.mps_base.specs.Trail.{Moves}
 use Rattle.mps_base.specs.declared.moves.Move.{Move}
 use Rattle.mps_base.specs.declared.refusal.Refusal.{Refusal}
+use Rattle.mps_base.specs.declared.refusal.Refusal.TheVariants as refusal
 use Rattle.mps_abstract.specs.Collecting.{Collecting}
-use Rattle.mps_abstract.specs.ClientLaws.{IsWellPlaced, IsMarkedKept, IsReadKept, collected_world}
+use Rattle.mps_abstract.specs.ClientLaws.{IsWellPlaced, IsMarkedKept, IsReadKept, collected_world, position_taken}
 use Rattle.mps_format.specs.Layout.{Layout}
 use Rattle.mps_changes.specs.Change.{makes_arena}
 use Rattle.mps_laws.proofs.Positions.LegalMoves.{HasLayout}
@@ -24,11 +25,11 @@ use Rattle.mps_heap_spec.specs.Coming.{ComesMoving, Moved, answer_moved, state_m
 use Rattle.mps_heap_spec.specs.State.{HeapState}
 use Rattle.mps_refinement.specs.Answering.{answer_to, says_ok}
 use Rattle.mps_refinement.specs.RightStep.{IsRight, IsRightIn, step_of}
-use Rattle.mps_refinement.specs.StandsFor.{AreParts, IsInTime, IsReached, Past}
+use Rattle.mps_refinement.specs.StandsFor.{AreParts, IsInTime, IsReached, Past, collector_of}
 use Rattle.mps_refinement.proofs.Worlds.Known.{IsKnown, known_now}
 use Rattle.mps_refinement.proofs.Worlds.RestingActs.{resting_sound}
 use Rattle.mps_refinement.proofs.Worlds.RunningSteps.{placed_from_layout}
-use Rattle.mps_refinement.proofs.Worlds.Steps.{HasParts, KeepsTime, moving_is_right}
+use Rattle.mps_refinement.proofs.Worlds.Steps.{HasParts, KeepsTime, keeps_still, moving_is_right}
 
 -- such a call: none of its moves are a collector's, and it is judged in the world before it
 pub record IsOwn (w : World) (c : Call) : Type 0 where
@@ -41,6 +42,7 @@ pub record IsOwn (w : World) (c : Call) : Type 0 where
   pub unasked : (why : Refusal) → AreMovesOf w c (refused why) []
   pub still : moved_world w c [] ≡ w
   pub judged : (ms : List Move) → judged_world w c ms ≡ w
+  pub taken : (v : World) → position_taken v c ≡ Err refusal.NotRegistered
 
 module _ {F : Type 0} (layout : F → Layout) (h : HeapState F) (trail : Moves) (none : trail.moves ≡ []) (c : Call) where
   -- the step of the call with this outcome is right in a world
@@ -56,17 +58,17 @@ module _ {F : Type 0} (layout : F → Layout) (h : HeapState F) (trail : Moves) 
     pub blocks : list_all (is_live v) (ids_in_blocks v.graph) ≡ true
     pub laid : HasLayout (w.grains + 1) v
     pub has : HasParts layout past.time state v
-    pub keeps : KeepsTime layout past.time h.segs w state.segs v
+    pub keeps : KeepsTime layout past.time (collector_of h) w (collector_of state) v
     pub formats : v.formats ≡ w.formats
 
   module _ (w : World) (line : ℕ) (past : Past) (parts : AreParts layout past h w) (knows : IsKnown past.time w)
-      (reach : IsReached w) (time : IsInTime past.time h.segs w) (own : IsOwn w c) where
+      (reach : IsReached w) (time : IsInTime past.time (collector_of h) w) (own : IsOwn w c) where
     pub done_is_right : (ms : List Move) (state : HeapState F) (v : World) → IsDone past w ms state v
         → IsRightIn layout w (step_of line c ms (Replied reply.Ok)) state
     done_is_right ms state v is =
         let comes : act false (judged_world w c ms) (moved_world w c ms) c ≡ done v =
         ap (λ u. act false u (moved_world w c ms) c) (own.judged ms) ∙ is.comes in
-        moving_is_right layout past.time h.segs w line c ms (Replied reply.Ok) state (done v) own.arena reach time (record {
+        moving_is_right layout past.time (collector_of h) w line c own.taken ms (Replied reply.Ok) state (done v) own.arena reach time (record {
           moving = λ y same run. record {
             supported = refl;
             collected = own.collected ms (Replied reply.Ok) ∙ sym same;
@@ -101,7 +103,7 @@ module _ {F : Type 0} (layout : F → Layout) (h : HeapState F) (trail : Moves) 
         let comes : act false (judged_world w c []) (moved_world w c []) c ≡ Err why =
         ap (λ u. act false u (moved_world w c []) c) (own.judged []) ∙ ap (λ u. act false w u c) own.still ∙ e in
         subst (λ ms. IsRightIn layout w (step_of line c ms (refused why)) h) (sym none)
-        (moving_is_right layout past.time h.segs w line c [] (refused why) h (Err why) own.arena reach time (record {
+        (moving_is_right layout past.time (collector_of h) w line c own.taken [] (refused why) h (Err why) own.arena reach time (record {
           moving = λ y same run. record {
             supported = refl;
             collected = own.collected [] (refused why) ∙ sym same;
@@ -128,19 +130,13 @@ module _ {F : Type 0} (layout : F → Layout) (h : HeapState F) (trail : Moves) 
           };
           formats = ap (λ (u : World). u.formats) own.still;
           has = subst (HasParts layout past.time h) (sym own.still) (record { past = past; timed = refl; parts = parts });
-          keeps = subst (λ u. KeepsTime layout past.time h.segs w h.segs u) (sym own.still) (record {
-            rest = λ none. none;
-            not_condemned = λ not_condemned. not_condemned;
-            not_kept = λ not_condemned not_kept. not_kept;
-            flip = λ of. of;
-            condemned = λ y is run marked. marked;
-          });
+          keeps = subst (λ u. KeepsTime layout past.time (collector_of h) w (collector_of h) u) (sym own.still) (keeps_still layout);
         }))
 
   -- so a call is right if its outcome is right in each world that the heap represents
   pub outcome_is_right : (o : Checked (Moved F (Unit {0}))) (result : Checked (Unit {0})) (after : HeapState F) (trail_after : Moves)
       → ComesMoving h trail o result after trail_after
-      → ((w : World) (line : ℕ) (past : Past) → AreParts layout past h w → IsKnown past.time w → IsReached w → IsInTime past.time h.segs w
+      → ((w : World) (line : ℕ) (past : Past) → AreParts layout past h w → IsKnown past.time w → IsReached w → IsInTime past.time (collector_of h) w
       → IsRightOutcome w line o)
       → IsRight layout h c trail_after.moves (answer_to says_ok result) after
   outcome_is_right o result after trail_after comes right = λ w line st.

@@ -49,7 +49,7 @@ use Rattle.mps_heap_spec.specs.declared.found.Reserving.{Reserving}
 use Rattle.mps_heap_spec.specs.State.{HeapState}
 use Rattle.mps_refinement.specs.Answering.{answer_to, says_ok}
 use Rattle.mps_refinement.specs.RightStep.{IsRightIn, step_of}
-use Rattle.mps_refinement.specs.StandsFor.{AreParts, IsInTime, IsReached, Past, rests, runs}
+use Rattle.mps_refinement.specs.StandsFor.{AreParts, IsInTime, IsReached, Past, rests, runs, collector_of}
 use Rattle.mps_refinement.proofs.Parts.CommittedParts.{segment_there}
 use Rattle.mps_refinement.proofs.Worlds.Known.{IsKnown}
 use Rattle.mps_refinement.proofs.Lookups.Lookups.{IsPointFound}
@@ -66,11 +66,13 @@ use Rattle.mps_laws.proofs.QuietSteps.{IsSound}
 use Rattle.mps_laws.proofs.Sound.SoundChanges.{sound_again}
 use Rattle.mps_laws.proofs.Sound.SoundEffects.{reservation_sound}
 use Rattle.std.proofs.lemmas.Option.{none-some}
-use Rattle.mps_refinement.proofs.Parts.SegmentsTaken.{condemned_held, condemned_stay}
+use Rattle.mps_refinement.proofs.Parts.SegmentsTaken.{condemned_held, condemned_stay, over_same}
+use Rattle.mps_refinement.proofs.Worlds.Steps.{keeps_still}
+use Rattle.mps_refinement.proofs.Parts.GreyRanks.{ranks_stay}
 
 module _ {F : Type 0} (layout : F → Layout) (past : Past) (h : HeapState F) (w : World) (laid_before : HasLayout (w.grains + 1) w)
     (reach : IsReached w) (name : Name) (head : ℕ) (poll : List Move) (v : World) (polled : Polls w name head poll v)
-    (parts : AreParts layout past h v) (knows : IsKnown past.time v) (time : IsInTime past.time h.segs v) (trail : Moves)
+    (parts : AreParts layout past h v) (knows : IsKnown past.time v) (time : IsInTime past.time (collector_of h) v) (trail : Moves)
     (none : trail.moves ≡ poll) (line : ℕ) where
   abbrev the_call : Call
   the_call = call.Reserve name head
@@ -90,13 +92,7 @@ module _ {F : Type 0} (layout : F → Layout) (past : Past) (h : HeapState F) (w
       (Rattle.std.proofs.lemmas.List.append-nil poll ∙ sym none)
       (reserved_rightly w laid_before name head poll v polled [] (cut_without poll polled.never_own) own_is v refl (Err why) acts
       (refused why) refl past.time knows refl knows.live.blocks layout line h h reach time
-      (record { past = past; timed = refl; parts = parts }) (λ rest. resting_sound v rest knows.live) (record {
-        rest = λ none. none;
-        not_condemned = λ not_condemned. not_condemned;
-        not_kept = λ not_condemned not_kept. not_kept;
-        flip = λ of. of;
-        condemned = λ y is run marked. marked;
-      }) refl)
+      (record { past = past; timed = refl; parts = parts }) (λ rest. resting_sound v rest knows.live) (keeps_still layout) refl)
 
   refused_outcome : (why : Refusal) → model.check_reserve v name head ≡ Err why → IsRightOutcome (Err why)
   refused_outcome why e =
@@ -200,7 +196,7 @@ module _ {F : Type 0} (layout : F → Layout) (past : Past) (h : HeapState F) (w
       where
         of_time : (t : Segment) → IsAmong t v.segments → contains
             (Rattle.mps_laws.proofs.Positions.Occupancy.condemned_in v.collection) t.base ≡ false
-            → IsInTime past.time h.segs v → bit h.segs.condemned (grain_of t.base) ≡ false
+            → IsInTime past.time (collector_of h) v → bit h.segs.condemned (grain_of t.base) ≡ false
         of_time t held spared (rests rest) = rest.not_condemned (grain_of t.base)
         of_time t held spared (runs y r may) =
             r.condemned t (segment_there t v.segments held)
@@ -246,6 +242,10 @@ module _ {F : Type 0} (layout : F → Layout) (past : Past) (h : HeapState F) (w
           rest = λ none. none;
           not_condemned = λ not_condemned. not_condemned;
           not_kept = λ not_condemned not_kept. not_kept;
+          running = refl;
+          tails = λ pool generation. refl;
+          world_tails = λ pool generation. refl;
+          ranked = λ y r ranked. record { exact = ranked.exact; weak = ranked.weak };
           flip = λ of. record { made = of.made; still = of.still };
           condemned = λ y is run marked. marked;
         }) refl)
@@ -331,6 +331,15 @@ module _ {F : Type 0} (layout : F → Layout) (past : Past) (h : HeapState F) (w
           rest = λ none. none;
           not_condemned = λ not_condemned at. noted_clear (NewSegment grain grains) h.segs.condemned at (not_condemned at);
           not_kept = λ not_condemned not_kept. not_kept;
+          running = refl;
+          tails = λ pool generation. refl;
+          world_tails = λ pool generation. refl;
+          ranked = λ y r.
+              ranks_stay layout past h v parts heap_after.segs (λ n is. is) (λ n is. is) (λ word grey.
+              ap (λ ss. segment_over ss (address_of_word word)) segments
+              ∙ over_same (NewSegment grain grains) n.value.pool 0 s.rank (v.grains + 1) v.segments h.segs.condemned knows.laid.aligned
+              knows.laid.ascending after.aligned after.ascending word grey.segment
+              (ap (λ ss. segment_over ss (address_of_word word)) (sym parts.segments) ∙ grey.over));
           flip = λ of. record { made = of.made; still = of.still };
           condemned = λ y is run marked.
               condemned_stay (NewSegment grain grains) n.value.pool 0 s.rank (v.grains + 1) v.segments h.segs.condemned

@@ -15,6 +15,7 @@ use Rattle.mps_model.specs.World.{World}
 use Rattle.mps_heap_spec.specs.Coming.{Comes}
 use Rattle.mps_heap_spec.specs.Objects.{after_copy, after_clear, are_same, is_null}
 use Rattle.mps_heap_spec.specs.State.{HeapState}
+use Rattle.mps_refinement.proofs.Worlds.CollectorKept.{all_kept}
 use Rattle.mps_refinement.specs.RightStep.{IsRight}
 use Rattle.mps_refinement.specs.StandsFor.{AreParts, Past, address_of_target}
 use Rattle.mps_refinement.proofs.Lookups.Found.{some_there}
@@ -79,7 +80,7 @@ module _ {F : Type 0} (layout : F → Layout) (h : HeapState F) where
       same_then (slot_same layout past h w parts source) (λ from given has.
       fits (record {
         answer = refl;
-        marks = (refl, refl);
+        keeps = all_kept h;
         formats = refl;
         has = record {
           past = past;
@@ -100,7 +101,7 @@ module _ {F : Type 0} (layout : F → Layout) (h : HeapState F) where
       same_then (slot_same layout past h w parts slot) (λ into found is.
       fits (record {
         answer = refl;
-        marks = (refl, refl);
+        keeps = all_kept h;
         formats = refl;
         has = record { past = past; timed = refl; parts = slot_written layout past h w parts slot.index into found 0 None is.fit refl };
       }))

@@ -10,7 +10,7 @@ use Rattle.mps_trace.specs.Trace.{TraceState}
 use Rattle.mps_trace_laws.specs.Begin.Before.{StandsBefore}
 use Rattle.mps_trace.specs.PoolsCollecting.{IsTraceOf}
 use Rattle.mps_heap_spec.specs.State.{HeapState}
-use Rattle.mps_refinement.specs.StandsFor.{AreParts, AreSlots, IsReached, Past, Rests}
+use Rattle.mps_refinement.specs.StandsFor.{AreParts, AreSlots, IsReached, Past, Rests, collector_of}
 use Rattle.mps_refinement.proofs.Collect.CollectRight.{IsBefore}
 use Rattle.mps_refinement.proofs.Collect.KeysInOrder.{keys_in_order}
 use Rattle.mps_refinement.proofs.Collect.LiveIsFew.{moves_are_few}
@@ -21,7 +21,7 @@ use Rattle.mps_refinement.proofs.Collect.RootsHeld.{roots_held, rows, words_show
 use Rattle.mps_refinement.proofs.Collect.SegmentsAtRest.{blocks_in_order, segments_at_rest}
 
 module _ {F : Type 0} (layout : F → Layout) (past : Past) (h : HeapState F) (w : World) (parts : AreParts layout past h w)
-    (reached : IsReached w) (rest : Rests past.time h.segs w)
+    (reached : IsReached w) (rest : Rests past.time (collector_of h) w)
     (marked : IsMarked h.segs.grains h.segs.marks h.segs.condemned h.segs.summaries)
     (m : Moves) (room : most_moves h.segs.grains ≤ m.spare) where
   -- whatever words are at hand for its pools

@@ -43,7 +43,7 @@ use Rattle.mps_abstract.proofs.Rows.{last_units_done}
 use Rattle.mps_abstract.proofs.WholeCollections.WholeBegins.{nothing_remembered, begun_running}
 use Rattle.mps_abstract.proofs.WholeCollections.WholeEnds.{a_whole_collection}
 use Rattle.mps_refinement.specs.RightStep.{IsRightIn, step_of}
-use Rattle.mps_refinement.specs.StandsFor.{AreParts, ArePools, IsPool, IsReached, Past, Rests, StandsFor, time_at_rest}
+use Rattle.mps_refinement.specs.StandsFor.{AreParts, ArePools, IsPool, IsReached, Past, Rests, StandsFor, time_at_rest, collector_of}
 use Rattle.mps_refinement.proofs.Worlds.Reached.{reached_well_formed, reached_live, reached_next}
 use Rattle.mps_refinement.proofs.Worlds.RestingActs.{resting_sound}
 use Rattle.mps_refinement.proofs.Worlds.RestingSteps.{IsMoving, moving_step}
@@ -199,8 +199,8 @@ module _ {F : Type 0} (layout : F → Layout) where
           subst IsReached same
           (reached_next w (step_of line call.Collect ms (Replied reply.Ok)) reached step.legal (ap (λ (u : World). u.formats) same) refl)
 
-      pub collection_is_right : (line : ℕ) → IsRightIn layout w (step_of line call.Collect ms (Replied reply.Ok)) after
-      collection_is_right line =
+      pub collection_is_right : (line : ℕ) → h.running ≡ None → IsRightIn layout w (step_of line call.Collect ms (Replied reply.Ok)) after
+      collection_is_right line none_running =
           moved_to_rest layout past.time w line call.Collect ms (Replied reply.Ok) after (done (world_collected w ms)) refl
           (ap (λ (u : World). u.formats) world_is) reached moves
           (subst (λ u. HasParts layout past.time after u) (sym world_is) (record {
@@ -212,9 +212,10 @@ module _ {F : Type 0} (layout : F → Layout) where
                 c.leaves.but_collected.addresses c.leaves.but_collected.segments c.leaves.but_collected.tails heap_then places_then
                 (reached_well_formed v (reached_then line)).registered;
           }))
-          (subst (λ u. Rests past.time after.segs u) (sym world_is) (record {
+          (subst (λ u. Rests past.time (collector_of after) u) (sym world_is) (record {
             none = refl;
             time = timed;
+            not_running = heap_then.running ∙ none_running;
             not_condemned = heap_then.not_condemned;
             not_kept = heap_then.not_kept;
           }))
@@ -250,7 +251,7 @@ module _ {F : Type 0} (layout : F → Layout) where
       let now = at_rest st.time in
       let rest = may_begin st.past h w st.parts st.reached now.none in
       collection_is_right st.past h after w st.parts st.reached now.time made y (flip_act w Everything ++ later)
-      (ends_collection w first later y count rest some fixed ends) heap line
+      (ends_collection w first later y count rest some fixed ends) heap line now.not_running
 
   -- ---- where nothing is condemned
 
@@ -281,4 +282,4 @@ module _ {F : Type 0} (layout : F → Layout) where
       let now = at_rest st.time in
       collection_is_right st.past h after w st.parts st.reached now.time made (collecting_after_flip w Everything [])
       (flip_act w Everything)
-      (nothing_collection w (may_begin st.past h w st.parts st.reached now.none) nothing) heap line
+      (nothing_collection w (may_begin st.past h w st.parts st.reached now.none) nothing) heap line now.not_running

@@ -75,6 +75,7 @@ module _ {F : Type 0} (layout : F → Layout) (past : Past) (h : HeapState F) (w
         live_slots = ap (λ (x : HeapState F). x.live_slots) collected.state;
         live_points = ap (λ (x : HeapState F). x.live_points) collected.state;
         dependencies = ap (λ (x : HeapState F). x.dependencies) collected.state;
+        running = ap (λ (x : HeapState F). x.running) collected.state;
         pools = ap (λ (x : HeapState F). x.pools) collected.state;
         sizes = ap (λ (x : HeapState F). x.sizes) collected.state;
         names = ap (λ (x : HeapState F). x.names) collected.state;

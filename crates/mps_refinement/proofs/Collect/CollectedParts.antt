@@ -26,7 +26,7 @@ use Rattle.mps_abstract.specs.Collecting.{Collecting}
 use Rattle.mps_names.specs.State.{thing_named}
 use Rattle.mps_heap_spec.specs.State.{HeapState}
 use Rattle.mps_format.specs.Pools.{size_of_pool}
-use Rattle.mps_refinement.specs.StandsFor.{AreParts, AreRegistered, ArePools, IsPoint, Past, StandsAt, state_of, time_at_rest}
+use Rattle.mps_refinement.specs.StandsFor.{AreParts, AreRegisteredAt, ArePools, IsPoint, Past, StandsAt, state_of, time_at_rest, address_of_id}
 use Rattle.mps_refinement.specs.Numbering.{AreNumbered}
 use Rattle.mps_refinement.proofs.Parts.Named.{ThingsStay, named_alike}
 use Rattle.mps_refinement.proofs.Parts.Numbering.{kept_alike}
@@ -128,8 +128,9 @@ module _ {F : Type 0} (layout : F → Layout) (past : Past) (h after : HeapState
       slots_counted = heap.live_slots ∙ parts.slots_counted;
       points = points_now;
       points_counted = heap.live_points ∙ (parts.points_counted ∙ sym (points_counted w.graph.points));
-      registered = subst (λ ats. AreRegistered addresses past.time.at_flip ats registered) (sym heap.finals.registrations)
-          (all_now addresses past.time.at_flip (is_live_automatic v) (λ id is. live_at v id is) registered lives);
+      registered = subst (λ ats. AreRegisteredAt past.time addresses ats registered) (sym heap.finals.registrations)
+          (subst (λ t. AreRegisteredAt t addresses (map (address_of_id addresses) registered) registered) (sym timed)
+          (all_now addresses [] (is_live_automatic v) (λ id is. live_at v id is) registered lives));
       messages = heap.finals.waiting;
       flips = subst (λ e. AreFlips e v.flips) (sym heap.epochs) (flips_after h.epochs w.flips (condemned_zones w Everything) parts.flips);
       point_flips = ap (λ (s : PointsState). s.flips) heap.points

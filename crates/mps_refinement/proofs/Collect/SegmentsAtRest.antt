@@ -26,7 +26,7 @@ use Rattle.mps_trace_laws.specs.Fix.Housed.{AreHoused, rank_of_object}
 use Rattle.mps_trace_laws.proofs.Image.BlockRuns.{extents_ascend}
 use Rattle.mps_trace_laws.specs.Begin.Before.{AreSegmentsAtRest}
 use Rattle.mps_heap_spec.specs.State.{HeapState}
-use Rattle.mps_refinement.specs.StandsFor.{AreParts, IsReached, Past, Rests}
+use Rattle.mps_refinement.specs.StandsFor.{AreParts, IsReached, Past, Rests, collector_of}
 use Rattle.mps_refinement.proofs.Parts.CommittedParts.{segment_there}
 use Rattle.mps_refinement.proofs.Worlds.Ready.{laid_out}
 use Rattle.mps_refinement.proofs.Parts.ReservedImage.{reservation_covers}
@@ -52,7 +52,7 @@ block_rank w id o object =
     of_test false = refl
 
 module _ {F : Type 0} (layout : F → Layout) (past : Past) (h : HeapState F) (w : World) (parts : AreParts layout past h w)
-    (reached : IsReached w) (rest : Rests past.time h.segs w) where
+    (reached : IsReached w) (rest : Rests past.time (collector_of h) w) where
   image : StandsAtRest h.segs w
   image = image_at_rest layout past h w parts rest.time
 

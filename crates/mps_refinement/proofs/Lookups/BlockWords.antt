@@ -23,6 +23,7 @@ use Rattle.mps_heap_spec.specs.Coming.{Comes}
 use Rattle.mps_heap_spec.specs.Manual.{word_loaded, word_stored}
 use Rattle.mps_heap_spec.specs.Objects.{with_word}
 use Rattle.mps_heap_spec.specs.State.{HeapState}
+use Rattle.mps_refinement.proofs.Worlds.CollectorKept.{all_kept}
 use Rattle.mps_refinement.specs.Answering.{answer_to, says_number, says_ok}
 use Rattle.mps_refinement.specs.RightStep.{IsRight}
 use Rattle.mps_refinement.specs.StandsFor.{AreParts, Past, StandsAt}
@@ -120,7 +121,7 @@ module _ {F : Type 0} (layout : F → Layout) (h : HeapState F) where
         same_then_next (word_same layout past h w parts own at id b k) (λ n old word.
         fits (record {
           answer = refl;
-          marks = (refl, refl);
+          keeps = all_kept h;
           formats = refl;
           has = record
               { past = past; timed = refl; parts = word_written at id k value n old b word };

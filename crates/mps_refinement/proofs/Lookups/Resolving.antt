@@ -1,6 +1,6 @@
 -- Where a block is now that was registered by its address, and what `definalize` comes to by that: a registration has the address that
 -- its object has now or had at the flip.
-use Rattle.std.proofs.Common.{◌≡◌, ◌∙◌, ℕ, zero, suc, ◌<◌, ◌%◌, Bool, true, false, refl, sym, ap, ap₂, subst, List, [], ◌∷◌, map, Some, inl, inr, arith}
+use Rattle.std.proofs.Common.{◌≡◌, ◌∙◌, ℕ, zero, suc, ◌-◌, ◌<◌, ◌%◌, Bool, true, false, refl, sym, ap, ap₂, subst, List, [], ◌∷◌, map, Some, inl, inr, arith}
 use Rattle.std.proofs.lemmas.Bool.{and_parts, cases_Bool, cases_eq, eq-eqb, eqb-true, or_cases, false≢true, ne_eqb, true≢false}
 use Rattle.std.proofs.lemmas.List.{get_or-drop}
 use Rattle.std.proofs.lemmas.Option.{none-some, same_Some}
@@ -25,15 +25,16 @@ use Rattle.mps_heap_spec.specs.State.{HeapState}
 use Rattle.mps_format.specs.Pools.{format_of_pool}
 use Rattle.mps_format.specs.declared.pool.Pool.{Pool}
 use Rattle.mps_format.specs.declared.pool.Pool.TheVariants as pool
-use Rattle.mps_refinement.specs.StandsFor.{AreParts, AreRegistered, IsInTime, IsPool, Past, Runs, address_of_id, rests, runs}
+use Rattle.mps_refinement.specs.StandsFor.{AreParts, AreRegistered, CollectorState, IsInTime, IsPool, Past, Runs, address_of_id, rests, runs}
 use Rattle.mps_refinement.proofs.Lookups.Found.{some_there}
+use Rattle.mps_refinement.proofs.Parts.Registered.{means_by}
 use Rattle.mps_refinement.proofs.Worlds.Known.{IsKnown, read_where_kept}
 use Rattle.mps_refinement.proofs.Lookups.ManualBlocks.{passes_there}
 use Rattle.mps_base.specs.declared.names.Slot.{Slot}
 use Rattle.mps_base.specs.declared.refusal.Refusal.TheVariants as refusal
-use Rattle.mps_trace.specs.State.{position_of, without_registration}
+use Rattle.mps_trace.specs.State.{position_of}
 use Rattle.mps_heap_spec.specs.Coming.{Outcome, done}
-use Rattle.mps_heap_spec.specs.Finalizing.{with_finals}
+use Rattle.mps_heap_spec.specs.Finalizing.{without_registered}
 use Rattle.mps_heap_spec.specs.Finding.{object_in}
 use Rattle.mps_seg.specs.Collecting.{is_condemned_at}
 
@@ -67,7 +68,7 @@ module _ {F : Type 0} (layout : F → Layout) where
   unregistered_by now h slot = do
     object ← object_in layout h slot
     position ← required (position_of now object.at) refusal.NotRegistered
-    done (with_finals h (without_registration h.finals position))
+    done (without_registered h position)
 
 first_word : (words : List ℕ) (n : ℕ) → slice_index (drop n words) 0 ≡ slice_index words n
 first_word words n = get_or-drop n words 0 0 ∙ ap (slice_index words) (omega arith)
@@ -172,19 +173,20 @@ module _ {F : Type 0} (layout : F → Layout) (past : Past) (h : HeapState F) (w
           ]
 
   -- all registrations resolve to the addresses of now
-  pub all_resolved : (ats tos : List Address) (ids : List Id) → ((id : Id) → contains ids id ≡ true → past.time.is_read id ≡ true)
-      → All (is_live_automatic w) ids → AreRegistered w.addresses past.time.at_flip ats ids → AreResolved layout h ats tos
+  pub all_resolved : (next before : ℕ) (ats tos : List Address) (ids : List Id) → ((id : Id) → contains ids id ≡ true → past.time.is_read id ≡ true)
+      → All (is_live_automatic w) ids → AreRegistered w.addresses past.time.at_flip next before ats ids → AreResolved layout h ats tos
       → tos ≡ map (address_of_id w.addresses) ids
-  all_resolved [] [] [] read all are to = refl
-  all_resolved [] [] (id ∷ ids) read all are to = absurd are
-  all_resolved [] (t ∷ tos) ids read all are to = absurd to
-  all_resolved (a ∷ ats) [] ids read all are to = absurd to
-  all_resolved (a ∷ ats) (t ∷ tos) [] read all are to = absurd are
-  all_resolved (a ∷ ats) (t ∷ tos) (id ∷ ids) read all are to =
+  all_resolved next before [] [] [] read all are to = refl
+  all_resolved next before [] [] (id ∷ ids) read all are to = absurd are
+  all_resolved next before [] (t ∷ tos) ids read all are to = absurd to
+  all_resolved next before (a ∷ ats) [] ids read all are to = absurd to
+  all_resolved next before (a ∷ ats) (t ∷ tos) [] read all are to = absurd are
+  all_resolved next before (a ∷ ats) (t ∷ tos) (id ∷ ids) read all are to =
       let parts = and_parts (is_live_automatic w id) (list_all (is_live_automatic w) ids) all in
       ap₂ (λ (b : Address) bs. b ∷ bs)
-      (resolved_means id a t parts.0 (read id (Rattle.mps_abstract.proofs.Lists.contains_here id ids)) are.0 to.0)
-      (all_resolved ats tos ids (λ n there. read n (Rattle.mps_abstract.proofs.Lists.contains_later id ids n there)) parts.1 are.1 to.1)
+      (resolved_means id a t parts.0 (read id (Rattle.mps_abstract.proofs.Lists.contains_here id ids))
+      (means_by w.addresses past.time.at_flip next before a id are.0) to.0)
+      (all_resolved (next - 1) (before - 1) ats tos ids (λ n there. read n (Rattle.mps_abstract.proofs.Lists.contains_later id ids n there)) parts.1 are.1 to.1)
 
 -- an id of a list stands somewhere in it
 position_there : (ids : List Id) (id : Id) → contains ids id ≡ true → (position : ℕ) × (slice_get ids position ≡ Some id)
@@ -196,12 +198,12 @@ position_there (n ∷ ns) id h =
     ]
 
 -- what is registered is read, at any time
-pub registered_read : (t : Rattle.mps_refinement.specs.StandsFor.Time) (s : Rattle.mps_seg.specs.Segs.SegsState) (w : World)
+pub registered_read : (t : Rattle.mps_refinement.specs.StandsFor.Time) (s : CollectorState) (w : World)
     → IsInTime t s w → (id : Id) → contains w.graph.registered id ≡ true → t.is_read id ≡ true
 registered_read t s w (rests rest) id there = ap (λ (u : Rattle.mps_refinement.specs.StandsFor.Time). u.is_read id) rest.time
 registered_read t s w (runs x r may) id there =
     elim (cases_Bool t.is_reclaiming) [
-      | inr tracing ↦ ap (λ (f : Id → Bool). f id) (r.tracing tracing)
+      | inr tracing ↦ ap (λ (f : Id → Bool). f id) (r.tracing tracing).read
       | inl reclaiming ↦
           let freed = r.reclaiming reclaiming in
           read_where_kept t s w x r id

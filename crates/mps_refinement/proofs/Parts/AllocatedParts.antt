@@ -34,7 +34,7 @@ use Rattle.mps_heap_spec.specs.declared.found.Entry.{Entry}
 use Rattle.mps_heap_spec.specs.State.{HeapState}
 use Rattle.mps_root.specs.State.{with_place}
 use Rattle.mps_seg.specs.Segs.{SegsState, noted_for, segments_after}
-use Rattle.mps_refinement.specs.StandsFor.{AreParts, Past, address_of_target, StandsAt, setting_at, IsInTime, rests, runs}
+use Rattle.mps_refinement.specs.StandsFor.{AreParts, Past, address_of_target, StandsAt, setting_at, IsInTime, rests, runs, collector_of}
 use Rattle.mps_refinement.proofs.Parts.BlockParts.{blocks_changed, with_blocks, world_with_blocks}
 use Rattle.mps_refinement.proofs.Parts.BlockPlaces.{place_length, place_written, places_count, places_counted}
 use Rattle.mps_refinement.proofs.Parts.ClearedWords.{cleared_long, cleared_word, other_word}
@@ -107,7 +107,7 @@ segments_made s q pool words at = record s {
 module _ {F : Type 0} (layout : F → Layout) (past : Past) (h : HeapState F) (w : World) (parts : AreParts layout past h w)
     (known : IsKnown past.time w) (graph : IsSoundGraph w) (once : ArePlacedOnce (places_of w)) (pool words : ℕ) (some : 0 < words)
     (q : Placement)
-    (time : IsInTime past.time h.segs w) (manual : pool_is is_automatic_kind w pool ≡ false) (not_copying : is_copying_pool w pool ≡ false)
+    (time : IsInTime past.time (collector_of h) w) (manual : pool_is is_automatic_kind w pool ≡ false) (not_copying : is_copying_pool w pool ≡ false)
   where
     abbrev at : Address
     at = address_of_placement q
@@ -300,7 +300,7 @@ module _ {F : Type 0} (layout : F → Layout) (past : Past) (h : HeapState F) (w
             false≢true (ap is_block (after.placed.apart (OfReservation point) (OfBlock new) (word_of at + k) c (own_covers k low)));
         unforwarded = unmoved setting_between (memory_in h.segs) w.addresses past.time.colours
             (black_cells past.time.condemned past.time.colours) (is_copying_pool w) at (size_of object) pool between
-            (still_in past.time.at_flip w (flip_known past.time h.segs w time)) at_home not_copying;
+            (still_in past.time.at_flip w (flip_known past.time (collector_of h) w time)) at_home not_copying;
       }
 
       -- and its segment isn't condemned
@@ -317,7 +317,7 @@ module _ {F : Type 0} (layout : F → Layout) (past : Past) (h : HeapState F) (w
       not_condemned =
           ap (λ o. bit_of segs.condemned (option_map (λ (x : Segment). grain_of x.base) o)) over_own ∙ of_time time
         where
-          of_time : IsInTime past.time h.segs w → bit segs.condemned (grain_of home.segment.base) ≡ false
+          of_time : IsInTime past.time (collector_of h) w → bit segs.condemned (grain_of home.segment.base) ≡ false
           of_time (rests rest) =
               noted_clear q h.segs.condemned (grain_of home.segment.base) (rest.not_condemned (grain_of home.segment.base))
           of_time (runs y r may) =
@@ -423,7 +423,8 @@ module _ {F : Type 0} (layout : F → Layout) (past : Past) (h : HeapState F) (w
           counted = places_counted w.graph.blocks found.number found.index found.list (Some new) has;
           registered =
               as_before w.addresses past.time.at_flip addresses_after (is_live_automatic w)
-              (λ j passes. still j (and_parts (is_live w j) (object_is is_automatic w j) passes).1) h.finals.registered w.graph.registered
+              (λ j passes. still j (and_parts (is_live w j) (object_is is_automatic w j) passes).1) past.time.next past.time.registered_before
+              h.finals.registered w.graph.registered
               known.formed.registered parts.registered;
           messages = parts.messages ∙ messages_still w graph addresses_after still;
           there =

@@ -14,7 +14,7 @@ use Rattle.mps_heap_spec.specs.State.{HeapState}
 use Rattle.mps_heap_spec.specs.declared.arena.ArenaState.{ArenaState}
 use Rattle.mps_heap_spec.specs.declared.arena.ArenaState.TheVariants as arena
 use Rattle.mps_refinement.specs.Numbering.{AreNumbered}
-use Rattle.mps_refinement.specs.StandsFor.{Past, AreParts, AreSlots, AreWords, IsArena, address_of_id, address_of_target, StandsAt, AreRegistered, state_of}
+use Rattle.mps_refinement.specs.StandsFor.{Past, AreParts, AreSlots, AreWords, IsArena, address_of_id, address_of_target, StandsAt, AreRegisteredAt, state_of}
 use Rattle.mps_refinement.proofs.Parts.Named.{named_alike}
 use Rattle.mps_refinement.proofs.Parts.PartsByKind.{parts_of_kinds, points_of, pools_of, states_of}
 
@@ -41,7 +41,7 @@ pub record AreBlocks {F : Type 0} (past : Past) (h : HeapState F) (w : World) (s
   pub blocks_are : blocks ≡ map (map (address_of_target addresses)) places
   pub count : length places ≡ length w.graph.blocks
   pub counted : sum_by length places ≡ sum_by length w.graph.blocks
-  pub registered : AreRegistered addresses past.time.at_flip h.finals.registered w.graph.registered
+  pub registered : AreRegisteredAt past.time addresses h.finals.registered w.graph.registered
   pub messages : h.finals.messages ≡ map (address_of_id addresses) w.graph.messages
   pub there : length blocks ≡ length h.roots.blocks
 

@@ -314,7 +314,8 @@ module _ {F : Type 0} (layout : F → Layout) (past : Past) (h : HeapState F) (w
       )
       (points_made, parts.points_counted ∙ sym (reservation_written_points w.graph n None there)) (
         as_before w.addresses past.time.at_flip (with_last w.addresses (Some at)) (is_live w)
-            (λ id alive. address_still w.addresses at id alive) h.finals.registered w.graph.registered registered_live parts.registered,
+            (λ id alive. address_still w.addresses at id alive) past.time.next past.time.registered_before h.finals.registered
+            w.graph.registered registered_live parts.registered,
         parts.messages ∙ sym (ids_still w.addresses at w.graph.messages known.held.messages),
       )
       parts.dependencies (pools_of parts)

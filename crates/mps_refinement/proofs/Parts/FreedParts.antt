@@ -34,7 +34,7 @@ use Rattle.mps_format.specs.declared.pool.Pool.{Pool}
 use Rattle.mps_format.specs.declared.pool.Pool.TheVariants as pool
 use Rattle.mps_model.specs.Checked.{Found}
 use Rattle.mps_root.specs.State.{with_place}
-use Rattle.mps_refinement.specs.StandsFor.{AreParts, IsPool, Past, address_of_target, StandsAt, setting_at, AreOfFlip, IsInTime}
+use Rattle.mps_refinement.specs.StandsFor.{AreParts, IsPool, Past, address_of_target, StandsAt, setting_at, AreOfFlip, IsInTime, collector_of}
 use Rattle.mps_refinement.proofs.Parts.BlockParts.{blocks_changed, with_blocks, world_with_blocks}
 use Rattle.mps_refinement.proofs.Parts.BlockPlaces.{place_length, place_written, places_count, places_counted}
 use Rattle.mps_refinement.proofs.Worlds.Known.{IsKnown}
@@ -49,6 +49,12 @@ use Rattle.mps_laws.proofs.Entries.{entry_at-written}
 use Rattle.mps_refinement.proofs.Parts.Unforwarded.{flip_known}
 use Rattle.mps_refinement.proofs.Parts.Registered.{as_before}
 use Rattle.mps_model.specs.WellFormed.{is_live_automatic}
+use Rattle.mps_abstract.specs.Colours.{is_grey}
+use Rattle.mps_refinement.proofs.Parts.GreyRanks.{IsGreyAt, ranks_stay}
+use Rattle.mps_trace_laws.specs.Fix.Ranks.{AreMarksRanked}
+use Rattle.mps_trace_laws.proofs.Fix.Ranks.{was_set}
+use Rattle.mps_seg.specs.Marks.{MarkTables}
+use Rattle.mps_extents.specs.Table.{bit}
 
 -- ---- whether a segment is given back
 
@@ -115,7 +121,7 @@ freed_is size s at t over =
 
 module _ {F : Type 0} (layout : F → Layout) (past : Past) (h : HeapState F) (w : World) (parts : AreParts layout past h w)
     (known : IsKnown past.time w) (graph : IsSoundGraph w) (at : Address) (id : Id) (b : IsBlock w at id)
-    (time : IsInTime past.time h.segs w) where
+    (time : IsInTime past.time (collector_of h) w) where
   manual : is_automatic b.object ≡ false
   manual = ap is_automatic_body b.right.body
 
@@ -198,7 +204,7 @@ module _ {F : Type 0} (layout : F → Layout) (past : Past) (h : HeapState F) (w
         where
           of_bool : (is_copying_object w j ≡ true) ⊎ (is_copying_object w j ≡ false) → is_copying_pool w o.pool ≡ true
           of_bool (inl is) = sym (ap (λ x. option_map_or (λ (y : Object). is_copying_pool w y.pool) x false) there) ∙ is
-          of_bool (inr isnt) = absurd (apart ((flip_known past.time h.segs w time).still j from to isnt was now))
+          of_bool (inr isnt) = absurd (apart ((flip_known past.time (collector_of h) w time).still j from to isnt was now))
 
       of_one : (n : Word) (x : Option Segment) → segment_over h.segs.segments (address_of_word n) ≡ x
           → option_map (λ (u : Segment). u.pool) x ≡ Some o.pool
@@ -282,6 +288,35 @@ module _ {F : Type 0} (layout : F → Layout) (past : Past) (h : HeapState F) (w
   segs_segments t true = ap (λ ss. without_segment ss t.base) parts.segments
   segs_segments t false = parts.segments
 
+  marks_freed : (t : Segment) (given : Bool) → (segments_freed h.segs at t given).marks ≡ (block_removed h.segs at).marks
+  marks_freed t true = refl
+  marks_freed t false = refl
+
+  -- grey objects stay where they are, with their segments
+  pub ranks_freed : (t : Segment) (given : Bool) (v : World)
+      → v.segments ≡ (if given then without_segment w.segments t.base else w.segments) → v.graph.objects ≡ w.graph.objects
+      → v.addresses ≡ addresses_after → HasLayout (w.grains + 1) w → HasLayout (v.grains + 1) v
+      → ((j : Id) → is_grey past.time.colours j ≡ true → auto w j ≡ true) → AreMarksRanked h.segs
+      → AreMarksRanked (segments_freed h.segs at t given)
+  ranks_freed t given v segments objects addresses laid after automatic =
+      ranks_stay layout past h w parts (segments_freed h.segs at t given)
+      (λ n is. was_set h.segs.marks.exact (word_of at) n (ap (λ (m : MarkTables). bit m.exact n) (sym (marks_freed t given)) ∙ is))
+      (λ n is. was_set h.segs.marks.weak (word_of at) n (ap (λ (m : MarkTables). bit m.weak n) (sym (marks_freed t given)) ∙ is))
+      (λ n grey. over_grey n grey given segments)
+    where
+      over_grey : (n : Word) (grey : IsGreyAt layout past h w parts n) (g : Bool)
+          → v.segments ≡ (if g then without_segment w.segments t.base else w.segments)
+          → segment_over (segments_freed h.segs at t g).segments (address_of_word n) ≡ Some grey.segment
+      over_grey n grey true segments_are =
+          over_still t.base v segments_are objects addresses laid after grey.id 0 grey.object n (record {
+            at = grey.lies.at;
+            address = still grey.id (automatic grey.id grey.grey) ∙ grey.lies.address;
+            object = grey.lies.object;
+            within = grey.lies.within;
+            is = grey.lies.is;
+          }) ∙ grey.over
+      over_grey n grey false segments_are = grey.over
+
   pub parts_freed : (index : ℕ) (entry : Entry Address) (found : Found (Option ℕ)) → IsPlaceEntry past h w index entry found
       → found.value ≡ Some id → ArePlacedOnce (places_of w) → (t : Segment) (given : Bool) → IsAmong t w.segments
       → is_copying_pool w t.pool ≡ false
@@ -331,7 +366,8 @@ module _ {F : Type 0} (layout : F → Layout) (past : Past) (h : HeapState F) (w
         counted = places_counted w.graph.blocks found.number found.index found.list None has;
         registered =
             as_before w.addresses past.time.at_flip addresses_after (is_live_automatic w)
-            (λ j passes. still j (and_parts (is_live w j) (object_is is_automatic w j) passes).1) h.finals.registered w.graph.registered
+            (λ j passes. still j (and_parts (is_live w j) (object_is is_automatic w j) passes).1) past.time.next past.time.registered_before
+            h.finals.registered w.graph.registered
             known.formed.registered parts.registered;
         messages = parts.messages ∙ messages_still w graph addresses_after still;
         there =

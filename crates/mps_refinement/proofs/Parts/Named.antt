@@ -14,7 +14,7 @@ use Rattle.mps_names.specs.declared.names.Thing.TheVariants as thing
 use Rattle.mps_root.specs.State.{kept}
 use Rattle.mps_heap_spec.specs.State.{HeapState}
 use Rattle.mps_refinement.specs.Numbering.{renumbered}
-use Rattle.mps_refinement.specs.StandsFor.{AreNamed, IsThere, Past, numbered_thing}
+use Rattle.mps_refinement.specs.StandsFor.{AreNamed, IsThere, Past, Time, numbered_thing}
 use Rattle.mps_refinement.proofs.Parts.Numbering.{renumbered_other}
 
 -- ---- things that stay
@@ -50,6 +50,34 @@ module _ {F : Type 0} (h after : HeapState F) where
     unique = λ name other t is those. are.unique name other t (sym (alike name) ∙ is) (sym (alike other) ∙ those);
     once = are.once;
   }
+
+-- the numbers of things don't count the time
+same_numbered : (past : Past) (t : Time) (x : Thing) → numbered_thing (record past { time = t }) x ≡ numbered_thing past x
+same_numbered past t (thing.Chain number) = refl
+same_numbered past t (thing.Pool number) = refl
+same_numbered past t (thing.Table key) = refl
+same_numbered past t (thing.Area key) = refl
+same_numbered past t (thing.Blocks number) = refl
+same_numbered past t (thing.Point key) = refl
+same_numbered past t (thing.Dependency number) = refl
+same_numbered past t (thing.Label number) = refl
+same_numbered past t (thing.Cache number) = refl
+same_numbered past t (thing.Transform number) = refl
+
+same_thing : (past : Past) (t : Time) (o : Option Thing) → option_map (numbered_thing past) o
+    ≡ option_map (numbered_thing (record past { time = t })) o
+same_thing past t None = refl
+same_thing past t (Some x) = ap Some (sym (same_numbered past t x))
+
+-- so names represent the same things at any time
+pub named_at : {F : Type 0} (past : Past) (t : Time) (h : HeapState F) (names : List NamedThing) → AreNamed past h names
+    → AreNamed (record past { time = t }) h names
+named_at past t h names are = record {
+  named = λ name. are.named name ∙ same_thing past t (thing_named h.names name);
+  there = are.there;
+  unique = are.unique;
+  once = are.once;
+}
 
 pub nothing_there : {A : Type 0} (o : Option A) → o ≡ None → IsSome o → ⊥
 nothing_there o none some = true≢false (sym some ∙ ap is_some none)

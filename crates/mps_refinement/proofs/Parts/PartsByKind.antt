@@ -11,7 +11,7 @@ use Rattle.mps_root.specs.State.{kept}
 use Rattle.mps_heap_spec.specs.State.{HeapState}
 use Rattle.mps_format.specs.Pools.{size_of_pool}
 use Rattle.mps_refinement.specs.Numbering.{AreNumbered, AreOrdered}
-use Rattle.mps_refinement.specs.StandsFor.{AreNamed, AreParts, ArePools, AreSlots, AreWords, IsArena, IsPoint, Past, address_of_id, address_of_target, kept_of, state_of, AreRegistered, StandsAt}
+use Rattle.mps_refinement.specs.StandsFor.{AreNamed, AreParts, ArePools, AreSlots, AreWords, IsArena, IsPoint, Past, address_of_id, address_of_target, kept_of, state_of, AreRegisteredAt, StandsAt}
 
 module _ {F : Type 0} (layout : F → Layout) (past : Past) (h : HeapState F) (w : World) where
   -- the arena's size, its limit and its segments
@@ -37,7 +37,7 @@ module _ {F : Type 0} (layout : F → Layout) (past : Past) (h : HeapState F) (w
   -- registrations and messages
   abbrev pub FinalParts : Type 0
   FinalParts =
-      AreRegistered w.addresses past.time.at_flip h.finals.registered w.graph.registered
+      AreRegisteredAt past.time w.addresses h.finals.registered w.graph.registered
       × (h.finals.messages ≡ map (address_of_id w.addresses) w.graph.messages)
 
   abbrev pub DependencyParts : Type 0

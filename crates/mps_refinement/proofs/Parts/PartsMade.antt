@@ -17,8 +17,9 @@ use Rattle.mps_heap_spec.specs.State.{HeapState}
 use Rattle.mps_format.specs.Pools.{size_of_pool}
 use Rattle.mps_heap_spec.specs.declared.arena.ArenaState.{ArenaState}
 use Rattle.mps_format.specs.declared.pool.Pool.{Pool}
+use Rattle.mps_trace.specs.AmcState.{with_pool}
 use Rattle.mps_refinement.specs.Numbering.{AreNumbered, AreOrdered}
-use Rattle.mps_refinement.specs.StandsFor.{AreNamed, AreParts, ArePools, AreSlots, AreWords, IsPoint, Past, StandsFor, address_of_target, kept_of, state_of, IsArena, IsInTime, StandsAt}
+use Rattle.mps_refinement.specs.StandsFor.{AreNamed, AreParts, ArePools, AreSlots, AreWords, IsPoint, Past, StandsFor, address_of_target, kept_of, state_of, IsArena, IsInTime, StandsAt, collector_of}
 use Rattle.mps_refinement.proofs.Parts.Named.{ThingsStay, named_alike}
 use Rattle.mps_refinement.proofs.Parts.PartsByKind.{parts_of_kinds, arena_of, finals_of, image_of, points_of, pools_of, roots_of, states_of}
 
@@ -100,7 +101,7 @@ module _ {F : Type 0} (layout : F → Layout) (past : Past) (h : HeapState F) (w
   -- ---- pools
 
   abbrev pub state_of_pools : List (Pool F) → (sizes : List ℕ) → NamesState → HeapState F
-  state_of_pools pools sizes names = record h { pools = pools; sizes = sizes; names = names }
+  state_of_pools pools sizes names = record h { pools = pools; sizes = sizes; tails = with_pool h.tails 1; names = names }
 
   abbrev pub world_of_pools : List world.Pool → List NamedThing → World
   world_of_pools pools named = record w { graph = record w.graph { names = named }; pools = pools }
@@ -163,6 +164,6 @@ untouched_stands {F} layout h after w untouched st = record {
   past = st.past;
   parts = subst (λ s. AreParts layout st.past s w) (sym untouched.state)
       (untouched_parts layout st.past h w st.parts after.names untouched.names);
-  time = subst (λ (s : HeapState F). IsInTime st.past.time s.segs w) (sym untouched.state) st.time;
+  time = subst (λ (s : HeapState F). IsInTime st.past.time (collector_of s) w) (sym untouched.state) st.time;
   reached = st.reached;
 }

@@ -19,7 +19,7 @@ use Rattle.mps_heap_spec.specs.Finding.{with_words}
 use Rattle.mps_heap_spec.specs.declared.found.Entry.{Entry}
 use Rattle.mps_heap_spec.specs.Objects as ours
 use Rattle.mps_heap_spec.specs.State.{HeapState}
-use Rattle.mps_refinement.specs.StandsFor.{Past, AreParts, AreSlots, AreWords, address_of_id, address_of_target, kept_of, stored_word, AreRegistered, StandsAt}
+use Rattle.mps_refinement.specs.StandsFor.{Past, AreParts, AreSlots, AreWords, address_of_id, address_of_target, kept_of, stored_word, AreRegisteredAt, StandsAt}
 use Rattle.mps_refinement.specs.Numbering.{AreNumbered, AreOrdered}
 use Rattle.mps_refinement.proofs.Parts.Counts.{slot_written_roots, slot_written_slots, word_written_roots, word_written_slots}
 use Rattle.mps_refinement.proofs.Parts.EntryWritten.{entry_written, kept_still}
@@ -72,7 +72,7 @@ module _ {F : Type 0} (layout : F → Layout) (past : Past) (h : HeapState F) (w
 
   -- other registrations and messages
   pub finals_written : (finals : FinalsState) (registered messages : List Id)
-      → AreRegistered w.addresses past.time.at_flip finals.registered registered
+      → AreRegisteredAt past.time w.addresses finals.registered registered
       → finals.messages ≡ map (address_of_id w.addresses) messages
       → AreParts layout past (with_finals h finals) (with_graph w (record w.graph { registered = registered; messages = messages }))
   finals_written finals registered messages are waiting =

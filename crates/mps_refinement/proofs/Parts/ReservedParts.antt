@@ -25,7 +25,7 @@ use Rattle.mps_laws.proofs.Positions.LegalMoves.{HasLayout}
 use Rattle.mps_laws.proofs.Lookups.{entry_is_there, slice_get-set_other, entry_at-set_same, entry_within}
 use Rattle.mps_laws.proofs.Positions.Segments.{AreAligned, among_aligned}
 use Rattle.mps_heap_spec.specs.State.{HeapState}
-use Rattle.mps_refinement.specs.StandsFor.{AreParts, BothHeld, IsArena, IsPoint, Past, IsInTime, StandsAt, setting_at}
+use Rattle.mps_refinement.specs.StandsFor.{AreParts, BothHeld, IsArena, IsPoint, Past, IsInTime, StandsAt, setting_at, collector_of}
 use Rattle.mps_refinement.proofs.Parts.ClearedWords.{reserved_head, reserved_long, reserved_others, reserved_words, reserved_zero}
 use Rattle.mps_refinement.proofs.Parts.Counts.{reservation_written_points}
 use Rattle.mps_refinement.proofs.Parts.PointWritten.{points_anew, points_there, points_written, written_point, other_point}
@@ -47,7 +47,7 @@ module _ {F : Type 0} (layout : F → Layout) (past : Past) (h : HeapState F) (w
     (closed : q.reservation ≡ None) (f : Layout) (head : ℕ) (place : Placement) (segments : List Segment)
     (segments_are : segments_after place p.pool 0 p.rank h.segs.segments ≡ segments) (hand : Buffer) (m : PointMemory)
     (hand_is : run_of hand ≡ m.buffer) (aligned : m.reserved_at % 8 ≡ 0)
-    (time : IsInTime past.time h.segs w) where
+    (time : IsInTime past.time (collector_of h) w) where
   abbrev pub cells : List Cell
   cells = new_cells f head
 
@@ -185,11 +185,11 @@ module _ {F : Type 0} (layout : F → Layout) (past : Past) (h : HeapState F) (w
         of_clear (inl still) =
             unmoved setting_between (memory_in h.segs) w.addresses past.time.colours (black_cells past.time.condemned past.time.colours)
             (is_copying_pool w) m.reserved_at (length cells) q.pool between
-            (still_in past.time.at_flip w (flip_known past.time h.segs w time)) at_home still
+            (still_in past.time.at_flip w (flip_known past.time (collector_of h) w time)) at_home still
         of_clear (inr here) =
             uncondemned_place setting_between (memory_in h.segs) w.addresses past.time.colours
             (black_cells past.time.condemned past.time.colours) (is_copying_pool w) m.reserved_at (length cells) q.pool between
-            (still_in past.time.at_flip w (flip_known past.time h.segs w time)) at_home here
+            (still_in past.time.at_flip w (flip_known past.time (collector_of h) w time)) at_home here
 
     image_after : StandsAt past.time segs_after world_after
     image_after =

@@ -1,6 +1,6 @@
 -- What the parts of a heap are while no collection runs: its image is that of an arena at rest, and registrations have the addresses of
 -- their objects.
-use Rattle.std.proofs.Common.{◌≡◌, ℕ, false, refl, map, subst, Option, Some, None}
+use Rattle.std.proofs.Common.{◌≡◌, ℕ, false, refl, [], map, subst, Option, Some, None}
 use Rattle.mps_extents.specs.Table.{bit}
 use Rattle.mps_seg.specs.Collecting.{bit_of}
 use Rattle.mps_format.specs.Layout.{Layout}
@@ -8,11 +8,11 @@ use Rattle.mps_model.specs.World.{World}
 use Rattle.mps_heap_spec.specs.State.{HeapState}
 use Rattle.mps_seg.specs.Segs.{SegsState}
 use Rattle.mps_trace_laws.specs.Image.AtRest.{StandsAtRest}
-use Rattle.mps_refinement.specs.StandsFor.{AreParts, AreRegistered, IsInTime, Past, Rests, StandsAt, Time, address_of_id, rests, runs, time_at_rest}
+use Rattle.mps_refinement.specs.StandsFor.{CollectorState, AreParts, AreRegisteredAt, IsInTime, Past, Rests, StandsAt, Time, address_of_id, rests, runs, time_at_rest}
 use Rattle.mps_refinement.proofs.Parts.Registered.{now_alone}
 
 -- no call leaves a collection running yet
-pub at_rest : {t : Time} {s : SegsState} {w : World} → IsInTime t s w → Rests t s w
+pub at_rest : {t : Time} {s : CollectorState} {w : World} → IsInTime t s w → Rests t s w
 at_rest (rests rest) = rest
 at_rest (runs x r may) = absurd may
 
@@ -28,5 +28,5 @@ module _ {F : Type 0} (layout : F → Layout) (past : Past) (h : HeapState F) (w
 
   pub registered_at_rest : h.finals.registered ≡ map (address_of_id w.addresses) w.graph.registered
   registered_at_rest =
-      now_alone w.addresses h.finals.registered w.graph.registered
-      (subst (λ t. AreRegistered w.addresses t.at_flip h.finals.registered w.graph.registered) time parts.registered)
+      now_alone w.addresses [] h.finals.registered w.graph.registered
+      (subst (λ t. AreRegisteredAt t w.addresses h.finals.registered w.graph.registered) time parts.registered)

@@ -11,8 +11,7 @@ use Rattle.mps_abstract.specs.Colours.{Colours}
 use Rattle.mps_trace_laws.specs.Image.Memory.{Setting, Memory}
 use Rattle.mps_trace_laws.specs.Image.Image.{CellSet, ImageStands}
 use Rattle.mps_trace_laws.specs.Image.Changes.{IsOfNoMovedBlock, AreHome}
-use Rattle.mps_seg.specs.Segs.{SegsState}
-use Rattle.mps_refinement.specs.StandsFor.{AreOfFlip, IsInTime, Time, rests, runs}
+use Rattle.mps_refinement.specs.StandsFor.{AreOfFlip, CollectorState, IsInTime, Time, rests, runs}
 
 -- only the blocks of moving pools have moved
 abbrev pub AreStillIn : Setting → List (Option Address) → (moves : ℕ → Bool) → Type 0
@@ -40,7 +39,7 @@ module _ (s : Setting) (m : Memory) (addresses : List (Option Address)) (k : Col
   }
 
 -- what is known of the flip at any time
-pub flip_known : (t : Time) (s : SegsState) (w : World) → IsInTime t s w → AreOfFlip t.at_flip w
+pub flip_known : (t : Time) (s : CollectorState) (w : World) → IsInTime t s w → AreOfFlip t.at_flip w
 flip_known t s w (rests rest) = record {
   made = let e = ap (λ (u : Time). length u.at_flip) rest.time in omega (Rattle.std.proofs.Common.arith, e);
   still = λ id from to moves was now. absurd (none-some from (sym (ap (λ (u : Time). entry_at u.at_flip id) rest.time) ∙ was));

@@ -41,8 +41,7 @@ use Rattle.mps_model.specs.LegalMove.{AreLegalMoves}
 use Rattle.mps_model.specs.WellFormed.{IsWellFormed, is_live_automatic}
 use Rattle.mps_model.specs.World.{World, Unclamped, address_of, ids_in_pairs, is_live, is_parked, is_running, live_ids, object_is}
 use Rattle.mps_model.proofs.Reaching.{list_all-contains}
-use Rattle.mps_seg.specs.Segs.{SegsState}
-use Rattle.mps_refinement.specs.StandsFor.{IsInTime, IsReached, Time}
+use Rattle.mps_refinement.specs.StandsFor.{CollectorState, IsInTime, IsReached, Time}
 use Rattle.mps_refinement.proofs.Worlds.Known.{IsKnown, known_of, not_both}
 use Rattle.mps_refinement.proofs.Worlds.PlacedOnce.{ArePlacedOnce, placed_once}
 use Rattle.mps_refinement.proofs.Worlds.PlacesByMoves.{moved_kept, places_of}
@@ -180,11 +179,11 @@ module _ (x : Collecting) (run : Running x) (reach : IsReached x.world) (ms : Li
         (subst (λ u. list_all (is_live (world_after_moves u ms)) (ids_of_client (world_after_moves u ms).graph) ≡ true) reach.is
         live.client)))
 
-    pub known_then : (now : Time) (s : SegsState) → IsInTime now s v → IsKnown now v
+    pub known_then : (now : Time) (s : CollectorState) → IsInTime now s v → IsKnown now v
     known_then now s time = known_of now s v formed_then live laid_then graph_then pools_then once_then time
 
     -- also once units are asked of the collection
-    pub known_asked : (count : ℕ) (now : Time) (s : SegsState) → HeldAreLive (asking (Some count) v)
+    pub known_asked : (count : ℕ) (now : Time) (s : CollectorState) → HeldAreLive (asking (Some count) v)
         → IsInTime now s (asking (Some count) v) → IsKnown now (asking (Some count) v)
     known_asked count now s live_then time =
         let u = asking (Some count) v in
@@ -221,7 +220,7 @@ module _ (x : Collecting) (run : Running x) (reach : IsReached x.world) (ms : Li
 
 -- ---- after a barrier
 
-pub known_after_barrier : (now : Time) (s : SegsState) (t : Segment) (x y : Collecting) (ms : List Move) → IsReached x.world → Running x
+pub known_after_barrier : (now : Time) (s : CollectorState) (t : Segment) (x y : Collecting) (ms : List Move) → IsReached x.world → Running x
     → BarrierDone t x ms y → IsInTime now s y.world → IsKnown now y.world
 known_after_barrier now s t x y ms reach run barrier time =
     let done = barrier_is_done t x y ms run barrier in
@@ -257,14 +256,14 @@ module _ (x y : Collecting) (count : ℕ) (ms : List Move) (reach : IsReached x.
   live_then : HeldAreLive (world_after_moves x.world ms)
   live_then = subst HeldAreLive (sym leads) (live_while_running y (units_done x y count ms run units).running blocks_after_units)
 
-  pub known_after_units : (now : Time) (s : SegsState) → IsInTime now s y.world → IsKnown now y.world
+  pub known_after_units : (now : Time) (s : CollectorState) → IsInTime now s y.world → IsKnown now y.world
   known_after_units now s time =
       subst (IsKnown now) leads
       (known_then x run reach ms (units_done x y count ms run units).legal left_then stays_then live_then now s
       (subst (IsInTime now s) (sym leads) time))
 
   -- which a call asks for
-  pub known_after_asked_units : (now : Time) (s : SegsState) → IsInTime now s (asked y count).world → IsKnown now (asked y count).world
+  pub known_after_asked_units : (now : Time) (s : CollectorState) → IsInTime now s (asked y count).world → IsKnown now (asked y count).world
   known_after_asked_units now s time =
       subst (λ u. IsKnown now (asking (Some count) u)) leads
       (known_asked x run reach ms (units_done x y count ms run units).legal left_then stays_then live_then count now s
@@ -282,7 +281,7 @@ live_after_last_units x count ms reach run ends =
     let in_place = ends_stay run ends in
     live_at_the_end x count ms last (unparked x run reach ms last.legal left in_place) (blocks_live x run reach ms last.legal left in_place)
 
-pub known_after_last_units : (now : Time) (s : SegsState) (x : Collecting) (count : ℕ) (ms : List Move) → IsReached x.world → Running x
+pub known_after_last_units : (now : Time) (s : CollectorState) (x : Collecting) (count : ℕ) (ms : List Move) → IsReached x.world → Running x
     → Ends x count ms → IsInTime now s (world_after_moves x.world ms) → IsKnown now (world_after_moves x.world ms)
 known_after_last_units now s x count ms reach run ends time =
     let last = last_units_done x count ms run ends in

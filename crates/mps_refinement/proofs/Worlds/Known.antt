@@ -5,9 +5,9 @@ use Rattle.mps_model.specs.History.{HeldAreLive}
 use Rattle.mps_laws.proofs.Sound.HeldIds.{AreHeld, of_client}
 use Rattle.mps_format.specs.Layout.{Layout}
 use Rattle.mps_heap_spec.specs.State.{HeapState}
-use Rattle.mps_refinement.specs.StandsFor.{StandsFor, IsReached, IsInTime, Runs, Time, rests, runs}
+use Rattle.mps_refinement.specs.StandsFor.{CollectorState, collector_of, StandsFor, IsReached, IsInTime, Runs, Time, rests, runs}
 use Rattle.mps_refinement.proofs.Worlds.Reached.{reached_live, reached_well_formed, reached_has_pools}
-use Rattle.std.proofs.Common.{◌≡◌, ◌∙◌, ℕ, ◌+◌, Bool, true, false, refl, sym, ap, Option, Some, None, List, [], ◌∷◌, length, zero, suc, ◌≤◌, inl, inr, arith}
+use Rattle.std.proofs.Common.{◌≡◌, ◌∙◌, ℕ, ◌+◌, Bool, true, false, refl, sym, ap, subst, Option, Some, None, List, [], ◌∷◌, length, zero, suc, ◌≤◌, inl, inr, arith}
 use Rattle.std.specs.Prelude.{not, ◌&&◌, slice_get, option_and_then, is_some}
 use Rattle.std.specs.Option.{option_map_or}
 use Rattle.std.proofs.lemmas.Bool.{false≢true, cases_Bool}
@@ -19,7 +19,6 @@ use Rattle.mps_model.specs.Graph.{Object, contains, entry_at, ids_of_client, is_
 use Rattle.mps_laws.proofs.Positions.LegalMoves.{HasLayout}
 use Rattle.mps_laws.proofs.Sound.PoolsThere.{HasPools}
 use Rattle.mps_laws.proofs.Sound.SoundGraph.{IsSoundGraph}
-use Rattle.mps_seg.specs.Segs.{SegsState}
 use Rattle.mps_refinement.proofs.Worlds.PlacesByMoves.{places_of}
 use Rattle.mps_refinement.proofs.Worlds.PlacedOnce.{ArePlacedOnce, placed_once}
 use Rattle.mps_refinement.proofs.Worlds.ReachedGraph.{reached_graph}
@@ -51,10 +50,12 @@ pub record IsKnown (t : Time) (w : World) : Type 0 where
   pub manual : (id : Id) → object_is (λ o. not (is_automatic o)) w id ≡ true → t.is_read id ≡ true
   -- an object that is made isn't white or grey, and had no address at the flip
   pub unused : IsOfNoObject t (length w.graph.objects)
-  pub segs : SegsState
-  pub now : IsInTime t segs w
+  -- no more registrations are left of those made before the flip than there are
+  pub before : t.registered_before ≤ length w.graph.registered
+  pub collector : CollectorState
+  pub now : IsInTime t collector w
 
-held_kept : (t : Time) (s : SegsState) (w : World) → IsInTime t s w → (id : Id) → contains (ids_of_client w.graph) id ≡ true
+held_kept : (t : Time) (s : CollectorState) (w : World) → IsInTime t s w → (id : Id) → contains (ids_of_client w.graph) id ≡ true
     → is_white t.condemned t.colours id ≡ false
 held_kept t s w (rests rest) id h = ap (λ (u : Time). is_white u.condemned u.colours id) rest.time
 held_kept t s w (runs x r may) id h =
@@ -62,15 +63,15 @@ held_kept t s w (runs x r may) id h =
     ∙ r.invariant.coloured.held id (ap (λ (v : World). contains (ids_of_client v.graph) id) r.world ∙ h)
 
 -- the words of what isn't white are read
-pub read_where_kept : (t : Time) (s : SegsState) (w : World) (x : Collecting) → Runs t s w x → (id : Id)
+pub read_where_kept : (t : Time) (s : CollectorState) (w : World) (x : Collecting) → Runs t s w x → (id : Id)
     → is_white t.condemned t.colours id ≡ false → t.is_read id ≡ true
 read_where_kept t s w x r id kept =
     elim (cases_Bool t.is_reclaiming) [
       | inl reclaiming ↦ ap (λ (f : Id → Bool). f id) (r.reclaiming reclaiming).read ∙ ap not kept
-      | inr tracing ↦ ap (λ (f : Id → Bool). f id) (r.tracing tracing)
+      | inr tracing ↦ ap (λ (f : Id → Bool). f id) (r.tracing tracing).read
     ]
 
-held_read : (t : Time) (s : SegsState) (w : World) → IsInTime t s w → (id : Id) → contains (ids_of_client w.graph) id ≡ true
+held_read : (t : Time) (s : CollectorState) (w : World) → IsInTime t s w → (id : Id) → contains (ids_of_client w.graph) id ≡ true
     → t.is_read id ≡ true
 held_read t s w (rests rest) id h = ap (λ (u : Time). u.is_read id) rest.time
 held_read t s w (runs x r may) id h =
@@ -85,7 +86,7 @@ not_both (Some o) a m = of_test (is_automatic o) a m
     of_test true a m = false≢true m
     of_test false a m = false≢true a
 
-manual_read : (t : Time) (s : SegsState) (w : World) → IsInTime t s w → (id : Id)
+manual_read : (t : Time) (s : CollectorState) (w : World) → IsInTime t s w → (id : Id)
     → object_is (λ o. not (is_automatic o)) w id ≡ true → t.is_read id ≡ true
 manual_read t s w (rests rest) id h = ap (λ (u : Time). u.is_read id) rest.time
 manual_read t s w (runs x r may) id h =
@@ -101,7 +102,7 @@ none_there [] n le = refl
 none_there (x ∷ xs) zero le = absurd (omega (arith, le))
 none_there (x ∷ xs) (suc n) le = none_there xs n (omega (arith, le))
 
-unused_at : (t : Time) (s : SegsState) (w : World) → length w.addresses ≡ length w.graph.objects → IsInTime t s w
+unused_at : (t : Time) (s : CollectorState) (w : World) → length w.addresses ≡ length w.graph.objects → IsInTime t s w
     → IsOfNoObject t (length w.graph.objects)
 unused_at t s w numbered (rests rest) = record {
   not_white = ap (λ (u : Time). is_white u.condemned u.colours (length w.graph.objects)) rest.time;
@@ -132,8 +133,14 @@ unused_at t s w numbered (runs x r may) = record {
     no_address h = false≢true (sym (ap (λ o. is_some (option_and_then (λ (entry : Option Address). entry) o))
         (none_there w.addresses n (omega (arith, numbered)))) ∙ h)
 
+before_there : (t : Time) (s : CollectorState) (w : World) → IsInTime t s w → t.registered_before ≤ length w.graph.registered
+before_there t s w (rests rest) = let none = ap (λ (u : Time). u.registered_before) rest.time in omega (arith, none)
+before_there t s w (runs x r may) =
+    subst (λ (v : World). t.registered_before ≤ length v.graph.registered) r.world
+    (subst (λ n. n ≤ length x.world.graph.registered) (sym r.registered_before) r.invariant.examined.existing)
+
 -- a world of which this is true is known, whether a history reaches it or it is one in the middle of a step
-pub known_of : (t : Time) (s : SegsState) (w : World) → IsWellFormed w → HeldAreLive w → HasLayout (w.grains + 1) w → IsSoundGraph w
+pub known_of : (t : Time) (s : CollectorState) (w : World) → IsWellFormed w → HeldAreLive w → HasLayout (w.grains + 1) w → IsSoundGraph w
     → HasPools w → ArePlacedOnce (places_of w) → IsInTime t s w → IsKnown t w
 known_of t s w formed live laid graph pools once now = record {
   formed = formed;
@@ -146,17 +153,18 @@ known_of t s w formed live laid graph pools once now = record {
   read = of_client t.is_read w.graph (list_all-members t.is_read (ids_of_client w.graph) (held_read t s w now));
   manual = manual_read t s w now;
   unused = unused_at t s w formed.addresses now;
-  segs = s;
+  before = before_there t s w now;
+  collector = s;
   now = now;
   kept = of_client (is_kept_at t) w.graph
       (list_all-members (is_kept_at t) (ids_of_client w.graph) (λ id h. ap not (held_kept t s w now id h)));
 }
 
-pub known : (t : Time) (s : SegsState) (w : World) → IsReached w → IsInTime t s w → IsKnown t w
+pub known : (t : Time) (s : CollectorState) (w : World) → IsReached w → IsInTime t s w → IsKnown t w
 known t s w r now =
     known_of t s w (reached_well_formed w r) (reached_live w r) (laid_out w r) (reached_graph w r) (reached_has_pools w r) (placed_once w r)
     now
 
 -- what is known of a world that a heap represents
 pub known_now : {F : Type 0} {layout : F → Layout} {h : HeapState F} {w : World} (st : StandsFor layout h w) → IsKnown st.past.time w
-known_now {h = h} {w = w} st = known st.past.time h.segs w st.reached st.time
+known_now {h = h} {w = w} st = known st.past.time (collector_of h) w st.reached st.time

@@ -1,8 +1,9 @@
 -- A call that makes no moves is a legal step while a collection runs, and the collector's invariant is true after it.
-use Rattle.std.proofs.Common.{◌≡◌, ◌∙◌, ℕ, Bool, true, false, true≢false, refl, sym, ap, subst, [], ◌++◌, None}
+use Rattle.std.proofs.Common.{◌≡◌, ◌∙◌, ℕ, Bool, true, false, true≢false, refl, sym, ap, subst, [], ◌++◌, None, Err}
 use Rattle.std.proofs.lemmas.Bool.{false≢true}
 use Rattle.std.specs.Prelude.{not, ◌||◌}
 use Rattle.std.specs.List.{list_all}
+use Rattle.mps_base.specs.declared.refusal.Refusal.TheVariants as refusal
 use Rattle.mps_model.specs.declared.call.Call.{Call}
 use Rattle.mps_model.specs.declared.call.Call.TheVariants as call
 use Rattle.mps_model.specs.Answer.{Answer, is_block, is_unsupported}
@@ -20,7 +21,7 @@ use Rattle.mps_laws.proofs.Sound.HeldIds.{blocks_made}
 use Rattle.mps_laws.proofs.QuietSteps.{IsQuiet}
 use Rattle.mps_abstract.specs.Colours.{AreDifferent}
 use Rattle.mps_abstract.specs.Collecting.{Collecting, Running}
-use Rattle.mps_abstract.specs.ClientLaws.{AreApartFrom, IsMarkedKept, IsReadKept, IsWellPlaced, collected_world}
+use Rattle.mps_abstract.specs.ClientLaws.{AreApartFrom, IsMarkedKept, IsReadKept, IsWellPlaced, collected_world, position_taken}
 use Rattle.mps_abstract.proofs.HeldSegments.{segments_ordered}
 use Rattle.mps_abstract.proofs.OwnAddresses.{well_formed_different}
 use Rattle.mps_abstract.proofs.LeftRightly.{left_rightly}
@@ -29,10 +30,12 @@ use Rattle.mps_refinement.proofs.Worlds.RunningSteps.{IsOwnStep, own_step_runs_o
 use Rattle.mps_refinement.specs.QuietCalls.{IsQuietCall, QuietCallsRunOn, RunsOn, never_moves}
 use Rattle.mps_refinement.specs.RightStep.{step_of}
 
--- `poke` alone may be answered in two ways
-abbrev pub is_poke : Call → Bool
-is_poke (call.Poke word value) = true
-is_poke _ = false
+-- a call of which no more has to be shown than what its act comes to: `poke` may be answered in two ways, and `definalize` takes a
+-- registration away
+abbrev pub is_plain : Call → Bool
+is_plain (call.Poke word value) = false
+is_plain (call.Definalize slot) = false
+is_plain _ = true
 
 -- ---- what a change leaves of addresses, segments and places of blocks
 
@@ -68,6 +71,10 @@ module _ (w : World) (c : Call) (never : never_moves c ≡ true) where
   change_segments Unchanged = refl
   change_segments _ = refl
 
+  change_tails : {marked : Bool} {u : World} → Change marked c w w u → u.tails ≡ w.tails
+  change_tails Unchanged = refl
+  change_tails _ = refl
+
   change_blocks : {marked : Bool} {u : World} → HasLiveBlocks w → Change marked c w w u → HasLiveBlocks u
   change_blocks live (Allocated p words place at e of kind size found empty) = moves_block (ap (λ b. b || frees c) e)
   change_blocks live (Committed name target p r slot e there found has lives) = moves e refl
@@ -91,6 +98,9 @@ module _ (w : World) (c : Call) (never : never_moves c ≡ true) where
 
   pub act_segments : (marked : Bool) → (world_from w (act marked w w c)).segments ≡ w.segments
   act_segments marked = by_change marked refl (λ u change. change_segments change)
+
+  pub act_tails : (marked : Bool) → (world_from w (act marked w w c)).tails ≡ w.tails
+  act_tails marked = by_change marked refl (λ u change. change_tails change)
 
   -- the places of tables of blocks hold live blocks after it
   pub blocks_after : HasLiveBlocks w → (marked : Bool) → HasLiveBlocks (world_from w (act marked w w c))
@@ -197,9 +207,9 @@ quiet_calls_run_on x line c answer run is = runs_on x run line c answer is
 
 -- ---- what is known of a call that never moves
 
-pub marks_do_not_matter : (w : World) (marked : Bool) (c : Call) → is_poke c ≡ false → never_moves c ≡ true
+pub marks_do_not_matter : (w : World) (marked : Bool) (c : Call) → is_plain c ≡ true → never_moves c ≡ true
     → act marked w w c ≡ act false w w c
-marks_do_not_matter w marked (call.Poke word value) h s = absurd (true≢false h)
+marks_do_not_matter w marked (call.Poke word value) h s = absurd (false≢true h)
 marks_do_not_matter w marked _ h s = refl
 
 pub moves_not_at_rest : (c : Call) → never_moves c ≡ true → may_move c ≡ false
@@ -219,6 +229,11 @@ pub makes_no_arena : (c : Call) → never_moves c ≡ true → makes_arena c ≡
 makes_no_arena (call.Arena grains limit) h = absurd (false≢true h)
 makes_no_arena _ h = refl
 
-pub none_kept : (x : Collecting) (c : Call) (answer : Answer) → is_poke c ≡ false → IsMarkedKept x c answer
-none_kept x (call.Poke word value) answer h = absurd (true≢false h)
+pub none_kept : (x : Collecting) (c : Call) (answer : Answer) → is_plain c ≡ true → IsMarkedKept x c answer
+none_kept x (call.Poke word value) answer h = absurd (false≢true h)
 none_kept x _ answer h = tt
+
+-- such a call takes no registration away
+pub takes_none : (w : World) (c : Call) → is_plain c ≡ true → position_taken w c ≡ Err refusal.NotRegistered
+takes_none w (call.Definalize slot) h = absurd (false≢true h)
+takes_none w _ h = refl

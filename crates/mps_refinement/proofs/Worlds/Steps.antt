@@ -8,7 +8,7 @@ use Rattle.mps_model.specs.Answer.{Answer, is_block, is_unsupported, refused}
 use Rattle.mps_model.specs.World.{World}
 use Rattle.mps_model.specs.Checked.{Act, Checked}
 use Rattle.mps_model.specs.Reply.{act, answer_from, world_from}
-use Rattle.mps_model.specs.History.{IsLegalStep, moved_world, world_after, with_client_remembered}
+use Rattle.mps_model.specs.History.{IsLegalStep, moved_world, remembering, world_after, with_client_remembered}
 use Rattle.mps_model.proofs.AtRest.{with_client_remembered-none}
 use Rattle.mps_changes.specs.Change.{makes_arena}
 use Rattle.mps_laws.proofs.Acts.{for_world, ForAct, accepted}
@@ -19,7 +19,7 @@ use Rattle.mps_heap_spec.specs.State.{HeapState}
 use Rattle.mps_heap_spec.specs.Coming.{Outcome, Comes, answered, state_from}
 pub use Rattle.mps_refinement.specs.Answering.{answer_to}
 use Rattle.mps_refinement.specs.RightStep.{IsRight, IsRightIn, step_of}
-use Rattle.mps_refinement.specs.StandsFor.{MayRunBetweenCalls, Rests, AreParts, IsReached, Past, StandsFor, AreCondemnedIn, AreOfFlip, IsReclaiming, IsInTime, Runs, Time, rests, runs}
+use Rattle.mps_refinement.specs.StandsFor.{MayRunBetweenCalls, Rests, AreParts, IsReached, Past, StandsFor, AreCondemnedIn, AreOfFlip, CollectorState, IsInTime, Runs, Time, collector_of, rests, runs}
 use Rattle.mps_refinement.proofs.Worlds.RestingActs.{LeavesSound, act_leaves_sound, may_move}
 use Rattle.mps_refinement.proofs.Worlds.RestingSteps.{IsMoving, moving_step, quiet_at_rest}
 use Rattle.mps_refinement.proofs.Worlds.Reached.{reached_next, reached_sound}
@@ -27,24 +27,24 @@ use Rattle.std.specs.Prelude.{option_map}
 use Rattle.mps_base.specs.Address.{Word, grain_of}
 use Rattle.mps_extents.specs.Table.{bit}
 use Rattle.mps_base.specs.declared.refusal.Refusal.{Refusal}
-use Rattle.mps_seg.specs.Segs.{SegsState}
+use Rattle.mps_trace.specs.AmcState.{tail_of}
+use Rattle.mps_trace_laws.specs.Fix.Ranks.{AreMarksRanked}
 use Rattle.mps_abstract.specs.Collecting.{Collecting, Running}
 use Rattle.mps_abstract.specs.ClientLaws.{IsMarkedKept, after_client, collection_without, next_without, position_taken}
-use Rattle.mps_model.specs.Collection.{Collection}
-use Rattle.mps_model.specs.Collecting.{without_position}
-use Rattle.mps_model.specs.Step.{Step}
-use Rattle.mps_model.specs.Graph.{contains}
+use Rattle.mps_model.specs.Graph.{ids_of_client}
+use Rattle.mps_model.specs.World as world
+use Rattle.mps_model.specs.World.{empty_run, is_tail_of}
+use Rattle.std.specs.List.{find}
+use Rattle.std.specs.Option.{option_map_or}
+use Rattle.mps_base.specs.declared.refusal.Refusal.TheVariants as refusal
+use Rattle.mps_refinement.proofs.Worlds.CollectorKept.{IsRunKept, KeepsAll, KeepsCollector, all_kept, none_running, ranks_kept, rest_after, running_after, runs_after, time_after}
 use Rattle.mps_laws.proofs.LeftByActs.{Leaves, act_leaves}
 use Rattle.mps_refinement.proofs.Worlds.FlipKept.{flips_kept}
 use Rattle.mps_refinement.proofs.Worlds.Known.{IsKnown, known, known_now}
 use Rattle.mps_refinement.proofs.Parts.PartsByKind.{parts_of_kinds, arena_of, finals_of, image_of, points_of, pools_of, roots_of, states_of}
 use Rattle.mps_refinement.proofs.Worlds.RunningSteps.{IsAnswered, IsOwnStep, own_step_runs_on, still_step_runs_on}
-use Rattle.mps_refinement.proofs.Worlds.RunningActs.{act_segments, is_poke, marks_do_not_matter, none_kept, quiet_calls_run_on, makes_no_arena, moves_not_at_rest}
+use Rattle.mps_refinement.proofs.Worlds.RunningActs.{act_segments, act_tails, is_plain, marks_do_not_matter, none_kept, quiet_calls_run_on, makes_no_arena, moves_not_at_rest, takes_none}
 use Rattle.mps_refinement.specs.QuietCalls.{RunsOn, never_moves}
-
--- marks and condemned segments are as they were
-abbrev pub KeepsMarks : (s s' : SegsState) → Type 0
-KeepsMarks s s' = (s'.condemned ≡ s.condemned) × (s'.marks ≡ s.marks)
 
 -- a call without moves begins no collection
 none_after : (c : Call) (w : World) (x : Checked Act) → ForAct (Leaves c w) x → w.collection ≡ None → (world_from w x).collection ≡ None
@@ -53,28 +53,6 @@ none_after c w (Ok a) (accepted left) none = elim left.collection [
   | inr p ↦ p.1 ∙ ap (option_map (Rattle.mps_model.specs.Collecting.without_registration p.0)) none
 ]
 none_after c w (Err why) f none = none
-
--- if all registrations were examined, all are without the one that is taken away
-reclaims_on : (t : Time) (w : World) (y : Collecting) (s : Step) → IsReclaiming t y → IsReclaiming t (after_client w y s)
-reclaims_on t w y s freed = record {
-  none_at_flip = freed.none_at_flip;
-  read = freed.read;
-  scanned = freed.scanned;
-  examined = of_position (position_taken y.world s.call);
-}
-  where
-    of_position : (p : Checked ℕ) → next_without p y.next ≡ (collection_without p y.running).registered_before
-    of_position (Ok position) = ap (λ n. without_position n position) freed.examined
-    of_position (Err why) = freed.examined
-
--- taking a registration away changes nothing else of a collection
-condemned_without : (p : Checked ℕ) (c : Collection) → (collection_without p c).condemned ≡ c.condemned
-condemned_without (Ok position) c = refl
-condemned_without (Err why) c = refl
-
-segments_without : (p : Checked ℕ) (c : Collection) → (collection_without p c).condemned_segments ≡ c.condemned_segments
-segments_without (Ok position) c = refl
-segments_without (Err why) c = refl
 
 module _ {F : Type 0} (layout : F → Layout) where
   -- the parts of the state represent those of the world at this time, by some numbering
@@ -93,14 +71,14 @@ module _ {F : Type 0} (layout : F → Layout) where
   -- a legal step after which the parts are right
   pub step_stands : (t : Time) (h : HeapState F) (w v : World) (line : ℕ) (c : Call) (ms : List Move) (answer : Answer) → IsReached w
       → IsLegalStep w (step_of line c ms answer) → world_after w (step_of line c ms answer) ≡ v → v.formats ≡ w.formats
-      → makes_arena c ≡ false → HasParts t h v → IsInTime t h.segs v → IsRightIn layout w (step_of line c ms answer) h
+      → makes_arena c ≡ false → HasParts t h v → IsInTime t (collector_of h) v → IsRightIn layout w (step_of line c ms answer) h
   step_stands t h w v line c ms answer reached legal after formats arena has now = record {
     legal = legal;
     formats = ap (λ (u : World). u.formats) after ∙ formats;
     stands = subst (StandsFor layout h) (sym after) (record {
       past = has.past;
       parts = has.parts;
-      time = subst (λ (u : Time). IsInTime u h.segs v) (sym has.timed) now;
+      time = subst (λ (u : Time). IsInTime u (collector_of h) v) (sym has.timed) now;
       reached = subst IsReached after
           (reached_next w (step_of line c ms answer) reached legal (ap (λ (u : World). u.formats) after ∙ formats) arena);
     });
@@ -110,10 +88,11 @@ module _ {F : Type 0} (layout : F → Layout) where
 
   -- a call that makes no moves at rest
   pub resting_is_right : (w : World) (line : ℕ) (c : Call) (answer : Answer) → may_move c ≡ false → makes_arena c ≡ false
-      → is_unsupported answer ≡ false → IsReached w → (t : Time) (s : SegsState) (x : Checked Act) (after : HeapState F)
-      → Rests t s w → KeepsMarks s after.segs → act (is_block answer) w w c ≡ x → answer ≡ answer_from x
-      → HasParts t after (world_from w x) → IsRightIn layout w (step_of line c [] answer) after
-  resting_is_right w line c answer quiet arena supported reached t s x after rest same comes answers has =
+      → is_unsupported answer ≡ false → IsReached w → (taken : Checked ℕ) (t : Time) (s : CollectorState) (x : Checked Act)
+      (after : HeapState F) → Rests t s w → KeepsCollector taken s (collector_of after) → act (is_block answer) w w c ≡ x
+      → answer ≡ answer_from x
+      → HasParts (time_after taken t) after (world_from w x) → IsRightIn layout w (step_of line c [] answer) after
+  resting_is_right w line c answer quiet arena supported reached taken t s x after rest same comes answers has =
       let sound = reached_sound w reached rest.none in
       let left : LeavesSound w.formats (world_from w x) =
       subst (λ y. LeavesSound w.formats (world_from w y)) comes
@@ -126,11 +105,12 @@ module _ {F : Type 0} (layout : F → Layout) where
       comes answers left.sound
       in
       let none = none_after c w x (subst (ForAct (Leaves c w)) comes (act_leaves (is_block answer) w w c)) rest.none in
-      step_stands t after w (world_from w x) line c [] answer reached step.legal
+      step_stands (time_after taken t) after w (world_from w x) line c [] answer reached step.legal
       (step.world ∙ with_client_remembered-none (world_from w x) none) left.formats_kept arena has
       (rests (record {
         none = none;
-        time = rest.time;
+        time = ap (time_after taken) rest.time ∙ rest_after taken;
+        not_running = same.4 ∙ ap (running_after taken) rest.not_running ∙ none_running taken;
         not_condemned = λ grain. ap (λ bits. bit bits grain) same.0 ∙ rest.not_condemned grain;
         not_kept = λ n. ap (λ m. bit m.kept n) same.1 ∙ rest.not_kept n;
       }))
@@ -138,39 +118,48 @@ module _ {F : Type 0} (layout : F → Layout) where
   module _ (w : World) (line : ℕ) (c : Call) (answer : Answer) (still : never_moves c ≡ true)
       (supported : is_unsupported answer ≡ false) (reached : IsReached w) (t : Time) where
     -- if the model's act comes to this, with this answer, and the state after the call represents the world after it, the step is right
-    pub answered_is_right : (s : SegsState) (x : Checked Act) (after : HeapState F) → IsInTime t s w → IsKnown t w → KeepsMarks s after.segs
+    pub answered_is_right : (s : CollectorState) (x : Checked Act) (after : HeapState F) → IsInTime t s w → IsKnown t w
+        → KeepsCollector (position_taken w c) s (collector_of after)
         → act (is_block answer) w w c ≡ x → answer ≡ answer_from x
         → ((y : Collecting) → y.world ≡ w → t.condemned ≡ y.running.condemned → t.colours ≡ y.colours → IsMarkedKept y c answer)
-        → (world_from w x).formats ≡ w.formats → HasParts t after (world_from w x)
+        → (world_from w x).formats ≡ w.formats → HasParts (time_after (position_taken w c) t) after (world_from w x)
         → IsRightIn layout w (step_of line c [] answer) after
     answered_is_right s x after (rests rest) of same comes answers kept formats has =
-        resting_is_right w line c answer (moves_not_at_rest c still) (makes_no_arena c still) supported reached t s x after rest
-        same comes answers has
+        resting_is_right w line c answer (moves_not_at_rest c still) (makes_no_arena c still) supported reached (position_taken w c) t s x
+        after rest same comes answers has
     answered_is_right s x after (runs y r may) known same comes answers kept formats has =
         let on = running_step y r.world r.invariant (kept y r.world r.condemned_ids r.colours) in
         let flips : AreOfFlip t.at_flip (world_from w x) =
         subst (λ r. AreOfFlip t.at_flip (world_from w r)) comes
         (for_world (AreOfFlip t.at_flip) w (act (is_block answer) w w c)
         (flips_kept (is_block answer) w w c t.at_flip known.formed.addresses r.flip) r.flip) in
-        step_stands t after w (with_client_remembered (world_from w x)) line c [] answer reached on.0 on.1.1 formats
-        (makes_no_arena c still)
+        step_stands (time_after (position_taken w c) t) after w (with_client_remembered (world_from w x)) line c [] answer reached on.0
+        on.1.1 formats (makes_no_arena c still)
         (record { past = has.past; timed = has.timed; parts = parts_remembered has.past after (world_from w x) has.parts })
-        (runs (after_client y.world y (step_of line c [] answer)) (record {
-          world = ap (λ v. world_after v (step_of line c [] answer)) r.world ∙ on.1.1;
-          invariant = on.1.0;
-          condemned_ids = r.condemned_ids ∙ sym (condemned_without (position_taken y.world c) y.running);
-          colours = r.colours;
-          tracing = r.tracing;
-          reclaiming = λ begun. reclaims_on t y.world y (step_of line c [] answer) (r.reclaiming begun);
-          condemned = λ held there. ap (λ bits. bit bits (grain_of held.base)) same.0
-              ∙ r.condemned held (subst (λ ss. Contains ss held) segments there)
-              ∙ ap (λ bases. contains bases held.base) (sym (segments_without (position_taken y.world c) y.running));
+        (runs (after_client y.world y (step_of line c [] answer))
+        (subst (λ p. Runs (time_after p t) (collector_of after) (with_client_remembered (world_from w x))
+        (after_client y.world y (step_of line c [] answer))) (ap (λ v. position_taken v c) r.world)
+        (runs_after t s (collector_of after) w (with_client_remembered (world_from w x)) y r
+        (ids_of_client (world_after y.world (step_of line c [] answer)).graph)
+        (world_after y.world (step_of line c [] answer)) (ap (λ v. world_after v (step_of line c [] answer)) r.world ∙ on.1.1)
+        (position_taken y.world c) on.1.0
+        (record {
+          running = same.4 ∙ ap (λ p. running_after p s.running) (sym (ap (λ v. position_taken v c) r.world));
+          tails = same.3;
+          world_tails = λ pool generation.
+              ap (λ ts. option_map_or (λ (u : world.Tail). u.words) (find (is_tail_of pool generation) ts) empty_run) tails;
+          ranked = λ ranked. ranks_kept s.segs after.segs same.1 same.2 ranked;
+          condemned = λ is held there. ap (λ bits. bit bits (grain_of held.base)) same.0
+              ∙ is held (subst (λ ss. Contains ss held) segments there);
           flip = record { made = flips.made; still = flips.still };
-        }) may)
+        }))) may)
       where
         segments : (world_from w x).segments ≡ w.segments
         segments =
             subst (λ r. (world_from w r).segments ≡ w.segments) comes (act_segments w c still (is_block answer))
+
+        tails : (world_from w x).tails ≡ w.tails
+        tails = subst (λ r. (world_from w r).tails ≡ w.tails) comes (act_tails w c still (is_block answer))
 
         step_at : (y : Collecting) → Running y → IsKnown t y.world → act (is_block answer) y.world y.world c ≡ x → IsMarkedKept y c answer
             → IsLegalStep y.world (step_of line c [] answer)
@@ -200,21 +189,31 @@ module _ {F : Type 0} (layout : F → Layout) where
   -- an outcome and an act lead to the same: the act answers what the call says, and the state stands for the world
   pub record Leads {A : Type 0} (says : A → Answer) (h : HeapState F) (past : Past) (w : World) (o : Outcome F A) (a : Act) : Type 0 where
     pub answer : a.answer ≡ says o.answer
-    pub marks : KeepsMarks h.segs o.state.segs
+    pub keeps : KeepsAll (collector_of h) (collector_of o.state)
     pub formats : a.world.formats ≡ w.formats
     pub has : HasParts past.time o.state a.world
 
-  -- a call that isn't a `poke`, with what its act comes to
+  -- a call that takes no registration away leaves the time
+  none_taken : (w : World) (c : Call) → position_taken w c ≡ Err refusal.NotRegistered → (s s' : CollectorState) → KeepsAll s s'
+      → KeepsCollector (position_taken w c) s s'
+  none_taken w c none s s' all = subst (λ p. KeepsCollector p s s') (sym none) all
+
+  untimed : (t : Time) (w : World) (c : Call) → position_taken w c ≡ Err refusal.NotRegistered → (h : HeapState F) (v : World)
+      → HasParts t h v → HasParts (time_after (position_taken w c) t) h v
+  untimed t w c none h v has = subst (λ p. HasParts (time_after p t) h v) (sym none) has
+
+  -- a plain call, with what its act comes to
   pub plain_is_right : (w : World) (line : ℕ) (c : Call) (answer : Answer) (x : Checked Act) (h after : HeapState F)
-      → never_moves c ≡ true → is_poke c ≡ false → is_unsupported answer ≡ false → (st : StandsFor layout h w)
-      → KeepsMarks h.segs after.segs
+      → never_moves c ≡ true → is_plain c ≡ true → is_unsupported answer ≡ false → (st : StandsFor layout h w)
+      → KeepsAll (collector_of h) (collector_of after)
       → act false w w c ≡ x → answer ≡ answer_from x → (world_from w x).formats ≡ w.formats
       → HasParts st.past.time after (world_from w x) → IsRightIn layout w (step_of line c [] answer) after
   plain_is_right w line c answer x h after still plain supported st same comes answers formats has =
-      answered_is_right w line c answer still supported st.reached st.past.time h.segs x after st.time
-      (known_now st) same
+      answered_is_right w line c answer still supported st.reached st.past.time (collector_of h) x after st.time
+      (known_now st) (none_taken w c (takes_none w c plain) (collector_of h) (collector_of after) same)
       (marks_do_not_matter w (is_block answer) c plain still ∙ comes) answers
-      (λ y of condemned colours. none_kept y c answer plain) formats has
+      (λ y of condemned colours. none_kept y c answer plain) formats
+      (untimed st.past.time w c (takes_none w c plain) after (world_from w x) has)
 
   module _ {A : Type 0} (says : A → Answer) (h : HeapState F) (c : Call) where
     -- what a call that never moves must show in each world that the heap represents, at any time
@@ -226,56 +225,63 @@ module _ {F : Type 0} (layout : F → Layout) where
     -- the state after it stands for the world after it
     pub record Left (past : Past) (w : World) (outcome : Checked (Outcome F A)) (x : Checked Act) : Type 0 where
       pub has : HasParts past.time (state_from h outcome) (world_from w x)
-      pub marks : KeepsMarks h.segs (state_from h outcome).segs
+      pub keeps : KeepsAll (collector_of h) (collector_of (state_from h outcome))
       pub formats : (world_from w x).formats ≡ w.formats
       pub answer : answer_to says (answered outcome) ≡ answer_from x
 
     after_same : (past : Past) (w : World) (outcome : Checked (Outcome F A)) (x : Checked Act) → AreParts layout past h w
         → Same (Leads says h past w) outcome x → Left past w outcome x
     after_same past w outcome x parts (fits leads) =
-        record { has = leads.has; marks = leads.marks; formats = leads.formats; answer = sym leads.answer }
+        record { has = leads.has; keeps = leads.keeps; formats = leads.formats; answer = sym leads.answer }
     after_same past w outcome x parts same.refused =
-        record { has = record { past = past; timed = refl; parts = parts }; marks = (refl, refl); formats = refl; answer = refl }
+        record { has = record { past = past; timed = refl; parts = parts }; keeps = all_kept h; formats = refl; answer = refl }
 
     supported : ((a : A) → is_unsupported (says a) ≡ false) → (result : Checked A) → is_unsupported (answer_to says result) ≡ false
     supported each (Ok a) = each a
     supported each (Err why) = refl
 
-    pub quiet_is_right : never_moves c ≡ true → is_poke c ≡ false → ((a : A) → is_unsupported (says a) ≡ false)
+    pub quiet_is_right : never_moves c ≡ true → is_plain c ≡ true → ((a : A) → is_unsupported (says a) ≡ false)
         → (outcome : Checked (Outcome F A)) (result : Checked A) (after : HeapState F) → ComesToTheSame outcome
         → Comes h outcome result after → IsRight layout h c [] (answer_to says result) after
     quiet_is_right still plain each outcome result after leads comes w line st =
         let x = act false w w c in
         let of = known_now st in
         let left = after_same st.past w outcome x st.parts (leads w st.past st.parts of) in
-        answered_is_right w line c (answer_to says result) still (supported each result) st.reached st.past.time h.segs x after
-        st.time of (subst (λ (s : HeapState F). KeepsMarks h.segs s.segs) (sym comes.state) left.marks)
+        answered_is_right w line c (answer_to says result) still (supported each result) st.reached st.past.time (collector_of h) x after
+        st.time of
+        (none_taken w c (takes_none w c plain) (collector_of h) (collector_of after)
+        (subst (λ (s : HeapState F). KeepsAll (collector_of h) (collector_of s)) (sym comes.state) left.keeps))
         (marks_do_not_matter w (is_block (answer_to says result)) c plain still)
         (ap (answer_to says) comes.answer ∙ left.answer) (λ y of condemned colours. none_kept y c (answer_to says result) plain)
         left.formats
-        (subst (λ s. HasParts st.past.time s (world_from w x)) (sym comes.state) left.has)
+        (untimed st.past.time w c (takes_none w c plain) after (world_from w x)
+        (subst (λ s. HasParts st.past.time s (world_from w x)) (sym comes.state) left.has))
 
     -- the same of a call whose act is asked with the mark of its answer
-    pub marked_is_right : never_moves c ≡ true → ((a : A) → is_unsupported (says a) ≡ false)
+    pub marked_is_right : never_moves c ≡ true → ((w : World) → position_taken w c ≡ Err refusal.NotRegistered)
+        → ((a : A) → is_unsupported (says a) ≡ false)
         → (outcome : Checked (Outcome F A)) (result : Checked A) (after : HeapState F)
         → ((w : World) (past : Past) → AreParts layout past h w → IsKnown past.time w
         → Same (Leads says h past w) outcome (act (is_block (answer_to says (answered outcome))) w w c)
         × ((y : Collecting) → y.world ≡ w → past.time.condemned ≡ y.running.condemned → past.time.colours ≡ y.colours
         → IsMarkedKept y c (answer_to says (answered outcome))))
         → Comes h outcome result after → IsRight layout h c [] (answer_to says result) after
-    marked_is_right still each outcome result after leads comes w line st =
+    marked_is_right still none each outcome result after leads comes w line st =
         let marked = is_block (answer_to says (answered outcome)) in
         let x = act marked w w c in
         let of = known_now st in
         let both = leads w st.past st.parts of in
         let left = after_same st.past w outcome x st.parts both.0 in
         let answers : answer_to says result ≡ answer_to says (answered outcome) = ap (answer_to says) comes.answer in
-        answered_is_right w line c (answer_to says result) still (supported each result) st.reached st.past.time h.segs x after
-        st.time of (subst (λ (s : HeapState F). KeepsMarks h.segs s.segs) (sym comes.state) left.marks)
+        answered_is_right w line c (answer_to says result) still (supported each result) st.reached st.past.time (collector_of h) x after
+        st.time of
+        (none_taken w c (none w) (collector_of h) (collector_of after)
+        (subst (λ (s : HeapState F). KeepsAll (collector_of h) (collector_of s)) (sym comes.state) left.keeps))
         (ap (λ a. act (is_block a) w w c) answers)
         (answers ∙ left.answer)
         (λ y is condemned colours. subst (IsMarkedKept y c) (sym answers) (both.1 y is condemned colours)) left.formats
-        (subst (λ s. HasParts st.past.time s (world_from w x)) (sym comes.state) left.has)
+        (untimed st.past.time w c (none w) after (world_from w x)
+        (subst (λ s. HasParts st.past.time s (world_from w x)) (sym comes.state) left.has))
 
     -- ---- calls that only answer
 
@@ -294,18 +300,19 @@ module _ {F : Type 0} (layout : F → Layout) where
     )
     says_left past w checked x parts same.refused = (record { past = past; timed = refl; parts = parts }, refl, refl)
 
-    pub answer_is_right_in : never_moves c ≡ true → is_poke c ≡ false → ((a : A) → is_unsupported (says a) ≡ false)
+    pub answer_is_right_in : never_moves c ≡ true → is_plain c ≡ true → ((a : A) → is_unsupported (says a) ≡ false)
         → (checked result : Checked A) (w : World) (line : ℕ) → Same (SaysOnly w) checked (act false w w c) → result ≡ checked
         → StandsFor layout h w → IsRightIn layout w (step_of line c [] (answer_to says result)) h
     answer_is_right_in still plain each checked result w line same is st =
         let x = act false w w c in
         let of = known_now st in
         let left = says_left st.past w checked x st.parts same in
-        answered_is_right w line c (answer_to says result) still (supported each result) st.reached st.past.time h.segs x h
-        st.time of (refl, refl) (marks_do_not_matter w (is_block (answer_to says result)) c plain still)
-        (ap (answer_to says) is ∙ left.2) (λ y of condemned colours. none_kept y c (answer_to says result) plain) left.1 left.0
+        answered_is_right w line c (answer_to says result) still (supported each result) st.reached st.past.time (collector_of h) x h
+        st.time of (none_taken w c (takes_none w c plain) (collector_of h) (collector_of h) (all_kept h)) (marks_do_not_matter w (is_block (answer_to says result)) c plain still)
+        (ap (answer_to says) is ∙ left.2) (λ y of condemned colours. none_kept y c (answer_to says result) plain) left.1
+        (untimed st.past.time w c (takes_none w c plain) h (world_from w x) left.0)
 
-    pub answer_is_right : never_moves c ≡ true → is_poke c ≡ false → ((a : A) → is_unsupported (says a) ≡ false)
+    pub answer_is_right : never_moves c ≡ true → is_plain c ≡ true → ((a : A) → is_unsupported (says a) ≡ false)
         → (checked result : Checked A)
         → ((w : World) (past : Past) → AreParts layout past h w → IsKnown past.time w → Same (SaysOnly w) checked (act false w w c))
         → result ≡ checked → IsRight layout h c [] (answer_to says result) h
@@ -316,85 +323,128 @@ module _ {F : Type 0} (layout : F → Layout) where
   -- ---- calls with moves of the client alone
 
   -- what a call keeps of what is known of a collection
-  pub record KeepsTime (t : Time) (s : SegsState) (w : World) (s' : SegsState) (v : World) : Type 0 where
+  pub record KeepsTime (t : Time) (s : CollectorState) (w : World) (s' : CollectorState) (v : World) : Type 0 where
     pub rest : w.collection ≡ None → v.collection ≡ None
-    pub not_condemned : ((grain : ℕ) → bit s.condemned grain ≡ false) → (grain : ℕ) → bit s'.condemned grain ≡ false
-    pub not_kept : ((grain : ℕ) → bit s.condemned grain ≡ false) → ((n : Word) → bit s.marks.kept n ≡ false) → (n : Word)
-        → bit s'.marks.kept n ≡ false
+    pub not_condemned : ((grain : ℕ) → bit s.segs.condemned grain ≡ false) → (grain : ℕ) → bit s'.segs.condemned grain ≡ false
+    pub not_kept : ((grain : ℕ) → bit s.segs.condemned grain ≡ false) → ((n : Word) → bit s.segs.marks.kept n ≡ false) → (n : Word)
+        → bit s'.segs.marks.kept n ≡ false
+    pub running : s'.running ≡ s.running
+    pub tails : (pool generation : ℕ) → tail_of s'.tails pool generation ≡ tail_of s.tails pool generation
+    pub world_tails : (pool generation : ℕ) → world.tail_of v pool generation ≡ world.tail_of w pool generation
+    pub ranked : (y : Collecting) → Runs t s w y → AreMarksRanked s.segs → AreMarksRanked s'.segs
     pub flip : AreOfFlip t.at_flip w → AreOfFlip t.at_flip v
-    pub condemned : (y : Collecting) → y.world ≡ w → Running y → AreCondemnedIn s.condemned w.segments y.running.condemned_segments
-        → AreCondemnedIn s'.condemned v.segments y.running.condemned_segments
+    pub condemned : (y : Collecting) → y.world ≡ w → Running y → AreCondemnedIn s.segs.condemned w.segments y.running.condemned_segments
+        → AreCondemnedIn s'.segs.condemned v.segments y.running.condemned_segments
+
+  -- a call that changes nothing keeps all of it
+  pub keeps_still : {t : Time} {s : CollectorState} {w : World} → KeepsTime t s w s w
+  keeps_still = record {
+    rest = λ none. none;
+    not_condemned = λ not_condemned. not_condemned;
+    not_kept = λ not_condemned not_kept. not_kept;
+    running = refl;
+    tails = λ pool generation. refl;
+    world_tails = λ pool generation. refl;
+    ranked = λ y r ranked. ranked;
+    flip = λ of. of;
+    condemned = λ y is run marked. marked;
+  }
+
+  -- and so what a running one has
+  pub run_kept : {t : Time} {s s' : CollectorState} {w v : World} → KeepsTime t s w s' v → (y : Collecting) → Runs t s w y
+      → IsRunKept (Err refusal.NotRegistered) t s s' w v y
+  run_kept keeps y r = record {
+    running = keeps.running;
+    tails = keeps.tails;
+    world_tails = keeps.world_tails;
+    ranked = keeps.ranked y r;
+    condemned = keeps.condemned y r.world r.invariant;
+    flip = keeps.flip r.flip;
+  }
 
   -- what it must show in a world, at any time: its moves, its act and its answer, and that the state represents the world after it
-  pub record MovesTo (t : Time) (s : SegsState) (w : World) (c : Call) (ms : List Move) (answer : Answer) (after : HeapState F)
+  pub record MovesTo (t : Time) (s : CollectorState) (w : World) (c : Call) (ms : List Move) (answer : Answer) (after : HeapState F)
       (result : Checked Act) : Type 0 where
     pub moving : (y : Collecting) → y.world ≡ w → Running y → IsOwnStep w y c ms answer result
     pub resting : w.collection ≡ None → IsMoving w c ms answer result
     pub formats : (world_from (moved_world w c ms) result).formats ≡ w.formats
     pub has : HasParts t after (world_from (moved_world w c ms) result)
-    pub keeps : KeepsTime t s w after.segs (world_from (moved_world w c ms) result)
+    pub keeps : KeepsTime t s w (collector_of after) (world_from (moved_world w c ms) result)
 
   -- a step while a collection runs: its collector's part led to a state with this time, and the client's part keeps it
-  module _ (t : Time) (s : SegsState) (w u : World) (y : Collecting) (r : Runs t s u y) (may : MayRunBetweenCalls) (line : ℕ) (c : Call)
-      (ms : List Move)
+  module _ (t : Time) (s : CollectorState) (w u : World) (y : Collecting) (r : Runs t s u y) (may : MayRunBetweenCalls) (line : ℕ)
+      (c : Call) (none : position_taken y.world c ≡ Err refusal.NotRegistered) (ms : List Move)
       (answer : Answer) (after : HeapState F) (result : Checked Act) (arena : makes_arena c ≡ false) (reached : IsReached w) where
     abbrev v : World
     v = world_from (moved_world w c ms) result
 
     pub runs_on_is_right : RunsOn w y (step_of line c ms answer) v → v.formats ≡ w.formats → HasParts t after v
-        → AreOfFlip t.at_flip v → AreCondemnedIn after.segs.condemned v.segments y.running.condemned_segments
-        → IsRightIn layout w (step_of line c ms answer) after
-    runs_on_is_right on formats has flips marked =
+        → IsRunKept (Err refusal.NotRegistered) t s (collector_of after) u v y → IsRightIn layout w (step_of line c ms answer) after
+    runs_on_is_right on formats has kept =
+        let held = ids_of_client (world_after w (step_of line c ms answer)).graph in
+        let now : Collecting =
+        record y {
+          world = world_after w (step_of line c ms answer);
+          running = remembering held (collection_without (Err refusal.NotRegistered) y.running);
+          next = next_without (Err refusal.NotRegistered) y.next;
+        } in
+        let same : after_client w y (step_of line c ms answer) ≡ now =
+        ap (λ p. let x : Collecting = record y {
+          world = world_after w (step_of line c ms answer);
+          running = remembering held (collection_without p y.running);
+          next = next_without p y.next;
+        } in x) none in
         step_stands t after w (with_client_remembered v) line c ms answer reached on.legal on.world formats arena
         (record { past = has.past; timed = has.timed; parts = parts_remembered has.past after v has.parts })
-        (runs (after_client w y (step_of line c ms answer)) (record {
-          world = on.world;
-          invariant = on.running;
-          condemned_ids = r.condemned_ids ∙ sym (condemned_without (position_taken y.world c) y.running);
-          colours = r.colours;
-          tracing = r.tracing;
-          reclaiming = λ begun. reclaims_on t w y (step_of line c ms answer) (r.reclaiming begun);
-          condemned = λ held there. marked held there
-              ∙ ap (λ bases. contains bases held.base) (sym (segments_without (position_taken y.world c) y.running));
-          flip = record { made = flips.made; still = flips.still };
-        }) may)
+        (runs now (runs_after t s (collector_of after) u (with_client_remembered v) y r held (world_after w (step_of line c ms answer))
+        on.world (Err refusal.NotRegistered) (subst Running same on.running) (record {
+          running = kept.running;
+          tails = kept.tails;
+          world_tails = kept.world_tails;
+          ranked = kept.ranked;
+          condemned = kept.condemned;
+          flip = record { made = kept.flip.made; still = kept.flip.still };
+        })) may)
 
-    pub own_step_is_right : IsOwnStep w y c ms answer result → v.formats ≡ w.formats → HasParts t after v → AreOfFlip t.at_flip v
-        → AreCondemnedIn after.segs.condemned v.segments y.running.condemned_segments → IsRightIn layout w (step_of line c ms answer) after
+    pub own_step_is_right : IsOwnStep w y c ms answer result → v.formats ≡ w.formats → HasParts t after v
+        → IsRunKept (Err refusal.NotRegistered) t s (collector_of after) u v y → IsRightIn layout w (step_of line c ms answer) after
     own_step_is_right own = runs_on_is_right (own_step_runs_on w y r.invariant line c ms answer result own)
 
   -- a call with its moves after which no collection runs
   pub moved_to_rest : (t : Time) (w : World) (line : ℕ) (c : Call) (ms : List Move) (answer : Answer) (after : HeapState F)
       (result : Checked Act) → makes_arena c ≡ false → (world_from (moved_world w c ms) result).formats ≡ w.formats → IsReached w
       → IsMoving w c ms answer result → HasParts t after (world_from (moved_world w c ms) result)
-      → Rests t after.segs (world_from (moved_world w c ms) result) → IsRightIn layout w (step_of line c ms answer) after
+      → Rests t (collector_of after) (world_from (moved_world w c ms) result) → IsRightIn layout w (step_of line c ms answer) after
   moved_to_rest t w line c ms answer after result arena formats reached moving has rest =
       let step = moving_step w line c ms answer result moving in
       let v = world_from (moved_world w c ms) result in
       step_stands t after w v line c ms answer reached step.legal (step.world ∙ with_client_remembered-none v rest.none) formats arena has
       (rests rest)
 
-  pub moving_is_right : (t : Time) (s : SegsState) (w : World) (line : ℕ) (c : Call) (ms : List Move) (answer : Answer)
+  pub moving_is_right : (t : Time) (s : CollectorState) (w : World) (line : ℕ) (c : Call)
+      → ((v : World) → position_taken v c ≡ Err refusal.NotRegistered) → (ms : List Move) (answer : Answer)
       (after : HeapState F) (result : Checked Act) → makes_arena c ≡ false → IsReached w → IsInTime t s w
       → MovesTo t s w c ms answer after result → IsRightIn layout w (step_of line c ms answer) after
-  moving_is_right t s w line c ms answer after result arena reached (rests rest) m =
+  moving_is_right t s w line c none ms answer after result arena reached (rests rest) m =
       moved_to_rest t w line c ms answer after result arena m.formats reached (m.resting rest.none) m.has (record {
         none = m.keeps.rest rest.none;
         time = rest.time;
+        not_running = m.keeps.running ∙ rest.not_running;
         not_condemned = m.keeps.not_condemned rest.not_condemned;
         not_kept = m.keeps.not_kept rest.not_condemned rest.not_kept;
       })
-  moving_is_right t s w line c ms answer after result arena reached (runs y r may) m =
-      own_step_is_right t s w w y r may line c ms answer after result arena reached (m.moving y r.world r.invariant) m.formats m.has
-      (m.keeps.flip r.flip) (m.keeps.condemned y r.world r.invariant r.condemned)
+  moving_is_right t s w line c none ms answer after result arena reached (runs y r may) m =
+      own_step_is_right t s w w y r may line c (none y.world) ms answer after result arena reached (m.moving y r.world r.invariant) m.formats
+      m.has (run_kept m.keeps y r)
 
   -- ---- a call that is refused and makes no moves
 
   -- it is right at any time, if it takes no registration away
   pub refusal_is_right : (past : Past) (h : HeapState F) (w : World) (line : ℕ) (c : Call) (why : Refusal) → makes_arena c ≡ false
-      → IsReached w → AreParts layout past h w → IsInTime past.time h.segs w → IsAnswered w c [] (refused why) (Err why)
-      → moved_world w c [] ≡ w → (taken : Refusal) → position_taken w c ≡ Err taken → IsRightIn layout w (step_of line c [] (refused why)) h
-  refusal_is_right past h w line c why arena reached parts (rests rest) m still taken not_taken =
+      → IsReached w → AreParts layout past h w → IsInTime past.time (collector_of h) w → IsAnswered w c [] (refused why) (Err why)
+      → moved_world w c [] ≡ w → ((v : World) → position_taken v c ≡ Err refusal.NotRegistered)
+      → IsRightIn layout w (step_of line c [] (refused why)) h
+  refusal_is_right past h w line c why arena reached parts (rests rest) m still not_taken =
       let step = moving_step w line c [] (refused why) (Err why) (record {
         legal = m.legal;
         due = m.due;
@@ -407,11 +457,11 @@ module _ {F : Type 0} (layout : F → Layout) where
       step_stands past.time h w w line c [] (refused why) reached step.legal
       (step.world ∙ ap with_client_remembered still ∙ with_client_remembered-none w rest.none) refl arena
       (record { past = past; timed = refl; parts = parts }) (rests rest)
-  refusal_is_right past h w line c why arena reached parts (runs y r may) m still taken not_taken =
-      runs_on_is_right past.time h.segs w w y r may line c [] (refused why) h (Err why) arena reached
-      (still_step_runs_on w y line c [] (refused why) (Err why) r.invariant m (still ∙ sym r.world) taken
-      (ap (λ u. position_taken u c) r.world ∙ not_taken))
+  refusal_is_right past h w line c why arena reached parts (runs y r may) m still not_taken =
+      runs_on_is_right past.time (collector_of h) w w y r may line c (not_taken y.world) [] (refused why) h (Err why) arena reached
+      (still_step_runs_on w y line c [] (refused why) (Err why) r.invariant m (still ∙ sym r.world) refusal.NotRegistered
+      (not_taken y.world))
       (ap (λ (u : World). u.formats) still)
       (subst (HasParts past.time h) (sym still) (record { past = past; timed = refl; parts = parts }))
-      (subst (AreOfFlip past.time.at_flip) (sym still) r.flip)
-      (subst (λ (u : World). AreCondemnedIn h.segs.condemned u.segments y.running.condemned_segments) (sym still) r.condemned)
+      (subst (λ (u : World). IsRunKept (Err refusal.NotRegistered) past.time (collector_of h) (collector_of h) w u y) (sym still)
+      (run_kept keeps_still y r))

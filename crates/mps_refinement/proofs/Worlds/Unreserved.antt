@@ -15,9 +15,8 @@ use Rattle.mps_laws.proofs.Positions.Occupancy.{OfReservation, condemned_in, occ
 use Rattle.mps_laws.proofs.Positions.Segments.{IsAmong, among_aligned, found_segment}
 use Rattle.mps_model.specs.Graph.{contains}
 use Rattle.mps_model.specs.World.{World, Pool, is_copying_kind, is_copying_pool}
-use Rattle.mps_seg.specs.Segs.{SegsState}
 use Rattle.mps_trace_laws.specs.Reclaim.Left.{IsUnreserved}
-use Rattle.mps_refinement.specs.StandsFor.{Runs, Time}
+use Rattle.mps_refinement.specs.StandsFor.{Runs, Time, CollectorState}
 use Rattle.mps_refinement.proofs.Parts.ReservedImage.{reservation_covers}
 use Rattle.mps_refinement.proofs.Parts.SegmentsTaken.{contained_among}
 
@@ -58,8 +57,8 @@ copying_unreserved w laid t held condemned copying point l r n lies =
     ]
 
 -- so it is of the segments of a heap in which a collection runs
-pub condemned_unreserved : (time : Time) (s : SegsState) (w : World) (x : Collecting) → Runs time s w x → HasLayout (w.grains + 1) w
-    → (t : Segment) → Contains w.segments t → bit s.condemned (grain_of t.base) ≡ true → is_copying_pool w t.pool ≡ true
+pub condemned_unreserved : (time : Time) (s : CollectorState) (w : World) (x : Collecting) → Runs time s w x → HasLayout (w.grains + 1) w
+    → (t : Segment) → Contains w.segments t → bit s.segs.condemned (grain_of t.base) ≡ true → is_copying_pool w t.pool ≡ true
     → IsUnreserved w.graph.points w.point_memories t
 condemned_unreserved time s w x r laid t held condemned copying =
     copying_unreserved w laid t (contained_among w.segments t held)

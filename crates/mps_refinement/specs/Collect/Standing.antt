@@ -47,6 +47,7 @@ pub record IsCollectedHeap {F : Type 0} (past : Past) (w : World) (h after : Hea
   pub live_slots : after.live_slots ≡ h.live_slots
   pub live_points : after.live_points ≡ h.live_points
   pub dependencies : after.dependencies ≡ h.dependencies
+  pub running : after.running ≡ h.running
   pub pools : after.pools ≡ h.pools
   pub sizes : after.sizes ≡ h.sizes
   pub names : after.names ≡ h.names
