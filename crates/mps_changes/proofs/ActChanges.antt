@@ -12,21 +12,22 @@ use Rattle.mps_base.specs.declared.refusal.Refusal.TheVariants as refusal
 use Rattle.mps_model.specs.declared.call.Call.{Call}
 use Rattle.mps_model.specs.declared.call.Call.TheVariants as call
 use Rattle.mps_model.specs.declared.reply.Reply.TheVariants as reply
-use Rattle.mps_model.specs.Graph.{Graph, Object, Cell, NumberCell, AreaWord, PlainWord, Point, Reservation, dependent_in, TransformThing, is_taken, position_of_first, thing_named, with_target_cell, Cache, CacheClass}
+use Rattle.mps_model.specs.Graph.{Graph, Object, Cell, NumberCell, AreaWord, PlainWord, Point, Reservation, dependent_in, TransformThing, is_taken, position_of_first, thing_named, with_target_cell, Cache, CacheClass, PoolFrames}
 use Rattle.mps_model.specs.Dependents.{may_depend, most_dependents}
 use Rattle.mps_model.specs.Tagging.{tag_count}
 use Rattle.mps_model.specs.Transforms.{has_live_reservation, is_blocked, is_old, most_pairs, most_transforms, pairs_of, world_substituted}
-use Rattle.mps_model.specs.World.{World, Pool, Dependency, Unclamped, Clamped, block_of_word, id_at, is_automatic_kind, is_parked, is_running, pairs_in, PoolKind, Collected, OneSize, AnySize, pool_at, pool_of, Parked}
+use Rattle.mps_model.specs.World.{World, Pool, Dependency, Unclamped, Clamped, block_of_word, id_at, is_automatic_kind, is_parked, is_running, pairs_in, PoolKind, Collected, OneSize, AnySize, Frames, has_frames, pool_at, pool_is, pool_of, Parked}
 use Rattle.mps_model.specs.Checked.{Act, Checked, Found, Numbered, block_place_in, cells_of_body, chain_named, dependency_named, done, label_named, transform_named, tag_at, number_at, object_in, point_named, pool_named, reference_at, refuse_when, required, says, slot_in, tells, with_graph, word_in, cache_named}
-use Rattle.mps_model.specs.Making.{graph_without_root, is_block_size, live_points, make_pool, may_have_point, most_chains, most_dependencies, most_labels, most_points, most_pools, refuse_at_limit, refuse_root, refuse_taken, most_caches}
+use Rattle.mps_model.specs.Making.{graph_without_root, is_block_size, live_points, make_pool, may_have_point, most_chains, most_dependencies, most_labels, most_points, most_pools, refuse_at_limit, refuse_root, refuse_taken, most_caches, most_frames}
 use Rattle.mps_model.specs.Caches.{act_kept, act_taken, are_class_sizes, kept_by, may_have_cache, new_classes, taken_from}
+use Rattle.mps_model.specs.Frames.{frame_in, frames_named, open_frames}
 use Rattle.mps_model.specs.Placement.{ForAlloc, ForReserve, placement_of}
 use Rattle.mps_model.specs.Allocating.{Reserving, allows_size, block_in, check_reserve, refuse_without_place, with_reservation, with_reserved_cells, words_at, world_committed}
 use Rattle.mps_model.specs.Accessing.{Poked, AsBlock, AsMarked, AsNumber, act_poke_in, act_poked, held_in, poked, same_target}
 use Rattle.mps_model.specs.Collecting.{act_message_in, most_registrations}
 use Rattle.mps_model.specs.Reply.{act}
-use Rattle.mps_changes.proofs.Checks.{with_value, after_check, andthen, checked, unless, required-is, transform_named-is, without_root, pool_named-is}
-use Rattle.mps_changes.specs.Change.{ForAct, accepted, refused, changes_points, Now, Before, makes_pool, is_kind_made, GotNull, FromSlot, FromCell, FromWord, ShownPlain, ShownPinned, ShownPoked, IsWritten, WritesReference, WritesNumber, WritesTag, ArenaMade, LimitIs, ChainMade, StateIs, ParkedAnew, ParkedOn, DependencyMade, DependencyIs, LabelMade, Linked, Unlinked, TransformMade, PairAdded, TransformDropped, Change, Unchanged, Aside, SlotIs, WordIs, MessageTaken, TableMade, AreaMade, BlocksMade, TableDropped, AreaDropped, CellsAre, BlockWordIs, PlaceEmptied, Allocated, PoolMade, PointMade, PointDropped, Opened, Written, Closed, Committed, Substituted, Registered, Unregistered, are_empty_classes, CacheMade, BlockUncached, BlockCached, CacheFlushed}
+use Rattle.mps_changes.proofs.Checks.{with_value, after_check, andthen, checked, unless, required-is, transform_named-is, without_root, pool_named-is, cache_named-is, frames_named-is}
+use Rattle.mps_changes.specs.Change.{ForAct, accepted, refused, changes_points, Now, Before, makes_pool, is_kind_made, GotNull, FromSlot, FromCell, FromWord, ShownPlain, ShownPinned, ShownPoked, IsWritten, WritesReference, WritesNumber, WritesTag, ArenaMade, LimitIs, ChainMade, StateIs, ParkedAnew, ParkedOn, DependencyMade, DependencyIs, LabelMade, Linked, Unlinked, TransformMade, PairAdded, TransformDropped, Change, Unchanged, Aside, SlotIs, WordIs, MessageTaken, TableMade, AreaMade, BlocksMade, TableDropped, AreaDropped, CellsAre, BlockWordIs, PlaceEmptied, Allocated, PoolMade, PointMade, PointDropped, Opened, Written, Closed, Committed, Substituted, Registered, Unregistered, are_empty_classes, CacheMade, BlockUncached, BlockCached, CacheFlushed, FramePushed, FramesPopped}
 
 not_not : (b : Bool) → not b ≡ false → b ≡ true
 not_not true h = refl
@@ -40,6 +41,7 @@ pub sized_is_manual : (kind : PoolKind) (words : ℕ) → allows_size kind words
 sized_is_manual (Collected kind) words h = absurd (true≢false (sym h))
 sized_is_manual (OneSize size) words h = refl
 sized_is_manual AnySize words h = refl
+sized_is_manual Frames words h = refl
 
 none_cached : (count : ℕ) (sizes limits : List ℕ) → are_empty_classes (new_classes count sizes limits) ≡ true
 none_cached zero sizes limits = refl
@@ -125,7 +127,8 @@ module _ (marked : Bool) (judged v : World) where
   keeps : (cache : Name) (into : Numbered Cache) (from : Slot) (place : Found (Option ℕ)) (id : ℕ) → cache_named v cache ≡ Ok into
       → block_place_in v from ≡ Ok place → place.value ≡ Some id → pool_of v id ≡ into.value.pool → (o : Option (List CacheClass))
       → kept_by v into.value id ≡ o → Leads (call.CacheFree cache from) (act_kept v into place o)
-  keeps cache into from place id e e' has own None is = accepted (PlaceEmptied from place id refl e' has)
+  keeps cache into from place id e e' has own None is =
+      accepted (PlaceEmptied from place id refl e' has (inr (record { cache = into; there = cache_named-is v cache into e; is = own })))
   keeps cache into from place id e e' has own (Some classes) is =
       accepted (BlockCached cache into from place id classes refl e e' has own is)
 
@@ -138,13 +141,18 @@ module _ (marked : Bool) (judged v : World) where
   act_changes_so (call.Chain chain count capacities) =
       after_check (refuse_taken v chain)
       (after_check (refuse_at_limit (length v.chains) most_chains) (accepted (Aside _ (ChainMade chain _))))
-  act_changes_so (call.Pool pool kind format) = after_check (refuse_taken v pool) (made pool _ refl refl)
+  act_changes_so (call.Pool pool kind format) =
+      after_check (refuse_taken v pool) (made pool (record { kind = Collected kind; format = format; chain = None }) refl refl)
   act_changes_so (call.PoolOnChain pool kind format chain) =
-      after_check (refuse_taken v pool) (andthen (chain_named v chain) (λ (on : Numbered (List ℕ)). made pool _ refl refl))
+      after_check (refuse_taken v pool) (andthen (chain_named v chain) (λ (on : Numbered (List ℕ)).
+      made pool (record { kind = Collected kind; format = format; chain = Some on.number }) refl refl))
   act_changes_so (call.PoolMfs pool words) =
       after_check (refuse_taken v pool) (unless (not (is_block_size words)) refusal.BadSize (λ h.
-      made pool _ refl (not_not (is_block_size words) h)))
-  act_changes_so (call.PoolMvff pool) = after_check (refuse_taken v pool) (made pool _ refl refl)
+      made pool (record { kind = OneSize words; format = 0; chain = None }) refl (not_not (is_block_size words) h)))
+  act_changes_so (call.PoolMvff pool) =
+      after_check (refuse_taken v pool) (made pool (record { kind = AnySize; format = 0; chain = None }) refl refl)
+  act_changes_so (call.PoolFrames pool) =
+      after_check (refuse_taken v pool) (made pool (record { kind = Frames; format = 0; chain = None }) refl refl)
   act_changes_so (call.Table table slots) = after_check (refuse_taken v table)
       (after_check (refuse_root v slots) (accepted (TableMade table slots)))
   act_changes_so (call.Area area words) = after_check (refuse_taken v area)
@@ -200,7 +208,9 @@ module _ (marked : Bool) (judged v : World) where
       (Before place e') (none_there at.value none))))))))
   act_changes_so (call.Free place) =
       with_value (block_place_in v place) (λ (at : Found (Option ℕ)) e.
-      checked (block_in at) (λ (id : ℕ) f. accepted (PlaceEmptied place at id refl e (required-is at.value refusal.NotABlock id f))))
+      with_value (block_in at) (λ (id : ℕ) f.
+      unless (pool_is has_frames v (pool_of v id)) refusal.WrongPool (λ none.
+      accepted (PlaceEmptied place at id refl e (required-is at.value refusal.NotABlock id f) (inl none)))))
   act_changes_so (call.Cache cache pool count sizes limits) =
       let classes = new_classes count sizes limits in
       after_check (refuse_taken v cache) (with_value (pool_named v pool) (λ (of : Numbered Pool) e.
@@ -225,6 +235,14 @@ module _ (marked : Bool) (judged v : World) where
       (eqb-true (pool_of v id) into.value.pool (not_not (pool_of v id == into.value.pool) own)) (kept_by v into.value id) refl))))
   act_changes_so (call.CacheFlush cache) =
       with_value (cache_named v cache) (λ (from : Numbered Cache) e. accepted (CacheFlushed cache from refl e))
+  act_changes_so (call.Push pool) =
+      with_value (frames_named v pool) (λ (f : PoolFrames) e.
+      after_check (refuse_at_limit (open_frames v.graph) most_frames) (accepted (FramePushed pool f refl (frames_named-is v pool f e))))
+  act_changes_so (call.Pop pool frame) =
+      with_value (frames_named v pool) (λ (f : PoolFrames) e.
+      with_value (frame_in f frame) (λ (before : ℕ) g.
+      accepted (FramesPopped pool f frame before refl (frames_named-is v pool f e)
+      (required-is (slice_get f.opened frame) refusal.BadIndex before g))))
   act_changes_so (call.Load place word) =
       andthen (block_place_in v place) (λ (at : Found (Option ℕ)). andthen (block_in at) (λ (id : ℕ).
       andthen (required (slice_get (words_at v.graph id) word) refusal.BadIndex) (λ (n : ℕ). accepted Unchanged)))

@@ -1,15 +1,17 @@
 -- The checks of calls, one after the other: what each found holds of what comes after it.
-use Rattle.std.proofs.Common.{◌≡◌, ℕ, Bool, true, false, refl, ap, Option, Some, None, Ok, Err, subst}
+use Rattle.std.proofs.Common.{◌≡◌, ℕ, Bool, true, false, refl, ap, Option, Some, None, Ok, Err, subst, sym}
 use Rattle.std.proofs.lemmas.Option.{none-some, same_Some}
-use Rattle.std.specs.Prelude.{option_and_then, slice_get, slice_set}
+use Rattle.std.specs.Prelude.{not, option_and_then, slice_get, slice_set}
 use Rattle.mps_base.specs.declared.names.Name.{Name}
 use Rattle.mps_base.specs.declared.refusal.Refusal.{Refusal}
 use Rattle.mps_base.specs.declared.refusal.Refusal.TheVariants as refusal
-use Rattle.mps_model.specs.Graph.{Graph, Point, Thing, ChainThing, PoolThing, TableThing, AreaThing, BlocksThing, PointThing, DependencyThing, TransformThing, CacheThing, LabelThing, entry_at, thing_named, without_name, Cache}
-use Rattle.mps_model.specs.World.{World, Pool}
+use Rattle.mps_model.specs.Graph.{Graph, Point, Thing, ChainThing, PoolThing, TableThing, AreaThing, BlocksThing, PointThing, DependencyThing, TransformThing, CacheThing, LabelThing, entry_at, thing_named, without_name, Cache, PoolFrames}
+use Rattle.mps_model.specs.World.{World, Pool, has_frames}
 use Rattle.mps_model.specs.Checked.{Act, Checked, Numbered, ◌>>=◌, ◌>>◌, as_point, as_pool, as_transform, number_named, numbered, required, refuse_when, point_named, pool_named, transform_named, as_cache, cache_named}
+use Rattle.mps_model.specs.Frames.{frames_named, frames_of}
 use Rattle.mps_model.specs.Making.{graph_without_root}
 use Rattle.mps_changes.specs.Change.{ForAct, accepted, refused}
+use Rattle.mps_changes.proofs.Frames.{found_pool}
 
 -- a fact of a graph without a table, and of one without an area, holds of it without a root
 pub without_root : (Holds : Graph → Type 0) (g : Graph) (name : Name) (o : Option Thing) (left : Graph)
@@ -94,6 +96,24 @@ transform_named-is w name n e = transform_thing (thing_named w.graph name) n e
 pub cache_named-is : (w : World) (name : Name) (q : Numbered Cache) → cache_named w name ≡ Ok q
     → slice_get w.graph.caches q.number ≡ Some q.value
 cache_named-is w name q e = (named_by (number_named w name as_cache) (λ n. slice_get w.graph.caches n) q e).1
+
+pub frames_named-is : (w : World) (name : Name) (f : PoolFrames) → frames_named w name ≡ Ok f → frames_of w.graph f.pool ≡ Some f
+frames_named-is w name f e = of_pool (pool_named w name) e
+  where
+    of_kind : (p : Numbered Pool) (b : Bool)
+        → (refuse_when b refusal.WrongPool >> required (frames_of w.graph p.number) refusal.WrongPool) ≡ Ok f
+        → frames_of w.graph f.pool ≡ Some f
+    of_kind p true g = absurd cc
+    of_kind p false g =
+        let there = required-is (frames_of w.graph p.number) refusal.WrongPool f g in
+        subst (λ (n : ℕ). frames_of w.graph n ≡ Some f) (sym (found_pool w.graph.frames p.number f there)) there
+
+    of_pool : (x : Checked (Numbered Pool))
+        → (x >>= (λ (p : Numbered Pool). refuse_when (not (has_frames p.value.kind)) refusal.WrongPool
+        >> required (frames_of w.graph p.number) refusal.WrongPool)) ≡ Ok f
+        → frames_of w.graph f.pool ≡ Some f
+    of_pool (Err why) g = absurd cc
+    of_pool (Ok p) g = of_kind p (not (has_frames p.value.kind)) g
 
 -- of an act after a check whose value it uses
 pub andthen : {A : Type 0} {Holds : World → Type 0} (x : Checked A) {f : A → Checked Act} → ((a : A) → ForAct Holds (f a))

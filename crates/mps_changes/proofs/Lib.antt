@@ -5,3 +5,4 @@ pub mod Lookups
 pub mod Entries
 pub mod Written
 pub mod OneMore
+pub mod Frames

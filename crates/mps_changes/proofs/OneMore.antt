@@ -68,7 +68,7 @@ module _ (test : ℕ → Bool) where
       ap (list_all test) h.more_is ∙ both_pass h.before (id ∷ h.after) parts.0 (and_from (test id) (list_all test h.after) one parts.1)
 
 -- the same of ids from the last to the first
-reversed_pass : (test : ℕ → Bool) (ids : List ℕ) → list_all test ids ≡ true → list_all test (from_last ids) ≡ true
+pub reversed_pass : (test : ℕ → Bool) (ids : List ℕ) → list_all test ids ≡ true → list_all test (from_last ids) ≡ true
 reversed_pass test [] h = refl
 reversed_pass test (id ∷ ids) h =
     let parts = and_parts (test id) (list_all test ids) h in
@@ -222,7 +222,7 @@ taken_less (k ∷ ks) words id left e = of_size (k.words == words) (λ i rest is
     of_size true later h = of_last (last_of k.cached) refl h
     of_size false later h = of_rest later (taken_from ks words) refl h
 
-last_more : (ids : List ℕ) (id : ℕ) → HasOneMore id ids (with_last ids id)
+pub last_more : (ids : List ℕ) (id : ℕ) → HasOneMore id ids (with_last ids id)
 last_more ids id = record { before = ids; after = []; less_is = sym (append-nil ids); more_is = refl }
 
 pub kept_more : (classes : List CacheClass) (words id : ℕ) (now : List CacheClass) → kept_in classes words id ≡ Some now

@@ -9,8 +9,8 @@ use Rattle.mps_base.specs.declared.names.Rank.{Rank}
 use Rattle.mps_base.specs.declared.names.Slot.{Slot}
 use Rattle.mps_model.specs.declared.call.Call.{Call}
 use Rattle.mps_model.specs.declared.call.Call.TheVariants as call
-use Rattle.mps_model.specs.Graph.{ChainThing, TableThing, AreaThing, DependencyThing, TransformThing, thing_named, is_taken, with_tag_cell, without_holder, Object, Cell, NumberCell, AreaWord, PlainWord, Hold, Point, Reservation, with_last, with_target_cell, graph_with_cells, position_of_first, without_first, without_name, Cache, CacheClass}
-use Rattle.mps_model.specs.World.{World, Pool, PoolKind, Collected, OneSize, AnySize, ArenaState, Parked, Dependency, is_automatic_kind, is_parked, is_parked_state, pairs_in, block_of_word, pool_of}
+use Rattle.mps_model.specs.Graph.{ChainThing, TableThing, AreaThing, DependencyThing, TransformThing, thing_named, is_taken, with_tag_cell, without_holder, Object, Cell, NumberCell, AreaWord, PlainWord, Hold, Point, Reservation, with_last, with_target_cell, graph_with_cells, position_of_first, without_first, without_name, Cache, CacheClass, PoolFrames}
+use Rattle.mps_model.specs.World.{World, Pool, PoolKind, Collected, OneSize, AnySize, Frames, ArenaState, Parked, Dependency, is_automatic_kind, is_parked, is_parked_state, pairs_in, block_of_word, pool_of, pool_is, has_frames}
 use Rattle.mps_model.specs.Checked.{Act, Checked, Found, Numbered, block_place_in, cells_of_body, named, number_at, object_in, point_named, pool_named, reference_at, slot_in, with_graph, word_in, cache_named}
 use Rattle.mps_model.specs.Making.{graph_with_area, graph_with_blocks, graph_with_table, is_block_size, may_have_point, with_point, with_pool, without_point}
 use Rattle.mps_model.specs.Allocating.{Reserving, allows_size, check_reserve, graph_allocated, graph_with_word, with_block_place, with_reservation, with_reserved, with_slot, world_committed}
@@ -20,6 +20,7 @@ use Rattle.mps_model.specs.Labelling.{graph_with_label}
 use Rattle.mps_model.specs.Dependents.{graph_with_dependents, may_depend, with_dependent}
 use Rattle.mps_model.specs.Transforms.{graph_with_transform, with_pair, without_transform, world_substituted}
 use Rattle.mps_model.specs.Caches.{emptied, graph_cached, graph_uncached, graph_with_cache, kept_by, may_have_cache, taken_from, with_classes}
+use Rattle.mps_model.specs.Frames.{frames_of, graph_popped, graph_pushed}
 use Rattle.mps_model.specs.Dependency.{with_dependency}
 use Rattle.mps_model.specs.Collecting.{with_state, without_registration}
 
@@ -99,6 +100,12 @@ pub record IsInSlot (v : World) (object : Numbered Object) : Type 0 where
   pub there : slot_in v slot ≡ Ok from
   pub is : object_in v from.value ≡ Ok object
 
+-- an allocation cache over a pool
+pub record HasCacheOver (v : World) (pool : ℕ) : Type 0 where
+  pub cache : Numbered Cache
+  pub there : slice_get v.graph.caches cache.number ≡ Some cache.value
+  pub is : pool ≡ cache.value.pool
+
 abbrev pub is_empty_list : List ℕ → Bool
 is_empty_list [] = true
 is_empty_list (id ∷ ids) = false
@@ -114,6 +121,7 @@ makes_pool (call.Pool pool kind format) = true
 makes_pool (call.PoolOnChain pool kind format chain) = true
 makes_pool (call.PoolMfs pool words) = true
 makes_pool (call.PoolMvff pool) = true
+makes_pool (call.PoolFrames pool) = true
 makes_pool _ = false
 
 -- a kind of pool that calls make
@@ -121,6 +129,7 @@ abbrev pub is_kind_made : PoolKind → Bool
 is_kind_made (Collected kind) = true
 is_kind_made (OneSize words) = is_block_size words
 is_kind_made AnySize = true
+is_kind_made Frames = true
 
 module _ (marked : Bool) (c : Call) (judged v : World) where
   -- where the client has from what it writes
@@ -198,7 +207,7 @@ module _ (marked : Bool) (c : Call) (judged v : World) where
         → IsWritten (cells_of_body object.value.body) change → Change (with_graph v (graph_with_cells v.graph object.number change))
     BlockWordIs : (id k value : ℕ) → Change (with_graph v (graph_with_word v.graph id k value))
     PlaceEmptied : (from : Slot) (place : Found (Option ℕ)) (id : ℕ) → frees c ≡ true → block_place_in v from ≡ Ok place
-        → place.value ≡ Some id
+        → place.value ≡ Some id → (pool_is has_frames v (pool_of v id) ≡ false) ⊎ HasCacheOver v (pool_of v id)
         → Change (with_graph v (with_block_place v.graph place None))
     Allocated : (p : Numbered Pool) (words : ℕ) (place : Found (Option ℕ)) (at : Address)
         → allocates c ≡ true → slice_get judged.pools p.number ≡ Some p.value → is_automatic_kind p.value.kind ≡ false
@@ -218,6 +227,11 @@ module _ (marked : Bool) (c : Call) (judged v : World) where
         → Change (with_graph v (graph_cached v.graph cache classes place))
     CacheFlushed : (name : Name) (cache : Numbered Cache) → c ≡ call.CacheFlush name → cache_named v name ≡ Ok cache
         → Change (with_graph v (with_classes v.graph cache (map emptied cache.value.classes)))
+    -- frames
+    FramePushed : (name : Name) (f : PoolFrames) → c ≡ call.Push name → frames_of v.graph f.pool ≡ Some f
+        → Change (with_graph v (graph_pushed v.graph f.pool))
+    FramesPopped : (name : Name) (f : PoolFrames) (frame before : ℕ) → c ≡ call.Pop name frame → frames_of v.graph f.pool ≡ Some f
+        → slice_get f.opened frame ≡ Some before → Change (with_graph v (graph_popped v.graph f frame before))
     -- pools and points
     PoolMade : (name : Name) (p : Pool) → makes_pool c ≡ true → is_kind_made p.kind ≡ true → Change (with_pool v name p)
     PointMade : (name pool : Name) (of : Numbered Pool) (at_rank : Rank) → c ≡ call.Point name pool at_rank → pool_named v pool ≡ Ok of

@@ -9,7 +9,7 @@ use Rattle.mps_model.specs.World.{World, Collected, empty_world}
 use Rattle.mps_commands.specs.Built.{Built}
 
 -- whether the form of a call is built: all but chains of generations, what begins or drives a collection by steps, labels,
--- dependents, transforms and caches; a collection of everything is if it can be counted
+-- dependents, transforms, caches and frames; a collection of everything is if it can be counted
 abbrev pub is_built : (collects : Bool) → Call → Bool
 is_built collects (call.Chain chain count capacities) = false
 is_built collects (call.PoolOnChain pool kind format chain) = false
@@ -29,6 +29,9 @@ is_built collects (call.Cache cache pool count sizes limits) = false
 is_built collects (call.CacheAlloc cache words place) = false
 is_built collects (call.CacheFree cache place) = false
 is_built collects (call.CacheFlush cache) = false
+is_built collects (call.PoolFrames pool) = false
+is_built collects (call.Push pool) = false
+is_built collects (call.Pop pool frame) = false
 is_built collects _ = true
 
 -- whether a heap answers it: it is built, and doesn't make the arena

@@ -9,11 +9,12 @@ use Rattle.mps_base.specs.declared.refusal.Refusal.TheVariants as refusal
 use Rattle.mps_model.specs.declared.call.Call.{Call}
 use Rattle.mps_model.specs.declared.call.Call.TheVariants as call
 use Rattle.mps_model.specs.declared.reply.Reply.TheVariants as reply
-use Rattle.mps_model.specs.Graph.{AreaWord, PlainWord, Hold, Graph, Object, Point, Reservation, dependent_in, entry_at, is_taken, position_of_first, thing_named, Cache, CacheClass}
-use Rattle.mps_model.specs.World.{World, Pool, Dependency, block_of_word, committed, id_at, is_automatic_kind, is_running, pool_at, is_parked, pairs_in, pool_of}
+use Rattle.mps_model.specs.Graph.{AreaWord, PlainWord, Hold, Graph, Object, Point, Reservation, dependent_in, entry_at, is_taken, position_of_first, thing_named, Cache, CacheClass, PoolFrames}
+use Rattle.mps_model.specs.World.{World, Pool, Dependency, block_of_word, committed, id_at, is_automatic_kind, is_running, pool_at, is_parked, pairs_in, pool_of, Collected, OneSize, AnySize, Frames, pool_is, has_frames}
 use Rattle.mps_model.specs.Placement.{ForReserve, placement_of}
 use Rattle.mps_model.specs.Checked.{Act, Checked, Found, Numbered, ◌>>=◌, ◌>>◌, as_area, as_blocks, as_chain, as_dependency, as_label, as_point, as_pool, as_table, block_place_in, cells_of_body, chain_named, dependency_named, done, label_named, number_named, point_named, pool_named, says, slot_in, tells, with_graph, word_in, as_transform, transform_named, cache_named, as_cache}
-use Rattle.mps_model.specs.Making.{graph_without_root, is_block_size, live_points, live_roots, live_slots, make_pool, may_have_point, most_chains, most_dependencies, most_labels, most_points, most_pools, most_roots, most_slots, refuse_at_limit, refuse_root, refuse_taken, most_caches}
+use Rattle.mps_model.specs.Making.{graph_without_root, is_block_size, live_points, live_roots, live_slots, make_pool, may_have_point, most_chains, most_dependencies, most_labels, most_points, most_pools, most_roots, most_slots, refuse_at_limit, refuse_root, refuse_taken, most_caches, most_frames}
+use Rattle.mps_model.specs.Frames.{frames_named, frames_of, open_frames}
 use Rattle.mps_model.specs.Caches.{act_kept, act_taken, are_class_sizes, kept_by, may_have_cache, new_classes, taken_from}
 use Rattle.mps_model.specs.Allocating.{Reserving, allows_size, block_in, check_reserve, refuse_without_place, takes_head, with_reservation, with_reserved, words_at, world_committed, address_of_placement}
 use Rattle.mps_model.specs.Accessing.{Poked, AsBlock, AsMarked, AsNumber, act_poke_in, act_poked, held_in, poked, same_target}
@@ -75,6 +76,12 @@ module _ {whys : List Refusal} (w : World) where
 
   block_fails : (place : Found (Option ℕ)) → IsOf refusal.NotABlock whys → Fails whys (block_in place)
   block_fails place is = required_fails place.value refusal.NotABlock is
+
+  frames_fail : (name : Name) → IsOf refusal.BadName whys → IsOf refusal.WrongPool whys → Fails whys (frames_named w name)
+  frames_fail name bad_name wrong_pool =
+      checks (pool_fails name bad_name) (λ (p : Numbered Pool).
+      checked (when_fails (not (has_frames p.value.kind)) refusal.WrongPool wrong_pool)
+      (required_fails (frames_of w.graph p.number) refusal.WrongPool wrong_pool))
 
   held_fails : (word : AreaWord) → IsOf refusal.NotARef whys → Fails whys (held_in word)
   held_fails (Hold id offset) is = passes id
@@ -175,14 +182,19 @@ module _ (marked : Bool) (judged v : World) where
   refusals_of_act call.Committed = answered refl
   refusals_of_act (call.Chain chain count capacities) =
       check_then (taken_fails v chain first) (check_then (limit_fails v (length v.chains) most_chains second) (answered refl))
-  refusals_of_act (call.Pool pool kind format) = check_then (taken_fails v pool first) (made v pool _ second)
+  refusals_of_act (call.Pool pool kind format) =
+      check_then (taken_fails v pool first) (made v pool (record { kind = Collected kind; format = format; chain = None }) second)
   refusals_of_act (call.PoolOnChain pool kind format chain) =
       check_then (taken_fails v pool first) (value_then (chain_fails v chain second) (λ (on : Numbered (List ℕ)).
-      made v pool _ third))
+      made v pool (record { kind = Collected kind; format = format; chain = Some on.number }) third))
   refusals_of_act (call.PoolMfs pool words) =
       check_then (taken_fails v pool first)
-      (check_then (when_fails (not (is_block_size words)) refusal.BadSize second) (made v pool _ third))
-  refusals_of_act (call.PoolMvff pool) = check_then (taken_fails v pool first) (made v pool _ second)
+      (check_then (when_fails (not (is_block_size words)) refusal.BadSize second)
+      (made v pool (record { kind = OneSize words; format = 0; chain = None }) third))
+  refusals_of_act (call.PoolMvff pool) =
+      check_then (taken_fails v pool first) (made v pool (record { kind = AnySize; format = 0; chain = None }) second)
+  refusals_of_act (call.PoolFrames pool) =
+      check_then (taken_fails v pool first) (made v pool (record { kind = Frames; format = 0; chain = None }) second)
   refusals_of_act (call.Table table slots) =
       check_then (taken_fails v table first) (check_then (root_fails v slots second third) (answered refl))
   refusals_of_act (call.Area area words) =
@@ -225,7 +237,9 @@ module _ (marked : Bool) (judged v : World) where
       (check_then (when_fails (is_some at.value) refusal.NameTaken fifth)
       (check_then (alloc_fails judged words sixth seventh p.number) (answered refl))))))
   refusals_of_act (call.Free place) =
-      value_then (place_fails v place first second) (λ (at : Found (Option ℕ)). check_then (block_fails v at third) (answered refl))
+      value_then (place_fails v place first second) (λ (at : Found (Option ℕ)).
+      value_then (block_fails v at third) (λ (id : ℕ).
+      check_then (when_fails (pool_is has_frames v (pool_of v id)) refusal.WrongPool fourth) (answered refl)))
   refusals_of_act (call.Load place word) =
       value_then (place_fails v place first second) (λ (at : Found (Option ℕ)). value_then (block_fails v at third) (λ (id : ℕ).
       value_then (required_fails (slice_get (words_at v.graph id) word) refusal.BadIndex second) (λ (n : ℕ). answered refl)))
@@ -329,6 +343,12 @@ module _ (marked : Bool) (judged v : World) where
       value_then (block_fails v at third) (λ (id : ℕ).
       check_then (when_fails (not (pool_of v id == into.value.pool)) refusal.WrongPool fourth) (keeps into at (kept_by v into.value id)))))
   refusals_of_act (call.CacheFlush cache) = value_then (cache_fails v cache first) (λ (from : Numbered Cache). answered refl)
+  refusals_of_act (call.Push pool) =
+      value_then (frames_fail v pool first second) (λ (f : PoolFrames).
+      check_then (limit_fails v (open_frames v.graph) most_frames third) (answered refl))
+  refusals_of_act (call.Pop pool frame) =
+      value_then (frames_fail v pool first second) (λ (f : PoolFrames).
+      value_then (required_fails (slice_get f.opened frame) refusal.BadIndex third) (λ (before : ℕ). answered refl))
   refusals_of_act (call.Poke word value) =
       value_then (word_fails v word first second) (λ (at : Found AreaWord). pokes v marked value at (block_of_word v value))
   refusals_of_act (call.Peek word) = value_then (word_fails v word first second) (λ (at : Found AreaWord). answered refl)

@@ -9,10 +9,11 @@ use Rattle.mps_model.specs.declared.call.Call.{Call}
 use Rattle.mps_model.specs.declared.call.Call.TheVariants as call
 use Rattle.mps_model.specs.declared.reply.Reply.TheVariants as reply
 use Rattle.mps_model.specs.Dependents.{may_depend, most_dependents}
-use Rattle.mps_model.specs.Graph.{Graph, Object, Cell, NumberCell, AreaWord, Point, Reservation, dependent_in, is_taken, position_of_first, thing_named, with_last, with_target_cell, Cache, CacheClass, NamedThing, Slots, Thing, TableThing, without_name}
-use Rattle.mps_model.specs.World.{World, committed, Pool, Dependency, block_of_word, id_at, is_automatic_kind, is_running, TransformPair, is_parked, pairs_in, pool_at, pool_of}
+use Rattle.mps_model.specs.Graph.{Graph, Object, Cell, NumberCell, AreaWord, Point, Reservation, dependent_in, is_taken, position_of_first, thing_named, with_last, with_target_cell, Cache, CacheClass, NamedThing, Slots, Thing, TableThing, without_name, PoolFrames}
+use Rattle.mps_model.specs.World.{World, committed, Pool, Dependency, block_of_word, id_at, is_automatic_kind, is_running, TransformPair, is_parked, pairs_in, pool_at, pool_of, Collected, OneSize, AnySize, Frames, pool_is, has_frames}
 use Rattle.mps_model.specs.Checked.{Act, Checked, Found, Numbered, block_place_in, cells_of_body, chain_named, dependency_named, done, label_named, tag_at, number_at, object_in, point_named, pool_named, reference_at, refuse_when, required, says, slot_in, tells, with_graph, word_in, cache_named, as_point, as_table, as_transform, number_named, transform_named}
-use Rattle.mps_model.specs.Making.{graph_without_root, is_block_size, live_points, make_pool, may_have_point, most_chains, most_dependencies, most_labels, most_points, most_pools, refuse_at_limit, refuse_root, refuse_taken, most_caches}
+use Rattle.mps_model.specs.Making.{graph_without_root, is_block_size, live_points, make_pool, may_have_point, most_chains, most_dependencies, most_labels, most_points, most_pools, refuse_at_limit, refuse_root, refuse_taken, most_caches, most_frames}
+use Rattle.mps_model.specs.Frames.{frame_in, frames_named, open_frames}
 use Rattle.mps_model.specs.Caches.{act_kept, act_taken, are_class_sizes, kept_by, may_have_cache, new_classes, taken_from}
 use Rattle.mps_model.specs.Placement.{ForAlloc, ForReserve, placement_of}
 use Rattle.mps_model.specs.Allocating.{Reserving, allows_size, block_in, check_reserve, refuse_without_place, with_reservation, with_reserved_cells, words_at, world_committed}
@@ -160,12 +161,16 @@ module _ (marked : Bool) (judged v : World) where
   slots_of_act call.Committed = accepted (same refl refl)
   slots_of_act (call.Chain chain count capacities) =
       after_check (refuse_taken v chain) (after_check (refuse_at_limit (length v.chains) most_chains) (accepted (named_one _ refl refl)))
-  slots_of_act (call.Pool pool kind format) = after_check (refuse_taken v pool) (made pool _)
+  slots_of_act (call.Pool pool kind format) =
+      after_check (refuse_taken v pool) (made pool (record { kind = Collected kind; format = format; chain = None }))
   slots_of_act (call.PoolOnChain pool kind format chain) =
-      after_check (refuse_taken v pool) (andthen (chain_named v chain) (λ (on : Numbered (List ℕ)). made pool _))
+      after_check (refuse_taken v pool) (andthen (chain_named v chain) (λ (on : Numbered (List ℕ)).
+      made pool (record { kind = Collected kind; format = format; chain = Some on.number })))
   slots_of_act (call.PoolMfs pool words) =
-      after_check (refuse_taken v pool) (after_check (refuse_when (not (is_block_size words)) refusal.BadSize) (made pool _))
-  slots_of_act (call.PoolMvff pool) = after_check (refuse_taken v pool) (made pool _)
+      after_check (refuse_taken v pool) (after_check (refuse_when (not (is_block_size words)) refusal.BadSize)
+      (made pool (record { kind = OneSize words; format = 0; chain = None })))
+  slots_of_act (call.PoolMvff pool) = after_check (refuse_taken v pool) (made pool (record { kind = AnySize; format = 0; chain = None }))
+  slots_of_act (call.PoolFrames pool) = after_check (refuse_taken v pool) (made pool (record { kind = Frames; format = 0; chain = None }))
   slots_of_act (call.Table table slots) = after_check (refuse_taken v table)
       (after_check (refuse_root v slots) (accepted (record { names = OneNamed _ refl; tables = OneMore _ refl })))
   slots_of_act (call.Area area words) = after_check (refuse_taken v area)
@@ -214,7 +219,8 @@ module _ (marked : Bool) (judged v : World) where
       (after_check (refuse_when (is_some at.value) refusal.NameTaken)
       (after_check (refuse_without_place (placement_of judged (ForAlloc p.number words))) (accepted (same refl refl)))))))
   slots_of_act (call.Free place) =
-      andthen (block_place_in v place) (λ (at : Found (Option ℕ)). after_check (block_in at) (accepted (same refl refl)))
+      andthen (block_place_in v place) (λ (at : Found (Option ℕ)). andthen (block_in at) (λ (id : ℕ).
+      after_check (refuse_when (pool_is has_frames v (pool_of v id)) refusal.WrongPool) (accepted (same refl refl))))
   slots_of_act (call.Load place word) =
       andthen (block_place_in v place) (λ (at : Found (Option ℕ)). andthen (block_in at) (λ (id : ℕ).
       andthen (required (slice_get (words_at v.graph id) word) refusal.BadIndex) (λ (n : ℕ). accepted (same refl refl))))
@@ -315,6 +321,11 @@ module _ (marked : Bool) (judged v : World) where
       andthen (block_in at) (λ (id : ℕ). after_check (refuse_when (not (pool_of v id == into.value.pool)) refusal.WrongPool)
       (keeps into at (kept_by v into.value id)))))
   slots_of_act (call.CacheFlush cache) = andthen (cache_named v cache) (λ (from : Numbered Cache). accepted (same refl refl))
+  slots_of_act (call.Push pool) =
+      andthen (frames_named v pool) (λ (f : PoolFrames).
+      after_check (refuse_at_limit (open_frames v.graph) most_frames) (accepted (same refl refl)))
+  slots_of_act (call.Pop pool frame) =
+      andthen (frames_named v pool) (λ (f : PoolFrames). andthen (frame_in f frame) (λ (before : ℕ). accepted (same refl refl)))
   slots_of_act (call.Peek word) = andthen (word_in v word) (λ (at : Found AreaWord). accepted (same refl refl))
   slots_of_act (call.Pin word slot) =
       andthen (word_in v word) (λ (at : Found AreaWord). andthen (slot_in v slot) (λ (from : Found (Option ℕ)).

@@ -11,7 +11,7 @@ use Rattle.mps_model.specs.Answer.{refused}
 use Rattle.mps_model.specs.Step.{Step}
 use Rattle.mps_model.specs.World.{World, committed, held_grains, empty_world}
 use Rattle.mps_model.specs.Checked.{Checked}
-use Rattle.mps_model.specs.Making.{most_caches, most_chains, most_dependencies, most_labels, most_points, most_pools, most_roots, most_slots}
+use Rattle.mps_model.specs.Making.{most_caches, most_frames, most_chains, most_dependencies, most_labels, most_points, most_pools, most_roots, most_slots}
 use Rattle.mps_model.specs.Allocating.{Reserving, check_reserve}
 use Rattle.mps_model.specs.Dependents.{most_dependents}
 use Rattle.mps_model.specs.Collecting.{most_registrations}
@@ -59,6 +59,7 @@ refusals_of w (call.PoolOnChain pool kind format chain) =
     refusal.NameTaken ∷ refusal.BadName ∷ refusal.TooMany most_pools ∷ []
 refusals_of w (call.PoolMfs pool words) = refusal.NameTaken ∷ refusal.BadSize ∷ refusal.TooMany most_pools ∷ []
 refusals_of w (call.PoolMvff pool) = refusal.NameTaken ∷ refusal.TooMany most_pools ∷ []
+refusals_of w (call.PoolFrames pool) = refusal.NameTaken ∷ refusal.TooMany most_pools ∷ []
 -- roots
 refusals_of w (call.Table table slots) = refusal.NameTaken ∷ refusal.TooMany most_roots ∷ refusal.TooMany most_slots ∷ []
 refusals_of w (call.Area area words) = refusal.NameTaken ∷ refusal.TooMany most_roots ∷ refusal.TooMany most_slots ∷ []
@@ -82,7 +83,7 @@ refusals_of w (call.Commit point target) = refusal.BadName ∷ refusal.BadIndex 
 refusals_of w (call.Alloc pool words place) =
     refusal.BadName ∷ refusal.WrongPool ∷ refusal.BadIndex ∷ refusal.BadSize ∷ refusal.NameTaken ∷ over_limit w words
     ∷ no_run w words ∷ []
-refusals_of w (call.Free place) = refusal.BadName ∷ refusal.BadIndex ∷ refusal.NotABlock ∷ []
+refusals_of w (call.Free place) = refusal.BadName ∷ refusal.BadIndex ∷ refusal.NotABlock ∷ refusal.WrongPool ∷ []
 refusals_of w (call.Load place word) = refusal.BadName ∷ refusal.BadIndex ∷ refusal.NotABlock ∷ []
 refusals_of w (call.Store place word value) = refusal.BadName ∷ refusal.BadIndex ∷ refusal.NotABlock ∷ []
 -- objects and slots
@@ -118,6 +119,9 @@ refusals_of w (call.CacheAlloc cache words place) =
     refusal.BadName ∷ refusal.BadIndex ∷ refusal.BadSize ∷ refusal.NameTaken ∷ over_limit w words ∷ no_run w words ∷ []
 refusals_of w (call.CacheFree cache place) = refusal.BadName ∷ refusal.BadIndex ∷ refusal.NotABlock ∷ refusal.WrongPool ∷ []
 refusals_of w (call.CacheFlush cache) = refusal.BadName ∷ []
+-- frames
+refusals_of w (call.Push pool) = refusal.BadName ∷ refusal.WrongPool ∷ refusal.TooMany most_frames ∷ []
+refusals_of w (call.Pop pool frame) = refusal.BadName ∷ refusal.WrongPool ∷ refusal.BadIndex ∷ []
 -- areas
 refusals_of w (call.Poke word value) = refusal.BadName ∷ refusal.BadIndex ∷ []
 refusals_of w (call.Peek word) = refusal.BadName ∷ refusal.BadIndex ∷ []

@@ -20,7 +20,7 @@ pub use headers::{header, header_of};
 pub use kinds::Kinds;
 pub use laws::no_record_begins_another;
 pub use name::is_padded_name;
-pub use pool_kind::{MFS_NUMBER, MVFF_NUMBER, kind_number};
+pub use pool_kind::{MFS_NUMBER, MVFF_NUMBER, SNC_NUMBER, kind_number};
 pub use reading::first;
 pub use record::RecordRef;
 pub use version::Version;

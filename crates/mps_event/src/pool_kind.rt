@@ -21,6 +21,9 @@ pub const MFS_NUMBER: u64 = 6;
 /// The number of a manual pool whose blocks have any size.
 pub const MVFF_NUMBER: u64 = 7;
 
+/// The number of a manual pool that frees its blocks by frames.
+pub const SNC_NUMBER: u64 = 8;
+
 /// The number of an automatic pool's kind.
 pub fn kind_number(kind: Kind) -> u64
     ensures { result ≡ number_of_kind kind }

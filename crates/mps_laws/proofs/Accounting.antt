@@ -16,12 +16,13 @@ use Rattle.mps_model.specs.Effect.{where_one, world_after_move, world_after_move
 use Rattle.mps_model.specs.LegalMove.{IsLegalFlip, AreLegalMoves}
 use Rattle.mps_model.specs.Policy.{units_asked}
 use Rattle.mps_model.specs.Reply.{world_from}
+use Rattle.mps_model.specs.Frames.{frames_named}
 use Rattle.mps_model.specs.History.{AreMovesOf, after_its_moves, after_own_segment, asking, moved_world, moves_of_collector, moves_of_poll, own_segment, with_client_remembered}
 use Rattle.mps_laws.specs.Staying.{is_flip}
 use Rattle.mps_laws.proofs.Acts.{ForAct, accepted, refused}
 use Rattle.mps_laws.proofs.LeftByActs.{Leaves, changes_dependencies}
 use Rattle.mps_laws.proofs.OwnSegments.{own_segment_taken}
-use Rattle.mps_laws.proofs.Positions.Places.{IsPutIn, IsMovedLegally, AreMovedLegally, move_put, all_moved_legally, is_moving, none_moved, commit_moves_none, alloc_moves_none, free_moves_none, cache_alloc_moves_none, cache_free_moves_none, cache_flush_moves_none, own_segment_put, asking_put, left_put, remembered_put}
+use Rattle.mps_laws.proofs.Positions.Places.{IsPutIn, IsMovedLegally, AreMovedLegally, move_put, all_moved_legally, is_moving, none_moved, commit_moves_none, alloc_moves_none, free_moves_none, cache_alloc_moves_none, cache_free_moves_none, cache_flush_moves_none, pop_moves_none, own_segment_put, asking_put, left_put, remembered_put}
 use Rattle.mps_laws.proofs.AddedBlocks.{Accounts, AreAccounts, IsAccounted, IsFlippedSince, accounts_carried}
 use Rattle.mps_laws.proofs.FlippedZones.{AreHome, flip_accounts}
 
@@ -189,6 +190,8 @@ its_moves_carry w (call.CacheFree cache place) answer ms legal flipped due =
     client_carries w ms (ap (list_any is_moving) due ∙ cache_free_moves_none w answer (cache_named w cache) (block_place_in w place))
 its_moves_carry w (call.CacheFlush cache) answer ms legal flipped due =
     client_carries w ms (ap (list_any is_moving) due ∙ cache_flush_moves_none w answer (cache_named w cache))
+its_moves_carry w (call.Pop pool frame) answer ms legal flipped due =
+    client_carries w ms (ap (list_any is_moving) due ∙ pop_moves_none w answer (frames_named w pool) frame)
 its_moves_carry w _ answer ms legal flipped due = moves_carry w ms (all_moved_legally w None ms legal) flipped
 
 pub moved_world_carries : (w : World) (c : Call) (answer : Answer) (ms : List Move) → AreLegalMoves w None (moves_of_collector c ms)

@@ -34,7 +34,7 @@ use Rattle.mps_laws.proofs.Sound.SoundGraph.{All, PassesOrNull, all-at, all-weak
 abbrev pub AreRightCaches : World → Type 0
 AreRightCaches w = list_all (is_right_cache w) w.graph.caches ≡ true
 
-abbrev shapes_of : World → List Shape
+abbrev pub shapes_of : World → List Shape
 shapes_of w = map shape_of w.graph.objects
 
 -- whether there is an object, as its shape says

@@ -28,6 +28,7 @@ use Rattle.mps_model.specs.Flip.{end_where, fix, fix_all, flip_act, is_nothing, 
 use Rattle.mps_model.specs.Policy.{due_in, polls, units_asked, units_of_poll}
 use Rattle.mps_model.specs.Units.{AreUnits, IsBarrier, IsExamination, posts, stays_and_posts, moves_and_posts, moves_to_segment_and_posts, IsReclaim, IsUnitPiece, scans, examines, splats, reclaims, does_nothing, Scans, scans_no_more, moves_target, moves_target_to_segment, makes_target_stay, UnitsDone, none_yet, one_more, frees_at, give_back_where, is_last_condemned, nothing_left, splats_in, splats_of}
 use Rattle.mps_model.specs.Reply.{act, world_from}
+use Rattle.mps_model.specs.Frames.{frames_named}
 use Rattle.mps_model.specs.History.{AreMovesOf, AreMovesOfCollect, FinishesCollection, IsFullCollection, IsLegalFrom, IsPoll, IsPollWhereDue, after_its_moves, asking, flip_act_of_chain, judged_world, moved_world, moves_of_poll, own_segment, poll_at_rest, segment_of_found, unless_refused, world_after, world_after_steps}
 use Rattle.mps_laws.specs.Staying.{is_flip}
 use Rattle.mps_laws.specs.Flipping.{StepFlipsOnceAtMost, FlipsAreNoMoreThanSteps}
@@ -35,7 +36,7 @@ use Rattle.mps_laws.proofs.Acts.{ForAct, accepted, refused}
 use Rattle.mps_laws.proofs.Accounting.{move_leaves, own_segment_flips}
 use Rattle.mps_laws.proofs.LeftByActs.{Leaves, act_leaves}
 use Rattle.mps_laws.proofs.LegalHistories.{IsAnswered, legal_step}
-use Rattle.mps_laws.proofs.Positions.Places.{is_moving, commit_moves_none, alloc_moves_none, free_moves_none, cache_alloc_moves_none, cache_free_moves_none, cache_flush_moves_none}
+use Rattle.mps_laws.proofs.Positions.Places.{is_moving, commit_moves_none, alloc_moves_none, free_moves_none, cache_alloc_moves_none, cache_free_moves_none, cache_flush_moves_none, pop_moves_none}
 
 -- ---- moves without a flip
 
@@ -306,6 +307,8 @@ call_once w (call.CacheFree cache place) answer ms due =
     ∙ cache_free_moves_none w answer (cache_named w cache) (block_place_in w place)))
 call_once w (call.CacheFlush cache) answer ms due =
     quiet w ms (none_moving ms (ap (list_any is_moving) due ∙ cache_flush_moves_none w answer (cache_named w cache)))
+call_once w (call.Pop pool frame) answer ms due =
+    quiet w ms (none_moving ms (ap (list_any is_moving) due ∙ pop_moves_none w answer (frames_named w pool) frame))
 call_once w (call.Get target source cell) answer ms due =
     quiet w ms
     (where_due (is_running w && not (is_refused answer)) ms (get_none w (segment_of_found w (slot_in w source)) ms) due)

@@ -25,8 +25,10 @@ pub mod Dependents
 pub mod Parked
 pub mod Caches
 pub mod OnePlace
+pub mod Frames
 pub mod WellFormed
 pub mod WellFormedHistories
+pub mod FrameBlocks
 pub mod MadeAgain
 pub mod FoundBy
 pub mod Replays

@@ -2,7 +2,7 @@
 use Rattle.std.proofs.Common.{◌≡◌, ◌∙◌, ℕ, zero, suc, ◌+◌, ◌≤◌, ◌<◌, Bool, true, false, refl, sym, ap, subst, List, [], ◌∷◌, ◌++◌, length, length-append, Option, Some, None, Ok, arith}
 use Rattle.std.proofs.lemmas.Bool.{and_parts, and_from, eqb-true, ltb-true, lt-ltb}
 use Rattle.std.proofs.lemmas.List.{length-map}
-use Rattle.std.specs.Prelude.{◌==◌, if◌then◌else◌, nat_lt, replicate, slice_get}
+use Rattle.std.specs.Prelude.{◌==◌, drop, if◌then◌else◌, nat_lt, replicate, slice_get}
 use Rattle.std.specs.List.{list_all, flat_map}
 use Rattle.mps_base.specs.declared.names.Slot.{Slot}
 use Rattle.mps_model.specs.Layout.{Layout}
@@ -16,9 +16,10 @@ use Rattle.mps_model.specs.Allocating.{with_block_place}
 use Rattle.mps_model.specs.Caches.{with_classes}
 use Rattle.mps_model.specs.Reply.{act, world_from}
 use Rattle.mps_model.specs.History.{IsLegalHistoryOf, judged_world, moved_world, world_after}
-use Rattle.mps_changes.specs.Change.{Change, IsFoundBy, Now, Before, BlocksMade, PlaceEmptied, Allocated, CacheMade, BlockUncached, BlockCached, CacheFlushed}
+use Rattle.mps_changes.specs.Change.{Change, IsFoundBy, Now, Before, BlocksMade, PlaceEmptied, Allocated, CacheMade, BlockUncached, BlockCached, CacheFlushed, FramesPopped}
 use Rattle.mps_changes.proofs.ActChanges.{of_changes}
 use Rattle.mps_changes.proofs.Checks.{cache_named-is, for_world}
+use Rattle.mps_changes.proofs.Frames.{places_occur, places_pass}
 use Rattle.mps_changes.proofs.OneMore.{HasOneMore, after_others, before_others, both_pass, cache_added, cache_less, cache_more, flush_occurs, flush_passes, less_pass, more_pass, occurrences-append, occurs_more, parts_pass, place_emptied, place_filled}
 use Rattle.mps_laws.specs.Replay.{reached}
 use Rattle.mps_laws.specs.OnePlace.{BlocksAreInOnePlace}
@@ -42,7 +43,7 @@ AreInOnePlace w = AreOnce (length w.graph.objects) (ids_in_blocks w.graph)
 
 -- ---- lists
 
-later_made : (made more : ℕ) → made ≤ more → (ids : List ℕ) → list_all (λ id. nat_lt id made) ids ≡ true
+pub later_made : (made more : ℕ) → made ≤ more → (ids : List ℕ) → list_all (λ id. nat_lt id made) ids ≡ true
     → list_all (λ id. nat_lt id more) ids ≡ true
 later_made made more h [] all = refl
 later_made made more h (id ∷ ids) all =
@@ -74,7 +75,7 @@ one_less made id less more h are = record {
   below = (less_pass (λ n. nat_lt n made) h are.below).1;
 }
 
-one_new : (made : ℕ) (less more : List ℕ) → HasOneMore made less more → AreOnce made less → AreOnce (made + 1) more
+pub one_new : (made : ℕ) (less more : List ℕ) → HasOneMore made less more → AreOnce made less → AreOnce (made + 1) more
 one_new made less more h are = record {
   once = λ j. of_test j (made == j) refl;
   below = more_pass (λ n. nat_lt n (made + 1)) h (lt-ltb made (made + 1) (omega arith))
@@ -108,7 +109,7 @@ none_in_new : (count : ℕ) → entries (replicate count None) ≡ []
 none_in_new zero = refl
 none_in_new (suc count) = none_in_new count
 
-table_added : (blocks : List Slots) (count : ℕ) → flat_map entries (with_last blocks (replicate count None)) ≡ flat_map entries blocks
+pub table_added : (blocks : List Slots) (count : ℕ) → flat_map entries (with_last blocks (replicate count None)) ≡ flat_map entries blocks
 table_added [] count = ap (λ ids. ids ++ []) (none_in_new count)
 table_added (b ∷ bs) count = ap (λ ids. entries b ++ ids) (table_added bs count)
 
@@ -148,7 +149,7 @@ module _ (judged v : World) (same : judged.graph.blocks ≡ v.graph.blocks) (are
   change_keeps : {marked : Bool} {c : Call} {u : World} → Change marked c judged v u → AreInOnePlace u
   change_keeps {u = u} (BlocksMade name places e) =
       as_before u (ap (λ ids. ids ++ ids_in_caches v.graph) (table_added v.graph.blocks places)) (omega arith)
-  change_keeps {u = u} (PlaceEmptied from place id e found has) =
+  change_keeps {u = u} (PlaceEmptied from place id e found has freed) =
       let f = row_is from place found in
       one_less made id (ids_in_blocks u.graph) (ids_in_blocks v.graph)
       (before_others (place_emptied v.graph place f.0 id (f.1 ∙ ap Some has)) (ids_in_caches v.graph)) are
@@ -189,6 +190,18 @@ module _ (judged v : World) (same : judged.graph.blocks ≡ v.graph.blocks) (are
         let parts = parts_pass (λ n. nat_lt n made) (ids_in_places v.graph) (ids_in_caches v.graph) are.below in
         both_pass (λ n. nat_lt n made) (ids_in_places v.graph) (ids_in_caches u.graph) parts.0
         (flush_passes v.graph cache (cache_named-is v name cache is) (λ n. nat_lt n made) parts.1);
+  }
+  change_keeps {u = u} (FramesPopped name p frame before e found opened) = record {
+    once = λ j.
+        let fewer = places_occur (drop before p.blocks) v.graph.blocks j in
+        let most : occurrences (ids_in_blocks v.graph) j ≤ 1 = are.once j in
+        let was = occurrences-append j (ids_in_places v.graph) (ids_in_caches v.graph) in
+        let is = occurrences-append j (ids_in_places u.graph) (ids_in_caches v.graph) in
+        omega (arith, fewer, most, was, is);
+    below =
+        let parts = parts_pass (λ n. nat_lt n made) (ids_in_places v.graph) (ids_in_caches v.graph) are.below in
+        both_pass (λ n. nat_lt n made) (ids_in_places u.graph) (ids_in_caches v.graph)
+        (places_pass (drop before p.blocks) (λ n. nat_lt n made) v.graph.blocks parts.0) parts.1;
   }
   change_keeps {u = u} other = as_before u refl (owners_grow v u (change_leaves other).owned)
 

@@ -30,6 +30,7 @@ use Rattle.mps_model.specs.Placement.{ForReserve, placement_of}
 use Rattle.mps_model.specs.Reply.{act, answer_from, reply_to, world_from}
 use Rattle.mps_model.specs.Step.{Step}
 use Rattle.mps_model.specs.Units.{AreUnitsToEnd}
+use Rattle.mps_model.specs.Frames.{frames_named}
 use Rattle.mps_model.specs.History.{AreMovesOf, AreMovesOfCollect, FinishesCollection, IsPoll, after_its_moves, after_own_segment, asking, flip_act_of_chain, judged_world, moved_world, moves_of_poll, own_segment, remembering, segment_of_found, unless_refused, with_client_remembered, world_after}
 use Rattle.mps_changes.specs.Change.{AsideIs, StateIs, ParkedAnew, ParkedOn, PairAdded, TransformDropped, Change, Aside, Substituted, ForAct, accepted, refused, IsInSlot}
 use Rattle.mps_changes.proofs.ActChanges.{act_changes_so, of_changes}
@@ -43,7 +44,7 @@ use Rattle.mps_laws.proofs.LeftByActs.{Leaves, act_leaves, owners}
 use Rattle.mps_laws.proofs.LegalHistories.{IsAnswered}
 use Rattle.mps_laws.proofs.OwnSegments.{own_segment_taken}
 use Rattle.mps_laws.proofs.Positions.Occupancy.{Shape, shape_of}
-use Rattle.mps_laws.proofs.Positions.Places.{is_moving, commit_moves_none, alloc_moves_none, free_moves_none, cache_alloc_moves_none, cache_free_moves_none, cache_flush_moves_none}
+use Rattle.mps_laws.proofs.Positions.Places.{is_moving, commit_moves_none, alloc_moves_none, free_moves_none, cache_alloc_moves_none, cache_free_moves_none, cache_flush_moves_none, pop_moves_none}
 use Rattle.mps_laws.proofs.SameArena.{IsLeftAlone, moved_alone}
 use Rattle.mps_laws.proofs.Sound.SoundGraph.{All, PassesOrNull, IsSoundGraph, all-last, all-weaker, auto, entry-passes}
 use Rattle.mps_laws.proofs.Sound.SoundActs.{table_passes}
@@ -165,6 +166,8 @@ module _ (w : World) (parked : is_parked w ≡ true) (rests : is_running w ≡ f
       (none_moving ms (ap (list_any is_moving) due ∙ cache_free_moves_none w answer (cache_named w cache) (block_place_in w place))) rests
   call_rests (call.CacheFlush cache) answer ms plain due =
       moves_rest w ms (none_moving ms (ap (list_any is_moving) due ∙ cache_flush_moves_none w answer (cache_named w cache))) rests
+  call_rests (call.Pop pool frame) answer ms plain due =
+      moves_rest w ms (none_moving ms (ap (list_any is_moving) due ∙ pop_moves_none w answer (frames_named w pool) frame)) rests
   call_rests (call.Get target source cell) answer ms plain due =
       moves_rest w ms
       (where_due (is_running w && not (is_refused answer)) ms (get_none w (segment_of_found w (slot_in w source)) ms) due) rests

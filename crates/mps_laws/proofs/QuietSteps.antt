@@ -117,6 +117,7 @@ module _ (w : World) (line : ℕ) (call : Call) (answer : Answer) (q : IsQuiet w
       none_is_legal (calls.CacheAlloc cache words place) = tt
       none_is_legal (calls.CacheFree cache place) = tt
       none_is_legal (calls.CacheFlush cache) = tt
+      none_is_legal (calls.Pop pool frame) = tt
       none_is_legal _ = tt
 
   -- an accepted call

@@ -38,11 +38,12 @@ pub record IsLeftAlone (before after : World) : Type 0 where
   pub state : after.state ≡ before.state
   pub blocks : after.graph.blocks ≡ before.graph.blocks
   pub caches : after.graph.caches ≡ before.graph.caches
+  pub frames : after.graph.frames ≡ before.graph.frames
 
 left_as : {w v : World} → v.grains ≡ w.grains → v.formats ≡ w.formats → v.graph.names ≡ w.graph.names → v.graph.labels ≡ w.graph.labels
     → v.pools ≡ w.pools → map shape_of v.graph.objects ≡ map shape_of w.graph.objects → v.state ≡ w.state
-    → v.graph.blocks ≡ w.graph.blocks → v.graph.caches ≡ w.graph.caches → IsLeftAlone w v
-left_as grains formats names labels pools shapes state blocks caches = record {
+    → v.graph.blocks ≡ w.graph.blocks → v.graph.caches ≡ w.graph.caches → v.graph.frames ≡ w.graph.frames → IsLeftAlone w v
+left_as grains formats names labels pools shapes state blocks caches frames = record {
   grains = grains;
   formats = formats;
   names = names;
@@ -52,10 +53,11 @@ left_as grains formats names labels pools shapes state blocks caches = record {
   state = state;
   blocks = blocks;
   caches = caches;
+  frames = frames;
 }
 
 left_alone : {w : World} → IsLeftAlone w w
-left_alone = left_as refl refl refl refl refl refl refl refl refl
+left_alone = left_as refl refl refl refl refl refl refl refl refl refl
 
 then_same : (u v w : World) → IsLeftAlone u v → IsLeftAlone v w → IsLeftAlone u w
 then_same u v w first second = record {
@@ -68,6 +70,7 @@ then_same u v w first second = record {
   state = second.state ∙ first.state;
   blocks = second.blocks ∙ first.blocks;
   caches = second.caches ∙ first.caches;
+  frames = second.frames ∙ first.frames;
 }
 
 -- ---- moves
@@ -80,32 +83,32 @@ free_same : (w : World) (id at : ℕ) → IsLeftAlone w (after_free w id at)
 free_same w id at =
     elim (object_is is_automatic w id) as (λ b. IsLeftAlone w (if b then with_collection (without_object w id)
     (reclaiming (segment_base_of w at)) else without_object w id)) [
-      | true ↦ left_as refl refl refl refl refl refl refl refl refl
-      | false ↦ left_as refl refl refl refl refl refl refl refl refl
+      | true ↦ left_as refl refl refl refl refl refl refl refl refl refl
+      | false ↦ left_as refl refl refl refl refl refl refl refl refl refl
     ]
 
 segment_same : (w : World) (s : Segment) → IsLeftAlone w (after_segment w s)
 segment_same w s =
     elim (is_copying_pool w s.pool) as (λ b. IsLeftAlone w (if b then with_tail (holding w s) s.pool s.generation (words_of_segment s)
     else holding w s)) [
-      | true ↦ left_as refl refl refl refl refl refl refl refl refl
-      | false ↦ left_as refl refl refl refl refl refl refl refl refl
+      | true ↦ left_as refl refl refl refl refl refl refl refl refl refl
+      | false ↦ left_as refl refl refl refl refl refl refl refl refl refl
     ]
 
 move_same : (w : World) (m : Move) → IsLeftAlone w (world_after_move w m)
 move_same w (moves.Seg base grains pool generation) = segment_same w (segment_of_move base.0 grains pool generation)
-move_same w (moves.Unseg base) = left_as refl refl refl refl refl refl refl refl refl
-move_same w (moves.Flip zones chain generation) = left_as refl refl refl refl refl refl refl refl refl
-move_same w moves.End = left_as refl refl refl refl refl refl refl refl refl
+move_same w (moves.Unseg base) = left_as refl refl refl refl refl refl refl refl refl refl
+move_same w (moves.Flip zones chain generation) = left_as refl refl refl refl refl refl refl refl refl refl
+move_same w moves.End = left_as refl refl refl refl refl refl refl refl refl refl
 move_same w (moves.Moved from to) =
-    one_same w (id_at w from.0) (λ id. after_moved w id to.0) (λ id. left_as refl refl refl refl refl refl refl refl refl)
+    one_same w (id_at w from.0) (λ id. after_moved w id to.0) (λ id. left_as refl refl refl refl refl refl refl refl refl refl)
 move_same w (moves.Stay at) =
-    one_same w (id_at w at.0) (λ id. with_collection w (placing id)) (λ id. left_as refl refl refl refl refl refl refl refl refl)
+    one_same w (id_at w at.0) (λ id. with_collection w (placing id)) (λ id. left_as refl refl refl refl refl refl refl refl refl refl)
 move_same w (moves.Splat holder cell) =
     one_same w (id_at w holder.0) (λ id. after_splat w id cell)
-    (λ id. left_as refl refl refl refl refl (splatted_kept w.graph id cell) refl refl refl)
+    (λ id. left_as refl refl refl refl refl (splatted_kept w.graph id cell) refl refl refl refl)
 move_same w (moves.Post at) =
-    one_same w (id_at w at.0) (after_post w) (λ id. left_as refl refl refl refl refl refl refl refl refl)
+    one_same w (id_at w at.0) (after_post w) (λ id. left_as refl refl refl refl refl refl refl refl refl refl)
 move_same w (moves.Commit at words pool) = left_alone
 move_same w (moves.Alloc at words pool) = left_alone
 move_same w (moves.Free at) = one_same w (id_at w at.0) (λ id. after_free w id at.0) (λ id. free_same w id at.0)
@@ -117,13 +120,13 @@ moves_same w (m ∷ ms) =
 
 asked_same : (units : Option ℕ) (w : World) → IsLeftAlone w (asking units w)
 asked_same None w = left_alone
-asked_same (Some units) w = left_as refl refl refl refl refl refl refl refl refl
+asked_same (Some units) w = left_as refl refl refl refl refl refl refl refl refl refl
 
 own_same : (w : World) (ms : List Move) (number : Option ℕ) → IsLeftAlone w (after_own_segment w ms number)
 own_same w ms number =
     own_segment_taken (IsLeftAlone w) w left_alone
-    (λ s. left_as refl refl refl refl refl refl refl refl refl)
-    (λ s n r. left_as refl refl refl refl refl refl refl refl refl) ms number
+    (λ s. left_as refl refl refl refl refl refl refl refl refl refl)
+    (λ s n r. left_as refl refl refl refl refl refl refl refl refl refl) ms number
 
 -- the moves of a call
 pub moved_alone : (w : World) (c : Call) (ms : List Move) → IsLeftAlone w (moved_world w c ms)

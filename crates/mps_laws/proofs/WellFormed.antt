@@ -13,6 +13,7 @@ use Rattle.mps_model.specs.World.{World, PointMemory, extent, ids_in_pairs, is_l
 use Rattle.mps_model.specs.Making.{is_weak_rank}
 use Rattle.mps_model.specs.WellFormed.{IsWellFormed, is_live_automatic, are_right_cells, is_home, is_right_at_hand, is_right_object, is_right_point, is_right_reservation, are_right_points, is_right_word, are_right_words}
 use Rattle.mps_laws.proofs.Dependents.{ArePaired}
+use Rattle.mps_laws.proofs.Frames.{AreRightFrames, frames_right}
 use Rattle.mps_laws.proofs.Caches.{AreRightCaches}
 use Rattle.mps_laws.proofs.Labels.{AreNamed, labels_from}
 use Rattle.mps_laws.proofs.Parked.{RestsWhenParked}
@@ -164,8 +165,8 @@ not_both true b h = ap not (h refl)
 not_both false b h = refl
 
 pub well_formed : (w : World) → HasLayout (w.grains + 1) w → IsSoundGraph w → AreNamed w.graph → ArePaired w → AreRightCaches w
-    → ClientIsLive w → RestsWhenParked w → All (is_live_automatic w) (ids_in_pairs w.state) → IsWellFormed w
-well_formed w laid s named paired cached live rests pairs = record {
+    → AreRightFrames w → ClientIsLive w → RestsWhenParked w → All (is_live_automatic w) (ids_in_pairs w.state) → IsWellFormed w
+well_formed w laid s named paired cached framed live rests pairs = record {
   segments =
       and_from (list_all (Rattle.mps_model.specs.WellFormed.is_right_segment w) w.segments)
       (Rattle.mps_model.specs.WellFormed.are_apart (map Rattle.mps_base.specs.Segment.grains_of_segment w.segments))
@@ -189,4 +190,5 @@ well_formed w laid s named paired cached live rests pairs = record {
   parked = not_both (is_parked w) (is_running w) rests;
   transforms = pairs;
   caches = cached;
+  frames = frames_right w s framed;
 }

@@ -30,6 +30,7 @@ use Rattle.mps_laws.proofs.Held.{held_at_first}
 use Rattle.mps_laws.proofs.LegalHistories.{legal_step}
 use Rattle.mps_laws.proofs.Parked.{RestsWhenParked, none_there, pairs_after, step_rests}
 use Rattle.mps_laws.proofs.Caches.{AreRightCaches, caches_after, caches_moved, is_made}
+use Rattle.mps_laws.proofs.Frames.{AreFramesOf, AreRightFrames, frames_after, frames_manual, frames_moved}
 use Rattle.mps_laws.proofs.SameArena.{moved_alone, IsSameArena, act_same, itself, moved_same}
 use Rattle.mps_laws.proofs.Labels.{AreNamed, labels_after}
 use Rattle.mps_laws.proofs.Acts.{for_world}
@@ -63,7 +64,7 @@ module _ (line : ℕ) (w : World) where
       ]
 
 -- what each world of a history keeps
-record IsKeptWell (w : World) : Type 0 where
+pub record IsKeptWell (w : World) : Type 0 where
   pub layout : HasLayout (w.grains + 1) w
   pub blocks : BlocksAreLive w
   pub slots : SlotsAreLive w
@@ -72,6 +73,7 @@ record IsKeptWell (w : World) : Type 0 where
   pub named : AreNamed w.graph
   pub paired : ArePaired w
   pub cached : AreRightCaches w
+  pub framed : AreRightFrames w
   pub rests : RestsWhenParked w
   pub pairs : All (auto w) (ids_in_pairs w.state)
 
@@ -106,7 +108,7 @@ no_arena_limit limit (call.Arena grains most) h = absurd (true≢false h)
 no_arena_limit limit _ h = refl
 
 -- each block in a place was made
-places_made : (w : World) → IsSoundGraph w → list_all (is_made w) (ids_in_places w.graph) ≡ true
+pub places_made : (w : World) → IsSoundGraph w → list_all (is_made w) (ids_in_places w.graph) ≡ true
 places_made w s = all-weaker (manual w) (is_made w) (λ id h. of_object id (object_at w.graph id) refl h) (ids_in_places w.graph)
     (manual_parts w s).0
   where
@@ -119,7 +121,8 @@ step_kept : (w : World) (s : Step) → makes_arena s.call ≡ false → IsKeptWe
 step_kept w s plain k legal =
     let r = legal_step_replayed (w.grains + 1) 0 s.line w k.layout k.blocks s.call s.moves s.answer legal in
     let g : w.grains + 1 ≡ (world_after w s).grains + 1 = ap (λ n. n + 1) (sym (step_grains s.line w s.call s.moves s.answer plain)) in
-    let sound = step_sound (w.grains + 1) s.line w k.layout k.blocks k.slots k.sound k.pairs s.call s.moves s.answer legal in
+    let sound = step_sound (w.grains + 1) s.line w k.layout k.blocks k.slots k.sound k.pairs
+    (frames_manual w k.sound k.framed) s.call s.moves s.answer legal in
     record {
       layout = subst (λ (n : ℕ). HasLayout n (world_after w s)) (no_arena_limit (w.grains + 1) s.call plain ∙ g) r.layout;
       blocks = live_after w s k.blocks legal;
@@ -129,6 +132,7 @@ step_kept w s plain k legal =
       named = labels_after w s k.named;
       paired = dependents_after w s k.paired legal;
       cached = caches_after w s (places_made w k.sound) k.cached legal;
+      framed = frames_after w s k.framed k.cached legal;
       rests = rests_after w s k.rests legal;
       pairs = automatic_after w s k.sound sound.0 k.pairs legal;
     }
@@ -158,6 +162,14 @@ empty_sound formats = record {
 none_labelled : AreNamed empty_graph
 none_labelled number label e = absurd (Rattle.std.proofs.lemmas.Option.none-some label e)
 
+-- before there is a pool
+pub none_framed : AreFramesOf [] [] [] []
+none_framed = record {
+  each = refl;
+  once = record { once = λ j. omega arith; below = refl };
+  placed = λ j some. absurd (omega (arith, some));
+}
+
 empty_kept : (formats : ℕ → Layout) → IsKeptWell (empty_world_of formats)
 empty_kept formats = record {
   layout = empty_layout formats;
@@ -168,6 +180,7 @@ empty_kept formats = record {
   named = none_labelled;
   paired = refl;
   cached = refl;
+  framed = none_framed;
   rests = λ h. refl;
   pairs = refl;
 }
@@ -181,7 +194,8 @@ first_arena formats line grains most ms answer legal =
     let s : Step = record { line = line; call = call.Arena grains most; moves = ms; answer = answer } in
     let k = empty_kept formats in
     let r = legal_step_replayed 1 0 line w k.layout k.blocks (call.Arena grains most) ms answer legal in
-    let sound = step_sound 1 line w k.layout k.blocks k.slots k.sound k.pairs (call.Arena grains most) ms answer legal in
+    let sound = step_sound 1 line w k.layout k.blocks k.slots k.sound k.pairs (frames_manual w k.sound k.framed)
+    (call.Arena grains most) ms answer legal in
     record {
       layout = limited (is_unsupported answer) refl r.layout;
       blocks = live_after w s k.blocks legal;
@@ -191,6 +205,7 @@ first_arena formats line grains most ms answer legal =
       named = labels_after w s k.named;
       paired = dependents_after w s k.paired legal;
       cached = caches_after w s (places_made w k.sound) k.cached legal;
+      framed = frames_after w s k.framed k.cached legal;
       rests = rests_after w s k.rests legal;
       pairs = automatic_after w s k.sound sound.0 k.pairs legal;
     }
@@ -231,7 +246,7 @@ not_true : (b : Bool) → not b ≡ true → b ≡ false
 not_true true e = absurd (false≢true e)
 not_true false e = refl
 
-reached_kept : (formats : ℕ → Layout) (history : History) → is_arena_made_once history ≡ true → IsLegalHistoryOf formats history
+pub reached_kept : (formats : ℕ → Layout) (history : History) → is_arena_made_once history ≡ true → IsLegalHistoryOf formats history
     → IsKeptWell (reached formats history)
 reached_kept formats [] once legal = empty_kept formats
 reached_kept formats (s ∷ ss) once legal =
@@ -253,7 +268,7 @@ pub reached_are_well_formed : ReachedWorldsAreWellFormed
 reached_are_well_formed formats history once legal =
     let k = reached_kept formats history once legal in
     let w = reached formats history in
-    well_formed w k.layout k.sound k.named k.paired k.cached k.held.client k.rests (live_pairs w k.held k.rests k.pairs)
+    well_formed w k.layout k.sound k.named k.paired k.cached k.framed k.held.client k.rests (live_pairs w k.held k.rests k.pairs)
 
 -- ---- in the middle of a step
 
@@ -274,5 +289,6 @@ worlds_in_steps_are_well_formed formats history ms once legal moves live =
     let v = world_after_moves w ms in
     well_formed (with_state v Unclamped) (in_layout w ms k.layout moves)
     (untouched v (with_state v Unclamped) (moves_well w None ms k.sound moves).sound refl (λ n p e. e) refl refl refl refl refl refl refl
-    refl) named (moves_paired w ms k.paired) (caches_moved w v alone.shapes alone.pools alone.caches k.cached) live
+    refl) named (moves_paired w ms k.paired) (caches_moved w v alone.shapes alone.pools alone.caches k.cached)
+    (frames_moved w v alone.shapes alone.pools alone.blocks alone.frames k.framed) live
     (λ h. absurd (false≢true h)) refl

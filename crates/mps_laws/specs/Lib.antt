@@ -6,4 +6,5 @@ pub mod Depending
 pub mod WellFormed
 pub mod Flipping
 pub mod OnePlace
+pub mod FrameBlocks
 pub use Rattle.mps_changes.specs.Change

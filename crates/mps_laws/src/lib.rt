@@ -8,6 +8,7 @@ ghost use Rattle.mps_laws.specs.Staying.{HeldBlocksStay, HeldThroughoutStays, Ad
 ghost use Rattle.mps_laws.specs.Depending.{FreshDependenciesHold};
 ghost use Rattle.mps_laws.specs.Replay.{StepReplaysToLiveBlocks, LogReplaysToLiveBlocks, LabelledLogReplays};
 ghost use Rattle.mps_laws.specs.OnePlace.{BlocksAreInOnePlace};
+ghost use Rattle.mps_laws.specs.FrameBlocks.{BlocksOfFramesStand};
 ghost use Rattle.mps_laws.specs.Flipping.{StepFlipsOnceAtMost, FlipsAreNoMoreThanSteps};
 ghost use Rattle.mps_laws.specs.WellFormed.{ReachedWorldsAreWellFormed, WorldsInStepsAreWellFormed, ArenaMadeAgainLeavesSegments};
 
@@ -66,6 +67,12 @@ pub fn fresh_dependencies_hold()
 /// cache or taken from it is shown by no other place.
 pub fn a_block_is_in_one_place()
     ensures { BlocksAreInOnePlace }
+{}
+
+/// A block that stands in the frames of a pool is live, and in exactly one place of a table of blocks. So a pop frees live blocks alone,
+/// and empties one place for each.
+pub fn blocks_of_frames_stand()
+    ensures { BlocksOfFramesStand }
 {}
 
 /// A legal step flips at most once, whatever its call is; so a legal history has no more flips than steps.

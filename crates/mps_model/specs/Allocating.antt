@@ -9,8 +9,8 @@ use Rattle.mps_base.specs.declared.names.Slot.{Slot}
 use Rattle.mps_base.specs.declared.refusal.Refusal.TheVariants as refusal
 use Rattle.mps_format.specs.Layout.{Layout}
 use Rattle.mps_model.specs.declared.reply.Reply.TheVariants as reply
-use Rattle.mps_model.specs.Graph.{Graph, Cell, NumberCell, Body, Automatic, Manual, Object, Point, Reservation, for_object, with_last, with_target_cell, new_cells, has_references}
-use Rattle.mps_model.specs.World.{World, Pool, PoolKind, Collected, OneSize, AnySize, is_automatic_kind, is_copying_pool, is_leaf_kind, pool_at}
+use Rattle.mps_model.specs.Graph.{Graph, PoolFrames, Cell, NumberCell, Body, Automatic, Manual, Object, Point, Reservation, for_object, with_last, with_target_cell, new_cells, has_references, frames_changed}
+use Rattle.mps_model.specs.World.{World, Pool, PoolKind, Collected, OneSize, AnySize, Frames, has_frames, is_automatic_kind, is_copying_pool, is_leaf_kind, pool_at, pool_is, pool_of}
 use Rattle.mps_model.specs.Placement.{ForReserve, ForAlloc, placement_of, buffer_of}
 use Rattle.mps_model.specs.Making.{is_block_size, is_weak_rank}
 use Rattle.mps_model.specs.Checked.{Act, Checked, Found, Numbered, ◌>>=◌, ◌>>◌, required, refuse_when, says, done, point_named, pool_named, slot_in, block_place_in, number_at, reference_at, words_of_body, with_graph}
@@ -158,11 +158,18 @@ abbrev pub allows_size : PoolKind → (words : ℕ) → Bool
 allows_size (Collected kind) words = false
 allows_size (OneSize size) words = is_block_size words && words == size
 allows_size AnySize words = is_block_size words
+allows_size Frames words = is_block_size words
+
+-- the frames of pools, with one more block of a pool, if that has frames: its last
+abbrev pub with_block_noted : List PoolFrames → (pool : ℕ) → (block : Id) → List PoolFrames
+with_block_noted fs pool block = frames_changed fs pool (λ f. record f { blocks = with_last f.blocks block })
 
 -- the graph with a new block of zeros in a place
 abbrev pub graph_allocated : Graph → (pool words : ℕ) → Found (Option ℕ) → Graph
 graph_allocated g pool words place =
-    with_block_place (with_object g (record { pool = pool; body = Manual (replicate words 0) })) place (Some (length g.objects))
+    record (with_block_place (with_object g (record { pool = pool; body = Manual (replicate words 0) })) place (Some (length g.objects))) {
+      frames = with_block_noted g.frames pool (length g.objects);
+    }
 
 -- the world with a new block of a pool in a place, at its placement in the world in which the call is judged
 abbrev pub world_allocated : (judged after : World) → (pool words : ℕ) → Found (Option ℕ) → World
@@ -185,10 +192,12 @@ act_alloc judged after pool words into = do
 abbrev pub block_in : Found (Option ℕ) → Checked ℕ
 block_in place = required place.value refusal.NotABlock
 
+-- a block of a pool of frames goes by its frame alone
 abbrev pub act_free : World → Slot → Checked Act
 act_free w from = do
   place ← block_place_in w from
-  block_in place
+  id ← block_in place
+  refuse_when (pool_is has_frames w (pool_of w id)) refusal.WrongPool
   done (with_graph w (with_block_place w.graph place None))
 
 abbrev pub words_at : Graph → (id : Id) → List ℕ

@@ -115,6 +115,11 @@ pub record Graph : Type 0 where
   pub caches : List Cache
   pub frames : List PoolFrames
 
+-- the frames of a pool, changed: of the first that there are for it
+abbrev pub frames_changed : List PoolFrames → (pool : ℕ) → (PoolFrames → PoolFrames) → List PoolFrames
+frames_changed [] pool change = []
+frames_changed (f ∷ fs) pool change = if f.pool == pool then change f ∷ fs else f ∷ frames_changed fs pool change
+
 -- ---- lists by number
 
 -- the entry of a number, if there is one and it wasn't dropped
@@ -322,6 +327,10 @@ ids_in_reservations g = flat_map targets_of_point g.points
 -- the ids in the places of tables of blocks
 abbrev pub ids_in_places : Graph → List ℕ
 ids_in_places g = flat_map entries g.blocks
+
+-- the blocks of pools of frames, pool by pool and in the order of making
+abbrev pub ids_in_frames : Graph → List ℕ
+ids_in_frames g = flat_map (λ (f : PoolFrames). f.blocks) g.frames
 
 -- the ids that lie in the classes of a cache
 abbrev pub ids_of_cache : Cache → List ℕ

@@ -21,13 +21,14 @@ use Rattle.mps_model.specs.declared.call.Call.TheVariants as call
 use Rattle.mps_model.specs.Answer.{Answer, is_accepted, is_block, is_refused, is_unsupported}
 use Rattle.mps_model.specs.Step.{Step, History}
 use Rattle.mps_model.specs.Replay.{Store, Block, with_block}
-use Rattle.mps_model.specs.Graph.{Reservation, Point, Cache, CacheClass, entry_at, ids_of_client, ids_in_blocks, targets}
+use Rattle.mps_model.specs.Graph.{Reservation, Point, Cache, CacheClass, PoolFrames, entry_at, ids_of_client, ids_in_blocks, targets}
 use Rattle.mps_model.specs.Collection.{Collection, is_condemned, is_kept_in_place, MaySurvive}
 use Rattle.mps_model.specs.World.{World, PointMemory, empty_world_of, empty_world, is_live, is_running, is_unclamped, ids_in_pairs, live_ids, address_of, segment_of, pool_of, words_of, is_copying_pool, is_copying_object, is_any_size_kind, is_empty_segment, pool_is, block_of_word}
 use Rattle.mps_model.specs.Placement.{ForReserve, ForAlloc, placement_of}
 use Rattle.mps_model.specs.Checked.{Checked, Found, Numbered, number_named, as_point, chain_named, pool_named, point_named, cache_named, slot_in, block_place_in}
 use Rattle.mps_model.specs.Allocating.{Reserving, check_reserve, reserved_address, address_of_placement}
 use Rattle.mps_model.specs.Caches.{taken_from, kept_by, flushed}
+use Rattle.mps_model.specs.Frames.{blocks_popped, frame_in, frames_named}
 use Rattle.mps_model.specs.Accessing.{Poked, AsBlock, AsNumber, AsMarked, poked, address_or_null}
 use Rattle.mps_model.specs.Reply.{act, reply_to, world_from}
 use Rattle.mps_model.specs.Effect.{Everything, Generations, holding, segment_of_move, with_collection, world_after_moves}
@@ -198,6 +199,15 @@ abbrev pub moves_of_cache_flush : World → Checked (Numbered Cache) → List Mo
 moves_of_cache_flush w (Ok q) = moves_of_frees w (flushed q.value)
 moves_of_cache_flush w (Err why) = []
 
+-- the moves of a pop: each block made since the frame was opened is freed
+abbrev pub moves_of_frame : World → PoolFrames → Checked ℕ → List Move
+moves_of_frame w f (Ok before) = moves_of_frees w (blocks_popped f before)
+moves_of_frame w f (Err why) = []
+
+abbrev pub moves_of_pop : World → Checked PoolFrames → (frame : ℕ) → List Move
+moves_of_pop w (Ok f) frame = moves_of_frame w f (frame_in f frame)
+moves_of_pop w (Err why) frame = []
+
 -- these moves, unless the call was refused: then none
 abbrev pub unless_refused : Answer → List Move → List Move
 unless_refused answer moves = if is_refused answer then [] else moves
@@ -280,6 +290,7 @@ AreMovesOf w (call.CacheAlloc cache words place) answer moves =
 AreMovesOf w (call.CacheFree cache place) answer moves =
     moves ≡ unless_refused answer (moves_of_cache_free w (cache_named w cache) (block_place_in w place))
 AreMovesOf w (call.CacheFlush cache) answer moves = moves ≡ unless_refused answer (moves_of_cache_flush w (cache_named w cache))
+AreMovesOf w (call.Pop pool frame) answer moves = moves ≡ unless_refused answer (moves_of_pop w (frames_named w pool) frame)
 AreMovesOf w (call.Get target source cell) answer moves = AreMovesOfGet w source answer moves
 AreMovesOf w call.Start answer moves = moves ≡ unless_refused answer (flip_act w Everything)
 AreMovesOf w (call.StartChain chain oldest) answer moves = moves ≡ unless_refused answer (flip_act_of_chain w (chain_named w chain) oldest)
@@ -297,6 +308,7 @@ moves_of_collector (call.Free place) moves = []
 moves_of_collector (call.CacheAlloc cache words place) moves = []
 moves_of_collector (call.CacheFree cache place) moves = []
 moves_of_collector (call.CacheFlush cache) moves = []
+moves_of_collector (call.Pop pool frame) moves = []
 moves_of_collector _ moves = moves
 
 -- ---- what holds after a call

@@ -19,6 +19,7 @@ pub mod Labelling
 pub mod Dependents
 pub mod Transforms
 pub mod Caches
+pub mod Frames
 pub mod Dependency
 pub mod Collecting
 pub mod Reply

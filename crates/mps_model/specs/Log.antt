@@ -5,7 +5,7 @@ use Rattle.mps_base.specs.Record.{Record, records_bytes, header_bytes, arena_cre
 use Rattle.mps_base.specs.declared.names.Name.{Name}
 use Rattle.mps_base.specs.declared.moves.Move.{Move}
 use Rattle.mps_base.specs.declared.moves.Move.TheVariants as moves
-use Rattle.mps_base.specs.PoolKind.{kind_number, mfs_number, mvff_number}
+use Rattle.mps_base.specs.PoolKind.{kind_number, mfs_number, mvff_number, snc_number}
 use Rattle.mps_model.specs.declared.call.Call.{Call}
 use Rattle.mps_model.specs.declared.call.Call.TheVariants as call
 use Rattle.mps_model.specs.declared.reply.Reply.TheVariants as reply
@@ -44,6 +44,7 @@ records_of_accepted pools (call.PoolOnChain pool kind format chain) line =
     record_with line pool_create_code (pools ∷ kind_number kind ∷ format ∷ []) ∷ []
 records_of_accepted pools (call.PoolMfs pool words) line = record_with line pool_create_code (pools ∷ mfs_number ∷ words ∷ []) ∷ []
 records_of_accepted pools (call.PoolMvff pool) line = record_with line pool_create_code (pools ∷ mvff_number ∷ 0 ∷ []) ∷ []
+records_of_accepted pools (call.PoolFrames pool) line = record_with line pool_create_code (pools ∷ snc_number ∷ 0 ∷ []) ∷ []
 records_of_accepted pools _ line = []
 
 -- the record of a command itself
@@ -56,6 +57,7 @@ pools_of_accepted (call.Pool pool kind format) = 1
 pools_of_accepted (call.PoolOnChain pool kind format chain) = 1
 pools_of_accepted (call.PoolMfs pool words) = 1
 pools_of_accepted (call.PoolMvff pool) = 1
+pools_of_accepted (call.PoolFrames pool) = 1
 pools_of_accepted _ = 0
 
 -- how many pools a command makes

@@ -1,13 +1,13 @@
 -- The commands that make and drop things. Each checks in its order, and makes the thing last of its kind.
-use Rattle.std.specs.Prelude.{ℕ, ◌+◌, Bool, true, false, not, ◌||◌, ◌&&◌, nat_lt, nat_le, Option, Some, None, is_some, List, length, take, replicate, slice_set, count_by, sum_by}
+use Rattle.std.specs.Prelude.{ℕ, ◌+◌, Bool, true, false, not, ◌||◌, ◌&&◌, nat_lt, nat_le, Option, Some, None, is_some, List, [], length, take, replicate, slice_set, count_by, sum_by}
 use Rattle.mps_base.specs.declared.names.Name.{Name}
 use Rattle.mps_base.specs.declared.names.Kind.{Kind}
 use Rattle.mps_base.specs.declared.names.Rank.{Rank}
 use Rattle.mps_base.specs.declared.names.Rank.TheVariants as rank
 use Rattle.mps_base.specs.declared.refusal.Refusal.TheVariants as refusal
 use Rattle.mps_model.specs.declared.reply.Reply.TheVariants as reply
-use Rattle.mps_model.specs.Graph.{Graph, PlainWord, Thing, ChainThing, PoolThing, TableThing, AreaThing, BlocksThing, PointThing, is_taken, with_last, without_name, thing_named}
-use Rattle.mps_model.specs.World.{World, Pool, PoolKind, Collected, OneSize, AnySize, is_automatic_kind, is_weak_kind, committed, empty_run}
+use Rattle.mps_model.specs.Graph.{Graph, PoolFrames, PlainWord, Thing, ChainThing, PoolThing, TableThing, AreaThing, BlocksThing, PointThing, is_taken, with_last, without_name, thing_named}
+use Rattle.mps_model.specs.World.{World, Pool, PoolKind, Collected, OneSize, AnySize, Frames, is_automatic_kind, is_weak_kind, committed, empty_run}
 use Rattle.mps_model.specs.Checked.{Act, Checked, ◌>>=◌, ◌>>◌, required, refuse_when, says, done, chain_named, pool_named, point_named, named, with_graph}
 
 -- ---- limits on what is live at once
@@ -37,6 +37,10 @@ most_labels = 256
 
 abbrev pub most_caches : ℕ
 most_caches = 16
+
+-- n open frames of all pools together
+abbrev pub most_frames : ℕ
+most_frames = 4096
 
 -- how many tables, areas and tables of blocks are live
 abbrev pub live_roots : Graph → ℕ
@@ -94,9 +98,17 @@ act_chain w name count capacities = do
     chains = with_last w.chains (take count capacities);
   })
 
+-- what the pools of frames have, where one more pool is made: none of its frames is open
+abbrev pub frames_with : List PoolFrames → PoolKind → (pool : ℕ) → List PoolFrames
+frames_with fs Frames pool = with_last fs (record { pool = pool; blocks = []; opened = [] })
+frames_with fs _ pool = fs
+
 -- the world with one more pool
 abbrev pub with_pool : World → Name → Pool → World
-with_pool w name p = record w { graph = named w.graph name (PoolThing (length w.pools)); pools = with_last w.pools p }
+with_pool w name p = record w {
+  graph = record (named w.graph name (PoolThing (length w.pools))) { frames = frames_with w.graph.frames p.kind (length w.pools) };
+  pools = with_last w.pools p;
+}
 
 -- makes a pool, if the limit allows it
 abbrev pub make_pool : World → Name → Pool → Checked Act
@@ -129,6 +141,11 @@ abbrev pub act_pool_mvff : World → Name → Checked Act
 act_pool_mvff w name = do
   refuse_taken w name
   make_pool w name (record { kind = AnySize; format = 0; chain = None })
+
+abbrev pub act_pool_frames : World → Name → Checked Act
+act_pool_frames w name = do
+  refuse_taken w name
+  make_pool w name (record { kind = Frames; format = 0; chain = None })
 
 -- ---- roots
 

@@ -11,7 +11,7 @@ use Rattle.mps_model.specs.Answer.{Answer, refused}
 use Rattle.mps_model.specs.Graph.{Graph}
 use Rattle.mps_model.specs.World.{World}
 use Rattle.mps_model.specs.Checked.{Act, Checked, says}
-use Rattle.mps_model.specs.Making.{act_arena, act_limit, act_committed, act_chain, act_pool, act_pool_on_chain, act_pool_mfs, act_pool_mvff, act_table, act_area, act_blocks, act_drop_root, act_point, act_drop_point}
+use Rattle.mps_model.specs.Making.{act_arena, act_limit, act_committed, act_chain, act_pool, act_pool_on_chain, act_pool_mfs, act_pool_mvff, act_pool_frames, act_table, act_area, act_blocks, act_drop_root, act_point, act_drop_point}
 use Rattle.mps_model.specs.Allocating.{act_reserve, act_init_number, act_init_reference, act_commit, act_alloc, act_free, act_load, act_store}
 use Rattle.mps_model.specs.Accessing.{act_get, act_put, act_number, act_set_number, act_copy, act_clear, act_same, act_null, act_head, act_address, act_poke, act_peek, act_pin, act_take}
 use Rattle.mps_model.specs.Tagging.{act_set_tag, act_tag}
@@ -19,6 +19,7 @@ use Rattle.mps_model.specs.Labelling.{act_intern, act_label}
 use Rattle.mps_model.specs.Dependents.{act_depend, act_undepend}
 use Rattle.mps_model.specs.Transforms.{act_transform, act_transform_add, act_transform_apply, act_transform_drop}
 use Rattle.mps_model.specs.Caches.{act_cache, act_cache_alloc, act_cache_free, act_cache_flush}
+use Rattle.mps_model.specs.Frames.{act_push, act_pop}
 use Rattle.mps_model.specs.Dependency.{act_dependency, act_dependency_reset, act_dependency_add, act_dependency_merge, act_dependency_stale}
 use Rattle.mps_model.specs.Collecting.{act_start, act_start_chain, act_step, act_collect, act_clamp, act_park, act_release, act_finalize, act_definalize, act_message, act_live, act_dump}
 
@@ -68,6 +69,9 @@ act_in w (call.TransformDrop transform) = act_transform_drop w transform
 act_in w (call.Cache cache pool count sizes limits) = act_cache w cache pool count sizes limits
 act_in w (call.CacheFree cache place) = act_cache_free w cache place
 act_in w (call.CacheFlush cache) = act_cache_flush w cache
+act_in w (call.PoolFrames pool) = act_pool_frames w pool
+act_in w (call.Push pool) = act_push w pool
+act_in w (call.Pop pool frame) = act_pop w pool frame
 act_in w (call.Peek word) = act_peek w word
 act_in w (call.Pin word slot) = act_pin w word slot
 act_in w (call.Take slot word) = act_take w slot word

@@ -9,9 +9,9 @@ use Rattle.mps_base.specs.Segment.{Segment, same_rank, words_of_segment, grains_
 use Rattle.mps_base.specs.declared.names.Name.{Name}
 use Rattle.mps_base.specs.declared.names.Kind.TheVariants as kind
 use Rattle.mps_base.specs.declared.names.Rank.TheVariants as rank
-use Rattle.mps_model.specs.Graph.{Graph, Thing, TableThing, LabelThing, NamedThing, thing_named, Cell, HeadCell, NumberCell, ReferenceCell, Body, Automatic, Manual, Object, Reservation, Point, AreaWord, PlainWord, Hold, is_automatic, is_weak_object, new_cells, targets_of_cells, with_target_cell, graph_with_cells, empty_graph, ids_in_slots, ids_in_blocks, Cache, CacheClass, size_of}
+use Rattle.mps_model.specs.Graph.{Graph, Thing, TableThing, LabelThing, NamedThing, thing_named, Cell, HeadCell, NumberCell, ReferenceCell, Body, Automatic, Manual, Object, Reservation, Point, AreaWord, PlainWord, Hold, is_automatic, is_weak_object, new_cells, targets_of_cells, with_target_cell, graph_with_cells, empty_graph, ids_in_slots, ids_in_blocks, Cache, CacheClass, PoolFrames, size_of}
 use Rattle.mps_model.specs.Collection.{empty_collection}
-use Rattle.mps_model.specs.World.{World, Pool, PointMemory, Tail, is_automatic_kind, is_weak_kind, pool_is, pool_at, is_live, is_live_and, live_ids, object_is, pool_of, words_of, extent, covered, shown_word, lies_in, Collected, Parked, TransformPair, is_parked, is_running, ids_in_pairs, empty_run, empty_world, OneSize, AnySize}
+use Rattle.mps_model.specs.World.{World, Pool, PointMemory, Tail, is_automatic_kind, is_weak_kind, pool_is, pool_at, is_live, is_live_and, live_ids, object_is, pool_of, words_of, extent, covered, shown_word, lies_in, Collected, Parked, TransformPair, is_parked, is_running, ids_in_pairs, empty_run, empty_world, OneSize, AnySize, Frames, has_frames}
 use Rattle.mps_model.specs.Making.{is_weak_rank, is_block_size}
 use Rattle.mps_model.specs.Dependents.{may_depend}
 use Rattle.mps_model.specs.Caches.{may_have_cache}
@@ -144,6 +144,23 @@ is_right_class w pool k = list_all (is_right_block w pool k.words) k.cached
 abbrev pub is_right_cache : World → Cache → Bool
 is_right_cache w q = pool_is may_have_cache w q.pool && list_all (is_right_class w q.pool) q.classes
 
+-- ---- frames
+
+-- whether numbers ascend from this one on, and none is above another
+abbrev pub are_rising : (from most : ℕ) → List ℕ → Bool
+are_rising from most [] = true
+are_rising from most (n ∷ ns) = nat_le from n && (nat_le n most && are_rising n most ns)
+
+-- whether an object is a manual block of this pool
+abbrev pub is_block_of : World → (pool : ℕ) → (id : Id) → Bool
+is_block_of w pool id = object_is (λ o. not (is_automatic o) && o.pool == pool) w id
+
+-- whether a pool of frames has manual blocks of its own, and frames of which none begins before the one before it, or after the last
+-- block
+abbrev pub are_right_frames : World → PoolFrames → Bool
+are_right_frames w f =
+    pool_is has_frames w f.pool && (list_all (is_block_of w f.pool) f.blocks && are_rising 0 (length f.blocks) f.opened)
+
 abbrev pub is_live_automatic : World → (id : Id) → Bool
 is_live_automatic w id = is_live w id && object_is is_automatic w id
 
@@ -178,6 +195,8 @@ pub record IsWellFormed (w : World) : Type 0 where
   pub transforms : IsTrue (list_all (is_live_automatic w) (ids_in_pairs w.state))
   -- what lies in a cache is a block of its pool, and of the size of its class
   pub caches : IsTrue (list_all (is_right_cache w) w.graph.caches)
+  -- the frames of a pool ascend, and its blocks are manual and its own
+  pub frames : IsTrue (list_all (are_right_frames w) w.graph.frames)
 
 -- the name of a label
 abbrev ring : Name
@@ -233,6 +252,7 @@ small_world_is_well_formed = record {
   parked = refl;
   transforms = refl;
   caches = refl;
+  frames = refl;
 }
 
 -- what breaks it, a fact at a time
@@ -330,6 +350,36 @@ pub a_cache_over_a_pool_of_one_size :
     IsWellFormed (with_cached (record { kind = OneSize 2; format = 0; chain = None } ∷ [])
     (record { words = 2; limit = 1; cached = 0 ∷ [] })) → ⊥
 a_cache_over_a_pool_of_one_size w = let h : false ≡ true = w.caches in absurd cc
+
+abbrev with_frames : List Pool
+with_frames = record { kind = Frames; format = 0; chain = None } ∷ []
+
+-- a manual block of a pool of frames at 0x1000, where these are the frames
+abbrev with_frames_of : PoolFrames → World
+with_frames_of f = record (with_cached with_frames (record { words = 2; limit = 1; cached = [] })) {
+  graph = record empty_graph {
+    objects = record { pool = 0; body = Manual (0 ∷ 0 ∷ []) } ∷ [];
+    frames = f ∷ [];
+  };
+}
+
+pub a_block_of_a_frame : are_right_frames (with_frames_of (record { pool = 0; blocks = 0 ∷ []; opened = 0 ∷ 1 ∷ [] }))
+    (record { pool = 0; blocks = 0 ∷ []; opened = 0 ∷ 1 ∷ [] }) ≡ true
+a_block_of_a_frame = refl
+
+pub frames_that_fall : IsWellFormed (with_frames_of (record { pool = 0; blocks = 0 ∷ []; opened = 1 ∷ 0 ∷ [] })) → ⊥
+frames_that_fall w = let h : false ≡ true = w.frames in absurd cc
+
+pub a_frame_after_the_last_block : IsWellFormed (with_frames_of (record { pool = 0; blocks = 0 ∷ []; opened = 2 ∷ [] })) → ⊥
+a_frame_after_the_last_block w = let h : false ≡ true = w.frames in absurd cc
+
+pub a_block_that_was_never_made : IsWellFormed (with_frames_of (record { pool = 0; blocks = 1 ∷ []; opened = [] })) → ⊥
+a_block_that_was_never_made w = let h : false ≡ true = w.frames in absurd cc
+
+pub frames_of_a_pool_without_any : IsWellFormed (record (with_frames_of (record { pool = 0; blocks = 0 ∷ []; opened = [] })) {
+  pools = any_sizes;
+}) → ⊥
+frames_of_a_pool_without_any w = let h : false ≡ true = w.frames in absurd cc
 
 pub a_reference_to_nothing : IsWellFormed (record small_world {
   graph = graph_with_cells small_world.graph 1

@@ -22,6 +22,8 @@ pub data PoolKind : Type 0 where
   OneSize : (words : ℕ) → PoolKind
   -- a manual pool of blocks of any sizes
   AnySize : PoolKind
+  -- a manual pool of blocks of any sizes, which are freed frame by frame
+  Frames : PoolKind
 
 pub record Pool : Type 0 where
   pub kind : PoolKind
@@ -154,29 +156,39 @@ abbrev pub is_automatic_kind : PoolKind → Bool
 is_automatic_kind (Collected kind) = true
 is_automatic_kind (OneSize words) = false
 is_automatic_kind AnySize = false
+is_automatic_kind Frames = false
 
 -- whether a collection moves blocks of this kind of pool
 abbrev pub is_copying_kind : PoolKind → Bool
 is_copying_kind (Collected kind) = (traits_of kind).moves
 is_copying_kind (OneSize words) = false
 is_copying_kind AnySize = false
+is_copying_kind Frames = false
 
 -- whether blocks of this kind of pool have no references
 abbrev pub is_leaf_kind : PoolKind → Bool
 is_leaf_kind (Collected kind) = (traits_of kind).leaf
 is_leaf_kind (OneSize words) = false
 is_leaf_kind AnySize = false
+is_leaf_kind Frames = false
 
 -- whether this kind of pool may hold weak references
 abbrev pub is_weak_kind : PoolKind → Bool
 is_weak_kind (Collected kind) = (traits_of kind).weak
 is_weak_kind (OneSize words) = false
 is_weak_kind AnySize = false
+is_weak_kind Frames = false
 
 -- whether an empty segment of this kind of pool is given back at once
 abbrev pub is_any_size_kind : PoolKind → Bool
 is_any_size_kind AnySize = true
+is_any_size_kind Frames = true
 is_any_size_kind _ = false
+
+-- whether a pool of this kind frees its blocks frame by frame
+abbrev pub has_frames : PoolKind → Bool
+has_frames Frames = true
+has_frames _ = false
 
 abbrev pub pool_at : World → (number : ℕ) → Option Pool
 pool_at w number = slice_get w.pools number

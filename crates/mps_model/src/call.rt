@@ -258,6 +258,21 @@ pub enum Call {
         cache: Name,
     },
 
+    // Frames.
+    /// `pool P snc`: makes a manual pool of blocks of any sizes, which are freed frame by frame.
+    PoolFrames {
+        pool: Name,
+    },
+    /// `push P`: opens a frame of a pool.
+    Push {
+        pool: Name,
+    },
+    /// `pop P N`: closes the frame of this number and those after it, and frees the blocks that were made since it was opened.
+    Pop {
+        pool: Name,
+        frame: u64,
+    },
+
     // Areas.
     /// `poke A.I VALUE`: stores a word into an area.
     Poke {

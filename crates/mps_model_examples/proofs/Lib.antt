@@ -27,6 +27,8 @@ pub mod Refusing
 pub mod WrongAnswers
 pub mod Labelled
 pub mod Dependent
+pub mod Cached
+pub mod Framed
 pub mod Transformed
 pub mod WrongMoves
 pub mod ThreeToReclaim

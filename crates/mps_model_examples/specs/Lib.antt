@@ -25,6 +25,8 @@ pub mod OtherCommands
 pub mod WrongAnswers
 pub mod Labelled
 pub mod Dependent
+pub mod Cached
+pub mod Framed
 pub mod Transformed
 pub mod WrongMoves
 pub mod WrongUnits

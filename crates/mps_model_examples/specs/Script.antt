@@ -33,6 +33,9 @@ p = name_of_letter 112
 abbrev pub q : Name
 q = name_of_letter 113
 
+abbrev pub s : Name
+s = name_of_letter 115
+
 abbrev pub t : Name
 t = name_of_letter 116
 

@@ -27,6 +27,8 @@ ghost use Rattle.mps_model_examples.specs.Stepping.{SteppingIsLegal};
 ghost use Rattle.mps_model_examples.specs.OtherCommands.{OtherCommandsIsLegal};
 ghost use Rattle.mps_model_examples.specs.Labelled.{LabelledIsLegal, LabelledIsReplayed, OthersAreNoLabels, NoTagIsLost};
 ghost use Rattle.mps_model_examples.specs.Dependent.{DependentIsLegal, NoValueIsLeft, NoPairOutlivesItsHolder};
+ghost use Rattle.mps_model_examples.specs.Cached.{CachedIsLegal, NoOldWordComesBack, TheFirstCachedStays, NoFlushInOrder};
+ghost use Rattle.mps_model_examples.specs.Framed.{FramedIsLegal, FrameSegmentsIsLegal, NoPopFreesOneMore, NoPopFreesOneLess, NoPopInOrder, NoPopKeepsASegment};
 ghost use Rattle.mps_model_examples.specs.Transformed.{TransformedIsLegal, NoPinnedObjectIsReplaced, NoPairIsLeft, NoPairFollowsAnother};
 ghost use Rattle.mps_model_examples.specs.WrongAnswers.{FlippedWithoutFlip, CommitAcrossFlip, LimitBesideGap, LimitBesideRun, StaleWithoutFlip, FreshAfterMove, GetOfOldPlace};
 ghost use Rattle.mps_model_examples.specs.WrongMoves.{SplatOfReachable, TwoPostsForOne, MoveOfPinned, FreeOfWaiting, StayBesideRoom, MarkedInPlace, UnknownFree, MoveAfterSplat};
@@ -436,4 +438,57 @@ pub fn no_pair_is_left()
 /// An object that was replaced isn't replaced again, if another pair has its new object as the old one.
 pub fn no_pair_follows_another()
     ensures { NoPairFollowsAnother }
+{}
+
+/// A history that allocates from a cache, frees into it and flushes it is legal. The script: `arena 8 8; pool v mvff; blocks b 4; cache q v
+/// 16 2; calloc q 16 b.0; store b.0 3 7; cfree q b.0; live; calloc q 16 b.1; load b.1 3; cfree q b.1; cflush q; live; committed`.
+pub fn cached_is_legal()
+    ensures { CachedIsLegal }
+{}
+
+/// A cached block doesn't come back with its words.
+pub fn no_old_word_comes_back()
+    ensures { NoOldWordComesBack }
+{}
+
+/// The block that was cached first doesn't come back first: it is the one that a flush frees.
+pub fn the_first_cached_stays()
+    ensures { TheFirstCachedStays }
+{}
+
+/// A flush doesn't free the block first that was cached first.
+pub fn no_flush_in_order()
+    ensures { NoFlushInOrder }
+{}
+
+/// A history that pushes two frames of a pool and pops both is legal. The script: `arena 8 8; pool s snc; blocks b 4; alloc s 4 b.0;
+/// push s; alloc s 4 b.1; push s; alloc s 4 b.2; pop s 0; live; load b.1 0; alloc s 4 b.1; free b.1; pop s 0`.
+pub fn framed_is_legal()
+    ensures { FramedIsLegal }
+{}
+
+/// A history is legal whose pop gives back two segments. The script: `arena 8 8; pool s snc; blocks b 4; push s; alloc s 512 b.0;
+/// alloc s 512 b.1; pop s 0; committed; live`.
+pub fn frame_segments_is_legal()
+    ensures { FrameSegmentsIsLegal }
+{}
+
+/// A pop frees no block that was made before its push.
+pub fn no_pop_frees_one_more()
+    ensures { NoPopFreesOneMore }
+{}
+
+/// A pop leaves no block that was made since its push.
+pub fn no_pop_frees_one_less()
+    ensures { NoPopFreesOneLess }
+{}
+
+/// A pop doesn't free the first block first.
+pub fn no_pop_in_order()
+    ensures { NoPopInOrder }
+{}
+
+/// A pop keeps no segment in which nothing is left.
+pub fn no_pop_keeps_a_segment()
+    ensures { NoPopKeepsASegment }
 {}

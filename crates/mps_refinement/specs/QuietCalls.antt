@@ -24,6 +24,7 @@ never_moves (call.Free place) = false
 never_moves (call.CacheAlloc cache words place) = false
 never_moves (call.CacheFree cache place) = false
 never_moves (call.CacheFlush cache) = false
+never_moves (call.Pop pool frame) = false
 never_moves (call.Get target source cell) = false
 never_moves call.Start = false
 never_moves (call.StartChain chain generation) = false

@@ -8,4 +8,5 @@ pub mod Labelling
 pub mod Dependents
 pub mod Transforms
 pub mod Caches
+pub mod Frames
 pub mod Placing

@@ -9,6 +9,7 @@ ghost use Rattle.mps_refusal_examples.specs.Labelling.{TagsAnswer, LabelsAnswer}
 ghost use Rattle.mps_refusal_examples.specs.Dependents.{DependentsAnswer};
 ghost use Rattle.mps_refusal_examples.specs.Transforms.{TransformsAnswer};
 ghost use Rattle.mps_refusal_examples.specs.Caches.{CachesAnswer};
+ghost use Rattle.mps_refusal_examples.specs.Frames.{FramesAnswer};
 ghost use Rattle.mps_refusal_examples.specs.Collecting.{CollectionsAnswer, FinalizationAnswers, DependenciesAnswer};
 ghost use Rattle.mps_refusal_examples.specs.Placing.{AreGapsByRank, AreBuffersByPoint};
 
@@ -110,4 +111,9 @@ pub fn transforms_answer()
 /// `cache`, also if no cache is left, `calloc`, `cfree` and `cflush`.
 pub fn caches_answer()
     ensures { CachesAnswer }
+{}
+
+/// `pool P snc`, `push` and `pop`, also where no more pools or frames may be open; `free` and others, of a block of a pool of frames.
+pub fn frames_answer()
+    ensures { FramesAnswer }
 {}

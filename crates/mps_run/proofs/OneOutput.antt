@@ -84,6 +84,7 @@ none_of_accepted pools (call.Pool pool kind format) line at = none_by_line at (l
 none_of_accepted pools (call.PoolOnChain pool kind format chain) line at = none_by_line at (line == at) _ refl
 none_of_accepted pools (call.PoolMfs pool words) line at = none_by_line at (line == at) _ refl
 none_of_accepted pools (call.PoolMvff pool) line at = none_by_line at (line == at) _ refl
+none_of_accepted pools (call.PoolFrames pool) line at = none_by_line at (line == at) _ refl
 none_of_accepted pools _ line at = refl
 
 none_of_command : (pools : ℕ) (c : Call) (b : Bool) (line at : ℕ)

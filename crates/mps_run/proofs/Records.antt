@@ -18,14 +18,16 @@ pub none_of_another : (c : Call) (pool line : ℕ) → ((grains limit : ℕ) →
     → ((name : Name) (kind : Kind) (format : ℕ) → c ≡ call.Pool name kind format → ⊥)
     → ((name : Name) (kind : Kind) (format : ℕ) (chain : Name) → c ≡ call.PoolOnChain name kind format chain → ⊥)
     → ((name : Name) (words : ℕ) → c ≡ call.PoolMfs name words → ⊥) → ((name : Name) → c ≡ call.PoolMvff name → ⊥)
+    → ((name : Name) → c ≡ call.PoolFrames name → ⊥)
     → records_of_accepted pool c line ≡ []
-none_of_another (call.Arena grains limit) pool line arena lim p on mfs mvff = absurd (arena grains limit refl)
-none_of_another (call.Limit limit) pool line arena lim p on mfs mvff = absurd (lim limit refl)
-none_of_another (call.Pool name kind format) pool line arena lim p on mfs mvff = absurd (p name kind format refl)
-none_of_another (call.PoolOnChain name kind format chain) pool line arena lim p on mfs mvff = absurd (on name kind format chain refl)
-none_of_another (call.PoolMfs name words) pool line arena lim p on mfs mvff = absurd (mfs name words refl)
-none_of_another (call.PoolMvff name) pool line arena lim p on mfs mvff = absurd (mvff name refl)
-none_of_another _ pool line arena lim p on mfs mvff = refl
+none_of_another (call.Arena grains limit) pool line arena lim p on mfs mvff frames = absurd (arena grains limit refl)
+none_of_another (call.Limit limit) pool line arena lim p on mfs mvff frames = absurd (lim limit refl)
+none_of_another (call.Pool name kind format) pool line arena lim p on mfs mvff frames = absurd (p name kind format refl)
+none_of_another (call.PoolOnChain name kind format chain) pool line arena lim p on mfs mvff frames = absurd (on name kind format chain refl)
+none_of_another (call.PoolMfs name words) pool line arena lim p on mfs mvff frames = absurd (mfs name words refl)
+none_of_another (call.PoolMvff name) pool line arena lim p on mfs mvff frames = absurd (mvff name refl)
+none_of_another (call.PoolFrames name) pool line arena lim p on mfs mvff frames = absurd (frames name refl)
+none_of_another _ pool line arena lim p on mfs mvff frames = refl
 
 -- a command that was not accepted
 pub none_of_refused : (r : Reply) (c : Call) (pool line : ℕ) → (r ≡ reply.Ok → ⊥) → records_of_command pool c (Replied r) line ≡ []

@@ -12,7 +12,7 @@ ghost use Rattle.mps_report.specs.Streams.{Logs, LogsPart};
 use crate::log_moves::log_moves;
 use mps_base::Move;
 use mps_desk::{Desk, Failed};
-use mps_event::{Event, MFS_NUMBER, MVFF_NUMBER, Version, header_of, kind_number, put};
+use mps_event::{Event, MFS_NUMBER, MVFF_NUMBER, SNC_NUMBER, Version, header_of, kind_number, put};
 use mps_model::{Call, Reply};
 use mps_report::log_all;
 
@@ -85,7 +85,8 @@ fn log_accepted<D: Desk>(desk: &mut D, line: u32, pools: u64, call: &Call) -> Re
         | Call::Pool { .. }
         | Call::PoolOnChain { .. }
         | Call::PoolMfs { .. }
-        | Call::PoolMvff { .. } => log_made(desk, line, pools, call),
+        | Call::PoolMvff { .. }
+        | Call::PoolFrames { .. } => log_made(desk, line, pools, call),
         _ => Ok(()),
     }
 }
@@ -136,6 +137,12 @@ fn log_made<D: Desk>(desk: &mut D, line: u32, pools: u64, call: &Call) -> Result
             line,
             Event::PoolCreate,
             &[pools, MVFF_NUMBER, 0],
+        ),
+        Call::PoolFrames { .. } => log_record(
+            desk,
+            line,
+            Event::PoolCreate,
+            &[pools, SNC_NUMBER, 0],
         ),
         _ => Ok(()),
     }

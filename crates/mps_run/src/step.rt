@@ -118,6 +118,7 @@ fn pools_of_accepted(call: &Call) -> u32
         Call::PoolOnChain { .. } => 1,
         Call::PoolMfs { .. } => 1,
         Call::PoolMvff { .. } => 1,
+        Call::PoolFrames { .. } => 1,
         _ => 0,
     }
 }

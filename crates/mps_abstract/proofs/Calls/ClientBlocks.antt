@@ -14,7 +14,7 @@ use Rattle.mps_model.specs.Graph.{Object, Manual, Cache, CacheClass, Point, Rese
 use Rattle.mps_model.specs.World.{World, PointMemory, Pool, Tail, extent, extents_of, extent_of_reservation, is_copying_pool, with_tail, is_live}
 use Rattle.mps_model.specs.Placement.{ForAlloc, placement_of}
 use Rattle.mps_model.specs.Checked.{Checked, Found, Numbered, with_graph}
-use Rattle.mps_model.specs.Allocating.{with_reservation, reserved_address, committed_object, world_committed, graph_allocated}
+use Rattle.mps_model.specs.Allocating.{with_reservation, reserved_address, committed_object, world_committed, graph_allocated, with_block_noted}
 use Rattle.mps_model.specs.Caches.{taken_from}
 use Rattle.mps_model.specs.Effect.{holding, segment_of_move, world_after_moves}
 use Rattle.mps_model.specs.History.{alloc_at, moves_if_not_taken, moves_of_alloc, moves_of_cache_alloc, unless_refused}
@@ -125,7 +125,7 @@ module _ (x : Collecting) (run : Running x) (as_many : length x.world.addresses 
       } in
       aside_keeps made (made_keeps x run new at as_many different (λ t none. absurd (false≢true none)))
       x.world (slice_set x.world.graph.blocks place.number (slice_set place.list place.index (Some (length x.world.graph.objects))))
-      x.world.graph.caches
+      x.world.graph.caches (with_block_noted x.world.graph.frames pool (length x.world.graph.objects))
 
 -- ---- the segment that an alloc takes
 

@@ -15,7 +15,7 @@ use Rattle.mps_model.specs.Allocating.{with_slot}
 use Rattle.mps_model.specs.Caches.{graph_cleared}
 use Rattle.mps_model.specs.Making.{graph_with_table, graph_with_area, graph_with_blocks}
 use Rattle.mps_model.specs.Reply.{act, world_from}
-use Rattle.mps_changes.specs.Change.{ForAct, accepted, refused, IsFoundBy, Now, Before, makes_pool, IsGot, GotNull, FromSlot, FromCell, FromWord, FromMessage, IsShown, ShownPlain, ShownPinned, ShownPoked, IsWritten, Change, Unchanged, Aside, SlotIs, WordIs, MessageTaken, TableMade, AreaMade, BlocksMade, TableDropped, AreaDropped, CellsAre, BlockWordIs, PlaceEmptied, Allocated, PoolMade, PointMade, PointDropped, Opened, Written, Closed, Committed, Substituted, Registered, Unregistered, allocates, CacheMade, BlockUncached, BlockCached, CacheFlushed}
+use Rattle.mps_changes.specs.Change.{ForAct, accepted, refused, IsFoundBy, Now, Before, makes_pool, IsGot, GotNull, FromSlot, FromCell, FromWord, FromMessage, IsShown, ShownPlain, ShownPinned, ShownPoked, IsWritten, Change, Unchanged, Aside, SlotIs, WordIs, MessageTaken, TableMade, AreaMade, BlocksMade, TableDropped, AreaDropped, CellsAre, BlockWordIs, PlaceEmptied, Allocated, PoolMade, PointMade, PointDropped, Opened, Written, Closed, Committed, Substituted, Registered, Unregistered, allocates, CacheMade, BlockUncached, BlockCached, CacheFlushed, FramePushed, FramesPopped}
 use Rattle.mps_changes.proofs.ActChanges.{act_changes_so, but}
 use Rattle.mps_abstract.specs.Colours.{AreDifferent}
 use Rattle.mps_abstract.specs.Collecting.{Collecting, Running}
@@ -46,6 +46,7 @@ moves_itself (call.Free place) = true
 moves_itself (call.CacheAlloc cache words place) = true
 moves_itself (call.CacheFree cache place) = true
 moves_itself (call.CacheFlush cache) = true
+moves_itself (call.Pop pool frame) = true
 moves_itself _ = false
 
 -- calls that need facts of their own
@@ -58,6 +59,7 @@ pool_moves_nothing (call.Pool pool kind format) h = refl
 pool_moves_nothing (call.PoolOnChain pool kind format chain) h = refl
 pool_moves_nothing (call.PoolMfs pool words) h = refl
 pool_moves_nothing (call.PoolMvff pool) h = refl
+pool_moves_nothing (call.PoolFrames pool) h = refl
 pool_moves_nothing _ h = absurd (false≢true h)
 
 found_listed : (p : ℕ → Bool) (ns : List ℕ) (id : Id) → find p ns ≡ Some id → contains ns id ≡ true
@@ -130,7 +132,7 @@ module _ (x : Collecting) (run : Running x) (judged : World) (c : Call) (answer 
   pub change_runs : {u : World} → unregisters c ≡ false → AreDifferent u.addresses → Change (is_block answer) c judged w u → P u
   change_runs h different Unchanged = run
   change_runs h different (Aside u what) =
-      aside_keeps x run u w.graph.blocks w.graph.caches
+      aside_keeps x run u w.graph.blocks w.graph.caches w.graph.frames
   change_runs h different (SlotIs into target found got) = slot_keeps x run into target (slots_there into found) (got_right got)
   change_runs h different (WordIs place at word e shown) = word_keeps x run at word (word_found w place at e) (shown_right shown)
   change_runs h different (MessageTaken slot into id ids e are) =
@@ -160,16 +162,21 @@ module _ (x : Collecting) (run : Running x) (judged : World) (c : Call) (answer 
   change_runs h different (CellsAre object change held write) =
       with_cells_keeps x run object.number change (record { as_many = written_length write; referred = written_right write })
   change_runs h different (BlockWordIs id k value) = with_word_keeps x run id k value
-  change_runs h different (PlaceEmptied from place id e found has) =
-      aside_keeps x run w (slice_set w.graph.blocks place.number (slice_set place.list place.index None)) w.graph.caches
+  change_runs h different (PlaceEmptied from place id e found has freed) =
+      aside_keeps x run w (slice_set w.graph.blocks place.number (slice_set place.list place.index None)) w.graph.caches w.graph.frames
   change_runs h different (Allocated p words place at e of kind size found empty) =
       allocated_keeps x run (known.as_many e) p.number words at place different
-  change_runs {u = u} h different (CacheMade name pool of classes e may none) = aside_keeps x run u w.graph.blocks u.graph.caches
+  change_runs {u = u} h different (CacheMade name pool of classes e may none) =
+      aside_keeps x run u w.graph.blocks u.graph.caches w.graph.frames
   change_runs {u = u} h different (BlockUncached name cache words into place id classes e is taken found empty) =
       aside_keeps (record x { world = with_graph w (graph_cleared w.graph id) }) (cleared_keeps x run id) u u.graph.blocks u.graph.caches
+      w.graph.frames
   change_runs {u = u} h different (BlockCached name cache from place id classes e is found has own kept) =
-      aside_keeps x run w u.graph.blocks u.graph.caches
-  change_runs {u = u} h different (CacheFlushed name cache e is) = aside_keeps x run w u.graph.blocks u.graph.caches
+      aside_keeps x run w u.graph.blocks u.graph.caches w.graph.frames
+  change_runs {u = u} h different (CacheFlushed name cache e is) = aside_keeps x run w u.graph.blocks u.graph.caches w.graph.frames
+  change_runs {u = u} h different (FramePushed name f e found) = aside_keeps x run w w.graph.blocks w.graph.caches u.graph.frames
+  change_runs {u = u} h different (FramesPopped name f frame before e found opened) =
+      aside_keeps x run w u.graph.blocks w.graph.caches u.graph.frames
   change_runs h different (PoolMade name p e made) = with_pool_keeps x run (known.formed (pool_moves_nothing c e)) name p
   change_runs h different (PointMade name pool of at_rank e is may) = with_point_keeps x run name of.number at_rank
   change_runs h different (PointDropped name p e is none) =

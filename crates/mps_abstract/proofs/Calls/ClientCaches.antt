@@ -1,5 +1,5 @@
 -- Manual blocks are freed by the client, one after the other, each with its segment where nothing is left in it.
-use Rattle.std.proofs.Common.{◌≡◌, ◌∙◌, ℕ, ◌≤◌, Bool, true, false, refl, sym, ap, List, [], ◌∷◌, Option, Some, None, subst, inl, inr, arith}
+use Rattle.std.proofs.Common.{◌≡◌, ◌∙◌, ℕ, ◌≤◌, Bool, true, false, refl, sym, ap, List, [], ◌∷◌, length, Option, Some, None, subst, inl, inr, arith}
 use Rattle.std.proofs.lemmas.Bool.{true≢false, and_from, and_parts, cases_eq, eqb-true}
 use Rattle.std.proofs.lemmas.Option.{none-some}
 use Rattle.std.specs.Prelude.{◌&&◌, ◌==◌, if◌then◌else◌, is_some, not, slice_set, Ok, Err}
@@ -12,16 +12,18 @@ use Rattle.mps_base.specs.declared.moves.Move.TheVariants as moves
 use Rattle.mps_base.specs.declared.names.Name.{Name}
 use Rattle.mps_base.specs.declared.names.Slot.{Slot}
 use Rattle.mps_model.specs.Answer.{Answer, is_refused}
-use Rattle.mps_model.specs.Graph.{Graph, Cache, CacheClass, contains, entry_at, ids_in_blocks, ids_of_cache, ids_of_client, ids_in_caches, is_automatic, targets, object_at}
-use Rattle.mps_model.specs.World.{World, is_any_size_kind, is_empty_segment, is_live, object_is, pool_is, segment_of}
+use Rattle.mps_model.specs.Graph.{Graph, Object, Cache, CacheClass, PoolFrames, contains, entry_at, ids_in_blocks, ids_of_cache, ids_of_client, ids_in_caches, is_automatic, targets, object_at}
+use Rattle.mps_model.specs.World.{World, has_frames, is_any_size_kind, is_empty_segment, is_live, object_is, pool_is, segment_of}
 use Rattle.mps_model.specs.Checked.{Checked, Found, Numbered, block_place_in, cache_named}
 use Rattle.mps_model.specs.Caches.{flushed, kept_by}
+use Rattle.mps_model.specs.Frames.{blocks_popped, frame_in, frames_named}
 use Rattle.mps_model.specs.Effect.{after_free, reclaiming, segment_base_of, where_one, with_address, with_collection, without_object, world_after_moves}
 use Rattle.mps_model.specs.Flip.{at_address}
-use Rattle.mps_model.specs.History.{free_at, free_of, free_of_object, give_back_empty, moves_if_not_kept, moves_of_cache_flush, moves_of_cache_free, moves_of_frees, unless_refused}
-use Rattle.mps_model.specs.WellFormed.{IsWellFormed}
+use Rattle.mps_model.specs.History.{free_at, free_of, free_of_object, give_back_empty, moves_if_not_kept, moves_of_cache_flush, moves_of_cache_free, moves_of_frame, moves_of_frees, moves_of_pop, unless_refused}
+use Rattle.mps_model.specs.WellFormed.{IsWellFormed, are_right_frames, are_rising, is_block_of}
 use Rattle.mps_model.proofs.Cutting.{world_after_moves-append}
-use Rattle.mps_changes.proofs.Checks.{cache_named-is}
+use Rattle.mps_changes.proofs.Checks.{cache_named-is, frames_named-is}
+use Rattle.mps_changes.proofs.Frames.{found_passes, popped_pass}
 use Rattle.mps_changes.proofs.Lookups.{entry_at-set_none, entry_at-set_other}
 use Rattle.mps_changes.proofs.OneMore.{cache_passes, flushed_pass, parts_pass}
 use Rattle.mps_abstract.specs.Collecting.{Collecting, Running}
@@ -101,7 +103,7 @@ module _ (x : Collecting) (run : Running x) (formed : IsWellFormed x.world) wher
         elsewhere x run formed id manual base s o at is
         (subst (λ b. Rattle.mps_model.specs.World.segment_at x.world b ≡ Some s) (eqb-true s.base base found.1) held)
         (ap (λ (g : Graph). object_at g id) (sym l.graph) ∙ there) (l.addresses id at lying) begins))
-        freed v.graph.blocks v.graph.caches
+        freed v.graph.blocks v.graph.caches v.graph.frames
 
     freed_left : IsLeft x freed
     freed_left = record {
@@ -203,6 +205,15 @@ module _ (x : Collecting) (run : Running x) (formed : IsWellFormed x.world) wher
       of_both (Ok q) (Err why) e = run
       of_both (Err why) m e = run
 
+  manual_all : (ids : List Id) → list_all (object_is (λ o. not (is_automatic o)) x.world) ids ≡ true
+      → list_all (λ id. not (object_is is_automatic x.world id)) ids ≡ true
+  manual_all [] h = refl
+  manual_all (id ∷ ids) h =
+      let parts = and_parts (object_is (λ o. not (is_automatic o)) x.world id)
+      (list_all (object_is (λ o. not (is_automatic o)) x.world) ids) h in
+      and_from (not (object_is is_automatic x.world id))
+      (list_all (λ id. not (object_is is_automatic x.world id)) ids) (ap not (manual_is x.world id parts.0)) (manual_all ids parts.1)
+
   pub cache_flush_keeps : (name : Name) (answer : Answer)
       → Running (record x {
         world = world_after_moves x.world
@@ -211,15 +222,6 @@ module _ (x : Collecting) (run : Running x) (formed : IsWellFormed x.world) wher
   cache_flush_keeps name answer =
       unless_keeps answer (moves_of_cache_flush x.world (cache_named x.world name)) (of_cache (cache_named x.world name) refl)
     where
-      manual_all : (ids : List Id) → list_all (object_is (λ o. not (is_automatic o)) x.world) ids ≡ true
-          → list_all (λ id. not (object_is is_automatic x.world id)) ids ≡ true
-      manual_all [] h = refl
-      manual_all (id ∷ ids) h =
-          let parts = and_parts (object_is (λ o. not (is_automatic o)) x.world id)
-          (list_all (object_is (λ o. not (is_automatic o)) x.world) ids) h in
-          and_from (not (object_is is_automatic x.world id))
-          (list_all (λ id. not (object_is is_automatic x.world id)) ids) (ap not (manual_is x.world id parts.0)) (manual_all ids parts.1)
-
       of_cache : (m : Checked (Numbered Cache)) → cache_named x.world name ≡ m
           → Running (record x { world = world_after_moves x.world (moves_of_cache_flush x.world m) })
       of_cache (Err why) e = run
@@ -229,3 +231,41 @@ module _ (x : Collecting) (run : Running x) (formed : IsWellFormed x.world) wher
           formed.blocks).1 in
           let its = cache_passes x.world.graph q (cache_named-is x.world name q e) test cached in
           (frees_left x.world itself (flushed q.value) (manual_all (flushed q.value) (flushed_pass test q.value.classes its))).running
+
+  pub pop_keeps : (name : Name) (frame : ℕ) (answer : Answer)
+      → Running (record x {
+        world = world_after_moves x.world
+            (unless_refused answer (moves_of_pop x.world (frames_named x.world name) frame));
+      })
+  pop_keeps name frame answer =
+      unless_keeps answer (moves_of_pop x.world (frames_named x.world name) frame) (of_pool (frames_named x.world name) refl)
+    where
+      own_manual : (pool : ℕ) (ids : List Id) → list_all (is_block_of x.world pool) ids ≡ true
+          → list_all (object_is (λ o. not (is_automatic o)) x.world) ids ≡ true
+      own_manual pool [] h = refl
+      own_manual pool (id ∷ ids) h =
+          let parts = and_parts (is_block_of x.world pool id) (list_all (is_block_of x.world pool) ids) h in
+          and_from (object_is (λ o. not (is_automatic o)) x.world id) (list_all (object_is (λ o. not (is_automatic o)) x.world) ids)
+          (of_object (object_at x.world.graph id) parts.0) (own_manual pool ids parts.1)
+        where
+          of_object : (o : Option Object) → option_map_or (λ (y : Object). not (is_automatic y) && y.pool == pool) o false ≡ true
+              → option_map_or (λ (y : Object). not (is_automatic y)) o false ≡ true
+          of_object None g = absurd (true≢false (sym g))
+          of_object (Some y) g = (and_parts (not (is_automatic y)) (y.pool == pool) g).0
+
+      of_frame : (f : PoolFrames) → list_all (object_is (λ o. not (is_automatic o)) x.world) f.blocks ≡ true → (m : Checked ℕ)
+          → After (moves_of_frame x.world f m)
+      of_frame f manual (Err why) = run
+      of_frame f manual (Ok before) =
+          (frees_left x.world itself (blocks_popped f before) (manual_all (blocks_popped f before)
+          (popped_pass (object_is (λ o. not (is_automatic o)) x.world) f before manual))).running
+
+      of_pool : (m : Checked PoolFrames) → frames_named x.world name ≡ m → After (moves_of_pop x.world m frame)
+      of_pool (Err why) e = run
+      of_pool (Ok f) e =
+          let right = found_passes (are_right_frames x.world) x.world.graph.frames f.pool f (frames_named-is x.world name f e)
+          formed.frames in
+          let rest = (and_parts (pool_is has_frames x.world f.pool)
+          (list_all (is_block_of x.world f.pool) f.blocks && are_rising 0 (length f.blocks) f.opened) right).1 in
+          of_frame f (own_manual f.pool f.blocks
+          (and_parts (list_all (is_block_of x.world f.pool) f.blocks) (are_rising 0 (length f.blocks) f.opened) rest).0) (frame_in f frame)

@@ -17,7 +17,8 @@ use Rattle.mps_model.specs.Collecting.{act_definalize, without_registration}
 use Rattle.mps_model.specs.Effect.{world_after_moves}
 use Rattle.mps_model.specs.Policy.{units_asked}
 use Rattle.mps_model.specs.Reply.{act, world_from}
-use Rattle.mps_model.specs.History.{moves_of_collector, moves_of_poll, own_segment, after_own_segment, judged_world, moved_world, asking, remembering, with_client_remembered, world_after, world_after_call, AreMovesOf, moves_of_commit, commit_of, unless_refused, moves_of_free, moves_of_cache_flush, moves_of_cache_free}
+use Rattle.mps_model.specs.Frames.{frames_named}
+use Rattle.mps_model.specs.History.{moves_of_collector, moves_of_poll, own_segment, after_own_segment, judged_world, moved_world, asking, remembering, with_client_remembered, world_after, world_after_call, AreMovesOf, moves_of_commit, commit_of, unless_refused, moves_of_free, moves_of_cache_flush, moves_of_pop, moves_of_cache_free}
 use Rattle.mps_abstract.specs.Colours.{AreDifferent}
 use Rattle.mps_abstract.specs.Collecting.{Collecting, Running}
 use Rattle.mps_abstract.specs.ClientLaws.{AreApartFrom, IsWellPlaced, position_taken, collection_without, next_without, IsMarkedKept, IsReadKept, ClientsKeepRunning}
@@ -27,7 +28,7 @@ use Rattle.mps_abstract.proofs.Calls.ClientByChanges.{unregisters, moves_itself,
 use Rattle.mps_abstract.proofs.Calls.ClientRegistrations.{first_stands, definalized_keeps, remembered_keeps}
 use Rattle.mps_abstract.proofs.Calls.ClientBlocks.{MayHoldMore, alloc_moves_more, more_keeps, take_moves_more}
 use Rattle.mps_abstract.proofs.Calls.ClientFrees.{freeing_keeps}
-use Rattle.mps_abstract.proofs.Calls.ClientCaches.{cache_flush_keeps, cache_free_keeps}
+use Rattle.mps_abstract.proofs.Calls.ClientCaches.{cache_flush_keeps, pop_keeps, cache_free_keeps}
 use Rattle.mps_abstract.proofs.Calls.ClientReserves.{MayOwn, own_segment_owned, owned_asking, owned_graph, owned_keeps}
 use Rattle.mps_abstract.proofs.Calls.ClientReads.{HasTables, moves_leave}
 
@@ -245,6 +246,15 @@ module _ (w : World) (x : Collecting) (run : Running x) (formed : IsWellFormed x
             (unless_refused answer (moves_of_cache_flush v (cache_named v cache)));
       }))
       (sym led) (cache_flush_keeps x run formed cache answer)))
+      tt tt refl refl refl refl placed
+  call_keeps (call.Pop pool frame) ms answer led due marked read placed =
+      freed_keeps (call.Pop pool frame) ms answer
+      (subst (λ those. Running (record x { world = world_after_moves w those })) (sym due)
+      (subst (λ v. Running (record x {
+        world = world_after_moves v
+            (unless_refused answer (moves_of_pop v (frames_named v pool) frame));
+      }))
+      (sym led) (pop_keeps x run formed pool frame answer)))
       tt tt refl refl refl refl placed
   call_keeps (call.Definalize slot) ms answer led due marked read placed =
       subst (λ v. Running (record x {

@@ -11,7 +11,7 @@ use Rattle.mps_base.specs.declared.moves.Move.TheVariants as moves
 use Rattle.mps_base.specs.declared.names.Slot.{Slot}
 use Rattle.mps_model.specs.Answer.{Answer, is_refused}
 use Rattle.mps_model.specs.Graph.{Object, Body, Automatic, Manual, Cell, Point, Reservation, contains, entries, entry_at, object_at, targets, targets_of, targets_of_body, targets_of_cells, targets_of_point, targets_of_reservation, is_automatic, size_of, ids_in_slots, ids_in_holds, ids_in_reservations, ids_in_blocks, ids_in_caches, ids_in_places, new_cells, without_first}
-use Rattle.mps_model.specs.World.{World, Pool, PoolKind, Collected, OneSize, AnySize, PointMemory, extent, is_live, is_live_and, object_is, words_of, pool_at, pool_is, is_automatic_kind, is_any_size_kind, segment_at, segment_of, begins_in, lies_in, is_empty_segment, shown_words, is_copying_object, is_weak_kind, is_word_in}
+use Rattle.mps_model.specs.World.{World, Pool, PoolKind, Collected, OneSize, AnySize, Frames, PointMemory, extent, is_live, is_live_and, object_is, words_of, pool_at, pool_is, is_automatic_kind, is_any_size_kind, segment_at, segment_of, begins_in, lies_in, is_empty_segment, shown_words, is_copying_object, is_weak_kind, is_word_in}
 use Rattle.mps_model.specs.Accessing.{address_or_null}
 use Rattle.mps_model.specs.Effect.{after_free, after_unseg, giving_back, with_address, where_one, world_after_moves, reclaiming, segment_base_of, with_collection, without_object}
 use Rattle.mps_model.specs.Flip.{at_address}
@@ -184,6 +184,7 @@ exclusive : (kind : PoolKind) → is_any_size_kind kind ≡ true → is_automati
 exclusive (Collected kind) any automatic = false≢true any
 exclusive (OneSize words) any automatic = false≢true any
 exclusive AnySize any automatic = false≢true automatic
+exclusive Frames any automatic = false≢true automatic
 
 pub pool_exclusive : (w : World) (pool : ℕ) → pool_is is_any_size_kind w pool ≡ true → pool_is is_automatic_kind w pool ≡ true → ⊥
 pool_exclusive w pool any automatic = of_pool (pool_at w pool) any automatic
@@ -245,7 +246,7 @@ module _ (x : Collecting) (run : Running x) (formed : IsWellFormed x.world) wher
       → Running (record x { world = world_after_moves v (give_back_empty v (segment_of x.world at)) })) (sym leads)
       (λ ordered. give_back_keeps (record x { world = without_object x.world id })
       (aside_keeps (record x { world = with_address x.world id None }) (manual_freed_keeps x run formed id manual)
-      (without_object x.world id) x.world.graph.blocks x.world.graph.caches)
+      (without_object x.world id) x.world.graph.blocks x.world.graph.caches x.world.graph.frames)
       (segments_ordered x.world formed) (segment_of x.world at)
       (λ s e. (find_among (λ t. is_in_segment t at) x.world.segments s e).0) ordered) fine
     where

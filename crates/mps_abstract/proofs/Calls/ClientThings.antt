@@ -7,7 +7,7 @@ use Rattle.std.specs.List.{list_all}
 use Rattle.std.specs.Option.{option_map_or}
 use Rattle.mps_base.specs.Address.{Id}
 use Rattle.mps_base.specs.declared.names.Name.{Name}
-use Rattle.mps_model.specs.Graph.{Object, Cache, Slots, with_last, object_at}
+use Rattle.mps_model.specs.Graph.{Object, Cache, PoolFrames, Slots, with_last, object_at}
 use Rattle.mps_model.specs.World.{World, Pool, PoolKind, is_automatic_kind, is_copying_kind, is_copying_pool, is_copying_object}
 use Rattle.mps_model.specs.Making.{with_pool}
 use Rattle.mps_model.specs.WellFormed.{IsWellFormed, is_right_object, is_right_body}
@@ -63,12 +63,13 @@ module _ (x : Collecting) (run : Running x) where
   abbrev P : World → Type 0
   P v = Running (record x { world = v })
 
-  -- a world with what no collection looks at of another, and with these tables of blocks and caches
-  abbrev pub beside : (u : World) → List Slots → List Cache → World
-  beside u blocks caches = let v = with_aside w u in record v { graph = record v.graph { blocks = blocks; caches = caches } }
+  -- a world with what no collection looks at of another, and with these tables of blocks, caches and frames
+  abbrev pub beside : (u : World) → List Slots → List Cache → List PoolFrames → World
+  beside u blocks caches frames =
+      let v = with_aside w u in record v { graph = record v.graph { blocks = blocks; caches = caches; frames = frames } }
 
-  pub aside_keeps : (u : World) (blocks : List Slots) (caches : List Cache) → P (beside u blocks caches)
-  aside_keeps u blocks caches = beside_keeps x run (beside u blocks caches) (record {
+  pub aside_keeps : (u : World) (blocks : List Slots) (caches : List Cache) (frames : List PoolFrames) → P (beside u blocks caches frames)
+  aside_keeps u blocks caches frames = beside_keeps x run (beside u blocks caches frames) (record {
     copying = λ id is h. h;
     automatic_pools = λ pool h. h;
     held = λ id h. inl h;

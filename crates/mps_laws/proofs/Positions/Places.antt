@@ -12,7 +12,7 @@ use Rattle.mps_base.specs.declared.moves.Move.TheVariants as moves
 use Rattle.mps_model.specs.declared.call.Call.{Call}
 use Rattle.mps_model.specs.declared.call.Call.TheVariants as call
 use Rattle.mps_model.specs.Answer.{Answer, is_accepted, is_block, is_refused}
-use Rattle.mps_model.specs.Graph.{Point, Reservation, Cache, CacheClass, contains, without_first, Object, entry_at, is_automatic, ids_of_client}
+use Rattle.mps_model.specs.Graph.{Point, Reservation, Cache, CacheClass, PoolFrames, contains, without_first, Object, entry_at, is_automatic, ids_of_client}
 use Rattle.mps_model.specs.Collection.{Collection, is_condemned, is_settled}
 use Rattle.mps_model.specs.World.{World, Pool, address_of, id_at, is_copying_kind, is_copying_object, is_copying_pool, object_is, with_tail, segment_of, pool_is, is_any_size_kind, is_empty_segment}
 use Rattle.mps_model.specs.Checked.{Act, Checked, Found, Numbered, point_named, pool_named, cache_named, block_place_in, number_named, as_point}
@@ -26,7 +26,8 @@ use Rattle.mps_model.specs.LegalMove.{ForOne, ForObjectAt, IsLegalMove, IsLegalM
 use Rattle.mps_model.specs.Flip.{at_address}
 use Rattle.mps_model.specs.Policy.{units_asked}
 use Rattle.mps_model.specs.Reply.{act, world_from}
-use Rattle.mps_model.specs.History.{AreMovesOf, after_its_moves, after_own_segment, asking, moved_world, moves_of_collector, moves_of_poll, own_segment, remembering, with_client_remembered, with_segment_for_point, with_buffer, rank_of_point, if_accepted, unless_refused, moves_of_commit, commit_of, moves_of_alloc, alloc_at, moves_of_free, free_of, free_of_object, moves_of_frees, moves_if_not_taken, moves_of_cache_alloc, moves_if_not_kept, moves_of_cache_free, moves_of_cache_flush, give_back_empty, free_at, world_after, judged_world}
+use Rattle.mps_model.specs.Frames.{blocks_popped, frame_in, frames_named}
+use Rattle.mps_model.specs.History.{AreMovesOf, after_its_moves, after_own_segment, asking, moved_world, moves_of_collector, moves_of_poll, own_segment, remembering, with_client_remembered, with_segment_for_point, with_buffer, rank_of_point, if_accepted, unless_refused, moves_of_commit, commit_of, moves_of_alloc, alloc_at, moves_of_free, free_of, free_of_object, moves_of_frees, moves_if_not_taken, moves_of_cache_alloc, moves_if_not_kept, moves_of_cache_free, moves_of_cache_flush, moves_of_frame, moves_of_pop, give_back_empty, free_at, world_after, judged_world}
 use Rattle.mps_model.specs.Step.{Step}
 use Rattle.mps_laws.specs.Staying.{is_flip}
 use Rattle.mps_laws.proofs.Lookups.{entry_at-set_other, length-slice_set}
@@ -467,6 +468,18 @@ cache_flush_moves_none w answer q = unless_none answer (moves_of_cache_flush w q
     of_cache (Ok q) = frees_moves_none w (flushed q.value)
     of_cache (Err why) = refl
 
+pub pop_moves_none : (w : World) (answer : Answer) (x : Checked PoolFrames) (frame : ℕ)
+    → list_any is_moving (unless_refused answer (moves_of_pop w x frame)) ≡ false
+pop_moves_none w answer x frame = unless_none answer (moves_of_pop w x frame) (of_pool x)
+  where
+    of_frame : (f : PoolFrames) (y : Checked ℕ) → list_any is_moving (moves_of_frame w f y) ≡ false
+    of_frame f (Ok before) = frees_moves_none w (blocks_popped f before)
+    of_frame f (Err why) = refl
+
+    of_pool : (x : Checked PoolFrames) → list_any is_moving (moves_of_pop w x frame) ≡ false
+    of_pool (Ok f) = of_frame f (frame_in f frame)
+    of_pool (Err why) = refl
+
 -- ---- a reserve's own segment, and units
 
 segment_for_point_put : (id at : ℕ) (w : World) (s : Segment) (point : ℕ) → IsPutIn id at w
@@ -528,6 +541,8 @@ moved_step_put id at w (call.CacheFree cache place) answer ms legal due no_flip 
 moved_step_put id at w (call.CacheFlush cache) answer ms legal due no_flip p =
     moves_put id at w ms no_flip
     (none_moved w ms (ap (list_any is_moving) due ∙ cache_flush_moves_none w answer (cache_named w cache))) p
+moved_step_put id at w (call.Pop pool frame) answer ms legal due no_flip p =
+    moves_put id at w ms no_flip (none_moved w ms (ap (list_any is_moving) due ∙ pop_moves_none w answer (frames_named w pool) frame)) p
 moved_step_put id at w _ answer ms legal due no_flip p = moves_put id at w ms no_flip (all_moved_legally w None ms legal) p
 
 -- after an act

@@ -15,11 +15,12 @@ use Rattle.mps_base.specs.declared.names.Name.{Name}
 use Rattle.mps_model.specs.declared.call.Call.{Call}
 use Rattle.mps_model.specs.declared.call.Call.TheVariants as call
 use Rattle.mps_model.specs.Answer.{Answer, is_refused, is_unsupported}
-use Rattle.mps_model.specs.Graph.{Cache, CacheClass, Slots, entries, entry_at, ids_in_blocks, ids_in_caches, ids_in_places}
+use Rattle.mps_model.specs.Graph.{Cache, CacheClass, PoolFrames, Slots, entries, entry_at, ids_in_blocks, ids_in_caches, ids_in_places}
 use Rattle.mps_model.specs.World.{World, id_at, is_live, segment_of, is_any_size_kind, is_copying_kind, is_empty_segment, pool_is}
 use Rattle.mps_model.specs.Checked.{Checked, Found, Numbered, ◌>>=◌, required, block_place_in, cache_named, entry_in, number_named, numbered, as_blocks}
 use Rattle.mps_model.specs.Accessing.{address_or_null}
 use Rattle.mps_model.specs.Caches.{flushed, kept_by}
+use Rattle.mps_model.specs.Frames.{blocks_popped, frame_in, frames_named}
 use Rattle.mps_model.proofs.Appending.{replay_from-append}
 use Rattle.mps_model.proofs.Cutting.{world_after_moves-append}
 use Rattle.mps_changes.specs.Change.{is_placing}
@@ -27,7 +28,7 @@ use Rattle.mps_model.specs.Effect.{world_after_moves, after_free, where_one}
 use Rattle.mps_model.specs.Log.{records_of, records_of_step}
 use Rattle.mps_model.specs.Replay.{replay_from, after_freeing}
 use Rattle.mps_model.specs.Flip.{at_address}
-use Rattle.mps_model.specs.History.{world_after, free_of, free_of_object, give_back_empty, moves_if_not_kept, moves_of_cache_flush, moves_of_cache_free, moves_of_free, moves_of_frees, unless_refused}
+use Rattle.mps_model.specs.History.{world_after, free_of, free_of_object, give_back_empty, moves_if_not_kept, moves_of_cache_flush, moves_of_cache_free, moves_of_frame, moves_of_free, moves_of_frees, moves_of_pop, unless_refused}
 use Rattle.mps_laws.proofs.Positions.Occupancy.{Occupancy, occupancy_of}
 use Rattle.mps_laws.proofs.Positions.LaidOut.{kind_in}
 use Rattle.mps_laws.proofs.Finding.{id_at-there}
@@ -281,3 +282,17 @@ module _ (limit pools line : ℕ) (w : World) (laid : HasLayout limit w) where
   cache_flush_step cache ms answer supported due =
       due_step (call.CacheFlush cache) ms (moves_of_cache_flush w (cache_named w cache)) answer supported refl due
       (cache_flush_replayed (cache_named w cache))
+
+  pop_replayed : (x : Checked PoolFrames) (frame : ℕ) → AreReplayed limit line w (moves_of_pop w x frame)
+  pop_replayed (Err why) frame = record { layout = laid; blocks = refl }
+  pop_replayed (Ok f) frame = of_frame (frame_in f frame)
+    where
+      of_frame : (x : Checked ℕ) → AreReplayed limit line w (moves_of_frame w f x)
+      of_frame (Ok before) = frees_replayed limit line w laid (blocks_popped f before)
+      of_frame (Err why) = record { layout = laid; blocks = refl }
+
+  pub pop_step : (pool : Name) (frame : ℕ) (ms : List Move) (answer : Answer) → is_unsupported answer ≡ false
+      → ms ≡ unless_refused answer (moves_of_pop w (frames_named w pool) frame) → StepReplayed (call.Pop pool frame) ms answer
+  pop_step pool frame ms answer supported due =
+      due_step (call.Pop pool frame) ms (moves_of_pop w (frames_named w pool) frame) answer supported refl due
+      (pop_replayed (frames_named w pool) frame)

@@ -63,6 +63,7 @@ accepted_line pools (call.Pool pool kind format) line = (refl, tt)
 accepted_line pools (call.PoolOnChain pool kind format chain) line = (refl, tt)
 accepted_line pools (call.PoolMfs pool words) line = (refl, tt)
 accepted_line pools (call.PoolMvff pool) line = (refl, tt)
+accepted_line pools (call.PoolFrames pool) line = (refl, tt)
 accepted_line pools _ line = tt
 
 command_line : (pools : ℕ) (call : Call) (line : ℕ) (b : Bool) → AreOnLine line (if b then records_of_accepted pools call line else [])

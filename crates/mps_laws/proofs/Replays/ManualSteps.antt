@@ -17,7 +17,7 @@ use Rattle.mps_base.specs.declared.refusal.Refusal.TheVariants as refusal
 use Rattle.mps_model.specs.declared.call.Call.TheVariants as call
 use Rattle.mps_model.specs.Answer.{Answer, is_unsupported}
 use Rattle.mps_model.specs.Graph.{Cache, CacheClass, Manual, thing_in, with_last}
-use Rattle.mps_model.specs.World.{World, Pool, PoolKind, Collected, OneSize, AnySize, covered, is_automatic_kind, is_copying_pool, pool_at, with_tail}
+use Rattle.mps_model.specs.World.{World, Pool, PoolKind, Collected, OneSize, AnySize, Frames, covered, is_automatic_kind, is_copying_pool, pool_at, with_tail}
 use Rattle.mps_model.specs.Checked.{Act, Checked, Found, Numbered, ◌>>=◌, ◌>>◌, required, refuse_when, done, numbered, as_cache, cache_named, pool_named, block_place_in, with_graph}
 use Rattle.mps_model.specs.Caches.{act_cache_alloc, act_taken, graph_uncached, taken_from}
 use Rattle.mps_model.specs.Making.{is_block_size}
@@ -112,6 +112,8 @@ some_words (OneSize size) words h =
     let sized = and_parts (nat_le 1 words) (nat_le words 65536) parts.0 in
     (let some = leb-true 1 words sized.0 in omega (arith, some))
 some_words AnySize words h =
+    let sized = and_parts (nat_le 1 words) (nat_le words 65536) h in (let some = leb-true 1 words sized.0 in omega (arith, some))
+some_words Frames words h =
     let sized = and_parts (nat_le 1 words) (nat_le words 65536) h in (let some = leb-true 1 words sized.0 in omega (arith, some))
 
 -- ---- a manual block is made

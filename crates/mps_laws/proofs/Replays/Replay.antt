@@ -25,7 +25,7 @@ use Rattle.mps_laws.proofs.Replays.ReplayOfMoves.{moves_replayed}
 use Rattle.mps_laws.proofs.Positions.Making.{arena_laid_out}
 use Rattle.mps_laws.proofs.Replays.Steps.{with_command, answered_step, plain_step, commit_step}
 use Rattle.mps_laws.proofs.Replays.ManualSteps.{alloc_step, take_step}
-use Rattle.mps_laws.proofs.Replays.FreeSteps.{BlocksAreLive, cache_flush_step, cache_free_step, free_step}
+use Rattle.mps_laws.proofs.Replays.FreeSteps.{BlocksAreLive, cache_flush_step, pop_step, cache_free_step, free_step}
 use Rattle.mps_laws.proofs.Replays.ReserveReplayed.{reserve_step}
 
 -- segments lie below a limit; an arena that is made may raise it
@@ -78,6 +78,8 @@ module _ (limit pools line : ℕ) (w : World) (laid : HasLayout limit w) (live :
       cache_free_step limit pools line w laid cache place ms answer supported legal.moves_are_due
   of_call (call.CacheFlush cache) ms answer supported legal =
       cache_flush_step limit pools line w laid cache ms answer supported legal.moves_are_due
+  of_call (call.Pop pool frame) ms answer supported legal =
+      pop_step limit pools line w laid pool frame ms answer supported legal.moves_are_due
   of_call c ms answer supported legal =
       plain_step limit pools line w c ms answer supported refl (moves_replayed limit w None ms line laid legal.moves_are_legal)
 

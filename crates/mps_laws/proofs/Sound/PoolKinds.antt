@@ -5,7 +5,7 @@ use Rattle.std.specs.Prelude.{slice_get}
 use Rattle.std.specs.Option.{option_map_or}
 use Rattle.mps_base.proofs.PoolKinds.{moving_is_not_weak}
 use Rattle.mps_model.specs.Graph.{with_last}
-use Rattle.mps_model.specs.World.{Pool, PoolKind, Collected, OneSize, AnySize, is_copying_kind, is_weak_kind, is_any_size_kind, is_automatic_kind}
+use Rattle.mps_model.specs.World.{Pool, PoolKind, Collected, OneSize, AnySize, Frames, is_copying_kind, is_weak_kind, is_any_size_kind, is_automatic_kind}
 use Rattle.mps_laws.proofs.Positions.LaidOut.{kind_in}
 use Rattle.mps_laws.proofs.Lookups.{slice_get-kept}
 
@@ -13,16 +13,19 @@ pub copying_not_weak : (k : PoolKind) → is_copying_kind k ≡ true → is_weak
 copying_not_weak (Collected kind) c w = false≢true (sym (moving_is_not_weak kind c) ∙ w)
 copying_not_weak (OneSize words) c w = false≢true c
 copying_not_weak AnySize c w = false≢true c
+copying_not_weak Frames c w = false≢true c
 
 copying_not_any_size : (k : PoolKind) → is_copying_kind k ≡ true → is_any_size_kind k ≡ true → ⊥
 copying_not_any_size (Collected kind) c w = false≢true w
 copying_not_any_size (OneSize words) c w = false≢true w
 copying_not_any_size AnySize c w = false≢true c
+copying_not_any_size Frames c w = false≢true c
 
 copying_automatic : (k : PoolKind) → is_automatic_kind k ≡ false → is_copying_kind k ≡ false
 copying_automatic (Collected kind) a = absurd (false≢true (sym a))
 copying_automatic (OneSize words) a = refl
 copying_automatic AnySize a = refl
+copying_automatic Frames a = refl
 
 module _ (test other : PoolKind → Bool) (never : (k : PoolKind) → test k ≡ true → other k ≡ true → ⊥) where
   pub not_both : (pools : List Pool) (number : ℕ) → kind_in test pools number ≡ true → kind_in other pools number ≡ true → ⊥

@@ -14,13 +14,15 @@ use Rattle.mps_base.specs.declared.names.Slot.{Slot}
 use Rattle.mps_model.specs.declared.call.Call.{Call}
 use Rattle.mps_model.specs.declared.call.Call.TheVariants as call
 use Rattle.mps_model.specs.Answer.{Answer, is_accepted, is_refused, is_block, is_unsupported}
-use Rattle.mps_model.specs.Graph.{Graph, Object, Reservation, contains, entry_at, is_automatic, object_at, ids_in_slots, ids_in_holds, ids_in_reservations, ids_of_client, Cache, CacheClass, ids_of_cache}
+use Rattle.mps_model.specs.Graph.{Graph, Object, Reservation, contains, entry_at, is_automatic, object_at, ids_in_slots, ids_in_holds, ids_in_reservations, ids_of_client, Cache, CacheClass, PoolFrames, ids_in_frames, ids_of_cache}
 use Rattle.mps_model.specs.World.{World, Pool, id_at, ids_in_pairs, is_live, segment_of, is_copying_pool, is_empty_segment, is_any_size_kind, pool_is}
 use Rattle.mps_model.specs.Checked.{Checked, Found, Numbered, pool_named, point_named, block_place_in, number_named, as_point, cache_named}
 use Rattle.mps_model.specs.Accessing.{address_or_null}
 use Rattle.mps_model.specs.Caches.{flushed, kept_by, taken_from}
+use Rattle.mps_model.specs.Frames.{blocks_popped, frame_in, frames_named}
 use Rattle.mps_model.proofs.Cutting.{world_after_moves-append}
-use Rattle.mps_changes.proofs.Checks.{cache_named-is}
+use Rattle.mps_changes.proofs.Checks.{cache_named-is, frames_named-is}
+use Rattle.mps_changes.proofs.Frames.{found_blocks_pass, popped_pass}
 use Rattle.mps_changes.proofs.OneMore.{flushed_pass}
 use Rattle.mps_model.specs.Placement.{ForAlloc, placement_of}
 use Rattle.mps_model.specs.Effect.{world_after_moves, after_free, where_one, holding, segment_of_move}
@@ -28,7 +30,7 @@ use Rattle.mps_model.specs.Reply.{act, world_from}
 use Rattle.mps_model.specs.Step.{Step}
 use Rattle.mps_model.specs.Flip.{at_address}
 use Rattle.mps_model.specs.Policy.{units_asked}
-use Rattle.mps_model.specs.History.{IsLegalStep, IsAnsweredStep, HeldAreLive, asking, judged_world, moved_world, after_own_segment, with_buffer, rank_of_point, own_segment, moves_of_poll, with_client_remembered, world_after, world_after_call, alloc_at, moves_of_alloc, moves_of_commit, commit_of, if_accepted, unless_refused, moves_of_free, free_of, free_of_object, give_back_empty, moves_if_not_kept, moves_if_not_taken, moves_of_cache_alloc, moves_of_cache_flush, moves_of_cache_free, moves_of_frees}
+use Rattle.mps_model.specs.History.{IsLegalStep, IsAnsweredStep, HeldAreLive, asking, judged_world, moved_world, after_own_segment, with_buffer, rank_of_point, own_segment, moves_of_poll, with_client_remembered, world_after, world_after_call, alloc_at, moves_of_alloc, moves_of_commit, commit_of, if_accepted, unless_refused, moves_of_free, free_of, free_of_object, give_back_empty, moves_if_not_kept, moves_if_not_taken, moves_of_cache_alloc, moves_of_cache_flush, moves_of_cache_free, moves_of_frame, moves_of_frees, moves_of_pop}
 use Rattle.mps_laws.proofs.Finding.{id_at-found}
 use Rattle.mps_laws.proofs.Positions.LegalMoves.{HasLayout}
 use Rattle.mps_laws.proofs.Acts.{for_world}
@@ -270,6 +272,21 @@ cache_flush_well limit w name answer laid s =
         (flushed_pass (manual w) q.value.classes
         (all-at (manual w) ids_of_cache w.graph.caches q.number q.value (manual_parts w s).1 (cache_named-is w name q e)))
 
+pop_well : (limit : ℕ) (w : World) (pool : Name) (frame : ℕ) (answer : Answer) → HasLayout limit w → IsSoundGraph w
+    → All (manual w) (ids_in_frames w.graph)
+    → IsMovedWell w (world_after_moves w (unless_refused answer (moves_of_pop w (frames_named w pool) frame)))
+pop_well limit w pool frame answer laid s framed =
+    unless_well w answer (moves_of_pop w (frames_named w pool) frame) s (of_pool (frames_named w pool) refl)
+  where
+    of_frame : (f : PoolFrames) → All (manual w) f.blocks → (y : Checked ℕ) → IsMovedWell w (world_after_moves w (moves_of_frame w f y))
+    of_frame f kind (Ok before) = frees_well limit w laid s (blocks_popped f before) (popped_pass (manual w) f before kind)
+    of_frame f kind (Err why) = same_well w s
+
+    of_pool : (x : Checked PoolFrames) → frames_named w pool ≡ x → IsMovedWell w (world_after_moves w (moves_of_pop w x frame))
+    of_pool (Err why) e = same_well w s
+    of_pool (Ok f) e =
+        of_frame f (found_blocks_pass (manual w) w.graph.frames f.pool f (frames_named-is w pool f e) framed) (frame_in f frame)
+
 -- ---- steps
 
 abbrev pub SlotsAreLive : World → Type 0
@@ -284,7 +301,7 @@ slots_held w h =
 
 module _ (limit line : ℕ) (w : World) (laid : Rattle.mps_laws.proofs.Positions.LegalMoves.HasLayout limit w)
     (live : Rattle.mps_laws.proofs.Replays.FreeSteps.BlocksAreLive w) (slots : SlotsAreLive w) (s : IsSoundGraph w)
-    (pairs : All (auto w) (ids_in_pairs w.state)) where
+    (pairs : All (auto w) (ids_in_pairs w.state)) (framed : All (manual w) (ids_in_frames w.graph)) where
   abbrev the_step : Call → List Move → Answer → Step
   the_step c ms answer = record { line = line; call = c; moves = ms; answer = answer }
 
@@ -354,6 +371,11 @@ module _ (limit line : ℕ) (w : World) (laid : Rattle.mps_laws.proofs.Positions
       finished (call.CacheFlush cache) ms answer supported
       (acted (is_block answer) (world_after_moves w ms) (call.CacheFlush cache)
       (subst (λ ns. IsMovedWell w (world_after_moves w ns)) (sym legal.moves_are_due) (cache_flush_well limit w cache answer laid s))
+      (λ h. absurd (false≢true h)) (λ h. absurd (false≢true h)) refl)
+  of_call (call.Pop pool frame) ms answer supported legal =
+      finished (call.Pop pool frame) ms answer supported
+      (acted (is_block answer) (world_after_moves w ms) (call.Pop pool frame)
+      (subst (λ ns. IsMovedWell w (world_after_moves w ns)) (sym legal.moves_are_due) (pop_well limit w pool frame answer laid s framed))
       (λ h. absurd (false≢true h)) (λ h. absurd (false≢true h)) refl)
   of_call (call.Finalize slot) ms answer supported legal =
       finished (call.Finalize slot) ms answer supported

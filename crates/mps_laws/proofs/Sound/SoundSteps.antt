@@ -3,21 +3,22 @@ use Rattle.std.proofs.Common.{◌≡◌, ◌∙◌, ℕ, Bool, true, false, refl
 use Rattle.std.proofs.lemmas.Bool.{false≢true, true≢false, and_parts, and_from}
 use Rattle.std.proofs.lemmas.Option.{none-some, same_Some}
 use Rattle.std.proofs.lemmas.List.{length-replicate}
-use Rattle.std.specs.Prelude.{map, slice_get, slice_set, option_map, not, ◌&&◌, ◌||◌, ◌==◌, replicate}
+use Rattle.std.specs.Prelude.{map, slice_get, slice_set, option_map, not, ◌&&◌, ◌||◌, ◌==◌, replicate, drop}
 use Rattle.std.specs.Option.{option_map_or}
-use Rattle.std.specs.List.{list_all}
+use Rattle.std.specs.List.{list_all, flat_map}
 use Rattle.mps_base.specs.declared.names.Name.{Name}
 use Rattle.mps_base.specs.declared.names.Rank.{Rank}
 use Rattle.mps_base.specs.declared.names.Slot.{Slot}
 use Rattle.mps_model.specs.declared.call.Call.{Call}
 use Rattle.mps_model.specs.declared.call.Call.TheVariants as call
-use Rattle.mps_model.specs.Graph.{Object, Automatic, Manual, Point, Reservation, AreaWord, entries, entry_at, is_automatic, ids_in_slots, slots_of, Cell, without_name, with_last, without_first, ids_in_blocks, ids_in_places}
-use Rattle.mps_model.specs.World.{World, Pool, PoolKind, Collected, OneSize, AnySize, ids_in_pairs, is_live, is_automatic_kind, is_weak_kind, pool_at, words_of}
+use Rattle.mps_model.specs.Graph.{Object, Automatic, Manual, Point, Reservation, AreaWord, entries, entry_at, is_automatic, ids_in_slots, slots_of, Cell, without_name, with_last, without_first, ids_in_blocks, ids_in_places, ids_in_caches}
+use Rattle.mps_model.specs.World.{World, Pool, PoolKind, Collected, OneSize, AnySize, Frames, ids_in_pairs, is_live, is_automatic_kind, is_weak_kind, pool_at, words_of}
 use Rattle.mps_model.specs.WellFormed.{are_right_cells, is_right_object, is_live_automatic}
 use Rattle.mps_model.specs.Checked.{Found, Numbered, point_named, slot_in, block_place_in, object_in, cells_of_body, number_named, as_blocks, with_graph}
 use Rattle.mps_model.specs.Making.{with_pool, is_block_size, is_weak_rank, may_have_point}
 use Rattle.mps_model.specs.Allocating.{with_slot, with_block_place, allows_size, committed_object, graph_allocated, reserved_address, with_reservation, world_committed}
 use Rattle.mps_model.specs.Caches.{emptied, graph_cleared, with_classes}
+use Rattle.mps_model.specs.Frames.{graph_popped, places_without}
 use Rattle.mps_model.specs.Collecting.{without_registration}
 use Rattle.mps_model.specs.Transforms.{graph_substituted, pairs_of, world_substituted}
 use Rattle.mps_model.specs.Reply.{act}
@@ -25,13 +26,14 @@ use Rattle.mps_laws.proofs.Lookups.{slice_get-kept, entry_within_set, slice_get-
 use Rattle.mps_laws.proofs.Positions.LaidOut.{kind_in}
 use Rattle.mps_laws.proofs.Sound.PoolKinds.{kind_of_pool}
 use Rattle.mps_laws.proofs.Acts.{ForAct, point_named-is, pool_named-is}
-use Rattle.mps_laws.proofs.Sound.SoundGraph.{All, PassesOrNull, AreRight, IsSoundGraph, Grows, auto, manual, is_sound_word, is_sound_reservation, all-weaker, all-at, all-written, all-without, all-ended, entries-written, each-at, grows_alike, untouched, auto_kept, manual_kept, right_target_cell, right_tag_cell, right_number_cell, manual_parts, entry-passes}
+use Rattle.mps_laws.proofs.Sound.SoundGraph.{All, PassesOrNull, AreRight, IsSoundGraph, Grows, auto, manual, is_sound_word, is_sound_reservation, all-weaker, all-at, all-written, all-without, all-ended, entries-written, each-at, grows_alike, edited, untouched, auto_kept, manual_kept, right_target_cell, right_tag_cell, right_number_cell, manual_parts, entry-passes}
 use Rattle.mps_laws.proofs.Sound.SoundActs.{table_passes, slot_passes, object_cells, reference_passes, held_written, slot_written, word_written, cells_changed, reservation_written, object_added, place_written, block_word_written, pin_is_sound, block_lies, hold_is_sound, block_cleared, cached_written}
-use Rattle.mps_changes.specs.Change.{IsFoundBy, Now, Before, IsGot, GotNull, FromSlot, FromCell, FromWord, FromMessage, IsShown, ShownPlain, ShownPinned, ShownPoked, IsWritten, WritesTag, WritesReference, WritesNumber, Change, Unchanged, Aside, SlotIs, WordIs, MessageTaken, TableMade, AreaMade, BlocksMade, TableDropped, AreaDropped, CellsAre, BlockWordIs, PlaceEmptied, Allocated, PoolMade, PointMade, PointDropped, Opened, Written, Closed, Committed, Substituted, Registered, Unregistered, CacheMade, BlockUncached, BlockCached, CacheFlushed}
+use Rattle.mps_changes.specs.Change.{IsFoundBy, Now, Before, IsGot, GotNull, FromSlot, FromCell, FromWord, FromMessage, IsShown, ShownPlain, ShownPinned, ShownPoked, IsWritten, WritesTag, WritesReference, WritesNumber, Change, Unchanged, Aside, SlotIs, WordIs, MessageTaken, TableMade, AreaMade, BlocksMade, TableDropped, AreaDropped, CellsAre, BlockWordIs, PlaceEmptied, Allocated, PoolMade, PointMade, PointDropped, Opened, Written, Closed, Committed, Substituted, Registered, Unregistered, CacheMade, BlockUncached, BlockCached, CacheFlushed, FramePushed, FramesPopped}
 use Rattle.mps_changes.proofs.ActChanges.{but, of_changes}
 use Rattle.mps_changes.proofs.Written.{written_length}
 use Rattle.mps_changes.proofs.Checks.{cache_named-is}
-use Rattle.mps_changes.proofs.OneMore.{cache_added, cache_less, cache_more, flush_passes, less_pass, more_pass}
+use Rattle.mps_changes.proofs.OneMore.{cache_added, cache_less, cache_more, flush_passes, less_pass, more_pass, both_pass}
+use Rattle.mps_changes.proofs.Frames.{places_pass}
 use Rattle.mps_laws.proofs.FoundBy.{found_by, slot_found, word_found, object_found, number_found}
 use Rattle.mps_laws.proofs.Sound.Substituting.{pairs_of_pass, substituted_sound}
 use Rattle.mps_laws.proofs.Sound.SoundParts.{cells_sound, new_table, new_blocks, new_area, new_point, no_point, object_of_slot, id_of_slot, taken}
@@ -107,6 +109,7 @@ module _ (judged v : World) (j : IsSoundGraph judged) (grown : Grows judged v) (
       sized (Collected kind) h = absurd (false≢true h)
       sized (OneSize n) h = (and_parts (is_block_size words) (words == n) h).0
       sized AnySize h = h
+      sized Frames h = h
 
   allocated_sound : (p : Numbered Pool) (words : ℕ) (place : Found (Option ℕ)) (at : ℕ) → slice_get v.pools p.number ≡ Some p.value
       → is_automatic_kind p.value.kind ≡ false → allows_size p.value.kind words ≡ true → All (manual v) (entries place.list)
@@ -120,9 +123,12 @@ module _ (judged v : World) (j : IsSoundGraph judged) (grown : Grows judged v) (
         pools = λ n q e. e;
         objects = λ id x e. (x, slice_get-kept v.graph.objects o x id e, record { pool = refl; size = refl; kind = refl });
       } in
-      place_written v1 first place (Some (length v.graph.objects))
+      let v2 = with_graph v1 (with_block_place v1.graph place (Some (length v.graph.objects))) in
+      untouched v2 (record v { graph = graph_allocated v.graph p.number words place; addresses = with_last v.addresses (Some at) })
+      (place_written v1 first place (Some (length v.graph.objects))
       (all-weaker (manual v) (manual v1) (manual_kept v v1 grows) (entries place.list) others)
-      (ap (λ x. option_map_or (λ y. not (is_automatic y)) x false) (slice_get-at_last v.graph.objects o))
+      (ap (λ x. option_map_or (λ y. not (is_automatic y)) x false) (slice_get-at_last v.graph.objects o)))
+      refl (λ n q h. h) refl refl refl refl refl refl refl refl
 
   not_not : (b : Bool) → not b ≡ false → b ≡ true
   not_not true h = refl
@@ -248,7 +254,8 @@ module _ (judged v : World) (j : IsSoundGraph judged) (grown : Grows judged v) (
       let o = (object_found v held.from.value object held.is).1 in
       cells_changed v s object.number object.value change o (written_length write (cells_of_body object.value.body)) (written_right write)
   change_sound live pairs other (BlockWordIs id k value) = block_word_written v s id k value
-  change_sound live pairs other (PlaceEmptied from place id e found has) = place_written v s place None (place_own from place found) tt
+  change_sound live pairs other (PlaceEmptied from place id e found has freed) =
+      place_written v s place None (place_own from place found) tt
   change_sound live pairs other (Allocated p words place at is of kind size found empty) =
       allocated_sound p words place at (grown.pools p.number p.value of) kind size (place_found place found)
   change_sound live pairs other (CacheMade name pool of classes e may none) =
@@ -274,6 +281,23 @@ module _ (judged v : World) (j : IsSoundGraph judged) (grown : Grows judged v) (
   change_sound live pairs other (CacheFlushed name cache e is) =
       cached_written v s cache (map emptied cache.value.classes)
       (flush_passes v.graph cache (cache_named-is v name cache is) (manual v) (manual_parts v s).1)
+  change_sound live pairs other (FramePushed name f e found) = as_it_was refl refl refl refl refl refl refl refl refl refl
+  change_sound live pairs other (FramesPopped name f frame before e found opened) =
+      let gone = drop before f.blocks in
+      let parts = manual_parts v s in
+      let u = with_graph v (graph_popped v.graph f frame before) in
+      edited v u (grows_alike v u refl (λ n q h. h) refl) s (record {
+        live = λ id h. h;
+        objects = λ id o h. inl h;
+        reservations = λ n p r h k. inl (s.reservations n p r h k);
+        points = λ n p h. inl (s.points n p h);
+        slots = inl refl;
+        words = inl refl;
+        blocks = inr (both_pass (manual v) (flat_map entries (places_without gone v.graph.blocks)) (ids_in_caches v.graph)
+            (places_pass gone (manual v) v.graph.blocks parts.0) parts.1);
+        registered = inl refl;
+        messages = inl refl;
+      })
   change_sound live pairs other (PoolMade name p e made) =
       untouched v (with_pool v name p) s refl (λ n q h. slice_get-kept v.pools p q n h) refl refl refl refl refl refl refl refl
   change_sound live pairs other (PointMade name pool of at_rank e is may) = new_point v s name of.number at_rank (

@@ -21,8 +21,8 @@ use Rattle.mps_model.specs.declared.reply.Reply.TheVariants as reply
 use Rattle.mps_model.specs.Answer.{Answer, Replied}
 use Rattle.mps_model.specs.Graph.{Manual, Object, entry_at, with_last, ids_in_blocks}
 use Rattle.mps_model.specs.World.{World, Pool, is_automatic_kind, is_copying_pool, is_live, with_tail}
-use Rattle.mps_model.specs.Checked.{Act, Checked, Found, Numbered, ◌>>=◌, ◌>>◌, block_place_in, done, pool_named, refuse_when, with_graph}
-use Rattle.mps_model.specs.Allocating.{act_alloc, address_of_placement, allows_size, graph_allocated, refuse_without_place, with_block_place}
+use Rattle.mps_model.specs.Checked.{Act, Checked, Found, Numbered, ◌>>=◌, ◌>>◌, block_place_in, done, pool_named, refuse_when}
+use Rattle.mps_model.specs.Allocating.{act_alloc, address_of_placement, allows_size, graph_allocated, refuse_without_place}
 use Rattle.mps_model.specs.Placement.{ForAlloc, placement_of}
 use Rattle.mps_model.specs.Effect.{holding, segment_of_move, world_after_moves}
 use Rattle.mps_model.specs.History.{alloc_at, moves_of_alloc, unless_refused}
@@ -124,8 +124,18 @@ module _ (w : World) (sound : w.collection ≡ None → IsSound w) (blocks : lis
       let first : IsSound made =
       made_sound w new_object at (sound rest) lengths (λ r. refl) (λ c e. absurd (none-some c (sym rest ∙ e))) in
       let placed = place_sound made first found (Some (length w.graph.objects)) has new_lives in
-      sound_again (with_graph made (with_block_place made.graph found (Some (length w.graph.objects)))) world_made
-      refl refl refl refl refl placed
+      let noted = record made { graph = world_made.graph } in
+      let kept : IsSound noted = record {
+        live = record {
+          client = placed.live.client;
+          blocks = placed.live.blocks;
+          referred = placed.live.referred;
+          transforms = placed.live.transforms;
+        };
+        kept = placed.kept;
+        units = placed.units;
+      } in
+      sound_again noted world_made refl refl refl refl refl kept
 
   -- blocks in places are live
   pub blocks_made : list_all (is_live world_made) (ids_in_blocks world_made.graph) ≡ true

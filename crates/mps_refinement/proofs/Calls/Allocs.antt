@@ -33,7 +33,7 @@ use Rattle.mps_model.specs.History.{alloc_at, moves_of_alloc, unless_refused, wi
 use Rattle.mps_model.specs.Making.{is_block_size}
 use Rattle.mps_model.specs.Placement.{ForAlloc, placement_of}
 use Rattle.mps_model.specs.World as world
-use Rattle.mps_model.specs.World.{World, Collected, OneSize, AnySize, PoolKind, is_automatic_kind, is_live, is_copying_pool, pool_is as is_pool}
+use Rattle.mps_model.specs.World.{World, Collected, OneSize, AnySize, Frames, PoolKind, is_automatic_kind, is_live, is_copying_pool, pool_is as is_pool}
 use Rattle.mps_heap_spec.specs.Coming.{ComesMoving, Moved}
 use Rattle.mps_heap_spec.specs.Finding.{block_place_in, pool_named}
 use Rattle.mps_heap_spec.specs.declared.found.Entry.{Entry}
@@ -48,6 +48,7 @@ use Rattle.mps_seg.specs.Segs.{moves_after, segments_after}
 use Rattle.mps_refinement.specs.Answering.{answer_to, says_ok}
 use Rattle.mps_refinement.specs.RightStep.{IsRight, IsRightIn, step_of}
 use Rattle.mps_refinement.specs.StandsFor.{AreParts, IsPool, IsReached, Past, address_of_target, AreOfFlip, IsInTime, collector_of}
+use Rattle.mps_refinement.proofs.Parts.BlockParts.{parts_with_frames, world_with_frames}
 use Rattle.mps_refinement.proofs.Parts.AllocatedParts.{parts_made, segments_made, noted_clear}
 use Rattle.mps_refinement.proofs.Calls.AllocatingStep as allocating
 use Rattle.mps_refinement.proofs.Calls.AllocatingStep.{alloc_empty, alloc_from, alloc_in, alloc_is, alloc_manual, alloc_placed, alloc_sized}
@@ -108,6 +109,8 @@ some_words (OneSize size) words h =
     let some = leb-true 1 words sized.0 in
     omega (arith, some)
 some_words AnySize words h =
+    let sized = and_parts (nat_le 1 words) (nat_le words 65536) h in let some = leb-true 1 words sized.0 in omega (arith, some)
+some_words Frames words h =
     let sized = and_parts (nat_le 1 words) (nat_le words 65536) h in let some = leb-true 1 words sized.0 in omega (arith, some)
 
 -- ---- the moves, where the trail had none
@@ -284,8 +287,10 @@ module _ {F : Type 0} (layout : F → Layout) (h : HeapState F) (trail : Moves) 
                 has = record {
                   past = past;
                   timed = refl;
-                  parts = parts_made layout past h w parts own own.graph own.once p.number words
-                      (some_words p.value.kind words allowed) q time automatic not_copying place.index into found is own.laid after;
+                  parts = parts_with_frames layout past (made_at p.number into q (record { 0 = address_of_placement q })).state
+                      (world_with_frames v w.graph.frames) v.graph.frames
+                      (parts_made layout past h w parts own own.graph own.once p.number words
+                      (some_words p.value.kind words allowed) q time automatic not_copying place.index into found is own.laid after);
                 };
                 keeps = record {
                   rest = λ rest. rest;

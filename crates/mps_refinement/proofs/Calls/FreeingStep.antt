@@ -20,8 +20,8 @@ use Rattle.mps_model.proofs.AtRest.{with_collection-none}
 use Rattle.mps_model.specs.declared.reply.Reply.TheVariants as reply
 use Rattle.mps_model.specs.Answer.{Answer, Replied}
 use Rattle.mps_model.specs.Graph.{Slots, entries, entry_at, ids_in_blocks, contains, without_first, ids_in_caches, ids_in_places, occurrences}
-use Rattle.mps_model.specs.World.{World, is_any_size_kind, is_empty_segment, pool_is, segment_of, is_live, ids_of_pair, pairs_in}
-use Rattle.mps_model.specs.Checked.{Found, ◌>>=◌, ◌>>◌, block_place_in, done, with_graph, required}
+use Rattle.mps_model.specs.World.{World, is_any_size_kind, is_empty_segment, has_frames, pool_is, pool_of, segment_of, is_live, ids_of_pair, pairs_in}
+use Rattle.mps_model.specs.Checked.{Found, ◌>>=◌, ◌>>◌, block_place_in, done, with_graph, refuse_when, required}
 use Rattle.mps_model.specs.Allocating.{act_free, block_in, with_block_place}
 use Rattle.mps_model.specs.Accessing.{address_or_null}
 use Rattle.mps_model.specs.Effect.{after_free, after_unseg, giving_back, reclaiming, segment_base_of, where_one, with_address, with_collection, world_after_move, world_after_moves, without_object}
@@ -132,12 +132,15 @@ module _ (w : World) (outside : (c : Collection) → w.collection ≡ Some c →
       ∙ ap (λ o. moves.Free (at_address at) ∷ give_back_empty (without_object w id) o) over
       ∙ ap (λ b. moves.Free (at_address at) ∷ (if b then moves.Unseg (at_address t.base) ∷ [] else [])) is_given)
 
-  pub comes : act_free (world_after_moves w moves_freed) place ≡ done world_freed
-  comes =
+  pub comes : pool_is has_frames w (pool_of w id) ≡ false → act_free (world_after_moves w moves_freed) place ≡ done world_freed
+  comes frameless =
       ap (λ v. act_free v place) moved_is
-      ∙ ap (λ x. x >>= (λ (p : Found (Option ℕ)). block_in p
-      >> done (with_graph world_moved (with_block_place world_moved.graph p None)))) place_is
-      ∙ ap (λ o. required o refusal.NotABlock >> done world_freed) value
+      ∙ ap (λ x. x >>= (λ (p : Found (Option ℕ)). block_in p >>= (λ (n : ℕ).
+      refuse_when (pool_is has_frames w (pool_of w n)) refusal.WrongPool
+      >> done (with_graph world_moved (with_block_place world_moved.graph p None))))) place_is
+      ∙ ap (λ o. required o refusal.NotABlock >>= (λ (n : ℕ).
+      refuse_when (pool_is has_frames w (pool_of w n)) refusal.WrongPool >> done world_freed)) value
+      ∙ ap (λ b. refuse_when b refusal.WrongPool >> done world_freed) frameless
 
   -- no other place has the block
   place_others : All (λ j. not (id == j)) (ids_in_blocks (with_block_place w.graph found None))

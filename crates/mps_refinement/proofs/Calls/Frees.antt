@@ -21,9 +21,9 @@ use Rattle.mps_trace.specs.Manual.{any_size, block_removed, segs_after_free, is_
 use Rattle.mps_model.specs.Allocating as model
 use Rattle.mps_model.specs.declared.call.Call.TheVariants as call
 use Rattle.mps_model.specs.Checked as checked
-use Rattle.mps_model.specs.Checked.{Checked, Found, ◌>>=◌, ◌>>◌, done, required}
+use Rattle.mps_model.specs.Checked.{Checked, Found, ◌>>=◌, ◌>>◌, done, refuse_when, required}
 use Rattle.mps_model.specs.Effect.{with_address, world_after_moves}
-use Rattle.mps_model.specs.World.{World, Pool, is_any_size_kind, is_empty_segment, pool_is, is_automatic_kind, is_copying_pool, pairs_in, object_is}
+use Rattle.mps_model.specs.World.{World, Pool, is_any_size_kind, is_empty_segment, pool_is, is_automatic_kind, is_copying_pool, pairs_in, object_is, has_frames, pool_of}
 use Rattle.mps_heap_spec.specs.Coming.{ComesMoving, Moved}
 use Rattle.mps_heap_spec.specs.Finding.{block_place_in}
 use Rattle.mps_heap_spec.specs.declared.found.Entry.{Entry}
@@ -39,6 +39,7 @@ use Rattle.mps_refinement.proofs.Calls.FreeingStep as freeing
 use Rattle.mps_refinement.proofs.Worlds.Known.{IsKnown}
 use Rattle.mps_refinement.proofs.Lookups.LiveObjects.{IsLiveBlock, live_block}
 use Rattle.mps_refinement.proofs.Lookups.Lookups.{IsPlaceEntry, IsPlaceFound, place_same}
+use Rattle.mps_refinement.proofs.Lookups.PoolKinds.{no_frames}
 use Rattle.mps_refinement.proofs.Lookups.ManualBlocks.{IsBlock, block_same, setting}
 use Rattle.mps_refinement.proofs.Worlds.PlacedOnce.{is_sized, ArePlacedOnce}
 use Rattle.mps_seg.specs.Segs.{SegsState}
@@ -57,7 +58,7 @@ use Rattle.mps_laws.proofs.Sound.SoundGraph.{IsSoundGraph, auto}
 use Rattle.mps_laws.proofs.Replays.Steps.{remembered_kept}
 use Rattle.mps_model.specs.Collection as model_collection
 use Rattle.mps_model.specs.Collection.{Collection}
-use Rattle.mps_model.specs.Graph.{without_named, contains, entry_at, is_automatic}
+use Rattle.mps_model.specs.Graph.{without_named, contains, entry_at, is_automatic, Object}
 use Rattle.mps_model.specs.History.{moves_of_free, unless_refused, with_client_remembered}
 use Rattle.mps_model.specs.Reply.{world_from}
 use Rattle.mps_refinement.proofs.Worlds.PlacesByMoves.{places_of}
@@ -250,10 +251,16 @@ module _ {F : Type 0} (layout : F → Layout) (h : HeapState F) (trail : Moves) 
             freeing.due w outside graph sound own.live.blocks once place found place_is is.has entry_there id at value b.address manual
             differ t over given is_given
 
+        frameless : pool_is has_frames w (pool_of w id) ≡ false
+        frameless =
+            ap (λ o. pool_is has_frames w (option_map_or (λ (x : Object). x.pool) o 0)) b.there
+            ∙ ap (λ o. option_map_or (λ (q : Pool). has_frames q.kind) o false) live.has
+            ∙ no_frames layout w.formats live.pool live.models live.fit
+
         comes : model.act_free (world_after_moves w ms) place ≡ done v
         comes =
             freeing.comes w outside graph sound own.live.blocks once place found place_is is.has entry_there id at value b.address manual
-            differ t over given is_given
+            differ t over given is_given frameless
 
         layout_freed : HasLayout (w.grains + 1) v
         layout_freed =
@@ -339,9 +346,11 @@ module _ {F : Type 0} (layout : F → Layout) (h : HeapState F) (trail : Moves) 
         accepted_outcome entry found is place_is at id b (required-is found.value refusal.NotABlock id theirs)
     of_block entry found is place_is x y theirs (same.refused {why = why}) =
         refused_outcome why
-        (ap (λ z. z >>= (λ (p : Found (Option ℕ)). model.block_in p
-        >> done (checked.with_graph w (model.with_block_place w.graph p None)))) place_is
-        ∙ ap (λ z. z >> done (checked.with_graph w (model.with_block_place w.graph found None))) theirs)
+        (ap (λ z. z >>= (λ (p : Found (Option ℕ)). model.block_in p >>= (λ (n : ℕ).
+        refuse_when (pool_is has_frames w (pool_of w n)) refusal.WrongPool
+        >> done (checked.with_graph w (model.with_block_place w.graph p None))))) place_is
+        ∙ ap (λ z. z >>= (λ (n : ℕ). refuse_when (pool_is has_frames w (pool_of w n)) refusal.WrongPool
+        >> done (checked.with_graph w (model.with_block_place w.graph found None)))) theirs)
 
     of_place : (x : Checked (Entry Address)) (y : Checked (Found (Option ℕ))) → checked.block_place_in w place ≡ y
         → Same (IsPlaceFound past h w place) x y
@@ -351,8 +360,9 @@ module _ {F : Type 0} (layout : F → Layout) (h : HeapState F) (trail : Moves) 
         (block_same layout past h w parts own place.index entry found is.fit)
     of_place x y theirs (same.refused {why = why}) =
         refused_outcome why
-        (ap (λ z. z >>= (λ (p : Found (Option ℕ)). model.block_in p
-        >> done (checked.with_graph w (model.with_block_place w.graph p None)))) theirs)
+        (ap (λ z. z >>= (λ (p : Found (Option ℕ)). model.block_in p >>= (λ (n : ℕ).
+        refuse_when (pool_is has_frames w (pool_of w n)) refusal.WrongPool
+        >> done (checked.with_graph w (model.with_block_place w.graph p None))))) theirs)
 
     freed_outcome : IsRightFree w line (block_freed h trail place)
     freed_outcome =

@@ -35,6 +35,7 @@ use Rattle.mps_refinement.proofs.Worlds.CollectorKept.{KeepsAll, one_more_kept}
 use Rattle.mps_refinement.specs.Making.{IsRightMaking, IsRightMakingIn, MeansLayout}
 use Rattle.mps_refinement.specs.StandsFor.{AreParts, ArePools, IsPool, Past, setting_at, collector_of}
 use Rattle.mps_refinement.proofs.Calls.MakingSteps.{MakesAlike, checks_then, first_passed, free_name, making_is_right, making_is_right_in, taken_same}
+use Rattle.mps_refinement.proofs.Lookups.PoolKinds.{same_frames}
 use Rattle.mps_refinement.proofs.Parts.Named.{ThingsStay, named_made}
 use Rattle.mps_refinement.proofs.Parts.Numbering.{fitting_there}
 use Rattle.mps_refinement.proofs.Parts.PartsMade.{pools_changed, state_of_pools}
@@ -98,6 +99,8 @@ module _ {F : Type 0} (layout : F → Layout) (h : HeapState F) (name : Name) (p
       past = past;
       timed = refl;
       parts = subst (λ s. AreParts layout past s (model.with_pool w name q)) (sym makes.state)
+          (subst (λ fs. AreParts layout past made (record pooled { graph = record pooled.graph { frames = fs } }))
+          (sym (same_frames layout w.formats p q fit w.graph.frames (length w.pools)))
           (pools_changed layout past h w parts (h.pools ++ p ∷ []) (h.sizes ++ size_of_pool p ∷ []) after.names pools
           (with_last w.graph.names (record { name = name; thing = graph.PoolThing (length w.pools) })) (record {
             pools_are = pools_fit;
@@ -117,11 +120,19 @@ module _ {F : Type 0} (layout : F → Layout) (h : HeapState F) (name : Name) (p
                 makes.names free (ap graph.PoolThing (makes.number_is ∙ sym parts.pools.count)) (λ other there. refl) stay
                 (let e = makes.number_is in omega (arith, e, longer))
                 (λ there. let e = makes.number_is in omega (arith, e, there));
-          }));
+          })));
     }
       where
         made : HeapState F
         made = state_of_pools layout past h w parts (h.pools ++ p ∷ []) (h.sizes ++ size_of_pool p ∷ []) after.names
+
+        pooled : World
+        pooled = record w {
+          graph = record w.graph {
+            names = with_last w.graph.names (record { name = name; thing = graph.PoolThing (length w.pools) });
+          };
+          pools = pools;
+        }
 
         longer : length (h.pools ++ p ∷ []) ≡ length h.pools + 1
         longer = length-append h.pools (p ∷ [])

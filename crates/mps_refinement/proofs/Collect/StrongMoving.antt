@@ -6,7 +6,7 @@ use Rattle.std.specs.Option.{option_map_or}
 use Rattle.mps_base.specs.Address.{Id}
 use Rattle.mps_base.specs.declared.names.Kind.TheVariants as kind
 use Rattle.mps_model.specs.Graph.{Body, Automatic, Manual, Object, is_weak_body, is_weak_object, object_at}
-use Rattle.mps_model.specs.World.{World, Pool, PoolKind, Collected, OneSize, AnySize, is_automatic_kind, is_copying_kind, is_copying_object, is_copying_pool, is_weak_kind, object_is}
+use Rattle.mps_model.specs.World.{World, Pool, PoolKind, Collected, OneSize, AnySize, Frames, is_automatic_kind, is_copying_kind, is_copying_object, is_copying_pool, is_weak_kind, object_is}
 use Rattle.mps_model.specs.WellFormed.{are_right_cells, is_right_body}
 use Rattle.mps_refinement.specs.StandsFor.{IsReached}
 use Rattle.mps_refinement.proofs.Worlds.ReachedGraph.{reached_graph}
@@ -19,6 +19,7 @@ copying_is_strong (Collected kind.Lo) copying = refl
 copying_is_strong (Collected kind.Awl) copying = absurd (false≢true copying)
 copying_is_strong (OneSize words) copying = refl
 copying_is_strong AnySize copying = refl
+copying_is_strong Frames copying = refl
 
 -- a weak object's pool may hold weak references
 not_weak : (w : World) (q : Pool) (b : Body) → is_weak_kind q.kind ≡ false → is_right_body w q b ≡ true → is_weak_body b ≡ false

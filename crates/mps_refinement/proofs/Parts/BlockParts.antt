@@ -5,7 +5,7 @@ use Rattle.std.specs.Prelude.{sum_by, count_by, is_some}
 use Rattle.mps_base.specs.Address.{Address, Id}
 use Rattle.mps_base.specs.Segment.{Segment}
 use Rattle.mps_format.specs.Layout.{Layout}
-use Rattle.mps_model.specs.Graph.{Object, Slots}
+use Rattle.mps_model.specs.Graph.{Object, PoolFrames, Slots}
 use Rattle.mps_model.specs.Making.{length_of}
 use Rattle.mps_model.specs.World.{World, pairs_in}
 use Rattle.mps_root.specs.State.{kept}
@@ -105,6 +105,40 @@ parts_with_pairs layout past h w pairs unpaired p = record {
   sizes = p.sizes;
   chains = p.chains;
   dependents = unpaired p.dependents;
+  names = p.names;
+  state = p.state;
+}
+
+-- a world with other frames of pools
+abbrev pub world_with_frames : World → List PoolFrames → World
+world_with_frames w frames = record w { graph = record w.graph { frames = frames } }
+
+pub parts_with_frames : {F : Type 0} (layout : F → Layout) (past : Past) (h : HeapState F) (w : World) (frames : List PoolFrames)
+    → AreParts layout past h w → AreParts layout past h (world_with_frames w frames)
+parts_with_frames layout past h w frames p = record {
+  grains = p.grains;
+  limit = p.limit;
+  segments = p.segments;
+  image = p.image;
+  arena = p.arena;
+  tables = p.tables;
+  ordered = p.ordered;
+  areas = p.areas;
+  blocks = p.blocks;
+  roots_counted = p.roots_counted;
+  slots_counted = p.slots_counted;
+  points = p.points;
+  points_counted = p.points_counted;
+  registered = p.registered;
+  messages = p.messages;
+  flips = p.flips;
+  point_flips = p.point_flips;
+  dependencies = p.dependencies;
+  lawful = p.lawful;
+  pools = p.pools;
+  sizes = p.sizes;
+  chains = p.chains;
+  dependents = p.dependents;
   names = p.names;
   state = p.state;
 }

@@ -10,7 +10,7 @@ use Rattle.mps_model.specs.declared.call.Call.{Call}
 use Rattle.mps_model.specs.Answer.{is_block}
 use Rattle.mps_model.specs.Step.{Step}
 use Rattle.mps_model.specs.Graph.{Slots, entries, occurrences, with_last}
-use Rattle.mps_model.specs.World.{World, Pool, PoolKind, Collected, OneSize, AnySize, empty_world_of}
+use Rattle.mps_model.specs.World.{World, Pool, PoolKind, Collected, OneSize, AnySize, Frames, empty_world_of}
 use Rattle.mps_model.specs.Reply.{act}
 use Rattle.mps_model.specs.History.{judged_world, moved_world, world_after}
 use Rattle.mps_changes.specs.Change.{Change, is_kind_made, PoolMade}
@@ -36,6 +36,7 @@ abbrev pub is_sized : PoolKind → Bool
 is_sized (Collected kind) = true
 is_sized (OneSize words) = nat_lt 0 words
 is_sized AnySize = true
+is_sized Frames = true
 
 abbrev AreSized : List Pool → Type 0
 AreSized pools = AllByRecursion (λ (q : Pool). is_sized q.kind ≡ true) pools
@@ -170,6 +171,7 @@ some_words (OneSize words) h =
     let some = leb-true 1 words both.0 in
     lt-ltb 0 words (omega (arith, some))
 some_words AnySize h = refl
+some_words Frames h = refl
 
 sized_last : (ps : List Pool) (p : Pool) → AreSized ps → is_sized p.kind ≡ true → AreSized (with_last ps p)
 sized_last [] p all h = (h, tt)

@@ -11,16 +11,21 @@ use Rattle.mps_laws.proofs.Replays.Replay.{empty_layout, legal_step_replayed, li
 use Rattle.mps_laws.proofs.Sound.SoundGraph.{IsSoundGraph, All, auto}
 use Rattle.mps_laws.proofs.Sound.SoundHistories.{SlotsAreLive, step_sound}
 use Rattle.mps_refinement.specs.StandsFor.{IsReached}
-use Rattle.mps_laws.proofs.WellFormedHistories.{automatic_after}
+use Rattle.mps_laws.proofs.WellFormedHistories.{automatic_after, none_framed, places_made}
+use Rattle.mps_laws.proofs.Caches.{AreRightCaches, caches_after}
+use Rattle.mps_laws.proofs.Frames.{AreRightFrames, frames_after, frames_manual}
 
 steps_sound : (limit : ℕ) (w : World) (h : History) → HasLayout limit w → BlocksAreLive w → SlotsAreLive w → IsSoundGraph w
-    → All (auto w) (ids_in_pairs w.state) → IsLegalFrom w h → IsSoundGraph (world_after_steps w h)
-steps_sound limit w [] laid live slots sound pairs legal = sound
-steps_sound limit w (s ∷ ss) laid live slots sound pairs legal =
+    → All (auto w) (ids_in_pairs w.state) → AreRightCaches w → AreRightFrames w → IsLegalFrom w h
+    → IsSoundGraph (world_after_steps w h)
+steps_sound limit w [] laid live slots sound pairs cached framed legal = sound
+steps_sound limit w (s ∷ ss) laid live slots sound pairs cached framed legal =
     let one = legal_step_replayed limit 0 s.line w laid live s.call s.moves s.answer legal.0 in
-    let after = step_sound limit s.line w laid live slots sound pairs s.call s.moves s.answer legal.0 in
+    let after = step_sound limit s.line w laid live slots sound pairs (frames_manual w sound framed) s.call s.moves s.answer
+    legal.0 in
     steps_sound (limit_after limit s.call) (world_after w s) ss one.layout (live_after w s live legal.0) after.1 after.0
-    (automatic_after w s sound after.0 pairs legal.0) legal.1
+    (automatic_after w s sound after.0 pairs legal.0) (caches_after w s (places_made w sound) cached legal.0)
+    (frames_after w s framed cached legal.0) legal.1
 
 empty_sound : (formats : ℕ → Layout) → IsSoundGraph (empty_world_of formats)
 empty_sound formats = record {
@@ -37,4 +42,5 @@ empty_sound formats = record {
 pub reached_graph : (w : World) → IsReached w → IsSoundGraph w
 reached_graph w r =
     subst IsSoundGraph (sym r.is)
-    (steps_sound 1 (empty_world_of w.formats) r.history (empty_layout w.formats) refl refl (empty_sound w.formats) refl r.legal)
+    (steps_sound 1 (empty_world_of w.formats) r.history (empty_layout w.formats) refl refl (empty_sound w.formats) refl refl
+    none_framed r.legal)

@@ -21,7 +21,7 @@ use Rattle.mps_model.specs.Reply.{act}
 use Rattle.mps_model.specs.History.{HeldAreLive, is_held_rightly}
 use Rattle.mps_laws.proofs.Acts.{ForAct, point_named-is}
 use Rattle.mps_changes.proofs.ActChanges.{but, of_changes}
-use Rattle.mps_changes.specs.Change.{IsFoundBy, Now, Before, IsInSlot, IsGot, GotNull, FromSlot, FromCell, FromWord, FromMessage, IsShown, ShownPlain, ShownPinned, ShownPoked, IsWritten, Change, Unchanged, Aside, SlotIs, WordIs, MessageTaken, TableMade, AreaMade, BlocksMade, TableDropped, AreaDropped, CellsAre, BlockWordIs, PlaceEmptied, Allocated, PoolMade, PointMade, PointDropped, Opened, Written, Closed, Committed, Substituted, Registered, Unregistered, allocates, frees, CacheMade, BlockUncached, BlockCached, CacheFlushed}
+use Rattle.mps_changes.specs.Change.{IsFoundBy, Now, Before, IsInSlot, IsGot, GotNull, FromSlot, FromCell, FromWord, FromMessage, IsShown, ShownPlain, ShownPinned, ShownPoked, IsWritten, Change, Unchanged, Aside, SlotIs, WordIs, MessageTaken, TableMade, AreaMade, BlocksMade, TableDropped, AreaDropped, CellsAre, BlockWordIs, PlaceEmptied, Allocated, PoolMade, PointMade, PointDropped, Opened, Written, Closed, Committed, Substituted, Registered, Unregistered, allocates, frees, CacheMade, BlockUncached, BlockCached, CacheFlushed, FramePushed, FramesPopped}
 use Rattle.mps_laws.proofs.FoundBy.{object_found, reference_found, slot_found, word_found}
 use Rattle.mps_laws.proofs.Sound.SoundGraph.{all-at, entry-passes}
 use Rattle.mps_laws.proofs.Lookups.{entry_is_there}
@@ -51,6 +51,7 @@ may_move (call.Free place) = true
 may_move (call.CacheAlloc cache words place) = true
 may_move (call.CacheFree cache place) = true
 may_move (call.CacheFlush cache) = true
+may_move (call.Pop pool frame) = true
 may_move call.Start = true
 may_move (call.StartChain chain generation) = true
 may_move call.Collect = true
@@ -107,6 +108,7 @@ module _ (w : World) (rest : w.collection ≡ None) (sound : IsSound w) where
         labels = u.graph.labels;
         dependents = u.graph.dependents;
         transforms = u.graph.transforms;
+        frames = u.graph.frames;
       }
       → u.addresses ≡ w.addresses → u.collection ≡ w.collection → u.formats ≡ w.formats
       → (is_running u || list_all (is_live u) (ids_in_pairs u.state)) ≡ true → LeavesSound w.formats u
@@ -117,6 +119,7 @@ module _ (w : World) (rest : w.collection ≡ None) (sound : IsSound w) where
           labels = u.graph.labels;
           dependents = u.graph.dependents;
           transforms = u.graph.transforms;
+          frames = u.graph.frames;
         };
       } in
       let named : IsSound v = resting_sound v rest (record {
@@ -268,13 +271,15 @@ module _ (w : World) (rest : w.collection ≡ None) (sound : IsSound w) where
             (word_of_block_written (is_live w) w.graph (is_live w) id k value (parts.referred running)));
         transforms = sound.live.transforms;
       })) refl
-  change_sound {c = c} h (PlaceEmptied from place id e found has) = absurd (true≢false (sym (freeing_moves c e) ∙ h))
+  change_sound {c = c} h (PlaceEmptied from place id e found has freed) = absurd (true≢false (sym (freeing_moves c e) ∙ h))
   change_sound {c = c} h (Allocated p words place at e of kind size found empty) = absurd (true≢false (sym (allocating_moves c e) ∙ h))
   change_sound h (CacheMade name pool of classes e may none) =
       left (cache_sound w sound name (record { pool = of.number; classes = classes }) none) refl
   change_sound h (BlockUncached name cache words into place id classes e is taken found empty) = but may_move e refl h
   change_sound h (BlockCached name cache from place id classes e is found has own kept) = but may_move e refl h
   change_sound h (CacheFlushed name cache e is) = but may_move e refl h
+  change_sound {u = u} h (FramePushed name f e found) = renamed refl refl refl refl sound.live.transforms
+  change_sound h (FramesPopped name f frame before e found opened) = but may_move e refl h
   change_sound h (PoolMade name p e made) = renamed refl refl refl refl sound.live.transforms
   change_sound h (PointMade name pool of at_rank e is may) = left (point_sound w sound name of.number at_rank) refl
   change_sound h (PointDropped name p e is none) = left (point_gone_sound w sound name p.number) refl

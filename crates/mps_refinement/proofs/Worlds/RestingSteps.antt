@@ -57,6 +57,7 @@ module _ (w : World) (rest : w.collection ≡ None) where
   quiet_at_rest (call.CacheAlloc cache words place) answer h s = absurd (true≢false h)
   quiet_at_rest (call.CacheFree cache place) answer h s = absurd (true≢false h)
   quiet_at_rest (call.CacheFlush cache) answer h s = absurd (true≢false h)
+  quiet_at_rest (call.Pop pool frame) answer h s = absurd (true≢false h)
   quiet_at_rest call.Start answer h s = absurd (true≢false h)
   quiet_at_rest (call.StartChain chain generation) answer h s = absurd (true≢false h)
   quiet_at_rest call.Collect answer h s = absurd (true≢false h)

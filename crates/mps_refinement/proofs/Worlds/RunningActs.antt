@@ -13,7 +13,7 @@ use Rattle.mps_model.specs.Checked.{Act, Checked}
 use Rattle.mps_model.specs.LegalMove.{AreLegalMoves}
 use Rattle.mps_model.specs.Reply.{act, world_from}
 use Rattle.mps_model.specs.History.{judged_world, moved_world, moves_of_collector}
-use Rattle.mps_changes.specs.Change.{allocates, frees, makes_arena, Change, Unchanged, Allocated, CacheMade, BlockUncached, BlockCached, CacheFlushed, Committed, PlaceEmptied, BlocksMade}
+use Rattle.mps_changes.specs.Change.{allocates, frees, makes_arena, Change, Unchanged, Allocated, CacheMade, BlockUncached, BlockCached, CacheFlushed, FramesPopped, Committed, PlaceEmptied, BlocksMade}
 use Rattle.mps_changes.proofs.ActChanges.{but, of_changes}
 use Rattle.mps_changes.proofs.Checks.{for_world}
 use Rattle.mps_changes.proofs.OneMore.{cache_added}
@@ -78,13 +78,14 @@ module _ (w : World) (c : Call) (never : never_moves c ≡ true) where
   change_blocks : {marked : Bool} {u : World} → HasLiveBlocks w → Change marked c w w u → HasLiveBlocks u
   change_blocks live (Allocated p words place at e of kind size found empty) = moves_block (ap (λ b. b || frees c) e)
   change_blocks live (Committed name target p r slot e there found has lives) = moves e refl
-  change_blocks live (PlaceEmptied from place id e found has) = moves_block (or_right (allocates c) (frees c) e)
+  change_blocks live (PlaceEmptied from place id e found has freed) = moves_block (or_right (allocates c) (frees c) e)
   change_blocks live (CacheMade name pool of classes e may none) =
       subst (λ ids. list_all (is_live w) (ids_in_places w.graph ++ ids) ≡ true)
       (sym (cache_added w.graph.caches (record { pool = of.number; classes = classes }) none)) live
   change_blocks live (BlockUncached name cache words into place id classes e is taken found empty) = moves e refl
   change_blocks live (BlockCached name cache from place id classes e is found has own kept) = moves e refl
   change_blocks live (CacheFlushed name cache e is) = moves e refl
+  change_blocks live (FramesPopped name f frame before e found opened) = moves e refl
   change_blocks live (BlocksMade name places e) = blocks_made (is_live w) w.graph live places
   change_blocks live _ = live
 
@@ -127,6 +128,7 @@ module _ (x : Collecting) (run : Running x) where
   quiet_running (call.CacheAlloc cache words place) answer h s kept = absurd (false≢true h)
   quiet_running (call.CacheFree cache place) answer h s kept = absurd (false≢true h)
   quiet_running (call.CacheFlush cache) answer h s kept = absurd (false≢true h)
+  quiet_running (call.Pop pool frame) answer h s kept = absurd (false≢true h)
   quiet_running (call.Get target source cell) answer h s kept = absurd (false≢true h)
   quiet_running call.Start answer h s kept = absurd (false≢true h)
   quiet_running (call.StartChain chain generation) answer h s kept = absurd (false≢true h)
@@ -156,6 +158,7 @@ module _ (x : Collecting) (run : Running x) where
   nothing_collected line (call.CacheAlloc cache words place) answer h = absurd (false≢true h)
   nothing_collected line (call.CacheFree cache place) answer h = absurd (false≢true h)
   nothing_collected line (call.CacheFlush cache) answer h = absurd (false≢true h)
+  nothing_collected line (call.Pop pool frame) answer h = absurd (false≢true h)
   nothing_collected line _ answer h = refl
 
   none_is_legal : (c : Call) → AreLegalMoves w None (moves_of_collector c [])
@@ -166,6 +169,7 @@ module _ (x : Collecting) (run : Running x) where
   none_is_legal (call.CacheAlloc cache words place) = tt
   none_is_legal (call.CacheFree cache place) = tt
   none_is_legal (call.CacheFlush cache) = tt
+  none_is_legal (call.Pop pool frame) = tt
   none_is_legal _ = tt
 
   module _ (line : ℕ) (c : Call) (answer : Answer) (is : IsQuietCall x c answer) where
@@ -220,6 +224,7 @@ moves_not_at_rest (call.Free place) h = absurd (false≢true h)
 moves_not_at_rest (call.CacheAlloc cache words place) h = absurd (false≢true h)
 moves_not_at_rest (call.CacheFree cache place) h = absurd (false≢true h)
 moves_not_at_rest (call.CacheFlush cache) h = absurd (false≢true h)
+moves_not_at_rest (call.Pop pool frame) h = absurd (false≢true h)
 moves_not_at_rest call.Start h = absurd (false≢true h)
 moves_not_at_rest (call.StartChain chain generation) h = absurd (false≢true h)
 moves_not_at_rest call.Collect h = absurd (false≢true h)

@@ -15,7 +15,7 @@ use Rattle.mps_buffer.specs.Points.{after_end, after_end_at, after_all_end, with
 use Rattle.mps_abstract.proofs.Lists.{contains_cases}
 use Rattle.mps_trace.specs.GenState.{max_chains}
 use Rattle.mps_model.specs.Graph.{contains}
-use Rattle.mps_model.specs.World.{World, Pool, PoolKind, Collected, OneSize, AnySize, is_automatic_kind, is_copying_kind, is_copying_pool, pool_at, pool_is}
+use Rattle.mps_model.specs.World.{World, Pool, PoolKind, Collected, OneSize, AnySize, Frames, is_automatic_kind, is_copying_kind, is_copying_pool, pool_at, pool_is}
 use Rattle.mps_model.specs.Effect.{Everything, condemned_by}
 use Rattle.mps_seg.specs.Segs.{SegsState}
 use Rattle.mps_seg.specs.Collecting.{condemning}
@@ -38,6 +38,7 @@ copying_is_automatic (Some p) copies = of_kind p.kind copies
     of_kind (Collected which) copies = refl
     of_kind (OneSize words) copies = absurd (false≢true copies)
     of_kind AnySize copies = absurd (false≢true copies)
+    of_kind Frames copies = absurd (false≢true copies)
 
 -- if segments are those of a world, and formats and what moves are those of its pools
 pub flip_is_the_models : {F : Type 0}

@@ -22,6 +22,9 @@ returns-in-PoolMfs-clause-logged g c = rw c.in-PoolMfs.is (simp append-nil c.log
 pub returns-in-PoolMvff-clause-logged : goal.returns-in-PoolMvff-clause-logged
 returns-in-PoolMvff-clause-logged g c = rw c.in-PoolMvff.is (simp append-nil c.log_record-in-PoolMvff.ensures.logged)
 
+pub returns-in-PoolFrames-clause-logged : goal.returns-in-PoolFrames-clause-logged
+returns-in-PoolFrames-clause-logged g c = rw c.in-PoolFrames.is (simp append-nil c.log_record-in-PoolFrames.ensures.logged)
+
 pub returns-in-Arena-clause-failed : goal.returns-in-Arena-clause-failed
 returns-in-Arena-clause-failed g c = rw c.in-Arena.is (simp append-nil c.log_record.ensures.failed)
 
@@ -41,9 +44,12 @@ returns-in-PoolMfs-clause-failed g c = rw c.in-PoolMfs.is (simp append-nil c.log
 pub returns-in-PoolMvff-clause-failed : goal.returns-in-PoolMvff-clause-failed
 returns-in-PoolMvff-clause-failed g c = rw c.in-PoolMvff.is (simp append-nil c.log_record-in-PoolMvff.ensures.failed)
 
+pub returns-in-PoolFrames-clause-failed : goal.returns-in-PoolFrames-clause-failed
+returns-in-PoolFrames-clause-failed g c = rw c.in-PoolFrames.is (simp append-nil c.log_record-in-PoolFrames.ensures.failed)
+
 pub returns-in_default-clause-logged : goal.returns-in_default-clause-logged
 returns-in_default-clause-logged g c =
     let d = c.in_default in
     rw (none_of_another c.args.call.now c.args.pools c.args.line d.not-Arena d.not-Limit d.not-Pool d.not-PoolOnChain d.not-PoolMfs
-    d.not-PoolMvff)
+    d.not-PoolMvff d.not-PoolFrames)
     (logs_none (g.D.Desk.outside c.args.desk.now))

@@ -1,0 +1,5 @@
+use Rattle.mps_model_examples.proofs.Framed as history
+use Rattle.mps_model_examples.proofs.no_pop_frees_one_less.Goals as goal
+
+pub returns : goal.returns
+returns c = history.no_pop_frees_one_less

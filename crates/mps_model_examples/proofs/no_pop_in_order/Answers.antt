@@ -1,0 +1,5 @@
+use Rattle.mps_model_examples.proofs.Framed as history
+use Rattle.mps_model_examples.proofs.no_pop_in_order.Goals as goal
+
+pub returns : goal.returns
+returns c = history.no_pop_in_order
