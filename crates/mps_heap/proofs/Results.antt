@@ -7,16 +7,15 @@ use Rattle.mps_format.specs.Layout.{Layout}
 use Rattle.mps_model.specs.declared.call.Call.{Call}
 use Rattle.mps_model.specs.declared.call.Call.TheVariants as call
 use Rattle.mps_model.specs.World.{World}
-use Rattle.mps_heap_spec.specs.Arena.{BlockBegins}
-use Rattle.mps_heap_spec.specs.Manual.{is_block_over}
+use Rattle.mps_heap_spec.specs.Arena.{BlockBegins, IsNotDumped}
 use Rattle.mps_heap_spec.specs.State.{HeapState}
 use Rattle.mps_refinement.specs.Answering.{answer_to}
 use Rattle.mps_refinement.specs.Making.{IsRightMaking, IsRightMakingIn}
 use Rattle.mps_refinement.specs.RightStep.{IsRight}
-use Rattle.mps_refinement.proofs.Calls.Dumps.{dump_answers, dump_is_refused}
+use Rattle.mps_refinement.proofs.Calls.Dumps.{dump_answers, none_there, not_dumped_is_right}
 use Rattle.mps_heap.specs.Answers.{says_words}
 use Rattle.mps_heap.specs.Results.{without_key}
-use Rattle.std.specs.Prelude.{MatchResult, false}
+use Rattle.std.specs.Prelude.{MatchResult, false, is_some}
 
 module _ {F : Type 0} (layout : F → Layout) where
   pub making_without_key : (h after : HeapState F) (c : Call) (made : Result ℕ Refusal) (told : Result (Unit {0}) Refusal)
@@ -49,10 +48,7 @@ module _ {F : Type 0} (layout : F → Layout) where
       of_made (Err _) right = record { answered = λ other. right.answered (λ e. absurd cc); out_of_memory = λ e. absurd cc }
 
   pub dump_is_right_of : (h : HeapState F) (at : Addr) (result : Result ℕ Refusal)
-      → MatchResult result (λ words. BlockBegins h at.0 words)
-      (λ why. (why ≡ refusal.NotABlock) × (is_block_over h.segs at.0 at.0 ≡ false))
+      → MatchResult result (λ words. (is_some h.running ≡ false) × BlockBegins h at.0 words) (λ why. IsNotDumped h at.0 why)
       → IsRight layout h (call.Dump at.0) [] (answer_to (says_words h.segs.words at) result) h
-  dump_is_right_of h at (Ok words) begins = dump_answers layout h at.0 words begins
-  dump_is_right_of h at (Err why) none =
-      subst (λ w. IsRight layout h (call.Dump at.0) [] (answer_to (says_words h.segs.words at) (Err w)) h) (sym none.0)
-      (dump_is_refused layout h at.0 none.1)
+  dump_is_right_of h at (Ok words) begins = dump_answers layout h at.0 (none_there h.running begins.0) words begins.1
+  dump_is_right_of h at (Err why) isnt = not_dumped_is_right layout h at.0 why isnt

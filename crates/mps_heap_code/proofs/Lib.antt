@@ -1,5 +1,7 @@
 pub mod Collecting
+pub mod Committing
 pub mod Dropping
 mod Lending
+pub mod Inside
 pub mod Making
 pub mod Ready

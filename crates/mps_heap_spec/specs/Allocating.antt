@@ -25,6 +25,8 @@ use Rattle.mps_format.specs.declared.pool.Pool.{Pool}
 use Rattle.mps_heap_spec.specs.Coming.{Outcome, Moved, done}
 use Rattle.mps_heap_spec.specs.Finding.{point_named, slot_in, number_cell_at, reference_cell_at, retargeted}
 use Rattle.mps_heap_spec.specs.Objects.{with_slot, with_word}
+use Rattle.mps_base.specs.Address.{Address}
+use Rattle.mps_seg.specs.Collecting.{is_white_at, keeping}
 
 module _ {F : Type 0} (layout : F → Layout) where
   -- whether a pool takes blocks with this head, in its format
@@ -98,6 +100,10 @@ module _ {F : Type 0} where
   abbrev pub with_closed : HeapState F → Kept Point → HeapState F
   with_closed h point = record h { points = with_point h.points point.key (Some (after_close point.value)) }
 
+  -- a block that was made while a collection runs is kept, if it lies in a condemned segment: the collection doesn't free it
+  abbrev pub keeping_new : HeapState F → (at : Address) → HeapState F
+  keeping_new h at = record h { segs = if is_some h.running && is_white_at h.segs at then keeping h.segs at else h.segs }
+
   abbrev pub after_commit : HeapState F → Moves → Name → Slot → Checked (Moved F Committed)
   after_commit h trail name target = do
     point ← point_named h name
@@ -105,6 +111,6 @@ module _ {F : Type 0} where
     held ← required point.value.reservation refusal.NotOpen
     Ok (if held.flips == h.points.flips then record {
       answer = AsBlock;
-      state = with_slot (record (with_closed h point) { segs = with_block h.segs held }) slot held.at.0;
+      state = with_slot (keeping_new (record (with_closed h point) { segs = with_block h.segs held }) held.at.0) slot held.at.0;
       trail = with_move trail (moves.Commit held.at held.words point.value.pool);
     } else record { answer = AsFlipped; state = with_closed h point; trail = trail })

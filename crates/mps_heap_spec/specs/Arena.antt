@@ -1,5 +1,5 @@
 -- The outcomes of the calls on the arena, and the heap of a new one.
-use Rattle.std.specs.Prelude.{ℕ, ◌≡◌, true, nat_lt, None, [], Contains}
+use Rattle.std.specs.Prelude.{ℕ, ◌≡◌, true, nat_lt, None, [], Contains, false, is_some, IsTrue}
 use Rattle.mps_base.specs.Address.{Address, word_of}
 use Rattle.mps_base.specs.Run.{total}
 use Rattle.mps_base.specs.declared.refusal.Refusal.TheVariants as refusal
@@ -16,6 +16,7 @@ use Rattle.mps_heap_spec.specs.declared.arena.ArenaState.{ArenaState}
 use Rattle.mps_heap_spec.specs.declared.arena.ArenaState.TheVariants as arena
 use Rattle.mps_heap_spec.specs.Coming.{Outcome, done}
 use Rattle.mps_heap_spec.specs.Manual.{is_block_over}
+use Rattle.mps_base.specs.declared.refusal.Refusal.{Refusal}
 
 module _ {F : Type 0} where
   -- a heap in which nothing was made, in an arena of n grains with this commit limit
@@ -49,6 +50,11 @@ module _ {F : Type 0} where
 
   abbrev pub with_arena : HeapState F → ArenaState → HeapState F
   with_arena h state = record h { arena = state }
+
+  -- why no block is dumped: a collection runs, or no block begins at the address
+  pub data IsNotDumped (h : HeapState F) (at : Address) : Refusal → Type 0 where
+    runs : IsTrue (is_some h.running) → IsNotDumped h at refusal.Running
+    none_begins : is_some h.running ≡ false → is_block_over h.segs at at ≡ false → IsNotDumped h at refusal.NotABlock
 
   -- a block of n words begins at an address
   pub record BlockBegins (h : HeapState F) (at : Address) (words : ℕ) : Type 0 where

@@ -56,8 +56,8 @@ impl<F: Format> Heap<F> {
         self.state.live()
     }
 
-    /// How many words the live block has that begins at an address: they are the arena's words there. Refuses `NotABlock` if none begins
-    /// there.
+    /// How many words the live block has that begins at an address: they are the arena's words there. Refuses `Running` if a collection
+    /// runs, and `NotABlock` if none begins there.
     pub fn dump(&self, at: Addr) -> Result<u32, Refusal>
         ensures right { IsRight F.layout self.now (call.Dump at.0) [] (answer_to (says_words self.now.segs.words at) result) self.now }
     {

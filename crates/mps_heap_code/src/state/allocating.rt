@@ -1,13 +1,14 @@
 // The calls by which a client allocates objects.
-ghost use Rattle.std.specs.Prelude.{◌≡◌, ◌<◌, ◌≤◌, Some, IsTrue, IfOk};
-ghost use Rattle.mps_base.specs.Address.{max_block_words};
+ghost use Rattle.std.specs.Prelude.{◌≡◌, ◌+◌, ◌*◌, ◌<◌, ◌≤◌, Some, IsTrue, IfOk};
+ghost use Rattle.mps_base.specs.Address.{max_block_words, word_of, words_of_grain};
 ghost use Rattle.mps_buffer.specs.Tokens.{IsClosedAt};
+ghost use Rattle.mps_seg.specs.Table.{IsMarked};
 ghost use Rattle.mps_heap_spec.specs.State.{IsReady};
 ghost use Rattle.mps_heap_spec.specs.Coming.{Comes, ComesMoving};
-ghost use Rattle.mps_heap_spec.specs.Allocating.{check_reserve, after_reserve, block_held, with_reserved_word, number_initialised, reference_initialised, after_commit};
+ghost use Rattle.mps_heap_spec.specs.Allocating.{check_reserve, after_reserve, block_held, with_reserved_word, number_initialised, reference_initialised, after_commit, keeping_new};
 
 use super::State;
-use mps_base::{Name, Refusal, Slot, Trail};
+use mps_base::{Addr, Name, Refusal, Slot, Trail};
 use mps_buffer::{Held, Point};
 use mps_format::{Format, format_of_pool};
 use mps_heap_spec::{
@@ -111,6 +112,17 @@ impl<F: Format> State<F> {
         Ok(())
     }
 
+    /// A block that was made while a collection runs is kept, if it lies in a condemned segment: the collection doesn't free it.
+    #[inline(always)]
+    fn keep_new(&mut self, at: Addr)
+        requires { word_of at.0 < words_of_grain * (self.old.segs.grains + 1) }
+        ensures { self.new ≡ keeping_new self.old at.0 }
+    {
+        if self.running.is_some() && self.segs.is_white(at) {
+            self.segs.keep(at);
+        }
+    }
+
     /// The reservation of a point becomes an object, to which a slot refers from now on; if a flip came since the reserve, it is given
     /// up and the slot stays.
     #[inline(always)]
@@ -122,13 +134,17 @@ impl<F: Format> State<F> {
     ) -> Result<Committed, Refusal>
         requires ready { IsReady self.old }
         requires fits { 0 < trail.old.spare }
-        ensures { ComesMoving self.old trail.old (after_commit self.old trail.old name target) result self.new trail.new }
+        ensures came { ComesMoving self.old trail.old (after_commit self.old trail.old name target) result self.new trail.new }
+        ensures tables { IsMarked self.old.segs.grains self.old.segs.marks self.old.segs.condemned self.old.segs.summaries }
     {
+        self.segs.tables_are_whole();
         let point = self.point_named(name)?;
         let slot = self.slot_in(target)?;
         let _held = reservation_of(point.value)?;
         match self.points.commit(&mut self.segs, trail, point.key) {
             Ok(at) => {
+                self.segs.blocks_are_in_order();
+                self.keep_new(at);
                 self.set_slot(slot, at.0);
                 Ok(Committed::AsBlock)
             }

@@ -1,10 +1,9 @@
 // The calls on the arena.
-ghost use Rattle.std.specs.Prelude.{◌≡◌, length, false, MatchResult};
+ghost use Rattle.std.specs.Prelude.{◌≡◌, length, false, is_some, MatchResult};
 ghost use Rattle.mps_base.specs.Run.{total};
 ghost use Rattle.mps_heap_spec.specs.declared.arena.ArenaState.TheVariants as arena;
 ghost use Rattle.mps_heap_spec.specs.Coming.{Comes};
-ghost use Rattle.mps_heap_spec.specs.Manual.{is_block_over};
-ghost use Rattle.mps_heap_spec.specs.Arena.{held_grains, limit_set, with_arena, BlockBegins};
+ghost use Rattle.mps_heap_spec.specs.Arena.{held_grains, limit_set, with_arena, BlockBegins, IsNotDumped};
 
 use super::State;
 use mps_base::{Addr, Refusal};
@@ -57,11 +56,15 @@ impl<F: Format> State<F> {
         )
     }
 
-    /// How many words the block has that begins at an address. Refuses `NotABlock` if none begins there.
+    /// How many words the block has that begins at an address. Refuses `Running` if a collection runs, and `NotABlock` if none begins
+    /// there.
     pub fn dump(&self, at: u64) -> Result<u32, Refusal>
-        ensures { MatchResult result (λ words. BlockBegins self.now at words)
-            (λ why. (why ≡ Refusal.NotABlock) × (is_block_over self.now.segs at at ≡ false)) }
+        ensures { MatchResult result (λ words. (is_some self.now.running ≡ false) × BlockBegins self.now at words)
+            (λ why. IsNotDumped self.now at why) }
     {
+        if self.running.is_some() {
+            return Err(Refusal::Running);
+        }
         if !begins_block(&self.segs, at) {
             return Err(Refusal::NotABlock);
         }

@@ -1,12 +1,14 @@
 -- `dump`: where a block begins at an address, its words are the image of the model's object there; where none does, no object lives
 -- there.
-use Rattle.mps_refinement.proofs.Worlds.Known.{IsKnown}
+use Rattle.mps_refinement.proofs.Worlds.Known.{IsKnown, known_now}
 use Rattle.mps_refinement.proofs.Worlds.RestingActs.{resting_sound}
-use Rattle.mps_refinement.proofs.Parts.Resting.{at_rest, image_at_rest}
-use Rattle.std.proofs.Common.{◌≡◌, ◌∙◌, ℕ, ◌+◌, ◌-◌, false, refl, sym, ap, subst, List, [], take, drop, Option, Some, None, Ok, Err, arith}
+use Rattle.mps_refinement.proofs.Parts.Resting.{image_at_rest}
+use Rattle.std.proofs.Common.{◌≡◌, ◌∙◌, ℕ, ◌+◌, ◌-◌, true, false, refl, sym, ap, subst, List, [], take, drop, Option, Some, None, Ok, Err, arith}
 use Rattle.std.proofs.lemmas.Bool.{true≢false}
-use Rattle.std.specs.Prelude.{slice_range}
+use Rattle.std.proofs.lemmas.Option.{none-some}
+use Rattle.std.specs.Prelude.{is_some, slice_range}
 use Rattle.mps_base.specs.Address.{Address, Id, word_of}
+use Rattle.mps_base.specs.declared.refusal.Refusal.{Refusal}
 use Rattle.mps_base.specs.declared.refusal.Refusal.TheVariants as refusal
 use Rattle.mps_format.specs.Layout.{Layout}
 use Rattle.mps_laws.proofs.Finding.{id_at-found, id_at-there}
@@ -21,16 +23,21 @@ use Rattle.mps_model.specs.Collecting.{act_dump}
 use Rattle.mps_model.specs.Graph.{Object}
 use Rattle.mps_model.specs.Image.{image_of, image_of_body}
 use Rattle.mps_model.specs.World.{World, id_at}
-use Rattle.mps_heap_spec.specs.Arena.{BlockBegins}
+use Rattle.mps_heap_spec.specs.Arena as arena
+use Rattle.mps_heap_spec.specs.Arena.{BlockBegins, IsNotDumped, none_begins}
 use Rattle.mps_heap_spec.specs.Manual.{is_block_over}
 use Rattle.mps_heap_spec.specs.State.{HeapState}
 use Rattle.mps_refinement.specs.RightStep.{IsRight}
-use Rattle.mps_refinement.specs.StandsFor.{AreParts, Past}
+use Rattle.mps_refinement.specs.StandsFor.{AreParts, IsInTime, Past, Rests, Time, collector_of, rests, runs}
 use Rattle.mps_refinement.proofs.Lookups.BlockRuns.{run_is, words_are}
 use Rattle.mps_refinement.proofs.Lookups.Blocks.{begins_at_object, object_begins, same_address}
 use Rattle.mps_refinement.proofs.Lookups.ManualBlocks.{setting}
-use Rattle.mps_refinement.proofs.Calls.Readings.{IsReading, reading_is_right}
+use Rattle.mps_refinement.proofs.Worlds.Steps.{SaysOnly, answer_is_right_in}
 use Rattle.std.specs.Option.{option_map_or}
+
+pub none_there : {A : Type 0} (o : Option A) → is_some o ≡ false → o ≡ None
+none_there None idle = refl
+none_there (Some a) idle = absurd (true≢false idle)
 
 module _ {F : Type 0} (layout : F → Layout) (h : HeapState F) (at : Address) where
   -- what a dump comes to in the model, by what is found at the address
@@ -41,10 +48,15 @@ module _ {F : Type 0} (layout : F → Layout) (h : HeapState F) (at : Address) w
   dump_at_rest w found rest is =
       ap (λ b. refuse_when b refusal.Running >> dumped w (id_at w at)) (is_running-none w rest) ∙ ap (dumped w) is
 
+  -- no collection runs in the world if the heap has none
+  rests_there : h.running ≡ None → (t : Time) (w : World) → IsInTime t (collector_of h) w → Rests t (collector_of h) w
+  rests_there none t w (rests rest) = rest
+  rests_there none t w (runs x r may) = absurd (none-some r.run (sym none ∙ r.running))
+
   begun_reads : (words : ℕ) → BlockBegins h at words → (w : World) (past : Past) → AreParts layout past h w → IsKnown past.time w
-      → Same (IsReading w Dumped) (Ok (slice_range h.segs.words (word_of at) (word_of at + words))) (act_dump w at)
-  begun_reads words begins w past parts knows =
-      let rest = at_rest knows.now in
+      → Rests past.time (collector_of h) w
+      → Same (SaysOnly layout Dumped h (call.Dump at) w) (Ok (slice_range h.segs.words (word_of at) (word_of at + words))) (act_dump w at)
+  begun_reads words begins w past parts knows rest =
       let s = setting layout past h w parts knows in
       let placed = parts.image.placed in
       let there = object_begins s w.addresses placed h.segs parts.image.runs.blocks at begins.at_word in
@@ -56,31 +68,36 @@ module _ {F : Type 0} (layout : F → Layout) (h : HeapState F) (at : Address) w
       ∙ words_are h.segs w (image_at_rest layout past h w parts rest.time) rest.none
       (resting_sound w rest.none knows.live) there.0 at o.0 there.1 o.1
       ∙ sym (ap (λ x. option_map_or (λ (q : Object). image_of_body w q.body) x []) o.1) in
-      subst (λ x. Same (IsReading w Dumped) (Ok (slice_range h.segs.words (word_of at) (word_of at + words))) x)
+      subst (λ x. Same (SaysOnly layout Dumped h (call.Dump at) w)
+      (Ok (slice_range h.segs.words (word_of at) (word_of at + words))) x)
       (sym (dump_at_rest w (Some there.0) rest.none found))
-      (fits (ap (λ ws. record { answer = Dumped ws; world = w }) (sym image)))
+      (fits (record { answer = ap Dumped (sym image); world = refl }))
 
-  -- the words of a block that begins at the address
-  pub dump_is_right : (words : ℕ) → BlockBegins h at words
+  -- the words of a block that begins at the address, if no collection runs
+  pub dump_is_right : h.running ≡ None → (words : ℕ) → BlockBegins h at words
       → IsRight layout h (call.Dump at) [] (Dumped (slice_range h.segs.words (word_of at) (word_of at + words))) h
-  dump_is_right words begins =
+  dump_is_right none words begins w line st =
       let found : Checked (List ℕ) = Ok (slice_range h.segs.words (word_of at) (word_of at + words)) in
-      reading_is_right layout Dumped h (call.Dump at) refl refl (λ a. refl) found found (begun_reads words begins) refl
+      answer_is_right_in layout Dumped h (call.Dump at) refl refl (λ a. refl) found found w line
+      (begun_reads words begins w st.past st.parts (known_now st) (rests_there none st.past.time w st.time)) refl st
 
   -- as the answer for which the reply of the place of its words stands
-  pub dump_answers : (words : ℕ) → BlockBegins h at words
+  pub dump_answers : h.running ≡ None → (words : ℕ) → BlockBegins h at words
       → IsRight layout h (call.Dump at) [] (answer.answer_of h.segs.words (reply.Words (record { 0 = at }) words)) h
-  dump_answers words begins =
+  dump_answers none words begins =
       subst (λ n. IsRight layout h (call.Dump at) [] (Dumped (take n (drop (word_of at) h.segs.words))) h)
-      (let e : word_of at + words - word_of at ≡ words = omega arith in e) (dump_is_right words begins)
+      (let e : word_of at + words - word_of at ≡ words = omega arith in e) (dump_is_right none words begins)
 
   none_reads : is_block_over h.segs at at ≡ false → (w : World) (past : Past) → AreParts layout past h w → IsKnown past.time w
-      → Same (IsReading w Dumped) (Err refusal.NotABlock) (act_dump w at)
-  none_reads none w past parts knows = of_found (id_at w at) refl
+      → Rests past.time (collector_of h) w
+      → Same (SaysOnly layout Dumped h (call.Dump at) w) (Err refusal.NotABlock) (act_dump w at)
+  none_reads none w past parts knows rest = of_found (id_at w at) refl
     where
-      of_found : (found : Option Id) → id_at w at ≡ found → Same (IsReading w Dumped) (Err refusal.NotABlock) (act_dump w at)
+      of_found : (found : Option Id) → id_at w at ≡ found
+          → Same (SaysOnly layout Dumped h (call.Dump at) w) (Err refusal.NotABlock) (act_dump w at)
       of_found None e =
-          subst (λ x. Same (IsReading w Dumped) (Err refusal.NotABlock) x) (sym (dump_at_rest w None (at_rest knows.now).none e)) refused
+          subst (λ x. Same (SaysOnly layout Dumped h (call.Dump at) w) (Err refusal.NotABlock) x) (sym (dump_at_rest w None rest.none e))
+          refused
       of_found (Some id) e =
           let s = setting layout past h w parts knows in
           let placed = parts.image.placed in
@@ -89,7 +106,28 @@ module _ {F : Type 0} (layout : F → Layout) (h : HeapState F) (at : Address) w
           absurd (true≢false (sym (begins_at_object s w.addresses placed h.segs parts.image.runs.blocks id at o.0 there o.1) ∙ none))
 
   -- refused where none begins there
-  pub dump_is_refused : is_block_over h.segs at at ≡ false → IsRight layout h (call.Dump at) [] (answer.refused refusal.NotABlock) h
-  dump_is_refused none =
+  dump_is_refused : h.running ≡ None → is_block_over h.segs at at ≡ false
+      → IsRight layout h (call.Dump at) [] (answer.refused refusal.NotABlock) h
+  dump_is_refused none_runs none w line st =
       let found : Checked (List ℕ) = Err refusal.NotABlock in
-      reading_is_right layout Dumped h (call.Dump at) refl refl (λ a. refl) found found (none_reads none) refl
+      answer_is_right_in layout Dumped h (call.Dump at) refl refl (λ a. refl) found found w line
+      (none_reads none w st.past st.parts (known_now st) (rests_there none_runs st.past.time w st.time)) refl st
+
+  -- and while a collection runs
+  running_refuses : is_some h.running ≡ true → (t : Time) (w : World) → IsInTime t (collector_of h) w → act_dump w at ≡ Err refusal.Running
+  running_refuses some t w (rests rest) = absurd (true≢false (sym some ∙ ap is_some rest.not_running))
+  running_refuses some t w (runs x r may) =
+      ap (λ b. refuse_when b refusal.Running >> dumped w (id_at w at))
+      (ap is_some (ap (λ (v : World). v.collection) (sym r.world) ∙ r.invariant.runs))
+
+  dump_is_refused_running : is_some h.running ≡ true → IsRight layout h (call.Dump at) [] (answer.refused refusal.Running) h
+  dump_is_refused_running some w line st =
+      let found : Checked (List ℕ) = Err refusal.Running in
+      answer_is_right_in layout Dumped h (call.Dump at) refl refl (λ a. refl) found found w line
+      (subst (λ x. Same (SaysOnly layout Dumped h (call.Dump at) w) (Err refusal.Running) x)
+      (sym (running_refuses some st.past.time w st.time)) refused) refl st
+
+  -- so each refusal is right
+  pub not_dumped_is_right : (why : Refusal) → IsNotDumped h at why → IsRight layout h (call.Dump at) [] (answer.refused why) h
+  not_dumped_is_right why (arena.runs some) = dump_is_refused_running some
+  not_dumped_is_right why (none_begins idle none) = dump_is_refused (none_there h.running idle) none

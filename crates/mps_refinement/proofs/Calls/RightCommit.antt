@@ -1,5 +1,4 @@
 -- A `commit` of a heap at rest is a right step.
-use Rattle.std.proofs.lemmas.Bool.{false≢true}
 use Rattle.std.proofs.Common.{◌≡◌, ◌∙◌, ℕ, Bool, true, false, refl, sym, ap, subst, List, [], ◌∷◌, ◌++◌, length, Option, Some, None, Ok, Err, ◌+◌}
 use Rattle.std.specs.Prelude.{not, ◌==◌, if◌then◌else◌, ◌&&◌, slice_set}
 use Rattle.std.specs.Option.{option_map_or}
@@ -39,7 +38,7 @@ use Rattle.mps_heap_spec.specs.Objects.{with_slot}
 use Rattle.mps_heap_spec.specs.State.{HeapState}
 use Rattle.mps_refinement.specs.Answering.{answer_to, says_committed}
 use Rattle.mps_refinement.specs.RightStep.{IsRight, IsRightIn, step_of}
-use Rattle.mps_refinement.specs.StandsFor.{AreParts, IsHeld, IsReached, Past, AreOfFlip, IsInTime, StandsFor, Rests, collector_of}
+use Rattle.mps_refinement.specs.StandsFor.{AreParts, IsHeld, IsReached, Past, AreOfFlip, IsInTime, collector_of}
 use Rattle.mps_refinement.proofs.Calls.Committing.{at, block_parts, block_sound, closed_parts, blocks_live}
 use Rattle.mps_refinement.proofs.Lookups.Found.{same_found}
 use Rattle.mps_refinement.proofs.Lookups.HeldCells.{held_same}
@@ -60,8 +59,8 @@ use Rattle.mps_refinement.proofs.Worlds.FlipKept.{flips_kept}
 use Rattle.mps_laws.proofs.Acts.{for_world}
 use Rattle.mps_seg.specs.Collecting.{first_grain_over, is_white_at}
 use Rattle.mps_refinement.proofs.Worlds.RestingActs.{resting_sound}
-use Rattle.mps_refinement.proofs.Calls.CommitKept.{after_commit_kept, kept_at_rest}
-use Rattle.mps_refinement.proofs.Parts.Resting.{at_rest, none_over}
+use Rattle.mps_refinement.proofs.Calls.CommitKept.{after_commit_kept, commit_kept, kept_in_time}
+use Rattle.mps_refinement.proofs.Parts.Resting.{none_over}
 
 module _ {F : Type 0} (layout : F → Layout) (past : Past) (h : HeapState F) (w : World) (parts : AreParts layout past h w)
     (knows : IsKnown past.time w) (reach : IsReached w) (now : IsInTime past.time (collector_of h) w)
@@ -304,10 +303,11 @@ module _ {F : Type 0} (layout : F → Layout) (past : Past) (h : HeapState F) (w
 
 -- `commit` is right, where the trail has no moves before it
 pub commit_is_right : {F : Type 0} (layout : F → Layout) (h : HeapState F) (trail : Moves) (name : Name) (target : Slot)
-    (result : Checked Committed) (after : HeapState F) (trail_after : Moves) → trail.moves ≡ []
+    (result : Checked Committed) (after : HeapState F) (trail_after : Moves)
+    → length h.segs.marks.kept ≡ words_of_arena h.segs.grains → trail.moves ≡ []
     → ComesMoving h trail (after_commit h trail name target) result after trail_after
     → IsRight layout h (call.Commit name target) trail_after.moves (answer_to says_committed result) after
-commit_is_right layout h trail name target result after trail_after none comes = λ w line st.
+commit_is_right layout h trail name target result after trail_after wide none comes = λ w line st.
     subst (λ s. IsRightIn layout w (step_of line (call.Commit name target) trail_after.moves (answer_to says_committed result)) s)
     (sym comes.state)
     (subst (λ r. IsRightIn layout w (step_of line (call.Commit name target) trail_after.moves (answer_to says_committed r))
@@ -315,14 +315,7 @@ commit_is_right layout h trail name target result after trail_after none comes =
     (subst (λ (t : Moves). IsRightIn layout w (step_of line (call.Commit name target) t.moves
     (answer_to says_committed (answer_moved (after_commit h trail name target))))
     (state_moved h (after_commit h trail name target))) (sym comes.moves)
-    (none_condemned w line st (at_rest st.time))))
-  where
-    none_condemned : (w : World) (line : ℕ) (st : StandsFor layout h w) → Rests st.past.time (collector_of h) w
-        → IsRightIn layout w (step_of line (call.Commit name target) (trail_moved trail (after_commit h trail name target)).moves
-        (answer_to says_committed (answer_moved (after_commit h trail name target)))) (state_moved h (after_commit h trail name target))
-    none_condemned w line st rest =
-        subst (λ o. IsRightIn layout w (step_of line (call.Commit name target) (trail_moved trail o).moves
-        (answer_to says_committed (answer_moved o))) (state_moved h o)) (kept_at_rest h rest.not_condemned trail name target)
-        (committed_outcome layout st.past h w st.parts (known_now st) st.reached st.time
-        (λ at white. absurd (false≢true (sym (ap (λ b. b && not (bit h.segs.marks.kept (word_of at)))
-        (none_over h.segs rest.not_condemned (first_grain_over h.segs at))) ∙ white))) trail none line name target)
+    (subst (λ o. IsRightIn layout w (step_of line (call.Commit name target) (trail_moved trail o).moves
+    (answer_to says_committed (answer_moved o))) (state_moved h o))
+    (commit_kept h (kept_in_time st.past.time h w st.time) trail name target)
+    (committed_outcome layout st.past h w st.parts (known_now st) st.reached st.time (λ at white. wide) trail none line name target))))

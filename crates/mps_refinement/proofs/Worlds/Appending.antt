@@ -1,6 +1,6 @@
 -- A call that makes moves appends them: what it comes to over a trail is what it comes to over one that has no moves yet, and its moves
 -- are those. So it is right over each trail.
-use Rattle.std.proofs.Common.{◌≡◌, ◌∙◌, ℕ, Bool, true, false, refl, sym, ap, subst, List, [], ◌∷◌, ◌++◌, Ok, Err}
+use Rattle.std.proofs.Common.{◌≡◌, ◌∙◌, ℕ, Bool, true, false, refl, sym, ap, subst, List, [], ◌∷◌, ◌++◌, Ok, Err, length}
 use Rattle.std.proofs.lemmas.List.{append-nil, append_assoc}
 use Rattle.std.specs.Prelude.{◌==◌, ◌-◌, if◌then◌else◌, not, slice_get, Option, Some, None}
 use Rattle.mps_seg.specs.Arena.{answer_of_placement}
@@ -39,6 +39,7 @@ use Rattle.mps_refinement.proofs.Calls.Allocs.{alloc_is_right}
 use Rattle.mps_refinement.proofs.Calls.Frees.{free_is_right}
 use Rattle.mps_refinement.proofs.Calls.RightCommit.{commit_is_right}
 use Rattle.mps_refinement.proofs.Calls.Reserves.{reserve_is_right}
+use Rattle.mps_trace_laws.specs.Image.Memory.{words_of_arena}
 
 -- ---- trails
 
@@ -181,12 +182,14 @@ module _ {F : Type 0} (layout : F → Layout) (h : HeapState F) (trail : Moves) 
       of_flip false x y m = ok_appends trail AsFlipped y trail (fresh trail) (unmoved trail)
 
   pub commit_is_right_after : (name : Name) (target : Slot) (result : Checked Committed) (after : HeapState F) (trail_after : Moves)
+      → length h.segs.marks.kept ≡ words_of_arena h.segs.grains
       → ComesMoving h trail (after_commit h trail name target) result after trail_after
       → IsRightMoving layout h (call.Commit name target) trail.moves trail_after.moves (answer_to says_committed result) after
-  commit_is_right_after name target =
+  commit_is_right_after name target result after trail_after wide =
       appended_right layout h (call.Commit name target) trail says_committed (after_commit h trail name target)
       (after_commit h (fresh trail) name target) (commit_appends name target)
-      (λ result after trail_after. commit_is_right layout h (fresh trail) name target result after trail_after refl)
+      (λ result after trail_after. commit_is_right layout h (fresh trail) name target result after trail_after wide refl)
+      result after trail_after
 
   alloc_appends : (pool : Name) (words : ℕ) (place : Slot)
       → Appends trail (block_allocated h trail pool words place) (block_allocated h (fresh trail) pool words place)

@@ -14,7 +14,7 @@ commit-requires g c = record { ready = is_ready g.F.Format.layout c.self.inside.
 pub invariant_of-self : goal.invariant_of-self
 invariant_of-self g c =
     let moved = commit_is_right_after g.F.Format.layout c.self.inside.state c.args.trail.now c.args.x c.args.target c.commit.result
-    c.commit.new.self c.commit.new.trail c.commit.ensures in
+    c.commit.new.self c.commit.new.trail c.commit.ensures.tables.kept_size c.commit.ensures.came in
     stays g.F.Format.layout c.self.inside.state c.commit.new.self (call.Commit c.args.x c.args.target) moved.moves (answer_to
     says_committed c.commit.result) c.self.invariant moved.right
 
@@ -25,9 +25,9 @@ returns g c = record {
       (answer_to says_committed c.commit.result) c.commit.new.self)
       c.self.view_is
       (commit_is_right_after g.F.Format.layout c.self.inside.state c.args.trail.now c.args.x c.args.target c.commit.result
-      c.commit.new.self c.commit.new.trail c.commit.ensures);
+      c.commit.new.self c.commit.new.trail c.commit.ensures.tables.kept_size c.commit.ensures.came);
   room = keeps_room c.args.trail.now c.self.inside.state (after_commit c.self.inside.state c.args.trail.now c.args.x c.args.target)
       c.commit.result c.commit.new.self
-      c.commit.new.trail c.commit.ensures (commit_keeps_room g.F.Format.layout c.self.inside.state c.args.trail.now c.args.x
+      c.commit.new.trail c.commit.ensures.came (commit_keeps_room g.F.Format.layout c.self.inside.state c.args.trail.now c.args.x
       c.args.target c.requires.fits);
 }
