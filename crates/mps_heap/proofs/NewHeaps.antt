@@ -3,7 +3,7 @@ use Rattle.std.proofs.Common.{◌≡◌, ℕ, ◌≤◌, ap, sym, subst, []}
 use Rattle.mps_base.specs.Address.{max_grains}
 use Rattle.mps_format.specs.Layout.{Layout}
 use Rattle.mps_model.specs.World.{empty_world_of}
-use Rattle.mps_heap_spec.specs.NamesState.{thing_in}
+use Rattle.mps_heap_spec.specs.NamesState.{NameCounts, no_counts, thing_in}
 use Rattle.mps_heap_spec.specs.Arena.{new_heap}
 use Rattle.mps_heap_spec.specs.State.{HeapState}
 use Rattle.mps_refinement.specs.NewHeap.{arena_step}
@@ -12,7 +12,10 @@ use Rattle.mps_refinement.proofs.Calls.NewHeap.{new_heap_is_right}
 use Rattle.mps_heap.specs.Right.{IsNewHeap}
 
 pub is_new_heap : {F : Type 0} (layout : F → Layout) (grains limit : ℕ) (h : HeapState F) → grains ≤ max_grains
-    → h ≡ new_heap grains limit h.names → h.names.entries ≡ [] → IsNewHeap layout grains limit h
-is_new_heap layout grains limit h at_most is empty = λ formats lawful line.
+    → h ≡ new_heap grains limit h.names → h.names.entries ≡ [] → h.names.counts ≡ no_counts → IsNewHeap layout grains limit h
+is_new_heap layout grains limit h at_most is empty counts = λ formats lawful line.
     subst (λ s. IsRightIn layout (empty_world_of formats) (arena_step line grains limit) s) (sym is)
-    (new_heap_is_right layout formats lawful grains limit at_most h.names (λ name. ap (λ es. thing_in es name) empty) line)
+    (new_heap_is_right layout formats lawful grains limit at_most h.names (record {
+      free = λ name. ap (λ es. thing_in es name) empty;
+      no_label = ap (λ (c : NameCounts). c.labels) counts;
+    }) line)

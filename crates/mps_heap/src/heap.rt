@@ -7,6 +7,7 @@ mod arena;
 mod collecting;
 mod depending;
 mod finalizing;
+mod labelling;
 mod lending;
 mod making;
 mod manual;

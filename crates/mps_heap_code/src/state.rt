@@ -4,6 +4,7 @@
 ghost use Rattle.std.specs.Prelude.{◌≡◌, ◌<◌, ◌≤◌, [], slice_get, IfOk};
 ghost use Rattle.mps_base.specs.Address.{max_grains};
 ghost use Rattle.mps_buffer.specs.Points.{AreReserved};
+ghost use Rattle.mps_names.specs.State.{no_counts};
 ghost use Rattle.mps_heap_spec.specs.Arena.{new_heap};
 
 mod allocating;
@@ -13,6 +14,7 @@ mod collecting;
 mod depending;
 mod finalizing;
 mod finding;
+mod labelling;
 mod lending;
 mod making;
 mod manual;
@@ -78,6 +80,7 @@ impl<F: Format> State<F> {
         requires at_most { grains ≤ max_grains }
         ensures state { IfOk result (λ h. h ≡ new_heap grains limit h.names) }
         ensures names { IfOk result (λ h. h.names.entries ≡ []) }
+        ensures counts { IfOk result (λ h. h.names.counts ≡ no_counts) }
     {
         let finals = Finals::new(alloc)?;
         let names = Names::new(alloc)?;

@@ -3,7 +3,7 @@ ghost use Rattle.std.specs.Prelude.{◌<◌};
 
 use crate::list::named;
 use crate::{HEAD, Tail, collect, make, mark_new, pop, push, sum};
-use mps_base::{Kind, Rank, Refusal, Slot, Trail};
+use mps_base::{Addr, Kind, Rank, Refusal, Slot, Trail};
 use mps_format::Leaf;
 use mps_heap::Heap;
 use std::alloc::{AllocError, Global};
@@ -58,6 +58,16 @@ fn use_list(rt: &impl Abort, alloc: Global, heap: &mut Heap<Tail>) {
     assert!(rt; heap.live() == (5, 20));
 }
 
+/// Labels are made, and an object is labelled.
+fn use_labels(rt: &impl Abort, heap: &mut Heap<Tail>) {
+    assert!(rt; heap.intern(named(b'l')) == Ok(0));
+    assert!(rt; heap.intern(named(b'm')) == Ok(1));
+    assert!(rt; heap.intern(named(b'l')) == Err(Refusal::NameTaken));
+    assert!(rt; heap.label(slot(0), named(b'm')) == Ok((Addr(0x1080), 1)));
+    assert!(rt; heap.label(slot(1), named(b'n')) == Err(Refusal::NullRef));
+    assert!(rt; heap.label(slot(0), named(b't')) == Err(Refusal::BadName));
+}
+
 /// The words of a manual block are borrowed, and written by a loan.
 fn use_block(rt: &impl Abort, alloc: Global, heap: &mut Heap<Tail>) {
     assert!(rt; heap.pool_mvff(named(b'v')) == Ok(()));
@@ -82,6 +92,7 @@ fn use_block(rt: &impl Abort, alloc: Global, heap: &mut Heap<Tail>) {
 fn a_heap_over_a_format_of_its_own(rt: HostRuntime) -> Result<(), AllocError> {
     let mut heap = Heap::<Tail>::new(rt.alloc(), 8, 8)?;
     use_list(&rt, rt.alloc(), &mut heap);
+    use_labels(&rt, &mut heap);
     use_block(&rt, rt.alloc(), &mut heap);
     heap.finish();
     Ok(())

@@ -47,6 +47,10 @@ abbrev pub as_dependency : Thing → Option ℕ
 as_dependency (thing.Dependency number) = Some number
 as_dependency _ = None
 
+abbrev pub as_label : Thing → Option ℕ
+as_label (thing.Label number) = Some number
+as_label _ = None
+
 -- what is kept under a key, if there is something
 abbrev pub under : {A : Type 0} → (key : ℕ) → Option A → Checked (Kept A)
 under key (Some value) = Ok (record { key = key; value = value })
@@ -77,6 +81,10 @@ module _ {F : Type 0} (h : HeapState F) where
   dependency_named name = do
     number ← key_named name as_dependency
     under number (slice_get h.dependencies number)
+
+  -- the number of the label that has a name
+  abbrev pub label_named : Name → Checked ℕ
+  label_named name = key_named name as_label
 
   -- a slot of a table
   abbrev pub slot_in : Slot → Checked (Entry Address)

@@ -5,6 +5,7 @@ pub mod Areas
 pub mod Allocating
 pub mod Manual
 pub mod Making
+pub mod Labelling
 pub mod Finalizing
 pub mod Depending
 pub mod Arena

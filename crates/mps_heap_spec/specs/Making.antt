@@ -32,6 +32,7 @@ module _ {F : Type 0} where
   -- the state but for its names is this, and the names represent what they represented before
   pub record IsUntouched (h after : HeapState F) : Type 0 where
     pub names : IsSameMap h.names after.names
+    pub counts : after.names.counts ≡ h.names.counts
     pub state : after ≡ record h { names = after.names }
 
   -- refused if the name is taken

@@ -4,7 +4,7 @@ use Rattle.mps_base.specs.declared.names.Name.{Name}
 use Rattle.mps_base.specs.Name.{same_name}
 use Rattle.mps_names.specs.declared.names.Thing.{Thing}
 use Rattle.mps_names.specs.declared.names.Thing.TheVariants as thing
-use Rattle.mps_names.specs.State.{NameCounts, counts_without, has_own_room}
+use Rattle.mps_names.specs.State.{NameCounts, counts_with, counts_without, has_own_room}
 use Rattle.mps_names.specs.Inside.{AreBeside, ChangesAt, TablesState, found_in}
 use Rattle.mps_names.proofs.Joined.{first_apart, first_changed, same_found, second_apart, second_changed}
 
@@ -43,3 +43,9 @@ not_counted counts (thing.Label number) is = absurd (true≢false is)
 not_counted counts (thing.Cache number) is = absurd (true≢false is)
 not_counted counts (thing.Transform number) is = absurd (true≢false is)
 not_counted counts _ is = refl
+
+pub not_counted_more : (counts : NameCounts) (t : Thing) → has_own_room t ≡ false → counts_with counts t ≡ counts
+not_counted_more counts (thing.Label number) is = absurd (true≢false is)
+not_counted_more counts (thing.Cache number) is = absurd (true≢false is)
+not_counted_more counts (thing.Transform number) is = absurd (true≢false is)
+not_counted_more counts _ is = refl

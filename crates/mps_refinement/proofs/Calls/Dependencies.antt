@@ -69,10 +69,10 @@ module _ {F : Type 0} (layout : F → Layout) (h : HeapState F) (w : World) (pas
         (with_last w.graph.names (record { name = name; thing = graph.DependencyThing count }))
         (ap (λ ds. ds ++ reset_at h.epochs ∷ []) parts.dependencies ∙ ap (λ d. map kept_of w.dependencies ++ d ∷ []) reset_is
         ∙ sym (map-with_last kept_of w.dependencies new_now))
-        (named_made past past h made w.graph.names parts.names name (thing.Dependency number) (graph.DependencyThing count) makes.names free
+        (named_made past past h made w.graph.names w.graph.labels parts.names name (thing.Dependency number) (graph.DependencyThing count) makes.names free
         (ap graph.DependencyThing (makes.number_is ∙ count_is)) (λ other there. refl) stay
         (let e = makes.number_is in omega (arith, e, longer))
-        (λ there. let e = makes.number_is in omega (arith, e, there))));
+        (λ there. let e = makes.number_is in omega (arith, e, there)) refl));
   }
     where
       count : ℕ
@@ -130,7 +130,7 @@ module _ {F : Type 0} (layout : F → Layout) (h : HeapState F) (w : World) (pas
         w.graph.names
         (ap (λ ds. slice_set ds d.key state) parts.dependencies ∙ ap (slice_set (map kept_of w.dependencies) d.key) is
         ∙ sym (map-slice_set kept_of w.dependencies d.key new))
-        (named_alike h (with_dependency h d.key state) past w.graph.names parts.names (λ n. refl) (record {
+        (named_alike h (with_dependency h d.key state) past w.graph.names w.graph.labels parts.names (λ n. refl) refl (record {
           pools = λ n low. low;
           tables = λ k some. some;
           areas = λ k some. some;

@@ -116,10 +116,10 @@ module _ {F : Type 0} (layout : F → Layout) (h : HeapState F) (name : Name) (p
             });
             image_stands = other_formats_stand (setting_at past.time h.segs w) (pool_layout (record w { pools = pools })) (memory_in h.segs)
                 w.addresses past.time.colours (black_cells past.time.condemned past.time.colours) format_as_before parts.image;
-            names_are = named_made past past h made w.graph.names parts.names name (thing.Pool number) (graph.PoolThing (length w.pools))
+            names_are = named_made past past h made w.graph.names w.graph.labels parts.names name (thing.Pool number) (graph.PoolThing (length w.pools))
                 makes.names free (ap graph.PoolThing (makes.number_is ∙ sym parts.pools.count)) (λ other there. refl) stay
                 (let e = makes.number_is in omega (arith, e, longer))
-                (λ there. let e = makes.number_is in omega (arith, e, there));
+                (λ there. let e = makes.number_is in omega (arith, e, there)) refl;
           })));
     }
       where

@@ -93,11 +93,11 @@ module _ {F : Type 0} (layout : F → Layout) (h : HeapState F) (name : Name) (s
           blocks_are = makes.table.blocks ∙ parts.blocks;
           roots_counted = ap (λ n. n + 1) parts.roots_counted ∙ sym (table_made_roots w.graph name slots);
           slots_counted = ap (λ n. n + slots) parts.slots_counted ∙ sym (table_made_slots w.graph name slots);
-          names_are = named_made past (past_of_roots layout past h w parts numbers past.area_number) h made w.graph.names parts.names name
+          names_are = named_made past (past_of_roots layout past h w parts numbers past.area_number) h made w.graph.names w.graph.labels parts.names name
               (thing.Table key) (graph.TableThing number) makes.names (free_root passed)
               (ap graph.TableThing (renumbered_here past.table_number key number))
               (tables_renumbered past h key number makes.table.tables.free) stay (ap is_some makes.table.tables.made)
-              (nothing_there (kept h.roots.tables key) makes.table.tables.free);
+              (nothing_there (kept h.roots.tables key) makes.table.tables.free) refl;
         }
 
     table_alike : MakesAlike layout past h w (call.Table name slots) (check_root h name slots) (MakesTable h name slots)
@@ -161,11 +161,11 @@ module _ {F : Type 0} (layout : F → Layout) (h : HeapState F) (name : Name) (s
           blocks_are = makes.area.blocks ∙ parts.blocks;
           roots_counted = ap (λ n. n + 1) parts.roots_counted ∙ sym (area_made_roots w.graph name slots);
           slots_counted = ap (λ n. n + slots) parts.slots_counted ∙ sym (area_made_slots w.graph name slots);
-          names_are = named_made past (past_of_roots layout past h w parts past.table_number numbers) h made w.graph.names parts.names name
+          names_are = named_made past (past_of_roots layout past h w parts past.table_number numbers) h made w.graph.names w.graph.labels parts.names name
               (thing.Area key) (graph.AreaThing number) makes.names (free_root passed)
               (ap graph.AreaThing (renumbered_here past.area_number key number))
               (areas_renumbered past h key number makes.area.areas.free) stay (ap is_some makes.area.areas.made)
-              (nothing_there (kept h.roots.areas key) makes.area.areas.free);
+              (nothing_there (kept h.roots.areas key) makes.area.areas.free) refl;
         }
 
     area_alike : MakesAlike layout past h w (call.Area name slots) (check_root h name slots) (MakesArea h name slots)
@@ -237,10 +237,10 @@ module _ {F : Type 0} (layout : F → Layout) (h : HeapState F) (name : Name) (s
               ∙ sym (map-with_last (map (address_of_target w.addresses)) w.graph.blocks (replicate slots None));
           roots_counted = ap (λ n. n + 1) parts.roots_counted ∙ sym (blocks_made_roots w.graph name slots);
           slots_counted = ap (λ n. n + slots) parts.slots_counted ∙ sym (blocks_made_slots w.graph name slots);
-          names_are = named_made past past h made w.graph.names parts.names name (thing.Blocks number) (graph.BlocksThing count)
+          names_are = named_made past past h made w.graph.names w.graph.labels parts.names name (thing.Blocks number) (graph.BlocksThing count)
               makes.names (free_root passed) (ap graph.BlocksThing same_count) (λ other there. refl) stay
               (let e = makes.number_is in omega (arith, e, longer))
-              (λ there. let e = makes.number_is in omega (arith, e, there));
+              (λ there. let e = makes.number_is in omega (arith, e, there)) refl;
         }
 
     blocks_alike : MakesAlike layout past h w (call.Blocks name slots) (check_root h name slots) (MakesBlocks h name slots)

@@ -118,7 +118,7 @@ module _ {F : Type 0} (layout : F → Layout) (h : HeapState F) (c : Call) (chec
             past = st.past;
             timed = refl;
             parts = subst (λ s. AreParts layout st.past s w) (sym untouched.state)
-                (untouched_parts layout st.past h w st.parts after.names untouched.names);
+                (untouched_parts layout st.past h w st.parts after.names untouched.names untouched.counts);
           })
 
       made_right : (key : ℕ) → checks ≡ Ok tt → (after : HeapState F) → Makes key after → Right (Ok key) after

@@ -17,6 +17,7 @@ use Rattle.mps_model.specs.declared.reply.Reply.TheVariants as reply
 use Rattle.mps_model.specs.Answer.{Replied}
 use Rattle.mps_model.specs.World.{World, empty_world_of}
 use Rattle.mps_names.specs.State.{NamesState}
+use Rattle.mps_names.specs.declared.names.Thing.TheVariants as thing
 use Rattle.mps_heap_spec.specs.Arena.{new_heap}
 use Rattle.mps_refinement.specs.NewHeap.{NoNames, arena_step, new_world}
 use Rattle.mps_refinement.specs.Numbering.{AreNumbered}
@@ -86,10 +87,12 @@ module _ {F : Type 0} (layout : F → Layout) (formats : ℕ → Layout) (lawful
     chains = refl;
     dependents = refl;
     names = record {
-      named = λ name. sym (ap (option_map (numbered_thing no_past)) (none name));
-      there = λ name thing is. absurd (none-some thing (sym (none name) ∙ is));
-      unique = λ name other thing is. absurd (none-some thing (sym (none name) ∙ is));
+      named = λ name. sym (ap (option_map (numbered_thing no_past)) (none.free name));
+      there = λ name t is. absurd (none-some t (sym (none.free name) ∙ is));
+      unique = λ name other t is. absurd (none-some t (sym (none.free name) ∙ is));
       once = tt;
+      label_count = none.no_label;
+      label_numbers = λ name number is. absurd (none-some (thing.Label number) (sym (none.free name) ∙ is));
     };
     state = refl;
   }

@@ -23,7 +23,7 @@ use Rattle.mps_model.proofs.Reaching.{list_all-contains}
 use Rattle.mps_root.specs.State.{kept}
 use Rattle.mps_abstract.proofs.Lists.{contains_left}
 use Rattle.mps_abstract.specs.Collecting.{Collecting}
-use Rattle.mps_names.specs.State.{thing_named}
+use Rattle.mps_names.specs.State.{NamesState, thing_named}
 use Rattle.mps_heap_spec.specs.State.{HeapState}
 use Rattle.mps_format.specs.Pools.{size_of_pool}
 use Rattle.mps_refinement.specs.StandsFor.{AreParts, AreRegisteredAt, ArePools, IsPoint, Past, StandsAt, state_of, time_at_rest, address_of_id}
@@ -141,6 +141,7 @@ module _ {F : Type 0} (layout : F → Layout) (past : Past) (h after : HeapState
       sizes = heap.sizes ∙ (parts.sizes ∙ ap (map size_of_pool) (sym heap.pools));
       chains = parts.chains;
       dependents = unpaired parts.dependents;
-      names = named_alike h after past w.graph.names parts.names (λ name. ap (λ ns. thing_named ns name) heap.names) stay;
+      names = named_alike h after past w.graph.names w.graph.labels parts.names (λ name. ap (λ ns. thing_named ns name) heap.names)
+          (ap (λ (ns : NamesState). ns.counts) heap.names) stay;
       state = ap state_of (sym heap.parked);
     }

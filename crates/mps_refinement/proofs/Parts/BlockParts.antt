@@ -59,7 +59,7 @@ blocks_changed layout past h w segs blocks objects addresses places segments par
       parts.slots_counted ∙ ap (λ n. sum_by length_of w.graph.tables + sum_by length_of w.graph.areas + n) (sym are.counted),
     )
     (points_of parts) (are.registered, are.messages) parts.dependencies (pools_of parts)
-    (named_alike h (with_blocks h segs blocks) past w.graph.names parts.names (λ name. refl) (record {
+    (named_alike h (with_blocks h segs blocks) past w.graph.names w.graph.labels parts.names (λ name. refl) refl (record {
       pools = λ n low. low;
       tables = λ key some. some;
       areas = λ key some. some;

@@ -1,5 +1,5 @@
 -- Names stand for the same things in a heap and in the model after a thing is made or dropped.
-use Rattle.std.proofs.Common.{◌≡◌, ◌≢◌, ◌∙◌, ℕ, ◌<◌, Bool, true, false, true≢false, refl, sym, ap, subst, List, length, Option, Some, None, IsSome, is_some}
+use Rattle.std.proofs.Common.{◌≡◌, ◌≢◌, ◌∙◌, ℕ, ◌+◌, ◌<◌, ◌≤◌, arith, Bool, true, false, true≢false, refl, sym, ap, subst, List, length, Option, Some, None, IsSome, is_some}
 use Rattle.std.proofs.lemmas.Option.{none-some, same_Some}
 use Rattle.std.specs.Prelude.{if◌then◌else◌, option_map}
 use Rattle.mps_base.specs.Name.{same_name}
@@ -8,7 +8,7 @@ use Rattle.mps_buffer.specs.Points.{point_at}
 use Rattle.mps_laws.proofs.Naming.{dropped_once, made_once, name_dropped, name_made, same_name_equal, same_name_itself}
 use Rattle.mps_model.specs.Graph as graph
 use Rattle.mps_model.specs.Graph.{NamedThing, thing_in, with_last, without_name}
-use Rattle.mps_names.specs.State.{IsSameMap, Updates, thing_named}
+use Rattle.mps_names.specs.State.{IsSameMap, NameCounts, Updates, counts_after, counts_with, counts_without, thing_named}
 use Rattle.mps_names.specs.declared.names.Thing.{Thing}
 use Rattle.mps_names.specs.declared.names.Thing.TheVariants as thing
 use Rattle.mps_root.specs.State.{kept}
@@ -42,13 +42,15 @@ module _ {F : Type 0} (h after : HeapState F) where
   stays_there stay (thing.Transform number) there = there
 
   -- names that stand for the same things
-  pub named_alike : (past : Past) (names : List NamedThing) → AreNamed past h names → IsSameMap h.names after.names → ThingsStay h after
-      → AreNamed past after names
-  named_alike past names are alike stay = record {
+  pub named_alike : (past : Past) (names : List NamedThing) (labels : List Name) → AreNamed past h names labels
+      → IsSameMap h.names after.names → after.names.counts ≡ h.names.counts → ThingsStay h after → AreNamed past after names labels
+  named_alike past names labels are alike counts stay = record {
     named = λ name. are.named name ∙ ap (option_map (numbered_thing past)) (sym (alike name));
     there = λ name t is. stays_there stay t (are.there name t (sym (alike name) ∙ is));
     unique = λ name other t is those. are.unique name other t (sym (alike name) ∙ is) (sym (alike other) ∙ those);
     once = are.once;
+    label_count = ap (λ (c : NameCounts). c.labels) counts ∙ are.label_count;
+    label_numbers = λ name number is. are.label_numbers name number (sym (alike name) ∙ is);
   }
 
 -- the numbers of things don't count the time
@@ -108,77 +110,117 @@ module _ {F : Type 0} (past : Past) (h : HeapState F) (key number : ℕ) where
 
 -- ---- a thing is made
 
-module _ {F : Type 0} (past anew : Past) (h after : HeapState F) (names : List NamedThing) (are : AreNamed past h names) (name : Name)
-  where
-    -- a free name is free in the model too
-    pub free_there : thing_named h.names name ≡ None → thing_in names name ≡ None
-    free_there free = are.named name ∙ ap (option_map (numbered_thing past)) free
+-- these are the labels after a thing was made: they were no fewer, and it is one of them if it is a label
+pub record AreLabelsWith (counts : NameCounts) (before labels : List Name) (t : Thing) : Type 0 where
+  pub count : (counts_with counts t).labels ≡ length labels
+  pub no_fewer : length before ≤ length labels
+  pub one : (number : ℕ) → t ≡ thing.Label number → number < length labels
 
-    pub named_made : (t : Thing) (made : graph.Thing) → Updates h.names after.names name (Some t) → thing_named h.names name ≡ None
-        → numbered_thing anew t ≡ made → ((other : Thing) → IsThere h other → numbered_thing anew other ≡ numbered_thing past other)
-        → ThingsStay h after → IsThere after t → (IsThere h t → ⊥)
-        → AreNamed anew after (with_last names (record { name = name; thing = made }))
-    named_made t made now free is others stay there new = record {
-      named = λ n. named n (same_name name n) refl;
-      there = λ n other found. thing_there n other found (same_name name n) refl;
-      unique = λ n m other these those. unique n m other these those (same_name name n) (same_name name m) refl refl;
-      once = made_once names name made (free_there free) are.once;
-    }
-      where
-        the_name : (n : Name) → same_name name n ≡ true → thing_named after.names n ≡ Some t
-        the_name n same = ap (thing_named after.names) (sym (same_name_equal name n same)) ∙ now.named
+module _ {F : Type 0} (past anew : Past) (h after : HeapState F) (names : List NamedThing) (labels : List Name)
+    (are : AreNamed past h names labels) (name : Name) where
+  -- a free name is free in the model too
+  pub free_there : thing_named h.names name ≡ None → thing_in names name ≡ None
+  free_there free = are.named name ∙ ap (option_map (numbered_thing past)) free
 
-        -- what another name stands for was there
-        other_there : (n : Name) (other : Thing) → thing_named after.names n ≡ Some other → same_name name n ≡ false → IsThere h other
-        other_there n other found differs = are.there n other (sym (now.others n differs) ∙ found)
+  -- a thing that has no name yet, and the labels after it
+  pub named_with : (t : Thing) (made : graph.Thing) (labels_now : List Name) → Updates h.names after.names name (Some t)
+      → thing_named h.names name ≡ None → numbered_thing anew t ≡ made
+      → ((other : Thing) → IsThere h other → numbered_thing anew other ≡ numbered_thing past other) → ThingsStay h after
+      → IsThere after t → ((m : Name) → thing_named h.names m ≡ Some t → ⊥) → AreLabelsWith h.names.counts labels labels_now t
+      → AreNamed anew after (with_last names (record { name = name; thing = made })) labels_now
+  named_with t made labels_now now free is others stay there new count = record {
+    named = λ n. named n (same_name name n) refl;
+    there = λ n other found. thing_there n other found (same_name name n) refl;
+    unique = λ n m other these those. unique n m other these those (same_name name n) (same_name name m) refl refl;
+    once = made_once names name made (free_there free) are.once;
+    label_count = ap (λ (c : NameCounts). c.labels)
+        (now.counts ∙ ap (λ before. counts_after h.names.counts before (Some t)) free) ∙ count.count;
+    label_numbers = λ n number found. label_number n number found (same_name name n) refl;
+  }
+    where
+      the_name : (n : Name) → same_name name n ≡ true → thing_named after.names n ≡ Some t
+      the_name n same = ap (thing_named after.names) (sym (same_name_equal name n same)) ∙ now.named
 
-        renamed : (n : Name) (o : Option Thing) → thing_named h.names n ≡ o
-            → option_map (numbered_thing past) o ≡ option_map (numbered_thing anew) o
-        renamed n None e = refl
-        renamed n (Some other) e = ap Some (sym (others other (are.there n other e)))
+      -- what another name stands for was there
+      other_there : (n : Name) (other : Thing) → thing_named after.names n ≡ Some other → same_name name n ≡ false → IsThere h other
+      other_there n other found differs = are.there n other (sym (now.others n differs) ∙ found)
 
-        named : (n : Name) (b : Bool) → same_name name n ≡ b
-            → thing_in (with_last names (record { name = name; thing = made })) n
-            ≡ option_map (numbered_thing anew) (thing_named after.names n)
-        named n true same =
-            name_made names name made n (free_there free) ∙ ap (λ b. if b then Some made else thing_in names n) same
-            ∙ sym (ap (option_map (numbered_thing anew)) (the_name n same) ∙ ap Some is)
-        named n false differs =
-            name_made names name made n (free_there free) ∙ ap (λ b. if b then Some made else thing_in names n) differs
-            ∙ are.named n ∙ renamed n (thing_named h.names n) refl
-            ∙ ap (option_map (numbered_thing anew)) (sym (now.others n differs))
+      renamed : (n : Name) (o : Option Thing) → thing_named h.names n ≡ o
+          → option_map (numbered_thing past) o ≡ option_map (numbered_thing anew) o
+      renamed n None e = refl
+      renamed n (Some other) e = ap Some (sym (others other (are.there n other e)))
 
-        thing_there : (n : Name) (other : Thing) → thing_named after.names n ≡ Some other → (b : Bool) → same_name name n ≡ b
-            → IsThere after other
-        thing_there n other found true same =
-            subst (IsThere after) (same_Some t other (sym (the_name n same) ∙ found)) there
-        thing_there n other found false differs = stays_there h after stay other (other_there n other found differs)
+      named : (n : Name) (b : Bool) → same_name name n ≡ b
+          → thing_in (with_last names (record { name = name; thing = made })) n
+          ≡ option_map (numbered_thing anew) (thing_named after.names n)
+      named n true same =
+          name_made names name made n (free_there free) ∙ ap (λ b. if b then Some made else thing_in names n) same
+          ∙ sym (ap (option_map (numbered_thing anew)) (the_name n same) ∙ ap Some is)
+      named n false differs =
+          name_made names name made n (free_there free) ∙ ap (λ b. if b then Some made else thing_in names n) differs
+          ∙ are.named n ∙ renamed n (thing_named h.names n) refl
+          ∙ ap (option_map (numbered_thing anew)) (sym (now.others n differs))
 
-        -- no other name stands for what was made
-        not_the_other : (n m : Name) (other : Thing) → thing_named after.names n ≡ Some other → thing_named after.names m ≡ Some other
-            → same_name name n ≡ true → same_name name m ≡ false → ⊥
-        not_the_other n m other these those same differs =
-            new (subst (IsThere h) (sym (same_Some t other (sym (the_name n same) ∙ these))) (other_there m other those differs))
+      thing_there : (n : Name) (other : Thing) → thing_named after.names n ≡ Some other → (b : Bool) → same_name name n ≡ b
+          → IsThere after other
+      thing_there n other found true same =
+          subst (IsThere after) (same_Some t other (sym (the_name n same) ∙ found)) there
+      thing_there n other found false differs = stays_there h after stay other (other_there n other found differs)
 
-        unique : (n m : Name) (other : Thing) → thing_named after.names n ≡ Some other → thing_named after.names m ≡ Some other
-            → (b c : Bool) → same_name name n ≡ b → same_name name m ≡ c → same_name n m ≡ true
-        unique n m other these those true true e f =
-            ap (same_name n) (sym (same_name_equal name m f) ∙ same_name_equal name n e) ∙ same_name_itself n
-        unique n m other these those true false e f = absurd (not_the_other n m other these those e f)
-        unique n m other these those false true e f = absurd (not_the_other m n other those these f e)
-        unique n m other these those false false e f =
-            are.unique n m other (sym (now.others n e) ∙ these) (sym (now.others m f) ∙ those)
+      label_number : (n : Name) (number : ℕ) → thing_named after.names n ≡ Some (thing.Label number) → (b : Bool)
+          → same_name name n ≡ b → number < length labels_now
+      label_number n number found true same = count.one number (same_Some t (thing.Label number) (sym (the_name n same) ∙ found))
+      label_number n number found false differs =
+          let low = are.label_numbers n number (sym (now.others n differs) ∙ found) in
+          let no_fewer = count.no_fewer in omega (arith, low, no_fewer)
+
+      -- no other name stands for what was made
+      not_the_other : (n m : Name) (other : Thing) → thing_named after.names n ≡ Some other → thing_named after.names m ≡ Some other
+          → same_name name n ≡ true → same_name name m ≡ false → ⊥
+      not_the_other n m other these those same differs =
+          new m (sym (now.others m differs) ∙ those ∙ sym (ap Some (same_Some t other (sym (the_name n same) ∙ these))))
+
+      unique : (n m : Name) (other : Thing) → thing_named after.names n ≡ Some other → thing_named after.names m ≡ Some other
+          → (b c : Bool) → same_name name n ≡ b → same_name name m ≡ c → same_name n m ≡ true
+      unique n m other these those true true e f =
+          ap (same_name n) (sym (same_name_equal name m f) ∙ same_name_equal name n e) ∙ same_name_itself n
+      unique n m other these those true false e f = absurd (not_the_other n m other these those e f)
+      unique n m other these those false true e f = absurd (not_the_other m n other those these f e)
+      unique n m other these those false false e f =
+          are.unique n m other (sym (now.others n e) ∙ these) (sym (now.others m f) ∙ those)
+
+  -- a thing that wasn't there, and is no label
+  pub named_made : (t : Thing) (made : graph.Thing) → Updates h.names after.names name (Some t) → thing_named h.names name ≡ None
+      → numbered_thing anew t ≡ made → ((other : Thing) → IsThere h other → numbered_thing anew other ≡ numbered_thing past other)
+      → ThingsStay h after → IsThere after t → (IsThere h t → ⊥) → (counts_with h.names.counts t).labels ≡ h.names.counts.labels
+      → AreNamed anew after (with_last names (record { name = name; thing = made })) labels
+  named_made t made now free is others stay there new uncounted =
+      named_with t made labels now free is others stay there (λ m found. new (are.there m t found)) (record {
+        count = uncounted ∙ are.label_count;
+        no_fewer = omega arith;
+        one = λ number label. absurd (no_label number label);
+      })
+    where
+      no_label : (number : ℕ) → t ≡ thing.Label number → ⊥
+      no_label number label =
+          let e : h.names.counts.labels + 1 ≡ h.names.counts.labels =
+          sym (ap (λ x. (counts_with h.names.counts x).labels) label) ∙ uncounted in omega (arith, e)
 
 -- ---- a thing is dropped
 
-module _ {F : Type 0} (past : Past) (h after : HeapState F) (names : List NamedThing) (are : AreNamed past h names) (name : Name) where
+module _ {F : Type 0} (past : Past) (h after : HeapState F) (names : List NamedThing) (labels : List Name)
+    (are : AreNamed past h names labels) (name : Name) where
   pub named_dropped : (t : Thing) → thing_named h.names name ≡ Some t → Updates h.names after.names name None
-      → ((other : Thing) → IsThere h other → other ≢ t → IsThere after other) → AreNamed past after (without_name names name)
-  named_dropped t was now stay = record {
+      → ((other : Thing) → IsThere h other → other ≢ t → IsThere after other)
+      → (counts_without h.names.counts (Some t)).labels ≡ h.names.counts.labels → AreNamed past after (without_name names name) labels
+  named_dropped t was now stay uncounted = record {
     named = λ n. named n (same_name name n) refl;
     there = λ n other found. stay other (was_there n other found) (other_thing n other found);
     unique = λ n m other these those. are.unique n m other (was_named n other these) (was_named m other those);
     once = dropped_once names name are.once;
+    label_count = ap (λ (c : NameCounts). c.labels) (now.counts ∙ ap (counts_without h.names.counts) was)
+        ∙ uncounted ∙ are.label_count;
+    label_numbers = λ n number found. are.label_numbers n number (was_named n (thing.Label number) found);
   }
     where
       none_now : (n : Name) → same_name name n ≡ true → thing_named after.names n ≡ None

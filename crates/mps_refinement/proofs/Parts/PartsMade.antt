@@ -1,6 +1,7 @@
 -- The parts of a heap that stand for those of a world, after things were made or dropped: a lemma for each kind of thing, over the
 -- facts that change.
 use Rattle.std.proofs.Common.{◌≡◌, ℕ, ◌<◌, refl, sym, ap, subst, List, length, map, Option, IsSome}
+use Rattle.mps_base.specs.declared.names.Name.{Name}
 use Rattle.mps_buffer.specs.declared.point.Point.{Point}
 use Rattle.mps_format.specs.Layout.{Layout}
 use Rattle.mps_ld.specs.State.{LdState}
@@ -59,7 +60,7 @@ module _ {F : Type 0} (layout : F → Layout) (past : Past) (h : HeapState F) (w
     pub blocks_are : roots.blocks ≡ map (map (address_of_target w.addresses)) blocks
     pub roots_counted : roots_live ≡ live_roots (record w.graph { tables = tables; areas = areas; blocks = blocks })
     pub slots_counted : slots_live ≡ live_slots (record w.graph { tables = tables; areas = areas; blocks = blocks })
-    pub names_are : AreNamed (past_of_roots table_number area_number) (state_of_roots roots roots_live slots_live names) named
+    pub names_are : AreNamed (past_of_roots table_number area_number) (state_of_roots roots roots_live slots_live names) named w.graph.labels
 
   pub roots_changed : (table_number area_number : ℕ → ℕ) (roots : RootsState) (roots_live slots_live : ℕ) (names : NamesState)
       (tables : List (Option Slots)) (areas : List (Option (List AreaWord))) (blocks : List Slots) (named : List NamedThing)
@@ -87,7 +88,7 @@ module _ {F : Type 0} (layout : F → Layout) (past : Past) (h : HeapState F) (w
     pub points_counted : points_live ≡ live_points (record w.graph { points = numbered })
     pub image_stands : StandsAt past.time h.segs (world_of_points numbered memories w.graph.names)
     pub open_still : IsArena h.segs.grains (record h.points { points = points })
-    pub names_are : AreNamed (record past { point_number = point_number }) (state_of_points points points_live names) named
+    pub names_are : AreNamed (record past { point_number = point_number }) (state_of_points points points_live names) named w.graph.labels
 
   pub points_changed : (point_number : ℕ → ℕ) (points : List (Option Point)) (points_live : ℕ) (names : NamesState)
       (numbered : List (Option graph.Point)) (memories : List PointMemory) (named : List NamedThing)
@@ -113,7 +114,7 @@ module _ {F : Type 0} (layout : F → Layout) (past : Past) (h : HeapState F) (w
     pub points_are : AreNumbered (IsPoint (length w.flips) (world.is_copying_pool (world_of_pools numbered w.graph.names)) w.point_memories)
         past.point_number (kept h.points.points) w.graph.points
     pub image_stands : StandsAt past.time h.segs (world_of_pools numbered w.graph.names)
-    pub names_are : AreNamed past (state_of_pools pools sizes names) named
+    pub names_are : AreNamed past (state_of_pools pools sizes names) named w.graph.labels
 
   pub pools_changed : (pools : List (Pool F)) (sizes : List ℕ) (names : NamesState) (numbered : List world.Pool)
       (named : List NamedThing) → AreOtherPools pools sizes names numbered named
@@ -132,30 +133,44 @@ module _ {F : Type 0} (layout : F → Layout) (past : Past) (h : HeapState F) (w
   world_of_dependencies dependencies named = record w { graph = record w.graph { names = named }; dependencies = dependencies }
 
   pub dependencies_changed : (states : List LdState) (names : NamesState) (dependencies : List Dependency) (named : List NamedThing)
-      → states ≡ map kept_of dependencies → AreNamed past (state_of_dependencies states names) named
+      → states ≡ map kept_of dependencies → AreNamed past (state_of_dependencies states names) named w.graph.labels
       → AreParts layout past (state_of_dependencies states names) (world_of_dependencies dependencies named)
   dependencies_changed states names dependencies named are names_are =
       parts_of_kinds (arena_of parts) (image_of parts) (roots_of parts) (points_of parts) (finals_of parts) are (pools_of parts) names_are
       (states_of parts)
 
+  -- ---- labels
+
+  -- the world with other names and labels
+  abbrev pub world_of_labels : List NamedThing → List Name → World
+  world_of_labels named labels = with_graph w (record w.graph { names = named; labels = labels })
+
+  pub labels_changed : (names : NamesState) (named : List NamedThing) (labels : List Name)
+      → AreNamed past (record h { names = names }) named labels
+      → AreParts layout past (record h { names = names }) (world_of_labels named labels)
+  labels_changed names named labels names_are =
+      parts_of_kinds (arena_of parts) (image_of parts) (roots_of parts) (points_of parts) (finals_of parts) parts.dependencies
+      (pools_of parts) names_are (states_of parts)
+
   -- ---- the arena's limit and state, and names in another order
 
   pub arena_changed : (limit : ℕ) (arena : ArenaState) (state : world.ArenaState) (names : NamesState) → state ≡ state_of arena
-      → IsSameMap h.names names
+      → IsSameMap h.names names → names.counts ≡ h.names.counts
       → AreParts layout past (record h { segs = record h.segs { limit = limit }; arena = arena; names = names })
       (record w { limit = limit; state = state })
-  arena_changed limit arena state names is same =
+  arena_changed limit arena state names is same counts =
       let after = record h { segs = record h.segs { limit = limit }; arena = arena; names = names } in
       parts_of_kinds (parts.grains, refl, parts.segments) (image_of parts) (roots_of parts) (points_of parts) (finals_of parts)
       parts.dependencies (pools_of parts)
-      (named_alike h after past w.graph.names parts.names same (all_stay h after refl refl refl refl))
+      (named_alike h after past w.graph.names w.graph.labels parts.names same counts (all_stay h after refl refl refl refl))
       (parts.flips, parts.point_flips, is)
 
   -- what stands for the world stands for it with other names of the same meaning
-  pub untouched_parts : (names : NamesState) → IsSameMap h.names names → AreParts layout past (record h { names = names }) w
-  untouched_parts names same =
+  pub untouched_parts : (names : NamesState) → IsSameMap h.names names → names.counts ≡ h.names.counts
+      → AreParts layout past (record h { names = names }) w
+  untouched_parts names same counts =
       subst (λ (v : World). AreParts layout past (record h { names = names }) v)
-      (ap (λ (l : ℕ). record w { limit = l }) parts.limit) (arena_changed h.segs.limit h.arena w.state names parts.state same)
+      (ap (λ (l : ℕ). record w { limit = l }) parts.limit) (arena_changed h.segs.limit h.arena w.state names parts.state same counts)
 
 -- a call that changed nothing that can be seen
 pub untouched_stands : {F : Type 0} (layout : F → Layout) (h after : HeapState F) (w : World) → IsUntouched h after → StandsFor layout h w
@@ -163,7 +178,7 @@ pub untouched_stands : {F : Type 0} (layout : F → Layout) (h after : HeapState
 untouched_stands {F} layout h after w untouched st = record {
   past = st.past;
   parts = subst (λ s. AreParts layout st.past s w) (sym untouched.state)
-      (untouched_parts layout st.past h w st.parts after.names untouched.names);
+      (untouched_parts layout st.past h w st.parts after.names untouched.names untouched.counts);
   time = subst (λ (s : HeapState F). IsInTime st.past.time (collector_of s) w) (sym untouched.state) st.time;
   reached = st.reached;
 }

@@ -57,7 +57,7 @@ module _ {F : Type 0} (layout : F → Layout) (past : Past) (h : HeapState F) (w
         parts.slots_counted ∙ sym are.slots_counted,
       )
       (points_of parts) (finals_of parts) parts.dependencies (pools_of parts)
-      (named_alike h (record h { roots = roots }) past w.graph.names parts.names (λ name. refl) are.stay) (states_of parts)
+      (named_alike h (record h { roots = roots }) past w.graph.names w.graph.labels parts.names (λ name. refl) refl are.stay) (states_of parts)
 
   -- other words, and other objects where they lie
   pub words_written : (words : List ℕ) (objects : List Object)
@@ -66,7 +66,7 @@ module _ {F : Type 0} (layout : F → Layout) (past : Past) (h : HeapState F) (w
   words_written words objects image =
       parts_of_kinds (arena_of parts) (image, parts.arena) (roots_of parts) (points_of parts) (finals_of parts) parts.dependencies
       (pools_of parts)
-      (named_alike h (with_words h words) past w.graph.names parts.names (λ name. refl)
+      (named_alike h (with_words h words) past w.graph.names w.graph.labels parts.names (λ name. refl) refl
       (all_stay h (with_words h words) refl refl refl refl))
       (states_of parts)
 
@@ -77,7 +77,7 @@ module _ {F : Type 0} (layout : F → Layout) (past : Past) (h : HeapState F) (w
       → AreParts layout past (with_finals h finals) (with_graph w (record w.graph { registered = registered; messages = messages }))
   finals_written finals registered messages are waiting =
       parts_of_kinds (arena_of parts) (image_of parts) (roots_of parts) (points_of parts) (are, waiting) parts.dependencies (pools_of parts)
-      (named_alike h (with_finals h finals) past w.graph.names parts.names (λ name. refl)
+      (named_alike h (with_finals h finals) past w.graph.names w.graph.labels parts.names (λ name. refl) refl
       (all_stay h (with_finals h finals) refl refl refl refl))
       (states_of parts)
 
@@ -87,7 +87,7 @@ module _ {F : Type 0} (layout : F → Layout) (past : Past) (h : HeapState F) (w
       → AreParts layout past (record h { dependencies = states }) (record w { dependencies = dependencies })
   dependencies_written states dependencies are count =
       parts_of_kinds (arena_of parts) (image_of parts) (roots_of parts) (points_of parts) (finals_of parts) are (pools_of parts)
-      (named_alike h (record h { dependencies = states }) past w.graph.names parts.names (λ name. refl) (record {
+      (named_alike h (record h { dependencies = states }) past w.graph.names w.graph.labels parts.names (λ name. refl) refl (record {
         pools = λ n low. low;
         tables = λ key some. some;
         areas = λ key some. some;

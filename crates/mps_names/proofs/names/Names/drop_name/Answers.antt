@@ -37,12 +37,11 @@ returns-in-Some-clause-dropped c =
     record {
       named = now.named;
       others = λ other differs. now.others other differs ∙ ap (λ (s : NamesState). thing_named s other) c.self.view_is;
+      counts = sym (not_counted c.self.inside.tables.counts c.in-Some.thing (c.self.invariant.others c.args.name c.in-Some.thing (was c)))
+          ∙ ap (counts_without c.self.inside.tables.counts)
+          (sym (found_first c.self.inside.things.entries c.self.inside.tables.entries c.args.name c.in-Some.thing (was c)))
+          ∙ ap (λ (s : NamesState). counts_without s.counts (thing_named s c.args.name)) c.self.view_is;
     }
-
-pub returns-in-Some-clause-counts : goal.returns-in-Some-clause-counts
-returns-in-Some-clause-counts c =
-    sym (not_counted c.self.inside.tables.counts c.in-Some.thing (c.self.invariant.others c.args.name c.in-Some.thing (was c)))
-    ∙ ap (λ (s : NamesState). counts_without s.counts (Some c.in-Some.thing)) c.self.view_is
 
 -- ---- from the tables
 
@@ -65,8 +64,8 @@ returns-clause-dropped c =
     record {
       named = now.named;
       others = λ other differs. now.others other differs ∙ ap (λ (s : NamesState). thing_named s other) c.self.view_is;
+      counts = c.drop_name.ensures.counts
+          ∙ ap (counts_without c.self.inside.tables.counts) (c.drop_name.ensures.value
+          ∙ sym (found_second c.self.inside.things.entries c.self.inside.tables.entries c.args.name (none c)))
+          ∙ ap (λ (s : NamesState). counts_without s.counts (thing_named s c.args.name)) c.self.view_is;
     }
-
-pub returns-clause-counts : goal.returns-clause-counts
-returns-clause-counts c =
-    c.drop_name.ensures.counts ∙ ap (λ (s : NamesState). counts_without s.counts c.drop_name.result) c.self.view_is

@@ -1,10 +1,10 @@
-use Rattle.std.proofs.Common.{◌≡◌, ◌∙◌, false, ap, sym}
-use Rattle.std.specs.Prelude.{Some, None}
+use Rattle.std.proofs.Common.{◌≡◌, ◌∙◌, false, refl, ap, sym}
+use Rattle.std.specs.Prelude.{Option, Some, None}
 use Rattle.std.proofs.lemmas.Option.{same_Some}
 use Rattle.mps_names.specs.declared.names.Thing.{Thing}
-use Rattle.mps_names.specs.State.{NamesState, has_own_room, thing_named}
+use Rattle.mps_names.specs.State.{NamesState, counts_after, counts_with, has_own_room, thing_named}
 use Rattle.mps_names.specs.Inside.{ChangesAt, found_in}
-use Rattle.mps_names.proofs.Beside.{tables_beside, tables_changed, things_beside, things_changed}
+use Rattle.mps_names.proofs.Beside.{not_counted_more, tables_beside, tables_changed, things_beside, things_changed}
 use Rattle.mps_names.proofs.Joined.{free_in_first, free_in_second}
 use Rattle.mps_names.proofs.names.Names.take.Goals as goal
 
@@ -25,13 +25,17 @@ invariant_of-self c =
     tables_beside c.self.inside.things.entries c.self.inside.tables c.take.new.self c.self.invariant c.args.name (Some c.args.thing)
     c.take.ensures.entries (not_in_map c)
 
-pub returns-then-has_own_room-clause-names : goal.returns-then-has_own_room-clause-names
-returns-then-has_own_room-clause-names c =
+pub returns-then-has_own_room : goal.returns-then-has_own_room
+returns-then-has_own_room c =
     let now = tables_changed c.self.inside.things.entries c.self.inside.tables c.take.new.self c.self.invariant c.args.name
     (Some c.args.thing) c.take.ensures.entries (not_in_map c) in
     record {
-      named = now.named;
-      others = λ other differs. now.others other differs ∙ ap (λ (s : NamesState). thing_named s other) c.self.view_is;
+      names = record {
+        named = now.named;
+        others = λ other differs. now.others other differs ∙ ap (λ (s : NamesState). thing_named s other) c.self.view_is;
+        counts = c.take.ensures.counts ∙ ap (λ (s : NamesState). counts_with s.counts c.args.thing) c.self.view_is
+            ∙ ap (λ (before : Option Thing). counts_after c.args.self.now.counts before (Some c.args.thing)) (sym c.requires.free);
+      };
     }
 
 -- ---- in the map
@@ -54,11 +58,16 @@ invariant_of-self-in-Ok c =
     things_beside c.self.inside.things.entries c.insert.new.self.entries c.self.inside.tables c.self.invariant c.args.name
     (Some c.args.thing) (taken c) (not_in_tables c) (in_the_map c)
 
-pub returns-in-Ok-clause-names : goal.returns-in-Ok-clause-names
-returns-in-Ok-clause-names c =
+pub returns-in-Ok : goal.returns-in-Ok
+returns-in-Ok c =
     let now = things_changed c.self.inside.things.entries c.insert.new.self.entries c.self.inside.tables c.self.invariant c.args.name
     (Some c.args.thing) (taken c) (not_in_tables c) (in_the_map c) in
     record {
-      named = now.named;
-      others = λ other differs. now.others other differs ∙ ap (λ (s : NamesState). thing_named s other) c.self.view_is;
+      names = record {
+        named = now.named;
+        others = λ other differs. now.others other differs ∙ ap (λ (s : NamesState). thing_named s other) c.self.view_is;
+        counts = sym (not_counted_more c.self.inside.tables.counts c.args.thing (in_the_map c c.args.thing refl))
+            ∙ ap (λ (s : NamesState). counts_with s.counts c.args.thing) c.self.view_is
+            ∙ ap (λ (before : Option Thing). counts_after c.args.self.now.counts before (Some c.args.thing)) (sym c.requires.free);
+      };
     }
