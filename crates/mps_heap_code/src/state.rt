@@ -85,12 +85,9 @@ impl<F: Format> State<F> {
         let finals = Finals::new(alloc)?;
         let names = Names::new(alloc)?;
         let segs = Segs::new(alloc, grains, limit)?;
-        let points = match OpenPoints::new(alloc) {
-            Ok(points) => points,
-            Err(why) => {
-                drop(segs);
-                return Err(why);
-            }
+        let Ok(points) = OpenPoints::new(alloc) else {
+            drop(segs);
+            return Err(AllocError);
         };
         Ok(State {
             segs,

@@ -64,11 +64,9 @@ impl<F: Format> State<F> {
     {
         let at = self.word_in(place)?;
         let object = self.object_in(slot)?;
-        let word = Stored {
-            word: object.at,
-            holds: true,
-        };
-        self.set_area_word(at, word);
+        let word = object.at;
+        let holds = true;
+        self.set_area_word(at, Stored { word, holds });
         Ok(())
     }
 
@@ -79,10 +77,7 @@ impl<F: Format> State<F> {
         if !word.holds {
             return Err(Refusal::NotARef);
         }
-        match block_over(&self.segs, word.word) {
-            Some(at) => Ok(at),
-            None => Err(Refusal::NotARef),
-        }
+        block_over(&self.segs, word.word).ok_or(Refusal::NotARef)
     }
 
     /// A slot becomes the object that a word of an area holds. Refuses `NotARef` if it holds none.

@@ -8,7 +8,7 @@ ghost use Rattle.mps_heap_spec.specs.Depending.{with_dependency, dependency_rese
 use super::State;
 use mps_base::{Addr, Name, Refusal, Slot};
 use mps_format::Format;
-use mps_heap_spec::{Kept, item};
+use mps_heap_spec::{Kept, item, under};
 use mps_ld::Ld;
 use mps_names::Thing;
 
@@ -20,10 +20,7 @@ impl<F: Format> State<F> {
         let Some(Thing::Dependency(key)) = self.names.get(name) else {
             return Err(Refusal::BadName);
         };
-        let Some(value) = item(&self.dependencies, key as usize) else {
-            return Err(Refusal::BadName);
-        };
-        Ok(Kept { key, value })
+        under(key, item(&self.dependencies, key as usize))
     }
 
     /// Writes the dependency with a number; nothing if there is none.

@@ -10,7 +10,7 @@ use super::State;
 use mps_base::{Addr, Name, Refusal, Slot};
 use mps_buffer::Point;
 use mps_format::{Format, Pool, format_of_pool};
-use mps_heap_spec::{Block, Entry, Kept, item, pool_of_segment};
+use mps_heap_spec::{Block, Entry, Kept, item, pool_of_segment, under};
 use mps_names::Thing;
 use mps_root::Stored;
 
@@ -22,10 +22,7 @@ impl<F: Format> State<F> {
         let Some(Thing::Pool(key)) = self.names.get(name) else {
             return Err(Refusal::BadName);
         };
-        let Some(value) = self.pools.get(key) else {
-            return Err(Refusal::BadName);
-        };
-        Ok(Kept { key, value })
+        under(key, self.pools.get(key))
     }
 
     /// The point that has a name.
@@ -37,10 +34,7 @@ impl<F: Format> State<F> {
         let Some(Thing::Point(key)) = self.names.get(name) else {
             return Err(Refusal::BadName);
         };
-        let Some(value) = self.points.get(key) else {
-            return Err(Refusal::BadName);
-        };
-        Ok(Kept { key, value })
+        under(key, self.points.get(key))
     }
 
     /// A slot of a table.
@@ -104,8 +98,7 @@ impl<F: Format> State<F> {
     pub(crate) fn pool_over(&self, at: u64) -> Option<Pool<F>>
         ensures { result ≡ pool_over self.now at }
     {
-        let number = pool_of_segment(&self.segs, at)?;
-        self.pools.get(number)
+        self.pools.get(pool_of_segment(&self.segs, at)?)
     }
 
     /// The format of the objects in the segment that is held over an address.
@@ -113,34 +106,29 @@ impl<F: Format> State<F> {
     fn format_over(&self, at: u64) -> Option<F>
         ensures { result ≡ format_over self.now at }
     {
-        let pool = self.pool_over(at)?;
-        format_of_pool(pool)
+        format_of_pool(self.pool_over(at)?)
     }
 
     /// The object at an address that stands in a slot.
     #[inline(always)]
-    pub(crate) fn object_at(&self, address: u64) -> Result<Block<F>, Refusal>
-        ensures value { result ≡ object_at F.layout self.now address }
+    pub(crate) fn object_at(&self, at: u64) -> Result<Block<F>, Refusal>
+        ensures value { result ≡ object_at F.layout self.now at }
         ensures valid { IfOk result (λ b. IsTrue ((F.layout b.format).is_valid b.head)) }
         ensures nonzero { IfOk result (λ b. 0 < b.at) }
     {
-        if address == 0 {
+        if at == 0 {
             return Err(Refusal::NullRef);
         }
-        let Some(format) = self.format_over(address) else {
+        let Some(format) = self.format_over(at) else {
             return Err(Refusal::NullRef);
         };
-        let Some(head) = self.segs.item(Addr(address).word()) else {
+        let Some(head) = self.segs.item(Addr(at).word()) else {
             return Err(Refusal::NullRef);
         };
         if !format.accepts(head) {
             return Err(Refusal::NullRef);
         }
-        Ok(Block {
-            at: address,
-            format,
-            head,
-        })
+        Ok(Block { at, format, head })
     }
 
     /// The object that a slot refers to.

@@ -19,10 +19,7 @@ impl<F: Format> State<F> {
         ensures aligned { IfOk result (λ at. at.0 % bytes_of_word ≡ 0) }
     {
         let from = self.block_place_in(place)?;
-        if from.value == 0 {
-            return Err(Refusal::NotABlock);
-        }
-        if !begins_block(&self.segs, from.value) {
+        if from.value == 0 || !begins_block(&self.segs, from.value) {
             return Err(Refusal::NotABlock);
         }
         Ok(Addr(from.value))

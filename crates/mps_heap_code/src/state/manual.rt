@@ -76,10 +76,7 @@ impl<F: Format> State<F> {
         ensures value { result ≡ block_in self.now place }
         ensures block { IfOk result (λ at. (words : ℕ) × Contains self.now.segs.blocks (record { from = word_of at; count = words })) }
     {
-        if place.value == 0 {
-            return Err(Refusal::NotABlock);
-        }
-        if !begins_block(&self.segs, place.value) {
+        if place.value == 0 || !begins_block(&self.segs, place.value) {
             return Err(Refusal::NotABlock);
         }
         Ok(place.value)
@@ -108,9 +105,8 @@ impl<F: Format> State<F> {
         if pool as usize >= self.pools.manual().pools() {
             return Err(Refusal::NotABlock);
         }
-        self.pools
-            .manual()
-            .free(&mut self.segs, trail, pool, Addr(at));
+        let manual = self.pools.manual();
+        manual.free(&mut self.segs, trail, pool, Addr(at));
         self.set_place(from, 0);
         Ok(())
     }
@@ -124,10 +120,9 @@ impl<F: Format> State<F> {
         }
         let word = Addr(at).word() + k as usize;
         let _ = self.segs.grains(); // the address of a word fits
-        if self.segs.item(word).is_none() {
-            return Err(Refusal::BadIndex);
-        }
-        if !is_block_over(&self.segs, at + BYTES_OF_WORD * k, at) {
+        if self.segs.item(word).is_none()
+            || !is_block_over(&self.segs, at + BYTES_OF_WORD * k, at)
+        {
             return Err(Refusal::BadIndex);
         }
         Ok(word)
@@ -140,10 +135,7 @@ impl<F: Format> State<F> {
         let from = self.block_place_in(place)?;
         let at = self.block_in(from)?;
         let word = self.word_in_block(at, k)?;
-        match self.segs.item(word) {
-            Some(value) => Ok(value),
-            None => Err(Refusal::BadIndex),
-        }
+        self.segs.item(word).ok_or(Refusal::BadIndex)
     }
 
     /// Writes word `k` of the block in a place.
