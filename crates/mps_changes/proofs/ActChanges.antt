@@ -1,7 +1,7 @@
 -- What each call changes: the one walk over all calls and their checks.
-use Rattle.std.proofs.Common.{◌≡◌, ℕ, ◌+◌, Bool, true, false, zero, suc, refl, ap, sym, ◌∙◌, List, [], ◌∷◌, length, Option, Some, None, Ok, inl, inr, arith}
+use Rattle.std.proofs.Common.{◌≡◌, ℕ, ◌+◌, Bool, true, false, zero, suc, refl, ap, sym, ◌∙◌, List, [], ◌∷◌, length, Option, Some, None, Ok, inl, inr, arith, min}
 use Rattle.std.proofs.Math.Nat.{mod-lt}
-use Rattle.std.proofs.lemmas.Bool.{lt-ltb, true≢false, eqb-true}
+use Rattle.std.proofs.lemmas.Bool.{lt-ltb, true≢false, eqb-true, le-leb}
 use Rattle.std.specs.Prelude.{◌%◌, ◌&&◌, if◌then◌else◌, is_none, is_some, count_by, nat_le, nat_lt, not, slice_get, slice_set, ◌==◌}
 use Rattle.std.specs.List.{list_any}
 use Rattle.mps_base.specs.Staleness.{is_stale}
@@ -9,6 +9,7 @@ use Rattle.mps_base.specs.Address.{Id}
 use Rattle.mps_base.specs.declared.names.Name.{Name}
 use Rattle.mps_base.specs.declared.names.Slot.{Slot}
 use Rattle.mps_base.specs.declared.refusal.Refusal.TheVariants as refusal
+use Rattle.mps_model.specs.Dependency.{merged, with_added}
 use Rattle.mps_model.specs.declared.call.Call.{Call}
 use Rattle.mps_model.specs.declared.call.Call.TheVariants as call
 use Rattle.mps_model.specs.declared.reply.Reply.TheVariants as reply
@@ -23,11 +24,11 @@ use Rattle.mps_model.specs.Caches.{act_kept, act_taken, are_class_sizes, kept_by
 use Rattle.mps_model.specs.Frames.{frame_in, frames_named, open_frames}
 use Rattle.mps_model.specs.Placement.{ForAlloc, ForReserve, placement_of}
 use Rattle.mps_model.specs.Allocating.{Reserving, allows_size, block_in, check_reserve, refuse_without_place, with_reservation, with_reserved_cells, words_at, world_committed}
-use Rattle.mps_model.specs.Accessing.{Poked, AsBlock, AsMarked, AsNumber, act_poke_in, act_poked, held_in, poked, same_target}
+use Rattle.mps_model.specs.Accessing.{Poked, AsBlock, AsMarked, AsNumber, act_poke_in, act_poked, held_in, poked, same_target, address_or_null}
 use Rattle.mps_model.specs.Collecting.{act_message_in, most_registrations}
 use Rattle.mps_model.specs.Reply.{act}
-use Rattle.mps_changes.proofs.Checks.{with_value, after_check, andthen, checked, unless, required-is, transform_named-is, without_root, pool_named-is, cache_named-is, frames_named-is}
-use Rattle.mps_changes.specs.Change.{ForAct, accepted, refused, changes_points, Now, Before, makes_pool, is_kind_made, GotNull, FromSlot, FromCell, FromWord, ShownPlain, ShownPinned, ShownPoked, IsWritten, WritesReference, WritesNumber, WritesTag, ArenaMade, LimitIs, ChainMade, StateIs, ParkedAnew, ParkedOn, DependencyMade, DependencyIs, LabelMade, Linked, Unlinked, TransformMade, PairAdded, TransformDropped, Change, Unchanged, Aside, SlotIs, WordIs, MessageTaken, TableMade, AreaMade, BlocksMade, TableDropped, AreaDropped, CellsAre, BlockWordIs, PlaceEmptied, Allocated, PoolMade, PointMade, PointDropped, Opened, Written, Closed, Committed, Substituted, Registered, Unregistered, are_empty_classes, CacheMade, BlockUncached, BlockCached, CacheFlushed, FramePushed, FramesPopped}
+use Rattle.mps_changes.proofs.Checks.{with_value, after_check, andthen, checked, unless, required-is, transform_named-is, without_root, pool_named-is, cache_named-is, frames_named-is, dependency_named-is}
+use Rattle.mps_changes.specs.Change.{ForAct, accepted, refused, changes_points, Now, Before, makes_pool, is_kind_made, GotNull, FromSlot, FromCell, FromWord, ShownPlain, ShownPinned, ShownPoked, IsWritten, WritesReference, WritesNumber, WritesTag, ArenaMade, LimitIs, ChainMade, StateIs, ParkedAnew, ParkedOn, DependencyMade, DependencyIs, LabelMade, Linked, Unlinked, TransformMade, PairAdded, TransformDropped, Change, Unchanged, Aside, SlotIs, WordIs, MessageTaken, TableMade, AreaMade, BlocksMade, TableDropped, AreaDropped, CellsAre, BlockWordIs, PlaceEmptied, Allocated, PoolMade, PointMade, PointDropped, Opened, Written, Closed, Committed, Substituted, Registered, Unregistered, are_empty_classes, CacheMade, BlockUncached, BlockCached, CacheFlushed, FramePushed, FramesPopped, OfNow, NoLater}
 
 not_not : (b : Bool) → not b ≡ false → b ≡ true
 not_not true h = refl
@@ -173,7 +174,7 @@ module _ (marked : Bool) (judged v : World) where
       accepted (PointDropped point p refl e (none_there p.value.reservation none))))
   act_changes_so (call.Dependency dependency) =
       after_check (refuse_taken v dependency) (after_check (refuse_at_limit (length v.dependencies) most_dependencies)
-      (accepted (Aside _ (DependencyMade dependency _ refl))))
+      (accepted (Aside _ (DependencyMade dependency _ refl OfNow))))
   act_changes_so (call.Reserve point head) =
       with_value (check_reserve judged point head) (λ (r : Reserving) e.
       after_check (refuse_without_place (placement_of judged (ForReserve r.point.number (length r.cells))))
@@ -379,15 +380,18 @@ module _ (marked : Bool) (judged v : World) where
       with_value (slot_in v slot) (λ (into : Found (Option ℕ)) e. takes_message slot into v.graph.messages e refl)
   act_changes_so (call.DependencyReset dependency) =
       andthen (dependency_named v dependency) (λ (d : Numbered Dependency).
-      accepted (Aside _ (DependencyIs d.number _ refl)))
+      accepted (Aside _ (DependencyIs d.number (record { epoch = length v.flips; zones = 0; blocks = [] }) refl OfNow)))
   act_changes_so (call.DependencyAdd dependency slot) =
-      andthen (dependency_named v dependency) (λ (d : Numbered Dependency). andthen (slot_in v slot) (λ (from : Found (Option ℕ)).
+      with_value (dependency_named v dependency) (λ (d : Numbered Dependency) e. andthen (slot_in v slot) (λ (from : Found (Option ℕ)).
       andthen (object_in v from.value) (λ (object : Numbered Object).
-      accepted (Aside _ (DependencyIs d.number _ refl)))))
+      accepted (Aside _ (DependencyIs d.number (with_added d.value object.number (address_or_null v object.number)) refl
+      (NoLater d d.value.epoch (dependency_named-is v dependency d e) (le-leb d.value.epoch d.value.epoch (omega arith))))))))
   act_changes_so (call.DependencyMerge dependency source) =
-      andthen (dependency_named v dependency) (λ (d : Numbered Dependency). andthen (dependency_named v source)
+      with_value (dependency_named v dependency) (λ (d : Numbered Dependency) f. andthen (dependency_named v source)
       (λ (e : Numbered Dependency).
-      accepted (Aside _ (DependencyIs d.number _ refl))))
+      accepted (Aside _ (DependencyIs d.number (merged d.value e.value) refl
+      (NoLater d (merged d.value e.value).epoch (dependency_named-is v dependency d f)
+      (le-leb (min d.value.epoch e.value.epoch) d.value.epoch (omega arith)))))))
   act_changes_so (call.DependencyStale dependency) =
       andthen (dependency_named v dependency) (λ (d : Numbered Dependency). told (is_stale v.flips d.value.epoch d.value.zones))
   act_changes_so call.Live = accepted Unchanged

@@ -12,6 +12,6 @@ pub record IsAside (c : Call) (v u : World) : Type 0 where
 
 pub aside_is : {marked : Bool} {c : Call} {judged v u : World} → AsideIs marked c judged v u → IsAside c v u
 aside_is (ArenaMade grains limit is) = record { grains = λ h. absurd (true≢false (sym is ∙ h)); dependencies = λ h. refl }
-aside_is (DependencyMade name d is) = record { grains = λ h. refl; dependencies = λ h. absurd (true≢false (sym is ∙ h)) }
-aside_is (DependencyIs number d is) = record { grains = λ h. refl; dependencies = λ h. absurd (true≢false (sym is ∙ h)) }
+aside_is (DependencyMade name d is dated) = record { grains = λ h. refl; dependencies = λ h. absurd (true≢false (sym is ∙ h)) }
+aside_is (DependencyIs number d is dated) = record { grains = λ h. refl; dependencies = λ h. absurd (true≢false (sym is ∙ h)) }
 aside_is _ = record { grains = λ h. refl; dependencies = λ h. refl }

@@ -6,8 +6,8 @@ use Rattle.mps_base.specs.declared.names.Name.{Name}
 use Rattle.mps_base.specs.declared.refusal.Refusal.{Refusal}
 use Rattle.mps_base.specs.declared.refusal.Refusal.TheVariants as refusal
 use Rattle.mps_model.specs.Graph.{Graph, Point, Thing, ChainThing, PoolThing, TableThing, AreaThing, BlocksThing, PointThing, DependencyThing, TransformThing, CacheThing, LabelThing, entry_at, thing_named, without_name, Cache, PoolFrames}
-use Rattle.mps_model.specs.World.{World, Pool, has_frames}
-use Rattle.mps_model.specs.Checked.{Act, Checked, Numbered, ◌>>=◌, ◌>>◌, as_point, as_pool, as_transform, number_named, numbered, required, refuse_when, point_named, pool_named, transform_named, as_cache, cache_named}
+use Rattle.mps_model.specs.World.{World, Pool, has_frames, Dependency}
+use Rattle.mps_model.specs.Checked.{Act, Checked, Numbered, ◌>>=◌, ◌>>◌, as_point, as_pool, as_transform, number_named, numbered, required, refuse_when, point_named, pool_named, transform_named, as_cache, cache_named, as_dependency, dependency_named}
 use Rattle.mps_model.specs.Frames.{frames_named, frames_of}
 use Rattle.mps_model.specs.Making.{graph_without_root}
 use Rattle.mps_changes.specs.Change.{ForAct, accepted, refused}
@@ -96,6 +96,10 @@ transform_named-is w name n e = transform_thing (thing_named w.graph name) n e
 pub cache_named-is : (w : World) (name : Name) (q : Numbered Cache) → cache_named w name ≡ Ok q
     → slice_get w.graph.caches q.number ≡ Some q.value
 cache_named-is w name q e = (named_by (number_named w name as_cache) (λ n. slice_get w.graph.caches n) q e).1
+
+pub dependency_named-is : (w : World) (name : Name) (d : Numbered Dependency) → dependency_named w name ≡ Ok d
+    → slice_get w.dependencies d.number ≡ Some d.value
+dependency_named-is w name d e = (named_by (number_named w name as_dependency) (λ n. slice_get w.dependencies n) d e).1
 
 pub frames_named-is : (w : World) (name : Name) (f : PoolFrames) → frames_named w name ≡ Ok f → frames_of w.graph f.pool ≡ Some f
 frames_named-is w name f e = of_pool (pool_named w name) e

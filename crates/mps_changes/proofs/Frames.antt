@@ -110,7 +110,8 @@ noted_more (g ∷ gs) pool id = of_test (g.pool == pool) (noted_more gs pool id)
     of_test false (inr more) = inr (after_others more g.blocks)
 
 -- frames are pushed, and the blocks stay
-pub pushed_blocks : (fs : List PoolFrames) (pool : ℕ) → blocks_in (frames_changed fs pool Rattle.mps_model.specs.Frames.pushed) ≡ blocks_in fs
+pub pushed_blocks : (fs : List PoolFrames) (pool : ℕ)
+    → blocks_in (frames_changed fs pool Rattle.mps_model.specs.Frames.pushed) ≡ blocks_in fs
 pushed_blocks [] pool = refl
 pushed_blocks (g ∷ gs) pool = of_test (g.pool == pool) (pushed_blocks gs pool)
   where

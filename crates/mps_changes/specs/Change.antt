@@ -1,6 +1,6 @@
 -- What a call of the client may change of a world, as data: one case for each way, with what the call's checks found. Which call makes
 -- which change is said by one walk over all calls (`ActChanges`); facts of the worlds after calls then go by cases over changes.
-use Rattle.std.specs.Prelude.{◌≡◌, ◌⊎◌, ℕ, Bool, true, false, nat_lt, length, List, [], ◌∷◌, Option, Some, None, option_map, Ok, Err, slice_set, ◌&&◌, map, slice_get}
+use Rattle.std.specs.Prelude.{◌≡◌, ◌⊎◌, ℕ, Bool, true, false, nat_le, nat_lt, length, List, [], ◌∷◌, Option, Some, None, option_map, Ok, Err, slice_set, ◌&&◌, map, slice_get}
 use Rattle.mps_base.specs.declared.refusal.Refusal.{Refusal}
 use Rattle.mps_model.specs.Reply.{act}
 use Rattle.mps_base.specs.Address.{Address}
@@ -106,6 +106,12 @@ pub record HasCacheOver (v : World) (pool : ℕ) : Type 0 where
   pub there : slice_get v.graph.caches cache.number ≡ Some cache.value
   pub is : pool ≡ cache.value.pool
 
+-- an epoch of a dependency: it is of now, or no later than that of a dependency that there is
+pub data IsDatedIn (v : World) : (epoch : ℕ) → Type 0 where
+  OfNow : IsDatedIn v (length v.flips)
+  NoLater : (old : Numbered Dependency) (epoch : ℕ) → slice_get v.dependencies old.number ≡ Some old.value
+      → nat_le epoch old.value.epoch ≡ true → IsDatedIn v epoch
+
 abbrev pub is_empty_list : List ℕ → Bool
 is_empty_list [] = true
 is_empty_list (id ∷ ids) = false
@@ -167,11 +173,12 @@ module _ (marked : Bool) (c : Call) (judged v : World) where
     StateIs : (state : ArenaState) → is_parked_state state ≡ false → AsideIs (with_state v state)
     ParkedAnew : c ≡ call.Collect → AsideIs (with_state v (Parked []))
     ParkedOn : c ≡ call.Park → AsideIs (with_state v (Parked (pairs_in v.state)))
-    DependencyMade : (name : Name) (d : Dependency) → changes_dependencies c ≡ true → AsideIs (record v {
+    DependencyMade : (name : Name) (d : Dependency) → changes_dependencies c ≡ true → IsDatedIn v d.epoch → AsideIs (record v {
       graph = named v.graph name (DependencyThing (length v.dependencies));
       dependencies = with_last v.dependencies d;
     })
-    DependencyIs : (number : ℕ) (d : Dependency) → changes_dependencies c ≡ true → AsideIs (with_dependency v number d)
+    DependencyIs : (number : ℕ) (d : Dependency) → changes_dependencies c ≡ true → IsDatedIn v d.epoch
+        → AsideIs (with_dependency v number d)
     LabelMade : (name : Name) → c ≡ call.Intern name → is_taken v.graph name ≡ false
         → AsideIs (with_graph v (graph_with_label v.graph name))
     Linked : (holder dependent : Numbered Object) → IsInSlot v holder → IsInSlot v dependent

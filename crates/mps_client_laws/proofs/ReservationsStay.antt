@@ -138,7 +138,7 @@ module _ (marked : Bool) (c : Call) (judged v : World) (point : Name) (n : ℕ) 
 
   named_aside : (u : World) → AsideIs marked c judged v u → thing_in u.graph.names point ≡ Some (PointThing n)
   named_aside _ (ChainMade name capacities) = named_kept v.graph.names _ point (PointThing n) h.named
-  named_aside _ (DependencyMade name d e) = named_kept v.graph.names _ point (PointThing n) h.named
+  named_aside _ (DependencyMade name d e dated) = named_kept v.graph.names _ point (PointThing n) h.named
   named_aside _ (LabelMade name e free) = named_kept v.graph.names _ point (PointThing n) h.named
   named_aside _ (TransformMade name) = named_kept v.graph.names _ point (PointThing n) h.named
   named_aside _ (TransformDropped name k is) =

@@ -1,6 +1,6 @@
 -- A block that stands in the frames of a pool is live, and in one place.
-use Rattle.std.proofs.Common.{◌≡◌, ◌≤◌, arith}
-use Rattle.mps_model.specs.Graph.{ids_in_caches, ids_in_frames, ids_in_places, occurrences}
+use Rattle.std.proofs.Common.{arith}
+use Rattle.mps_model.specs.Graph.{ids_in_caches, ids_in_frames, ids_in_places}
 use Rattle.mps_model.specs.World.{is_live}
 use Rattle.mps_changes.proofs.Frames.{counted_passes}
 use Rattle.mps_changes.proofs.OneMore.{occurrences-append}

@@ -1,9 +1,9 @@
 -- The blocks of pools of frames: each stands in a place and is of its pool, none stands in frames twice, and open frames ascend.
 use Rattle.std.proofs.Common.{◌≡◌, ◌∙◌, ◌⊎◌, inl, inr, ℕ, zero, suc, ◌+◌, ◌≤◌, Bool, true, false, refl, sym, ap, subst, List, [], ◌∷◌, ◌++◌, length, Option, Some, None, Ok, arith}
-use Rattle.std.proofs.lemmas.Bool.{false≢true, and_parts, and_from, eq-eqb, eqb-true, leb-true, le-leb}
+use Rattle.std.proofs.lemmas.Bool.{false≢true, and_parts, and_from, eq-eqb, eqb-true}
 use Rattle.std.proofs.lemmas.List.{length-map}
-use Rattle.std.proofs.lemmas.Option.{none-some, same_Some, slice_get-map}
-use Rattle.std.specs.Prelude.{◌==◌, ◌&&◌, if◌then◌else◌, drop, nat_le, nat_lt, not, option_map, replicate, slice_get, take}
+use Rattle.std.proofs.lemmas.Option.{same_Some, slice_get-map}
+use Rattle.std.specs.Prelude.{◌==◌, ◌&&◌, if◌then◌else◌, drop, nat_lt, not, option_map, replicate, slice_get, take}
 use Rattle.std.specs.Option.{option_map_or}
 use Rattle.std.specs.List.{list_all, flat_map}
 use Rattle.mps_base.specs.declared.names.Slot.{Slot}
@@ -32,6 +32,7 @@ use Rattle.mps_laws.proofs.Caches.{AreRightCaches, caches_moved, shapes_of}
 use Rattle.mps_laws.proofs.FoundBy.{found_by}
 use Rattle.mps_laws.proofs.LegalHistories.{legal_step}
 use Rattle.mps_laws.proofs.Lookups.{length-with_last, map-with_last, slice_get-at_last, slice_get-kept}
+use Rattle.mps_laws.proofs.OpenFrames.{rising_cut, rising_last, rising_more}
 use Rattle.mps_laws.proofs.OnePlace.{AreOnce, later_made, one_new, table_added}
 use Rattle.mps_laws.proofs.Positions.LaidOut.{kind_in}
 use Rattle.mps_laws.proofs.Positions.LegalMoves.{cells_kept}
@@ -41,58 +42,6 @@ use Rattle.mps_laws.proofs.SameArena.{judged_alone, moved_alone}
 use Rattle.mps_laws.proofs.Sound.PoolKinds.{kind_in-more}
 use Rattle.mps_laws.proofs.Sound.Substituting.{shapes_substituted}
 use Rattle.mps_laws.proofs.Sound.SoundGraph.{All, IsSoundGraph, all-both, all-weaker, each-at, each-weaker, manual, manual_parts}
-
--- ---- open frames
-
--- a frame more at the end
-rising_last : (from most : ℕ) (ns : List ℕ) → from ≤ most → are_rising from most ns ≡ true → are_rising from most (with_last ns most) ≡ true
-rising_last from most [] low h =
-    and_from (nat_le from most) (nat_le most most && true) (le-leb from most low)
-    (and_from (nat_le most most) true (le-leb most most (omega arith)) refl)
-rising_last from most (n ∷ ns) low h =
-    let first = and_parts (nat_le from n) (nat_le n most && are_rising n most ns) h in
-    let rest = and_parts (nat_le n most) (are_rising n most ns) first.1 in
-    and_from (nat_le from n) (nat_le n most && are_rising n most (with_last ns most)) first.0
-    (and_from (nat_le n most) (are_rising n most (with_last ns most)) rest.0
-    (rising_last n most ns (leb-true n most rest.0) rest.1))
-
--- more blocks
-rising_more : (from most more : ℕ) (ns : List ℕ) → most ≤ more → are_rising from most ns ≡ true → are_rising from more ns ≡ true
-rising_more from most more [] high h = refl
-rising_more from most more (n ∷ ns) high h =
-    let first = and_parts (nat_le from n) (nat_le n most && are_rising n most ns) h in
-    let rest = and_parts (nat_le n most) (are_rising n most ns) first.1 in
-    let low = leb-true n most rest.0 in
-    and_from (nat_le from n) (nat_le n more && are_rising n more ns) first.0
-    (and_from (nat_le n more) (are_rising n more ns) (le-leb n more (omega (arith, low, high))) (rising_more n most more ns high rest.1))
-
-record IsCut (from most n : ℕ) (ns : List ℕ) : Type 0 where
-  pub low : from ≤ n
-  pub high : n ≤ most
-  pub rising : are_rising from n ns ≡ true
-
--- the frames before one of them
-rising_cut : (from most : ℕ) (ns : List ℕ) (k n : ℕ) → slice_get ns k ≡ Some n → are_rising from most ns ≡ true → IsCut from most n (take k ns)
-rising_cut from most [] k n e h = absurd (none-some n e)
-rising_cut from most (m ∷ ms) zero n e h =
-    let first = and_parts (nat_le from m) (nat_le m most && are_rising m most ms) h in
-    let rest = and_parts (nat_le m most) (are_rising m most ms) first.1 in
-    let same : m ≡ n = same_Some m n e in
-    let low = leb-true from m first.0 in
-    let high = leb-true m most rest.0 in
-    record { low = omega (arith, same, low); high = omega (arith, same, high); rising = refl }
-rising_cut from most (m ∷ ms) (suc k) n e h =
-    let first = and_parts (nat_le from m) (nat_le m most && are_rising m most ms) h in
-    let rest = and_parts (nat_le m most) (are_rising m most ms) first.1 in
-    let cut = rising_cut m most ms k n e rest.1 in
-    let low = leb-true from m first.0 in
-    let above = cut.low in
-    record {
-      low = omega (arith, low, above);
-      high = cut.high;
-      rising = and_from (nat_le from m) (nat_le m n && are_rising m n (take k ms)) first.0
-          (and_from (nat_le m n) (are_rising m n (take k ms)) (le-leb m n above) cut.rising);
-    }
 
 -- ---- the frames of pools, over shapes of objects, pools and places
 
@@ -429,7 +378,8 @@ module _ (judged v : World) (same : judged.graph.blocks ≡ v.graph.blocks) (h :
       subst (λ ss. AreFramesOf ss v.pools (ids_in_places u.graph) u.graph.frames) (sym (map-with_last shape_of v.graph.objects o))
       (subst (λ (n : ℕ). AreFramesOf (with_last (shapes_of v) (shape_of o)) v.pools
       (ids_in_places (with_block_place v.graph place (Some n))) (with_block_noted v.graph.frames p.number n)) as_many
-      (block_added (shapes_of v) v.pools (ids_in_places v.graph) (ids_in_places (with_block_place v.graph place (Some (length (shapes_of v)))))
+      (block_added (shapes_of v) v.pools (ids_in_places v.graph)
+      (ids_in_places (with_block_place v.graph place (Some (length (shapes_of v)))))
       v.graph.frames (shape_of o) (place_filled v.graph place f.0 (length (shapes_of v)) (f.1 ∙ ap Some empty)) h))
   change_right {u = u} (BlockUncached name cache words into place id classes e is taken found empty) =
       let f = row_is into place found in

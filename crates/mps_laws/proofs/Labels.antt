@@ -107,7 +107,7 @@ module _ (v : World) (named : AreNamed v.graph) where
 
   aside_named : {marked : Bool} {c : Call} {judged u : World} → AsideIs marked c judged v u → AreNamed u.graph
   aside_named (ChainMade name capacities) = one_more _
-  aside_named (DependencyMade name d is) = one_more _
+  aside_named (DependencyMade name d is dated) = one_more _
   aside_named (LabelMade name is free) = label_made name free
   aside_named (TransformMade name) = one_more _
   aside_named (TransformDropped name transform is) = one_less name (TransformThing transform) is refl

@@ -25,7 +25,9 @@ pub mod Dependents
 pub mod Parked
 pub mod Caches
 pub mod OnePlace
+pub mod OpenFrames
 pub mod Frames
+pub mod Epochs
 pub mod WellFormed
 pub mod WellFormedHistories
 pub mod FrameBlocks

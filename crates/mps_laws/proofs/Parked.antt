@@ -20,8 +20,7 @@ use Rattle.mps_model.specs.Graph.{Object, Body, Automatic, Manual, ids_in_slots,
 use Rattle.mps_model.specs.World.{World, Pool, ArenaState, Unclamped, Clamped, Parked, TransformPair, id_at, ids_in_pairs, ids_of_pair, is_automatic_kind, is_copying_pool, is_weak_kind, is_parked, is_parked_state, is_running, is_unclamped, is_unclamped_state, object_is, pairs_in, pool_at, with_tail}
 use Rattle.mps_model.specs.WellFormed.{is_right_body, are_right_cells}
 use Rattle.mps_model.specs.Checked.{Act, Checked, Numbered, as_point, block_place_in, cache_named, chain_named, number_named, point_named, pool_named, refuse_when, slot_in}
-use Rattle.mps_model.specs.Making.{is_block_size}
-use Rattle.mps_model.specs.Allocating.{Reserving, check_reserve}
+use Rattle.mps_model.specs.Allocating.{Reserving, check_reserve, allows_size}
 use Rattle.mps_model.specs.Transforms.{state_without_pairs}
 use Rattle.mps_model.specs.Effect.{Everything, after_free, after_moved, after_post, after_splat, holding, placing, reclaiming, segment_base_of, segment_of_move, where_one, with_collection, without_object, world_after_move, world_after_moves}
 use Rattle.mps_model.specs.Flip.{flip_act}
@@ -370,7 +369,7 @@ automatic_body : (w : World) (p : Pool) (b : Body) → is_automatic_kind p.kind 
     → is_automatic_body b ≡ true
 automatic_body w p (Automatic head cells is_weak) kind right = refl
 automatic_body w p (Manual words) kind right =
-    absurd (false≢true (sym (ap not kind) ∙ (and_parts (not (is_automatic_kind p.kind)) (is_block_size (length words)) right).0))
+    absurd (false≢true (sym (ap not kind) ∙ (and_parts (not (is_automatic_kind p.kind)) (allows_size p.kind (length words)) right).0))
 
 -- from one world to another in which no pool and no object is lost
 module _ (v u : World) (s : IsSoundGraph v) (t : IsSoundGraph u) (owned : GoesOn (owners v.graph) (owners u.graph))

@@ -8,6 +8,7 @@ use Rattle.std.specs.Option.{option_map_or}
 use Rattle.std.specs.List.{list_all}
 use Rattle.mps_base.specs.Segment.{Segment}
 use Rattle.mps_base.specs.Run.{Run}
+use Rattle.mps_laws.proofs.Epochs.{AreDated}
 use Rattle.mps_model.specs.Graph.{LabelThing, Point, Reservation, AreaWord, PlainWord, Hold, entry_at, held_by_word, holds_of, ids_in_slots, ids_in_holds, ids_in_reservations, ids_of_client}
 use Rattle.mps_model.specs.World.{World, PointMemory, extent, ids_in_pairs, is_live, is_live_and, is_parked, is_running, is_copying_object, is_word_in, pool_at, shown_word, words_of}
 use Rattle.mps_model.specs.Making.{is_weak_rank}
@@ -165,8 +166,8 @@ not_both true b h = ap not (h refl)
 not_both false b h = refl
 
 pub well_formed : (w : World) → HasLayout (w.grains + 1) w → IsSoundGraph w → AreNamed w.graph → ArePaired w → AreRightCaches w
-    → AreRightFrames w → ClientIsLive w → RestsWhenParked w → All (is_live_automatic w) (ids_in_pairs w.state) → IsWellFormed w
-well_formed w laid s named paired cached framed live rests pairs = record {
+    → AreRightFrames w → AreDated w → ClientIsLive w → RestsWhenParked w → All (is_live_automatic w) (ids_in_pairs w.state) → IsWellFormed w
+well_formed w laid s named paired cached framed dated live rests pairs = record {
   segments =
       and_from (list_all (Rattle.mps_model.specs.WellFormed.is_right_segment w) w.segments)
       (Rattle.mps_model.specs.WellFormed.are_apart (map Rattle.mps_base.specs.Segment.grains_of_segment w.segments))
@@ -191,4 +192,5 @@ well_formed w laid s named paired cached framed live rests pairs = record {
   transforms = pairs;
   caches = cached;
   frames = frames_right w s framed;
+  dependencies = dated;
 }

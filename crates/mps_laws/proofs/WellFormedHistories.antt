@@ -6,6 +6,7 @@ use Rattle.std.specs.List.{list_all, list_any}
 use Rattle.std.specs.Option.{option_map_or}
 use Rattle.std.proofs.lemmas.Option.{slice_get-map}
 use Rattle.mps_base.specs.declared.moves.Move.{Move}
+use Rattle.mps_laws.proofs.Epochs.{AreDated, dated_after, dated_in_steps}
 use Rattle.mps_model.specs.Layout.{Layout}
 use Rattle.mps_model.specs.declared.call.Call.{Call}
 use Rattle.mps_model.specs.declared.call.Call.TheVariants as call
@@ -74,6 +75,7 @@ pub record IsKeptWell (w : World) : Type 0 where
   pub paired : ArePaired w
   pub cached : AreRightCaches w
   pub framed : AreRightFrames w
+  pub dated : AreDated w
   pub rests : RestsWhenParked w
   pub pairs : All (auto w) (ids_in_pairs w.state)
 
@@ -133,6 +135,7 @@ step_kept w s plain k legal =
       paired = dependents_after w s k.paired legal;
       cached = caches_after w s (places_made w k.sound) k.cached legal;
       framed = frames_after w s k.framed k.cached legal;
+      dated = dated_after w s k.dated legal;
       rests = rests_after w s k.rests legal;
       pairs = automatic_after w s k.sound sound.0 k.pairs legal;
     }
@@ -181,6 +184,7 @@ empty_kept formats = record {
   paired = refl;
   cached = refl;
   framed = none_framed;
+  dated = refl;
   rests = λ h. refl;
   pairs = refl;
 }
@@ -206,6 +210,7 @@ first_arena formats line grains most ms answer legal =
       paired = dependents_after w s k.paired legal;
       cached = caches_after w s (places_made w k.sound) k.cached legal;
       framed = frames_after w s k.framed k.cached legal;
+      dated = dated_after w s k.dated legal;
       rests = rests_after w s k.rests legal;
       pairs = automatic_after w s k.sound sound.0 k.pairs legal;
     }
@@ -268,7 +273,7 @@ pub reached_are_well_formed : ReachedWorldsAreWellFormed
 reached_are_well_formed formats history once legal =
     let k = reached_kept formats history once legal in
     let w = reached formats history in
-    well_formed w k.layout k.sound k.named k.paired k.cached k.framed k.held.client k.rests (live_pairs w k.held k.rests k.pairs)
+    well_formed w k.layout k.sound k.named k.paired k.cached k.framed k.dated k.held.client k.rests (live_pairs w k.held k.rests k.pairs)
 
 -- ---- in the middle of a step
 
@@ -290,5 +295,5 @@ worlds_in_steps_are_well_formed formats history ms once legal moves live =
     well_formed (with_state v Unclamped) (in_layout w ms k.layout moves)
     (untouched v (with_state v Unclamped) (moves_well w None ms k.sound moves).sound refl (λ n p e. e) refl refl refl refl refl refl refl
     refl) named (moves_paired w ms k.paired) (caches_moved w v alone.shapes alone.pools alone.caches k.cached)
-    (frames_moved w v alone.shapes alone.pools alone.blocks alone.frames k.framed) live
+    (frames_moved w v alone.shapes alone.pools alone.blocks alone.frames k.framed) (dated_in_steps w ms k.dated) live
     (λ h. absurd (false≢true h)) refl

@@ -3,3 +3,4 @@ pub mod Reaching
 pub mod Cutting
 pub mod AtRest
 pub mod Nulled
+pub mod Taking

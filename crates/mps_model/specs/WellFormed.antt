@@ -11,9 +11,10 @@ use Rattle.mps_base.specs.declared.names.Kind.TheVariants as kind
 use Rattle.mps_base.specs.declared.names.Rank.TheVariants as rank
 use Rattle.mps_model.specs.Graph.{Graph, Thing, TableThing, LabelThing, NamedThing, thing_named, Cell, HeadCell, NumberCell, ReferenceCell, Body, Automatic, Manual, Object, Reservation, Point, AreaWord, PlainWord, Hold, is_automatic, is_weak_object, new_cells, targets_of_cells, with_target_cell, graph_with_cells, empty_graph, ids_in_slots, ids_in_blocks, Cache, CacheClass, PoolFrames, size_of}
 use Rattle.mps_model.specs.Collection.{empty_collection}
-use Rattle.mps_model.specs.World.{World, Pool, PointMemory, Tail, is_automatic_kind, is_weak_kind, pool_is, pool_at, is_live, is_live_and, live_ids, object_is, pool_of, words_of, extent, covered, shown_word, lies_in, Collected, Parked, TransformPair, is_parked, is_running, ids_in_pairs, empty_run, empty_world, OneSize, AnySize, Frames, has_frames}
-use Rattle.mps_model.specs.Making.{is_weak_rank, is_block_size}
+use Rattle.mps_model.specs.World.{World, Pool, PointMemory, Tail, is_automatic_kind, is_weak_kind, pool_is, pool_at, is_live, is_live_and, live_ids, object_is, pool_of, words_of, extent, covered, shown_word, lies_in, Collected, Parked, TransformPair, is_parked, is_running, ids_in_pairs, empty_run, empty_world, OneSize, AnySize, Frames, has_frames, PoolKind, Dependency}
+use Rattle.mps_model.specs.Making.{is_weak_rank}
 use Rattle.mps_model.specs.Dependents.{may_depend}
+use Rattle.mps_model.specs.Allocating.{allows_size, takes_head}
 use Rattle.mps_model.specs.Caches.{may_have_cache}
 
 -- ---- runs of words
@@ -59,10 +60,11 @@ are_shaped [] [] = true
 are_shaped (like ∷ likes) (c ∷ cs) = is_shaped like c && are_shaped likes cs
 are_shaped _ _ = false
 
--- whether cells are those of a block of a pool with this head, and refer to automatic objects
+-- whether a pool takes blocks with this head, cells are those of such a block, and they refer to automatic objects. So an object of a
+-- leaf pool has no reference cell
 abbrev pub are_right_cells : World → Pool → (head : ℕ) → List Cell → Bool
 are_right_cells w p head cells =
-    (w.formats p.format).is_valid head && are_shaped (new_cells (w.formats p.format) head) cells
+    takes_head w p head && are_shaped (new_cells (w.formats p.format) head) cells
     && list_all (object_is is_automatic w) (targets_of_cells cells)
 
 -- ---- objects, reservations, buffers and tails
@@ -70,7 +72,7 @@ are_right_cells w p head cells =
 abbrev pub is_right_body : World → Pool → Body → Bool
 is_right_body w p (Automatic head cells is_weak) =
     is_automatic_kind p.kind && are_right_cells w p head cells && (not is_weak || is_weak_kind p.kind)
-is_right_body w p (Manual words) = not (is_automatic_kind p.kind) && is_block_size (length words)
+is_right_body w p (Manual words) = not (is_automatic_kind p.kind) && allows_size p.kind (length words)
 
 abbrev pub is_right_object : World → Object → Bool
 is_right_object w o = option_map_or (λ p. is_right_body w p o.body) (pool_at w o.pool) false
@@ -161,6 +163,12 @@ abbrev pub are_right_frames : World → PoolFrames → Bool
 are_right_frames w f =
     pool_is has_frames w f.pool && (list_all (is_block_of w f.pool) f.blocks && are_rising 0 (length f.blocks) f.opened)
 
+-- ---- dependencies
+
+-- whether a dependency was reset when there were no more flips than there are
+abbrev pub is_dated : (flips : ℕ) → Dependency → Bool
+is_dated flips d = nat_le d.epoch flips
+
 abbrev pub is_live_automatic : World → (id : Id) → Bool
 is_live_automatic w id = is_live w id && object_is is_automatic w id
 
@@ -197,6 +205,8 @@ pub record IsWellFormed (w : World) : Type 0 where
   pub caches : IsTrue (list_all (is_right_cache w) w.graph.caches)
   -- the frames of a pool ascend, and its blocks are manual and its own
   pub frames : IsTrue (list_all (are_right_frames w) w.graph.frames)
+  -- no dependency's epoch is to come
+  pub dependencies : IsTrue (list_all (is_dated (length w.flips)) w.dependencies)
 
 -- the name of a label
 abbrev ring : Name
@@ -253,6 +263,7 @@ small_world_is_well_formed = record {
   transforms = refl;
   caches = refl;
   frames = refl;
+  dependencies = refl;
 }
 
 -- what breaks it, a fact at a time
@@ -380,6 +391,50 @@ pub frames_of_a_pool_without_any : IsWellFormed (record (with_frames_of (record 
   pools = any_sizes;
 }) → ⊥
 frames_of_a_pool_without_any w = let h : false ≡ true = w.frames in absurd cc
+
+-- the small world after one flip, with a dependency of this epoch
+abbrev with_epoch : (epoch : ℕ) → World
+with_epoch epoch = record small_world { flips = 2 ∷ []; dependencies = record { epoch = epoch; zones = 0; blocks = [] } ∷ [] }
+
+pub an_epoch_of_now : list_all (is_dated 1) (with_epoch 1).dependencies ≡ true
+an_epoch_of_now = refl
+
+pub an_epoch_to_come : IsWellFormed (with_epoch 2) → ⊥
+an_epoch_to_come w = let h : false ≡ true = w.dependencies in absurd cc
+
+-- a world of one object, of a pool of this kind
+abbrev with_one : PoolKind → Object → World
+with_one of o = record empty_world {
+  graph = record empty_graph { objects = o ∷ [] };
+  pools = record { kind = of; format = 1; chain = None } ∷ [];
+  addresses = None ∷ [];
+}
+
+-- an object of two words, the second of which is a number or a reference
+abbrev one_number : Object
+one_number = record { pool = 0; body = Automatic 0x201 (HeadCell ∷ NumberCell 7 ∷ []) false }
+
+abbrev one_reference : Object
+one_reference = record { pool = 0; body = Automatic 0x100000201 (HeadCell ∷ ReferenceCell None 0 ∷ []) false }
+
+pub a_number_in_a_leaf_pool : is_right_object (with_one (Collected kind.Lo) one_number) one_number ≡ true
+a_number_in_a_leaf_pool = refl
+
+pub a_reference_in_another_pool : is_right_object (with_one (Collected kind.Ams) one_reference) one_reference ≡ true
+a_reference_in_another_pool = refl
+
+pub a_reference_in_a_leaf_pool : IsWellFormed (with_one (Collected kind.Lo) one_reference) → ⊥
+a_reference_in_a_leaf_pool w = let h : false ≡ true = w.objects in absurd cc
+
+-- a block of two words
+abbrev two_words : Object
+two_words = record { pool = 0; body = Manual (0 ∷ 0 ∷ []) }
+
+pub a_block_of_its_size : is_right_object (with_one (OneSize 2) two_words) two_words ≡ true
+a_block_of_its_size = refl
+
+pub a_block_of_another_size : IsWellFormed (with_one (OneSize 3) two_words) → ⊥
+a_block_of_another_size w = let h : false ≡ true = w.objects in absurd cc
 
 pub a_reference_to_nothing : IsWellFormed (record small_world {
   graph = graph_with_cells small_world.graph 1

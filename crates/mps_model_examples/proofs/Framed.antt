@@ -6,10 +6,79 @@ use Rattle.mps_model_examples.proofs.Steps.{answered}
 use Rattle.mps_model_examples.proofs.Refusing.{cannot_follow, first_freed}
 
 pub framed_is_legal : FramedIsLegal
-framed_is_legal = (answered tt refl refl tt refl refl refl refl refl refl, (answered tt refl refl tt refl refl refl refl refl refl, (answered tt refl refl tt refl refl refl refl refl refl, (answered tt refl refl tt refl refl refl refl refl refl, (answered tt refl refl tt refl refl refl refl refl refl, (answered tt refl refl tt refl refl refl refl refl refl, (answered tt refl refl tt refl refl refl refl refl refl, (answered tt refl refl tt refl refl refl refl refl refl, (answered tt refl refl tt refl refl refl refl refl refl, (answered tt refl refl tt refl refl refl refl refl refl, (answered tt refl refl tt refl refl refl refl refl refl, (answered tt refl refl tt refl refl refl refl refl refl, (answered tt refl refl tt refl refl refl refl refl refl, (answered tt refl refl tt refl refl refl refl refl refl, tt))))))))))))))
+framed_is_legal = (
+  answered tt refl refl tt refl refl refl refl refl refl,
+  (
+    answered tt refl refl tt refl refl refl refl refl refl,
+    (
+      answered tt refl refl tt refl refl refl refl refl refl,
+      (
+        answered tt refl refl tt refl refl refl refl refl refl,
+        (
+          answered tt refl refl tt refl refl refl refl refl refl,
+          (
+            answered tt refl refl tt refl refl refl refl refl refl,
+            (
+              answered tt refl refl tt refl refl refl refl refl refl,
+              (
+                answered tt refl refl tt refl refl refl refl refl refl,
+                (
+                  answered tt refl refl tt refl refl refl refl refl refl,
+                  (
+                    answered tt refl refl tt refl refl refl refl refl refl,
+                    (
+                      answered tt refl refl tt refl refl refl refl refl refl,
+                      (
+                        answered tt refl refl tt refl refl refl refl refl refl,
+                        (
+                          answered tt refl refl tt refl refl refl refl refl refl,
+                          (
+                            answered tt refl refl tt refl refl refl refl refl refl,
+                            tt,
+                          ),
+                        ),
+                      ),
+                    ),
+                  ),
+                ),
+              ),
+            ),
+          ),
+        ),
+      ),
+    ),
+  ),
+)
 
 pub frame_segments_is_legal : FrameSegmentsIsLegal
-frame_segments_is_legal = (answered tt refl refl tt refl refl refl refl refl refl, (answered tt refl refl tt refl refl refl refl refl refl, (answered tt refl refl tt refl refl refl refl refl refl, (answered tt refl refl tt refl refl refl refl refl refl, (answered tt refl refl tt refl refl refl refl refl refl, (answered tt refl refl tt refl refl refl refl refl refl, (answered tt refl refl tt refl refl refl refl refl refl, (answered tt refl refl tt refl refl refl refl refl refl, (answered tt refl refl tt refl refl refl refl refl refl, tt)))))))))
+frame_segments_is_legal = (
+  answered tt refl refl tt refl refl refl refl refl refl,
+  (
+    answered tt refl refl tt refl refl refl refl refl refl,
+    (
+      answered tt refl refl tt refl refl refl refl refl refl,
+      (
+        answered tt refl refl tt refl refl refl refl refl refl,
+        (
+          answered tt refl refl tt refl refl refl refl refl refl,
+          (
+            answered tt refl refl tt refl refl refl refl refl refl,
+            (
+              answered tt refl refl tt refl refl refl refl refl refl,
+              (
+                answered tt refl refl tt refl refl refl refl refl refl,
+                (
+                  answered tt refl refl tt refl refl refl refl refl refl,
+                  tt,
+                ),
+              ),
+            ),
+          ),
+        ),
+      ),
+    ),
+  ),
+)
 
 not_one_more : moves.Free (address 0x1040) ∷ moves.Free (address 0x1020) ∷ [] ≡ moves.Free (address 0x1040) ∷ [] → ⊥
 not_one_more h = absurd cc

@@ -90,7 +90,8 @@ abbrev pub NoPopInOrder : Type 0
 NoPopInOrder = CannotFollow three_made pop_in_order
 
 abbrev pub pop_that_keeps : Step
-pop_that_keeps = step 7 (call.Pop s 0) (moves.Free (address 0x2000) ∷ moves.Free (address 0x1000) ∷ moves.Unseg (address 0x1000) ∷ []) reply.Ok
+pop_that_keeps =
+    step 7 (call.Pop s 0) (moves.Free (address 0x2000) ∷ moves.Free (address 0x1000) ∷ moves.Unseg (address 0x1000) ∷ []) reply.Ok
 
 -- a pop keeps no segment in which nothing is left
 abbrev pub NoPopKeepsASegment : Type 0

@@ -9,6 +9,7 @@ use Rattle.mps_base.specs.Address.{Id, Address, word_of, address_of_word}
 use Rattle.mps_base.specs.Segment.{Segment, is_in_segment, without_segment}
 use Rattle.mps_base.specs.declared.moves.Move.TheVariants as moves
 use Rattle.mps_base.specs.declared.names.Slot.{Slot}
+use Rattle.mps_model.specs.Allocating.{takes_head}
 use Rattle.mps_model.specs.Answer.{Answer, is_refused}
 use Rattle.mps_model.specs.Graph.{Object, Body, Automatic, Manual, Cell, Point, Reservation, contains, entries, entry_at, object_at, targets, targets_of, targets_of_body, targets_of_cells, targets_of_point, targets_of_reservation, is_automatic, size_of, ids_in_slots, ids_in_holds, ids_in_reservations, ids_in_blocks, ids_in_caches, ids_in_places, new_cells, without_first}
 use Rattle.mps_model.specs.World.{World, Pool, PoolKind, Collected, OneSize, AnySize, Frames, PointMemory, extent, is_live, is_live_and, object_is, words_of, pool_at, pool_is, is_automatic_kind, is_any_size_kind, segment_at, segment_of, begins_in, lies_in, is_empty_segment, shown_words, is_copying_object, is_weak_kind, is_word_in}
@@ -40,7 +41,7 @@ use Rattle.mps_abstract.proofs.Calls.ClientMaking.{freed_keeps, segments_keep, a
 cells_automatic : (w : World) (p : Pool) (head : ℕ) (cells : List Cell) (id : Id) → are_right_cells w p head cells ≡ true
     → contains (targets_of_cells cells) id ≡ true → object_is is_automatic w id ≡ true
 cells_automatic w p head cells id right h = list_all-contains (object_is is_automatic w) (targets_of_cells cells) id
-    (and_parts ((w.formats p.format).is_valid head && are_shaped (new_cells (w.formats p.format) head) cells)
+    (and_parts (takes_head w p head && are_shaped (new_cells (w.formats p.format) head) cells)
     (list_all (object_is is_automatic w) (targets_of_cells cells)) right).1 h
 
 body_automatic : (w : World) (p : Pool) (b : Body) (id : Id) → is_right_body w p b ≡ true → contains (targets_of_body b) id ≡ true

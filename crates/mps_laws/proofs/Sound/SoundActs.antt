@@ -7,14 +7,14 @@ use Rattle.std.specs.Prelude.{map, slice_get, slice_set, not, ◌&&◌, ◌||◌
 use Rattle.std.specs.Option.{option_map_or}
 use Rattle.std.specs.List.{list_all, flat_map}
 use Rattle.mps_base.specs.declared.names.Slot.{Slot}
+use Rattle.mps_model.proofs.Taking.{sized_where_allowed}
 use Rattle.mps_model.specs.Graph.{Graph, Object, Body, Automatic, Manual, Cell, HeadCell, NumberCell, ReferenceCell, Cache, CacheClass, ids_in_caches, ids_in_places, Point, Reservation, AreaWord, PlainWord, Hold, Slots, Thing, ChainThing, PoolThing, TableThing, AreaThing, BlocksThing, PointThing, DependencyThing, TransformThing, CacheThing, entries, entry_at, object_at, size_of, size_of_body, is_automatic, target_of_cell, targets_of_cells, slots_of, ids_in_slots, ids_in_blocks, with_last, without_first, body_with_cells, object_with_cells, graph_with_cells, with_target_cell, new_cells}
 use Rattle.mps_model.specs.World.{World, Pool, is_live, is_live_and, words_of, is_copying_object, is_word_in, lies_in, live_ids, block_of_word, pool_at, is_automatic_kind, is_weak_kind}
 use Rattle.mps_model.specs.WellFormed.{are_shaped, are_right_cells, is_right_body, is_right_object, is_live_automatic}
 use Rattle.mps_model.specs.Checked.{Found, Numbered, slot_in, word_in, cells_of_body, reference_at, with_graph}
-use Rattle.mps_model.specs.Allocating.{with_slot, with_block_place, with_reservation, graph_with_word, body_with_word}
+use Rattle.mps_model.specs.Allocating.{with_slot, with_block_place, with_reservation, graph_with_word, body_with_word, takes_head, allows_size}
 use Rattle.mps_model.specs.Accessing.{with_word, hold_of, address_or_null}
 use Rattle.mps_model.specs.Caches.{body_cleared, graph_cleared, with_classes}
-use Rattle.mps_model.specs.Making.{is_block_size}
 use Rattle.mps_laws.proofs.Lookups.{slice_get-set_same, slice_get-set_other, length-slice_set, entry_is_there, entry_within_set, entry_at-last, entry_within}
 use Rattle.mps_laws.proofs.Sound.SoundGraph.{All, PassesOrNull, AreRight, IsSoundGraph, IsAlike, Grows, IsEdited, auto, manual, is_sound_word, is_sound_reservation, all-weaker, all-at, all-written, all-last, all-contains, all-append, manual_parts, entries-written, entry-passes, entries-none, each-written, each-at, each-replicated, edited, grows_alike, untouched}
 use Rattle.mps_laws.proofs.FoundBy.{slot_found, word_found, reference_found}
@@ -41,7 +41,7 @@ module _ (v : World) (s : IsSoundGraph v) where
       of_body p (Automatic head cells is_weak) h =
           let outer = and_parts (is_automatic_kind p.kind && are_right_cells v p head cells) (not is_weak || is_weak_kind p.kind) h in
           let inner = and_parts (is_automatic_kind p.kind) (are_right_cells v p head cells) outer.0 in
-          (and_parts ((v.formats p.format).is_valid head && are_shaped (new_cells (v.formats p.format) head) cells)
+          (and_parts (takes_head v p head && are_shaped (new_cells (v.formats p.format) head) cells)
           (list_all (auto v) (targets_of_cells cells)) inner.1).1
 
       of_pool : (x : Option Pool) → option_map_or (λ p. is_right_body v p o.body) x false ≡ true
@@ -191,15 +191,15 @@ module _ (v : World) (s : IsSoundGraph v) where
       of_body p (Automatic head cells is_weak) each h =
           let outer = and_parts (is_automatic_kind p.kind && are_right_cells v p head cells) (not is_weak || is_weak_kind p.kind) h in
           let inner = and_parts (is_automatic_kind p.kind) (are_right_cells v p head cells) outer.0 in
-          let parts = and_parts ((v.formats p.format).is_valid head && are_shaped (new_cells (v.formats p.format) head) cells)
+          let parts = and_parts (takes_head v p head && are_shaped (new_cells (v.formats p.format) head) cells)
           (list_all (auto v) (targets_of_cells cells)) inner.1 in
-          let first = and_parts ((v.formats p.format).is_valid head) (are_shaped (new_cells (v.formats p.format) head) cells) parts.0 in
+          let first = and_parts (takes_head v p head) (are_shaped (new_cells (v.formats p.format) head) cells) parts.0 in
           let now = each (new_cells (v.formats p.format) head) (first.1, parts.1) in
           and_from (is_automatic_kind p.kind && are_right_cells v p head (change cells)) (not is_weak || is_weak_kind p.kind)
           (and_from (is_automatic_kind p.kind) (are_right_cells v p head (change cells)) inner.0
-          (and_from ((v.formats p.format).is_valid head && are_shaped (new_cells (v.formats p.format) head) (change cells))
+          (and_from (takes_head v p head && are_shaped (new_cells (v.formats p.format) head) (change cells))
           (list_all (auto v) (targets_of_cells (change cells)))
-          (and_from ((v.formats p.format).is_valid head) (are_shaped (new_cells (v.formats p.format) head)
+          (and_from (takes_head v p head) (are_shaped (new_cells (v.formats p.format) head)
           (change cells)) first.0 now.0) now.1))
           outer.1
 
@@ -346,7 +346,7 @@ module _ (v : World) (s : IsSoundGraph v) where
       body_right : (p : Pool) (b : Body) → is_right_body v p b ≡ true → is_right_body v p (body_cleared b) ≡ true
       body_right p (Automatic head cells is_weak) h = h
       body_right p (Manual words) h =
-          subst (λ (n : ℕ). (not (is_automatic_kind p.kind) && is_block_size n) ≡ true) (sym (length-replicate (length words) 0)) h
+          subst (λ (n : ℕ). (not (is_automatic_kind p.kind) && allows_size p.kind n) ≡ true) (sym (length-replicate (length words) 0)) h
 
       object_right : (o : Object) (x : Option Pool) → option_map_or (λ p. is_right_body v p o.body) x false ≡ true
           → option_map_or (λ p. is_right_body v p (body_cleared o.body)) x false ≡ true
@@ -379,7 +379,7 @@ module _ (v : World) (s : IsSoundGraph v) where
       body_right : (p : Pool) (b : Body) → is_right_body v p b ≡ true → is_right_body v p (body_with_word b k value) ≡ true
       body_right p (Automatic head cells is_weak) h = h
       body_right p (Manual words) h =
-          subst (λ (n : ℕ). (not (is_automatic_kind p.kind) && is_block_size n) ≡ true) (sym (length-slice_set words k value)) h
+          subst (λ (n : ℕ). (not (is_automatic_kind p.kind) && allows_size p.kind n) ≡ true) (sym (length-slice_set words k value)) h
 
       object_right : (o : Object) (x : Option Pool) → option_map_or (λ p. is_right_body v p o.body) x false ≡ true
           → option_map_or (λ p. is_right_body v p (body_with_word o.body k value)) x false ≡ true
@@ -444,15 +444,16 @@ module _ (v : World) (s : IsSoundGraph v) where
 
       of_body : (p : Pool) (b : Body) → is_right_body v p b ≡ true → 0 < size_of_body b
       of_body p (Manual words) k =
-          let parts = and_parts (not (is_automatic_kind p.kind)) (is_block_size (length words)) k in
-          let sized = and_parts (nat_le 1 (length words)) (nat_le (length words) 65536) parts.1 in
+          let parts = and_parts (not (is_automatic_kind p.kind)) (allows_size p.kind (length words)) k in
+          let sized = and_parts (nat_le 1 (length words)) (nat_le (length words) 65536)
+          (sized_where_allowed p.kind (length words) parts.1) in
           (let low = leb-true 1 (length words) sized.0 in omega (arith, low))
       of_body p (Automatic head cells is_weak) k =
           let outer = and_parts (is_automatic_kind p.kind && are_right_cells v p head cells) (not is_weak || is_weak_kind p.kind) k in
           let inner = and_parts (is_automatic_kind p.kind) (are_right_cells v p head cells) outer.0 in
-          let parts = and_parts ((v.formats p.format).is_valid head && are_shaped (new_cells (v.formats p.format) head) cells)
+          let parts = and_parts (takes_head v p head && are_shaped (new_cells (v.formats p.format) head) cells)
           (list_all (auto v) (targets_of_cells cells)) inner.1 in
-          let first = and_parts ((v.formats p.format).is_valid head) (are_shaped (new_cells (v.formats p.format) head) cells) parts.0 in
+          let first = and_parts (takes_head v p head) (are_shaped (new_cells (v.formats p.format) head) cells) parts.0 in
           of_cells (Rattle.mps_model.specs.Graph.new_cells_from (v.formats p.format) head 1
           ((v.formats p.format).size head - 1)) cells 0 first.1
 

@@ -6,6 +6,7 @@ use Rattle.std.proofs.lemmas.Option.{none-some, same_Some, slice_get-map}
 use Rattle.std.specs.Prelude.{map, slice_get, slice_set, not, ◌&&◌, ◌||◌, ◌==◌, nat_lt, if◌then◌else◌, is_some, option_map, replicate}
 use Rattle.std.specs.Option.{option_map_or}
 use Rattle.std.specs.List.{list_all, flat_map}
+use Rattle.mps_model.specs.Allocating.{takes_head}
 use Rattle.mps_model.specs.Graph.{Graph, Object, Body, Automatic, Manual, Cell, HeadCell, NumberCell, ReferenceCell, Point, Reservation, AreaWord, PlainWord, Hold, contains, entries, entry_at, object_at, size_of, is_automatic, target_of_cell, targets_of_cells, slots_of, ids_in_slots, ids_in_blocks, ids_in_places, ids_in_caches, with_last, without_first, retargeted, tagged, with_tag_cell, with_target_cell}
 use Rattle.mps_model.specs.World.{World, Pool, object_is, is_live, words_of, is_copying_object, is_copying_pool, pool_at, is_automatic_kind, is_weak_kind}
 use Rattle.mps_model.specs.Making.{is_weak_rank}
@@ -318,12 +319,13 @@ module _ (w w' : World) (g : Grows w w') where
   pub right_cells_kept : (p : Pool) (head : ℕ) (cells : List Cell) → are_right_cells w p head cells ≡ true
       → are_right_cells w' p head cells ≡ true
   right_cells_kept p head cells h =
-      let parts = and_parts ((w.formats p.format).is_valid head && are_shaped
+      let parts = and_parts (takes_head w p head && are_shaped
       (Rattle.mps_model.specs.Graph.new_cells (w.formats p.format) head) cells)
       (list_all (auto w) (targets_of_cells cells)) h in
-      and_from ((w'.formats p.format).is_valid head && are_shaped (Rattle.mps_model.specs.Graph.new_cells (w'.formats p.format) head) cells)
+      and_from (takes_head w' p head && are_shaped (Rattle.mps_model.specs.Graph.new_cells (w'.formats p.format) head) cells)
       (list_all (auto w') (targets_of_cells cells))
-      (subst (λ f. ((f p.format).is_valid head && are_shaped (Rattle.mps_model.specs.Graph.new_cells (f p.format) head) cells) ≡ true)
+      (subst (λ f. (takes_head (record w { formats = f }) p head
+      && are_shaped (Rattle.mps_model.specs.Graph.new_cells (f p.format) head) cells) ≡ true)
       (sym g.formats) parts.0)
       (all-weaker (auto w) (auto w') auto_kept (targets_of_cells cells) parts.1)
 

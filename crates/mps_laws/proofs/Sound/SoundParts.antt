@@ -8,6 +8,7 @@ use Rattle.std.specs.List.{list_all}
 use Rattle.mps_base.specs.declared.names.Name.{Name}
 use Rattle.mps_base.specs.declared.names.Rank.{Rank}
 use Rattle.mps_base.specs.declared.names.Slot.{Slot}
+use Rattle.mps_model.specs.Allocating.{takes_head}
 use Rattle.mps_model.specs.Layout.{Layout}
 use Rattle.mps_model.specs.Graph.{Object, Cell, NumberCell, ReferenceCell, Point, Reservation, AreaWord, PlainWord, Hold, entries, entry_at, object_at, slots_of, ids_in_caches, ids_in_places, ids_in_slots, targets_of_cells, with_last, new_cells, new_cells_from}
 use Rattle.mps_model.specs.World.{World, Pool, is_live, pool_at}
@@ -41,12 +42,13 @@ no_targets test f head k (Rattle.std.proofs.Common.suc count) = of_cell (f.is_re
     of_cell true rest = rest
     of_cell false rest = rest
 
-pub new_is_sound : (v : World) (p : Pool) (head : ℕ) → (v.formats p.format).is_valid head ≡ true
+pub new_is_sound : (v : World) (p : Pool) (head : ℕ) → takes_head v p head ≡ true
     → are_right_cells v p head (new_cells (v.formats p.format) head) ≡ true
 new_is_sound v p head valid =
     let f = v.formats p.format in
-    and_from (f.is_valid head && are_shaped (new_cells f head) (new_cells f head)) (list_all (auto v) (targets_of_cells (new_cells f head)))
-    (and_from (f.is_valid head) (are_shaped (new_cells f head) (new_cells f head)) valid (shaped_self f head 1 (f.size head - 1)))
+    and_from (takes_head v p head && are_shaped (new_cells f head) (new_cells f head))
+    (list_all (auto v) (targets_of_cells (new_cells f head)))
+    (and_from (takes_head v p head) (are_shaped (new_cells f head) (new_cells f head)) valid (shaped_self f head 1 (f.size head - 1)))
     (no_targets (auto v) f head 1 (f.size head - 1))
 
 module _ (v : World) (s : IsSoundGraph v) where
@@ -61,12 +63,12 @@ module _ (v : World) (s : IsSoundGraph v) where
       of_pool None k = absurd (false≢true k)
       of_pool (Some p) k =
           let f = v.formats p.format in
-          let parts = and_parts (f.is_valid r.head && are_shaped (new_cells f r.head) r.cells)
+          let parts = and_parts (takes_head v p r.head && are_shaped (new_cells f r.head) r.cells)
           (list_all (auto v) (targets_of_cells r.cells)) k in
-          let first = and_parts (f.is_valid r.head) (are_shaped (new_cells f r.head) r.cells) parts.0 in
+          let first = and_parts (takes_head v p r.head) (are_shaped (new_cells f r.head) r.cells) parts.0 in
           let now = each (new_cells f r.head) (first.1, parts.1) in
-          and_from (f.is_valid r.head && are_shaped (new_cells f r.head) cells) (list_all (auto v) (targets_of_cells cells))
-          (and_from (f.is_valid r.head) (are_shaped (new_cells f r.head) cells) first.0 now.0) now.1
+          and_from (takes_head v p r.head && are_shaped (new_cells f r.head) cells) (list_all (auto v) (targets_of_cells cells))
+          (and_from (takes_head v p r.head) (are_shaped (new_cells f r.head) cells) first.0 now.0) now.1
 
   -- ---- roots
 

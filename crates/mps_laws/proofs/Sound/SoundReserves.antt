@@ -1,13 +1,13 @@
 -- A reserve leaves a sound graph.
 use Rattle.std.proofs.Common.{◌≡◌, ◌∙◌, ℕ, Bool, true, false, refl, sym, ap, length, Option, Some, None, Ok, Err, subst}
-use Rattle.std.proofs.lemmas.Bool.{true≢false, and_parts}
+use Rattle.std.proofs.lemmas.Bool.{true≢false}
 use Rattle.std.proofs.lemmas.Option.{same_Some}
-use Rattle.std.specs.Prelude.{not, ◌&&◌, is_some}
+use Rattle.std.specs.Prelude.{not, is_some}
 use Rattle.std.specs.Option.{option_map_or}
 use Rattle.mps_base.specs.declared.names.Name.{Name}
 use Rattle.mps_base.specs.declared.refusal.Refusal.TheVariants as refusal
-use Rattle.mps_model.specs.Graph.{Graph, Object, Body, Automatic, Manual, Cell, HeadCell, NumberCell, ReferenceCell, Point, Reservation, AreaWord, PlainWord, Hold, Slots, Thing, ChainThing, PoolThing, TableThing, AreaThing, BlocksThing, PointThing, DependencyThing, TransformThing, CacheThing, contains, entries, entry_at, object_at, is_automatic, slots_of, ids_in_slots, target_of_cell, targets_of_cells, thing_named, with_last, without_first, with_target_cell, graph_with_cells, new_cells, new_cells_from, position_of_first}
-use Rattle.mps_model.specs.World.{World, Pool, PoolKind, Collected, OneSize, AnySize, Dependency, PointMemory, block_of_word, committed, id_at, is_live, is_running, empty_run, is_automatic_kind, is_weak_kind, pool_at}
+use Rattle.mps_model.specs.Graph.{Point, Reservation, new_cells}
+use Rattle.mps_model.specs.World.{World, Pool, pool_at}
 use Rattle.mps_model.specs.WellFormed.{are_right_cells}
 use Rattle.mps_model.specs.Checked.{Checked, Numbered, ◌>>=◌, ◌>>◌, required, refuse_when, point_named, with_graph}
 use Rattle.mps_model.specs.Placement.{ForReserve, placement_of}
@@ -25,16 +25,9 @@ module _ (judged : World) (name : Name) (head : ℕ) where
   abbrev made_of : Numbered Point → Pool → Reserving
   made_of p pool = record { point = p; cells = new_cells (layout_of judged pool) head }
 
-  valid_head : (pool : Pool) → not (takes_head judged pool head) ≡ false → (layout_of judged pool).is_valid head ≡ true
-  valid_head pool h =
-      (and_parts ((layout_of judged pool).is_valid head)
-      (not (Rattle.mps_model.specs.World.is_leaf_kind pool.kind && Rattle.mps_model.specs.Graph.has_references
-      (layout_of judged pool) head))
-      (not_false (takes_head judged pool head) h)).0
-    where
-      not_false : (b : Bool) → not b ≡ false → b ≡ true
-      not_false true h = refl
-      not_false false h = absurd (true≢false h)
+  not_false : (b : Bool) → not b ≡ false → b ≡ true
+  not_false true h = refl
+  not_false false h = absurd (true≢false h)
 
   of_checks : (p : Numbered Point) (pool : Pool) (b c : Bool) (r : Reserving) → point_named judged name ≡ Ok p
       → pool_at judged p.value.pool ≡ Some pool
@@ -48,7 +41,7 @@ module _ (judged : World) (name : Name) (head : ℕ) where
         point = e;
         sound =
             ap (λ x. option_map_or (λ of. are_right_cells judged of head (new_cells (layout_of judged pool) head)) x false) f
-            ∙ new_is_sound judged pool head (valid_head pool g);
+            ∙ new_is_sound judged pool head (not_false (takes_head judged pool head) g);
       })
 
   of_pool : (p : Numbered Point) (o : Option Pool) (r : Reserving) → point_named judged name ≡ Ok p → pool_at judged p.value.pool ≡ o

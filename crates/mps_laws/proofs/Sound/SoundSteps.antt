@@ -3,7 +3,7 @@ use Rattle.std.proofs.Common.{◌≡◌, ◌∙◌, ℕ, Bool, true, false, refl
 use Rattle.std.proofs.lemmas.Bool.{false≢true, true≢false, and_parts, and_from}
 use Rattle.std.proofs.lemmas.Option.{none-some, same_Some}
 use Rattle.std.proofs.lemmas.List.{length-replicate}
-use Rattle.std.specs.Prelude.{map, slice_get, slice_set, option_map, not, ◌&&◌, ◌||◌, ◌==◌, replicate, drop}
+use Rattle.std.specs.Prelude.{map, slice_get, slice_set, option_map, not, ◌&&◌, ◌||◌, replicate, drop}
 use Rattle.std.specs.Option.{option_map_or}
 use Rattle.std.specs.List.{list_all, flat_map}
 use Rattle.mps_base.specs.declared.names.Name.{Name}
@@ -12,10 +12,10 @@ use Rattle.mps_base.specs.declared.names.Slot.{Slot}
 use Rattle.mps_model.specs.declared.call.Call.{Call}
 use Rattle.mps_model.specs.declared.call.Call.TheVariants as call
 use Rattle.mps_model.specs.Graph.{Object, Automatic, Manual, Point, Reservation, AreaWord, entries, entry_at, is_automatic, ids_in_slots, slots_of, Cell, without_name, with_last, without_first, ids_in_blocks, ids_in_places, ids_in_caches}
-use Rattle.mps_model.specs.World.{World, Pool, PoolKind, Collected, OneSize, AnySize, Frames, ids_in_pairs, is_live, is_automatic_kind, is_weak_kind, pool_at, words_of}
+use Rattle.mps_model.specs.World.{World, Pool, PoolKind, ids_in_pairs, is_live, is_automatic_kind, is_weak_kind, pool_at, words_of}
 use Rattle.mps_model.specs.WellFormed.{are_right_cells, is_right_object, is_live_automatic}
 use Rattle.mps_model.specs.Checked.{Found, Numbered, point_named, slot_in, block_place_in, object_in, cells_of_body, number_named, as_blocks, with_graph}
-use Rattle.mps_model.specs.Making.{with_pool, is_block_size, is_weak_rank, may_have_point}
+use Rattle.mps_model.specs.Making.{with_pool, is_weak_rank, may_have_point}
 use Rattle.mps_model.specs.Allocating.{with_slot, with_block_place, allows_size, committed_object, graph_allocated, reserved_address, with_reservation, world_committed}
 use Rattle.mps_model.specs.Caches.{emptied, graph_cleared, with_classes}
 use Rattle.mps_model.specs.Frames.{graph_popped, places_without}
@@ -102,14 +102,8 @@ module _ (judged v : World) (j : IsSoundGraph judged) (grown : Grows judged v) (
       → allows_size p.value.kind words ≡ true → is_right_object v (record { pool = p.number; body = Manual (replicate words 0) }) ≡ true
   manual_right p words there kind size =
       ap (λ x. option_map_or (λ q. Rattle.mps_model.specs.WellFormed.is_right_body v q (Manual (replicate words 0))) x false) there
-      ∙ and_from (not (is_automatic_kind p.value.kind)) (is_block_size (length (replicate words 0))) (ap not kind)
-      (ap is_block_size (length-replicate words 0) ∙ sized p.value.kind size)
-    where
-      sized : (k : PoolKind) → allows_size k words ≡ true → is_block_size words ≡ true
-      sized (Collected kind) h = absurd (false≢true h)
-      sized (OneSize n) h = (and_parts (is_block_size words) (words == n) h).0
-      sized AnySize h = h
-      sized Frames h = h
+      ∙ and_from (not (is_automatic_kind p.value.kind)) (allows_size p.value.kind (length (replicate words 0))) (ap not kind)
+      (ap (allows_size p.value.kind) (length-replicate words 0) ∙ size)
 
   allocated_sound : (p : Numbered Pool) (words : ℕ) (place : Found (Option ℕ)) (at : ℕ) → slice_get v.pools p.number ≡ Some p.value
       → is_automatic_kind p.value.kind ≡ false → allows_size p.value.kind words ≡ true → All (manual v) (entries place.list)

@@ -6,6 +6,7 @@ use Rattle.std.proofs.lemmas.Option.{none-some, same_Some, slice_get-map}
 use Rattle.std.specs.Prelude.{◌&&◌, ◌||◌, ◌==◌, not, filter, if◌then◌else◌, option_map}
 use Rattle.std.specs.List.{flat_map, list_all}
 use Rattle.std.specs.Option.{option_map_or}
+use Rattle.mps_model.specs.Allocating.{takes_head}
 use Rattle.mps_model.specs.Graph.{Object, Body, Automatic, Manual, Cell, HeadCell, NumberCell, ReferenceCell, Slots, entries, is_automatic_body, is_weak_body, new_cells, object_at, size_of_body, slots_of, targets_of_cells, targets_of_body}
 use Rattle.mps_model.specs.World.{World, Pool, ArenaState, Unclamped, Clamped, Parked, TransformPair, ids_in_pairs, ids_of_pair, is_automatic_kind, is_weak_kind, pool_at}
 use Rattle.mps_model.specs.WellFormed.{are_right_cells, are_shaped, is_right_body, is_right_object, is_shaped}
@@ -147,15 +148,15 @@ module _ (v : World) (s : IsSoundGraph v) (pairs : List TransformPair) (passes :
   right_cells : (p : Pool) (head : ℕ) (cells : List Cell) → are_right_cells v p head cells ≡ true
       → are_right_cells v p head (map (cell_substituted pairs) cells) ≡ true
   right_cells p head cells h =
-      let outer = and_parts ((v.formats p.format).is_valid head
+      let outer = and_parts (takes_head v p head
       && are_shaped (new_cells (v.formats p.format) head) cells)
       (list_all (auto v) (targets_of_cells cells)) h in
-      let inner = and_parts ((v.formats p.format).is_valid head)
+      let inner = and_parts (takes_head v p head)
       (are_shaped (new_cells (v.formats p.format) head) cells) outer.0 in
-      and_from ((v.formats p.format).is_valid head
+      and_from (takes_head v p head
       && are_shaped (new_cells (v.formats p.format) head) (map (cell_substituted pairs) cells))
       (list_all (auto v) (targets_of_cells (map (cell_substituted pairs) cells)))
-      (and_from ((v.formats p.format).is_valid head)
+      (and_from (takes_head v p head)
       (are_shaped (new_cells (v.formats p.format) head) (map (cell_substituted pairs) cells)) inner.0
       (shapes_kept pairs (new_cells (v.formats p.format) head) cells inner.1))
       (targets_pass (auto v) pairs passes cells outer.1)

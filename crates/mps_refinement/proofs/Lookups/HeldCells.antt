@@ -13,6 +13,8 @@ use Rattle.mps_format.specs.Layout.{Layout, IsLawful}
 use Rattle.mps_laws.proofs.Lookups.{there_is}
 use Rattle.mps_laws.proofs.Same.{BothOrNeither, both, neither}
 use Rattle.mps_laws.proofs.Sound.SoundGraph.{IsSoundGraph}
+use Rattle.mps_model.proofs.Taking.{valid_where_taken}
+use Rattle.mps_model.specs.Allocating.{takes_head}
 use Rattle.mps_model.specs.Checked.{◌>>=◌, ◌>>◌, required, refuse_when}
 use Rattle.mps_model.specs.Graph as graph
 use Rattle.mps_model.specs.Graph.{Cell, Reservation, entry_at, is_automatic, new_cells, targets_of_cells}
@@ -59,10 +61,10 @@ module _ {F : Type 0} (layout : F → Layout) (past : Past) (h : HeapState F) (w
     are_right =
         let all = right_cells (pool_at w q.pool) of.has (sound.reservations n q r there open_there) in
         let f = w.formats of.models.format in
-        let two = (and_parts (f.is_valid r.head && are_shaped (new_cells f r.head) r.cells)
+        let two = (and_parts (takes_head w of.models r.head && are_shaped (new_cells f r.head) r.cells)
         (list_all (object_is is_automatic w) (targets_of_cells r.cells)) all).0 in
-        let both = and_parts (f.is_valid r.head) (are_shaped (new_cells f r.head) r.cells) two in
-        record { valid = both.0; shaped = both.1 }
+        let both = and_parts (takes_head w of.models r.head) (are_shaped (new_cells f r.head) r.cells) two in
+        record { valid = valid_where_taken w of.models r.head both.0; shaped = both.1 }
 
     valid_head : (layout format_held).is_valid held.head ≡ true
     valid_head =

@@ -24,6 +24,8 @@ use Rattle.mps_trace_laws.specs.Image.Memory.{Lies, pool_layout, all_cells}
 use Rattle.mps_laws.proofs.Lookups.{there_is, entry_is_there}
 use Rattle.mps_laws.proofs.Same.{Same, refused, same_then, same_weaker}
 use Rattle.mps_laws.proofs.Sound.SoundGraph.{All, PassesOrNull, all-at, entry-passes}
+use Rattle.mps_model.proofs.Taking.{valid_where_taken}
+use Rattle.mps_model.specs.Allocating.{takes_head}
 use Rattle.mps_model.specs.Checked as model
 use Rattle.mps_model.specs.Checked.{Checked, Numbered, Found, ◌>>=◌, required, cells_of_body, number_at, reference_at, tag_at}
 use Rattle.mps_model.specs.Graph.{Cell, HeadCell, NumberCell, ReferenceCell, Body, Automatic, Manual, Object, entry_at, slots_of, ids_in_slots, is_automatic, is_automatic_body, new_cells, size_of, size_of_body, targets_of_cells}
@@ -78,17 +80,17 @@ right_automatic w q o (Automatic head cells is_weak) e automatic right =
     let right_cells = are_right_cells w q head cells in
     let first = (and_parts (kind && right_cells) (not is_weak || is_weak_kind q.kind) right).0 in
     let both = and_parts kind right_cells first in
-    let valid = (w.formats q.format).is_valid head in
+    let taken = takes_head w q head in
     let shaped = are_shaped (new_cells (w.formats q.format) head) cells in
-    let two = and_parts valid shaped
-    (and_parts (valid && shaped) (list_all (object_is is_automatic w) (targets_of_cells cells)) both.1).0 in
+    let two = and_parts taken shaped
+    (and_parts (taken && shaped) (list_all (object_is is_automatic w) (targets_of_cells cells)) both.1).0 in
     record {
       head = head;
       cells = cells;
       is_weak = is_weak;
       body = e;
       kind = both.0;
-      valid = two.0;
+      valid = valid_where_taken w q head two.0;
       shaped = two.1;
     }
 

@@ -18,8 +18,9 @@ use Rattle.mps_changes.proofs.OneMore.{parts_pass}
 use Rattle.mps_laws.proofs.Lookups.{there_is}
 use Rattle.mps_laws.proofs.Same.{Same, fits, refused}
 use Rattle.mps_laws.proofs.Sound.SoundGraph.{All, PassesOrNull, all-at, entry-passes}
+use Rattle.mps_model.proofs.Taking.{sized_where_allowed}
 use Rattle.mps_model.specs.Allocating as model
-use Rattle.mps_model.specs.Allocating.{words_at}
+use Rattle.mps_model.specs.Allocating.{words_at, allows_size}
 use Rattle.mps_model.specs.Checked.{Checked, Found, ◌>>=◌, ◌>>◌, refuse_when, required, words_of_body}
 use Rattle.mps_model.specs.Graph.{NumberCell, Body, Automatic, Manual, Object, entries, entry_at, ids_in_blocks, ids_in_caches, ids_in_places, is_automatic, is_automatic_body, size_of, size_of_body}
 use Rattle.mps_model.specs.Making.{is_block_size}
@@ -46,8 +47,13 @@ right_manual : (w : World) (q : world.Pool) (o : Object) (b : Body) → o.body �
     → is_right_body w q b ≡ true → IsRightManual w q o
 right_manual w q o (Automatic head cells is_weak) e manual right = absurd (false≢true manual)
 right_manual w q o (Manual words) e manual right =
-    let both = and_parts (not (is_automatic_kind q.kind)) (is_block_size (length words)) right in
-    record { words = words; body = e; kind = negated (is_automatic_kind q.kind) both.0; size = both.1 }
+    let both = and_parts (not (is_automatic_kind q.kind)) (allows_size q.kind (length words)) right in
+    record {
+      words = words;
+      body = e;
+      kind = negated (is_automatic_kind q.kind) both.0;
+      size = sized_where_allowed q.kind (length words) both.1;
+    }
   where
     negated : (b : Bool) → not b ≡ true → b ≡ false
     negated true h = absurd (false≢true h)

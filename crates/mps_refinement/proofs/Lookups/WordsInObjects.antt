@@ -9,10 +9,10 @@ use Rattle.std.specs.Option.{option_map_or}
 use Rattle.mps_base.specs.Address.{Address, Id, word_of}
 use Rattle.mps_format.specs.Layout.{Layout}
 use Rattle.mps_laws.proofs.Sound.Referred.{live_is_among}
+use Rattle.mps_model.specs.Allocating.{allows_size}
 use Rattle.mps_model.specs.Graph.{Body, Automatic, Manual, Object, contains, entry_at, is_automatic, is_automatic_body, size_of}
 use Rattle.mps_model.specs.World as world
 use Rattle.mps_model.specs.World.{World, block_of_word, is_automatic_kind, is_copying_kind, is_copying_object, is_live, is_live_and, is_weak_kind, is_word_in, lies_in, live_ids, object_is, pool_at, words_of}
-use Rattle.mps_model.specs.Making.{is_block_size}
 use Rattle.mps_model.specs.WellFormed.{are_right_cells, is_right_body}
 use Rattle.mps_seg.specs.Collecting.{is_condemned_at, is_kept_at, is_white_at}
 use Rattle.mps_heap_spec.specs.Areas.{block_over, is_hold, is_of_pool}
@@ -51,7 +51,7 @@ body_of_kind w q (Automatic head cells is_weak) right =
     sym (and_parts (is_automatic_kind q.kind) (are_right_cells w q head cells) first).0
 body_of_kind w q (Manual words) right =
     sym (not_true (is_automatic_kind q.kind)
-    (and_parts (not (is_automatic_kind q.kind)) (is_block_size (length words)) right).0)
+    (and_parts (not (is_automatic_kind q.kind)) (allows_size q.kind (length words)) right).0)
 
 -- ---- one that passes a test
 

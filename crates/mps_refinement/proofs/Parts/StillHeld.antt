@@ -12,6 +12,7 @@ use Rattle.mps_laws.proofs.Lookups.{entry_is_there}
 use Rattle.mps_trace_laws.specs.Image.Memory.{live_reservation}
 use Rattle.mps_laws.proofs.Sound.SoundActs.{object_cells}
 use Rattle.mps_laws.proofs.Sound.SoundGraph.{All, IsSoundGraph, all-at, auto, entry-passes, is_sound_word}
+use Rattle.mps_model.specs.Allocating.{takes_head}
 use Rattle.mps_model.specs.Checked.{cells_of_body}
 use Rattle.mps_model.specs.Graph.{AreaWord, PlainWord, Hold, Body, Automatic, Manual, ReferenceCell, Object, Point, Reservation, entries, entry_at, held_by_word, holds_of, is_automatic, is_live_reservation, object_at, slots_of, target_of_cell, targets, targets_of, targets_of_body, targets_of_cells, targets_of_point, targets_of_reservation}
 use Rattle.mps_model.specs.World.{World, Pool, is_copying_object, is_live, object_is, pool_at, words_of}
@@ -120,7 +121,7 @@ module _ (w : World) (sound : IsSoundGraph w) where
   reservation_automatic pool r None e right = absurd (false≢true right)
   reservation_automatic pool r (Some p) e right =
       let targets = list_all (object_is is_automatic w) (targets_of_cells r.cells) in
-      let both = and_parts ((w.formats p.format).is_valid r.head && are_shaped (new_cells
+      let both = and_parts (takes_head w p r.head && are_shaped (new_cells
       (w.formats p.format) r.head) r.cells) targets right in
       elim r.is_doomed as (λ b. All (auto w) (if b then [] else targets_of_cells r.cells)) [
         | true ↦ refl

@@ -7,6 +7,8 @@ use Rattle.std.specs.List.{list_all}
 use Rattle.std.specs.Option.{option_map_or}
 use Rattle.mps_base.specs.Address.{Id}
 use Rattle.mps_format.specs.Layout.{Layout, IsLawful, IsBlockSize}
+use Rattle.mps_model.proofs.Taking.{valid_where_taken}
+use Rattle.mps_model.specs.Allocating.{takes_head}
 use Rattle.mps_model.specs.Graph.{Cell, HeadCell, NumberCell, ReferenceCell, Body, Automatic, Manual, Object, entries, target_of_cell, targets_of_cells, new_cells, new_cells_from, is_automatic, is_automatic_body, is_reference_cell, size_of_body}
 use Rattle.mps_model.specs.Checked.{head_of_body}
 use Rattle.mps_model.specs.World.{World, Pool, is_automatic_kind, is_weak_kind, pool_at, object_is}
@@ -106,13 +108,13 @@ module _ (w : World) (lawful : (n : ℕ) → IsLawful (w.formats n)) where
       let right = are_right_cells w p head cells in
       let weak = not is_weak || is_weak_kind p.kind in
       let cells_right : right ≡ true = (and_parts kind right (and_parts (kind && right) weak e).0).1 in
-      let valid = (w.formats p.format).is_valid head in
+      let taken = takes_head w p head in
       let shaped = are_shaped (new_cells (w.formats p.format) head) cells in
       let targets = list_all (object_is is_automatic w) (targets_of_cells cells) in
-      let two = (and_parts (valid && shaped) targets cells_right) in
+      let two = (and_parts (taken && shaped) targets cells_right) in
       record {
-        valid = (and_parts valid shaped two.0).0;
-        shaped = (and_parts valid shaped two.0).1;
+        valid = valid_where_taken w p head (and_parts taken shaped two.0).0;
+        shaped = (and_parts taken shaped two.0).1;
         targets = two.1;
       }
 
