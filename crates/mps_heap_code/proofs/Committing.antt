@@ -1,5 +1,5 @@
 -- From what a commit did to points and segments to the outcome of the call.
-use Rattle.std.proofs.Common.{ℕ, ◌≡◌, ◌∙◌, Some, Ok, refl, sym, ap, subst}
+use Rattle.std.proofs.Common.{◌≡◌, ◌∙◌, Some, Ok, sym, ap}
 use Rattle.std.proofs.lemmas.Bool.{eq-eqb}
 use Rattle.std.specs.Prelude.{◌==◌, if◌then◌else◌}
 use Rattle.mps_base.specs.Address.{Address}

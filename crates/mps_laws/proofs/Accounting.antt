@@ -22,7 +22,8 @@ use Rattle.mps_laws.specs.Staying.{is_flip}
 use Rattle.mps_laws.proofs.Acts.{ForAct, accepted, refused}
 use Rattle.mps_laws.proofs.LeftByActs.{Leaves, changes_dependencies}
 use Rattle.mps_laws.proofs.OwnSegments.{own_segment_taken}
-use Rattle.mps_laws.proofs.Positions.Places.{IsPutIn, IsMovedLegally, AreMovedLegally, move_put, all_moved_legally, is_moving, none_moved, commit_moves_none, alloc_moves_none, free_moves_none, cache_alloc_moves_none, cache_free_moves_none, cache_flush_moves_none, pop_moves_none, own_segment_put, asking_put, left_put, remembered_put}
+use Rattle.mps_laws.proofs.Positions.OwnMoves.{IsMovedLegally, AreMovedLegally, all_moved_legally, is_moving, none_moved, commit_moves_none, alloc_moves_none, free_moves_none, cache_alloc_moves_none, cache_free_moves_none, cache_flush_moves_none, pop_moves_none}
+use Rattle.mps_laws.proofs.Positions.Places.{IsPutIn, move_put, own_segment_put, asking_put, left_put, remembered_put}
 use Rattle.mps_laws.proofs.AddedBlocks.{Accounts, AreAccounts, IsAccounted, IsFlippedSince, accounts_carried}
 use Rattle.mps_laws.proofs.FlippedZones.{AreHome, flip_accounts}
 

@@ -36,7 +36,7 @@ use Rattle.mps_laws.proofs.Acts.{ForAct, accepted, refused}
 use Rattle.mps_laws.proofs.Accounting.{move_leaves, own_segment_flips}
 use Rattle.mps_laws.proofs.LeftByActs.{Leaves, act_leaves}
 use Rattle.mps_laws.proofs.LegalHistories.{IsAnswered, legal_step}
-use Rattle.mps_laws.proofs.Positions.Places.{is_moving, commit_moves_none, alloc_moves_none, free_moves_none, cache_alloc_moves_none, cache_free_moves_none, cache_flush_moves_none, pop_moves_none}
+use Rattle.mps_laws.proofs.Positions.OwnMoves.{is_moving, commit_moves_none, alloc_moves_none, free_moves_none, cache_alloc_moves_none, cache_free_moves_none, cache_flush_moves_none, pop_moves_none}
 
 -- ---- moves without a flip
 

@@ -41,7 +41,7 @@ use Rattle.mps_laws.proofs.Replays.FreeSteps.{BlocksAreLive}
 use Rattle.mps_laws.proofs.SameArena.{judged_alone, moved_alone}
 use Rattle.mps_laws.proofs.Sound.PoolKinds.{kind_in-more}
 use Rattle.mps_laws.proofs.Sound.Substituting.{shapes_substituted}
-use Rattle.mps_laws.proofs.Sound.SoundGraph.{All, IsSoundGraph, all-both, all-weaker, each-at, each-weaker, manual, manual_parts}
+use Rattle.mps_laws.proofs.Sound.SoundGraph.{All, IsSoundGraph, all-weaker, each-at, each-weaker, manual, manual_parts}
 
 -- ---- the frames of pools, over shapes of objects, pools and places
 

@@ -17,7 +17,6 @@ pub mod Depending
 pub mod Fresh
 pub mod Flipping
 pub mod Same
-pub mod JoiningMoves
 pub mod QuietSteps
 pub mod Naming
 pub mod Labels

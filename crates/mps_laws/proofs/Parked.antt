@@ -43,7 +43,7 @@ use Rattle.mps_laws.proofs.LeftByActs.{Leaves, act_leaves, owners}
 use Rattle.mps_laws.proofs.LegalHistories.{IsAnswered}
 use Rattle.mps_laws.proofs.OwnSegments.{own_segment_taken}
 use Rattle.mps_laws.proofs.Positions.Occupancy.{Shape, shape_of}
-use Rattle.mps_laws.proofs.Positions.Places.{is_moving, commit_moves_none, alloc_moves_none, free_moves_none, cache_alloc_moves_none, cache_free_moves_none, cache_flush_moves_none, pop_moves_none}
+use Rattle.mps_laws.proofs.Positions.OwnMoves.{is_moving, commit_moves_none, alloc_moves_none, free_moves_none, cache_alloc_moves_none, cache_free_moves_none, cache_flush_moves_none, pop_moves_none}
 use Rattle.mps_laws.proofs.SameArena.{IsLeftAlone, moved_alone}
 use Rattle.mps_laws.proofs.Sound.SoundGraph.{All, PassesOrNull, IsSoundGraph, all-last, all-weaker, auto, entry-passes}
 use Rattle.mps_laws.proofs.Sound.SoundActs.{table_passes}

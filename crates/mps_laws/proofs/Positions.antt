@@ -12,6 +12,7 @@ pub mod Reserving
 pub mod Covered
 pub mod Gaps
 pub mod LegalMoves
+pub mod OwnMoves
 pub mod Places
 pub mod Zones
 pub mod Homes

@@ -1,12 +1,11 @@
 -- Steps of calls that make no moves: such a step is legal where its answer is the act's and what the client holds is live after it.
-use Rattle.std.proofs.Common.{◌≡◌, ◌∙◌, ℕ, Bool, true, false, refl, sym, ap, subst, [], Option, Some, None, Ok, Err}
+use Rattle.std.proofs.Common.{◌≡◌, ◌∙◌, ℕ, Bool, true, false, refl, sym, ap, subst, [], Option, Some, None, Ok}
 use Rattle.std.specs.Prelude.{IsTrue, MatchBool, ◌||◌, nat_lt, is_some, if◌then◌else◌, option_map}
 use Rattle.std.specs.List.{list_all, flat_map}
 use Rattle.std.specs.Option.{option_map_or}
-use Rattle.mps_base.specs.declared.refusal.Refusal.{Refusal}
 use Rattle.mps_model.specs.declared.call.Call.{Call}
 use Rattle.mps_model.specs.declared.call.Call.TheVariants as calls
-use Rattle.mps_model.specs.Answer.{Answer, refused, is_block, is_unsupported}
+use Rattle.mps_model.specs.Answer.{Answer, is_block, is_unsupported}
 use Rattle.mps_model.specs.Step.{Step}
 use Rattle.mps_model.specs.Graph.{ids_of_client, targets}
 use Rattle.mps_model.specs.Collection.{Collection}
@@ -124,9 +123,3 @@ module _ (w : World) (line : ℕ) (call : Call) (answer : Answer) (q : IsQuiet w
   pub accepted_step : (after : World) → act (is_block answer) w w call ≡ Ok (record { answer = answer; world = after }) → IsSound after
       → IsRight w (quiet line call answer) (with_client_remembered after)
   accepted_step after e sound = quiet_step (Ok (record { answer = answer; world = after })) e refl sound
-
--- a refused call changes nothing but what is remembered
-pub refused_step : (w : World) (line : ℕ) (call : Call) (why : Refusal) → IsQuiet w call (refused why) → act false w w call ≡ Err why
-    → IsSound w
-    → IsRight w (quiet line call (refused why)) (with_client_remembered w)
-refused_step w line call why q e sound = quiet_step w line call (refused why) q (Err why) e refl sound

@@ -12,7 +12,7 @@ use Rattle.mps_model.specs.World.{PointMemory}
 use Rattle.mps_model.specs.Effect.{doomed, without_buffer}
 use Rattle.mps_laws.proofs.Lookups.{opened}
 use Rattle.mps_laws.proofs.Positions.Occupancy.{Occupancy, Occupant, OfBlock, OfReservation, OfBuffer, OfTail, PointShape, shape_of_point, reserved_words, run_of, run_of_reservation, run_of_buffer}
-use Rattle.mps_laws.proofs.Positions.LaidOut.{Home, HomeOf, ArePlaced, IsLaidOut, IsRightPointShape, IsKept, AreDistinct, is_at_hand, kind_in, placed_kept, laid_out_again, home_otherwise, is_reserved}
+use Rattle.mps_laws.proofs.Positions.LaidOut.{Home, IsLaidOut, IsRightPointShape, IsKept, AreDistinct, is_at_hand, placed_kept, laid_out_again, home_otherwise, is_reserved}
 use Rattle.mps_laws.proofs.Positions.Segments.{IsAmong, IsAligned, all_without, among_kept, ascending_without, segment_bounds}
 
 -- ---- lists of bases

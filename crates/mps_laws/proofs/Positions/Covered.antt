@@ -2,10 +2,9 @@
 use Rattle.std.proofs.Common.{◌≡◌, ◌∙◌, ℕ, zero, suc, ◌*◌, ◌<◌, Bool, true, false, refl, sym, ap, List, [], ◌∷◌, ◌++◌, length, Option, Some, None, subst, arith}
 use Rattle.std.proofs.lemmas.Bool.{false≢true, true≢false}
 use Rattle.std.proofs.lemmas.Option.{none-some, same_Some}
-use Rattle.std.specs.Prelude.{map, slice_get, ◌≢◌, ◌||◌, ◌==◌, not}
-use Rattle.std.specs.Option.{option_map_or}
+use Rattle.std.specs.Prelude.{map, slice_get, ◌≢◌, ◌||◌}
 use Rattle.std.specs.List.{AllByRecursion, list_any}
-use Rattle.mps_base.specs.Address.{Address, address_of_word}
+use Rattle.mps_base.specs.Address.{Address}
 use Rattle.mps_base.specs.Run.{Run, Covers, IsAscending, in_order}
 use Rattle.mps_base.specs.Segment.{Segment, words_of_segment}
 use Rattle.mps_model.specs.Graph.{Object, Point, Reservation, entry_at}

@@ -1,8 +1,8 @@
 -- Where something is placed in the gaps of segments, nobody has words; and a new segment has a gap that is long enough.
 use Rattle.std.proofs.Common.{◌≡◌, ◌∙◌, ◌⊎◌, ℕ, ◌+◌, ◌-◌, ◌*◌, ◌<◌, ◌≤◌, Bool, true, false, refl, sym, ap, List, [], ◌∷◌, ◌++◌, Some, subst, inl, inr, arith}
-use Rattle.std.proofs.lemmas.Bool.{cases_lt, cases_Bool, cases_eq, false≢true, true≢false, and_parts, and_from, eqb-true, eq-eqb, le-leb, or_left, or_right}
+use Rattle.std.proofs.lemmas.Bool.{cases_lt, cases_Bool, false≢true, and_parts, and_from, eqb-true, eq-eqb, le-leb, or_left, or_right}
 use Rattle.std.proofs.lemmas.Option.{none-some}
-use Rattle.std.specs.Prelude.{map, slice_get, ◌≢◌, ◌||◌, ◌&&◌, ◌==◌, not, nat_le, filter, if◌then◌else◌}
+use Rattle.std.specs.Prelude.{◌≢◌, ◌||◌, ◌&&◌, ◌==◌, nat_le, filter, if◌then◌else◌}
 use Rattle.std.specs.List.{AllByRecursion, list_any, flat_map}
 use Rattle.mps_base.specs.Address.{word_of}
 use Rattle.mps_base.specs.Run.{Run, Covers, IsAscending, end_of, gaps, lowest_fitting, runs_within}

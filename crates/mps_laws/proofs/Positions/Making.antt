@@ -231,9 +231,6 @@ module _ (limit : ℕ) (g : Occupancy) (laid : IsLaidOut limit g) where
         (OfBlock (length g.shapes)) ≡ rank_where s.is_weak
     new_rank points = ap (λ o. option_map_or (λ (t : Shape). rank_where t.is_weak) o rank.Exact) (slice_get-at_last g.shapes s)
 
-    none_block : (a : Option Address) → (run_of_block None a).count ≡ 0
-    none_block a = refl
-
     pub blocks_kept : (points : List (Option PointShape)) (id : ℕ)
         → (OfBlock id ≡ OfBlock (length g.shapes)) ⊎ IsKept g (with_block_at points) (OfBlock id)
     blocks_kept points id =

@@ -9,7 +9,7 @@ use Rattle.mps_base.specs.Address.{Address}
 use Rattle.mps_base.specs.Segment.{Segment, without_segment}
 use Rattle.mps_base.specs.declared.moves.Move.{Move}
 use Rattle.mps_base.specs.declared.moves.Move.TheVariants as moves
-use Rattle.mps_model.specs.Graph.{Object, contains, without_first, object_at}
+use Rattle.mps_model.specs.Graph.{Object, contains, without_first}
 use Rattle.mps_model.specs.Collection.{Collection}
 use Rattle.mps_model.specs.World.{World, id_at, segment_at, pool_of, words_of, tail_of, is_copying_pool, target_generation_for, covered, begins_in}
 use Rattle.mps_model.specs.Effect.{world_after_move, world_after_moves, after_moved, after_splat, after_post, after_free, after_unseg, after_flip, where_one, with_collection, placing, segment_of_move, condemnation_of, is_condemned_by, world_flipped}

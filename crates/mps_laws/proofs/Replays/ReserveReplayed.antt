@@ -10,7 +10,7 @@ use Rattle.mps_base.specs.declared.names.Name.{Name}
 use Rattle.mps_base.specs.declared.refusal.Refusal.TheVariants as refusal
 use Rattle.mps_model.specs.declared.call.Call.TheVariants as call
 use Rattle.mps_model.specs.Answer.{Answer, is_unsupported}
-use Rattle.mps_model.specs.Graph.{Point, Reservation, thing_in, NamedThing}
+use Rattle.mps_model.specs.Graph.{Point, thing_in}
 use Rattle.mps_model.specs.Collection.{Collection}
 use Rattle.mps_model.specs.World.{World, Pool, id_at, is_copying_pool, object_is, pool_at}
 use Rattle.mps_model.specs.Graph.{is_automatic}

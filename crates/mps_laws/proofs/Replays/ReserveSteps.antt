@@ -2,7 +2,6 @@
 use Rattle.std.proofs.Common.{◌≡◌, ◌∙◌, ℕ, suc, ◌-◌, ◌*◌, ◌<◌, ◌≤◌, Bool, true, false, refl, sym, ap, List, [], ◌∷◌, ◌++◌, length, take, Some, subst, arith}
 use Rattle.std.proofs.lemmas.Bool.{le-leb}
 use Rattle.std.proofs.lemmas.Option.{slice_get-map}
-use Rattle.std.proofs.lemmas.List.{map-append}
 use Rattle.std.specs.Prelude.{map, slice_get, slice_set, option_map, option_and_then, nat_le, filter, if◌then◌else◌, not}
 use Rattle.std.specs.Option.{option_map_or}
 use Rattle.mps_base.specs.Address.{Address, word_of, address_of_word, address_of_grain, grains_needed}
@@ -18,7 +17,7 @@ use Rattle.mps_model.specs.Making.{is_weak_rank}
 use Rattle.mps_model.specs.Checked.{Numbered}
 use Rattle.mps_model.specs.Allocating.{address_of_placement, with_reserved, buffer_after, without_front}
 use Rattle.mps_model.specs.Placement.{ForReserve, placement_of, placement_at_point, placement_at_front, placement_in_gaps, new_segment_for, buffer_of}
-use Rattle.mps_model.specs.Effect.{world_after_move, world_after_moves, holding, segment_of_move, where_one}
+use Rattle.mps_model.specs.Effect.{holding, segment_of_move}
 use Rattle.mps_model.specs.LegalMove.{IsPlaceAt}
 use Rattle.mps_model.specs.History.{own_segment, moves_of_poll, is_segment_taken, with_buffer, rank_of_point}
 use Rattle.mps_laws.proofs.Lookups.{map-slice_set, there_is, entry_within, entry_is_there}
@@ -27,7 +26,7 @@ use Rattle.mps_laws.proofs.Positions.LaidOut.{IsLaidOut, IsRightlyRanked, is_sta
 use Rattle.mps_laws.proofs.Positions.Covered.{covered_in, covered-shapes}
 use Rattle.mps_laws.proofs.Positions.Gaps.{room_in_gap, gap_in_empty}
 use Rattle.mps_laws.proofs.Positions.Holding.{IsFresh, need_of_placement, held_laid_out, buffered_laid_out, fresh_unoccupied, own_buffer}
-use Rattle.mps_laws.proofs.Positions.LegalMoves.{HasLayout, IsReplayed, blocks_of, no_place, at_front, fresh_segment}
+use Rattle.mps_laws.proofs.Positions.LegalMoves.{HasLayout, at_front, fresh_segment}
 use Rattle.mps_laws.proofs.Replays.ManualSteps.{place_in_gaps, new_in_gaps}
 use Rattle.mps_laws.proofs.Positions.Reserving.{reserved_laid_out, buffer_reserved_laid_out}
 use Rattle.mps_laws.proofs.Positions.Segments.{among_new}

@@ -4,9 +4,8 @@
 use Rattle.std.proofs.Common.{◌≡◌, ℕ, zero, suc, ◌+◌, ◌-◌, Bool, true, false, true≢false, refl, sym, subst, List, [], ◌∷◌, ◌++◌, map, Option, Some, None}
 use Rattle.std.proofs.lemmas.Bool.{and_parts}
 use Rattle.std.proofs.lemmas.Option.{none-some, same_Some}
-use Rattle.std.specs.Prelude.{IsTrue, ◌&&◌, if◌then◌else◌, option_and_then, option_map, replicate, slice_get, slice_set}
+use Rattle.std.specs.Prelude.{IsTrue, ◌&&◌, if◌then◌else◌, option_and_then, replicate, slice_get, slice_set}
 use Rattle.std.specs.List.{list_all, flat_map}
-use Rattle.std.specs.Option.{option_map_or}
 use Rattle.mps_base.specs.declared.names.Rank.{Rank}
 use Rattle.mps_model.specs.Layout.{Layout}
 use Rattle.mps_model.specs.Graph.{Graph, NumberCell, ReferenceCell, new_cells, new_cells_from, Point, Reservation, AreaWord, PlainWord, Slots, entries, entry_at, held_by_word, holds_of, ids_in_blocks, ids_in_caches, ids_in_holds, ids_in_places, ids_in_reservations, ids_in_slots, ids_of_client, slots_of, targets_of_cells, targets_of_point, targets_of_reservation, with_last}
@@ -94,11 +93,6 @@ all-weaker test less implies [] h = refl
 all-weaker test less implies (id ∷ ids) h =
     let parts = and_parts (test id) (list_all test ids) h in
     and_both (less id) (list_all less ids) (implies id parts.0) (all-weaker test less implies ids parts.1)
-
-none_reserved : (r : Option Reservation)
-    → option_map_or targets_of_reservation (option_map (λ (r : Reservation). record r { is_doomed = true }) r) [] ≡ []
-none_reserved None = refl
-none_reserved (Some r) = refl
 
 -- ---- what a client holds
 

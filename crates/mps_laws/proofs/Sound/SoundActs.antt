@@ -1,8 +1,8 @@
 -- What calls leave of a sound graph, but for those that make objects or reserve: a sound graph.
 use Rattle.std.proofs.Common.{◌≡◌, ◌∙◌, ◌⊎◌, ℕ, ◌+◌, ◌-◌, ◌*◌, ◌<◌, Bool, true, false, refl, sym, ap, List, [], ◌∷◌, length, Option, Some, None, Ok, subst, inl, inr, arith}
-use Rattle.std.proofs.lemmas.Bool.{false≢true, true≢false, and_parts, and_from, cases_Bool, cases_eq, leb-true, ltb-true, lt-ltb, le-leb, eqb-true, eq-eqb}
+use Rattle.std.proofs.lemmas.Bool.{false≢true, and_parts, and_from, cases_eq, leb-true, ltb-true, lt-ltb, eqb-true, eq-eqb}
 use Rattle.std.proofs.lemmas.List.{length-replicate}
-use Rattle.std.proofs.lemmas.Option.{none-some, same_Some, slice_get-map}
+use Rattle.std.proofs.lemmas.Option.{none-some, same_Some}
 use Rattle.std.specs.Prelude.{map, slice_get, slice_set, not, ◌&&◌, ◌||◌, ◌==◌, nat_lt, nat_le, if◌then◌else◌, is_some, find}
 use Rattle.std.specs.Option.{option_map_or}
 use Rattle.std.specs.List.{list_all, flat_map}
@@ -16,7 +16,7 @@ use Rattle.mps_model.specs.Allocating.{with_slot, with_block_place, with_reserva
 use Rattle.mps_model.specs.Accessing.{with_word, hold_of, address_or_null}
 use Rattle.mps_model.specs.Caches.{body_cleared, graph_cleared, with_classes}
 use Rattle.mps_laws.proofs.Lookups.{slice_get-set_same, slice_get-set_other, length-slice_set, entry_is_there, entry_within_set, entry_at-last, entry_within}
-use Rattle.mps_laws.proofs.Sound.SoundGraph.{All, PassesOrNull, AreRight, IsSoundGraph, IsAlike, Grows, IsEdited, auto, manual, is_sound_word, is_sound_reservation, all-weaker, all-at, all-written, all-last, all-contains, all-append, manual_parts, entries-written, entry-passes, entries-none, each-written, each-at, each-replicated, edited, grows_alike, untouched}
+use Rattle.mps_laws.proofs.Sound.SoundGraph.{All, PassesOrNull, AreRight, IsSoundGraph, IsAlike, Grows, auto, manual, is_sound_word, is_sound_reservation, all-weaker, all-at, all-written, all-append, manual_parts, entries-written, entry-passes, each-written, edited, grows_alike}
 use Rattle.mps_laws.proofs.FoundBy.{slot_found, word_found, reference_found}
 
 -- ---- what is found passes
@@ -115,12 +115,6 @@ module _ (v : World) (s : IsSoundGraph v) where
       (inr (all-written (auto v) slots_of v.graph.tables into.number (Some (slice_set into.list into.index target)) s.slots
       (entries-written (auto v) into.list into.index target others passes)))
       (inl refl) (inl refl) (inl refl) (inl refl)
-
-  pub own_slot_written : (slot : Slot) (into : Found (Option ℕ)) (target : Option ℕ) → slot_in v slot ≡ Ok into
-      → PassesOrNull (auto v) target
-      → IsSoundGraph (with_graph v (with_slot v.graph into target))
-  own_slot_written slot into target e passes =
-      slot_written into target (table_passes (auto v) v.graph.tables into.number into.list s.slots (slot_found v slot into e).0) passes
 
   -- a word of an area is written
   pub word_written : (place : Slot) (at : Found AreaWord) (word : AreaWord) → word_in v place ≡ Ok at → is_sound_word v word ≡ true

@@ -75,16 +75,6 @@ module _ (w : World) (sound : IsSound w) where
     pub live : PassesOrNull (is_live w) target
     pub rightly : (c : Collection) → w.collection ≡ Some c → PassesOrNull (is_held_rightly w c) target
 
-  -- null may, and so may what is held already
-  pub null_may_be_held : MayBeHeld None
-  null_may_be_held = record { live = tt; rightly = λ c e. tt }
-
-  pub held_may_be_held : (slot : Slot) (found : Found (Option ℕ)) → slot_in w slot ≡ Ok found → MayBeHeld found.value
-  held_may_be_held slot found is = record {
-    live = slot_passes (is_live w) w slot found is parts.held;
-    rightly = λ c e. slot_passes (is_held_rightly w c) w slot found is (parts.kept c e);
-  }
-
   -- a slot is written
   pub slot_sound : (found : Found (Option ℕ)) (target : Option ℕ) → entry_at w.graph.tables found.number ≡ Some found.list
       → MayBeHeld target

@@ -1,7 +1,7 @@
 -- Each legal step leaves a sound graph, so each world that a legal history reaches has one.
 use Rattle.std.proofs.Common.{◌≡◌, ◌∙◌, ◌⊎◌, ℕ, Bool, true, false, refl, sym, List, [], ◌∷◌, ◌++◌, Option, Some, None, Ok, Err, subst, inl, inr}
 use Rattle.std.proofs.lemmas.Bool.{false≢true, and_parts, cases_Bool}
-use Rattle.std.specs.Prelude.{MatchBool, slice_get, option_and_then, not, ◌&&◌, if◌then◌else◌}
+use Rattle.std.specs.Prelude.{MatchBool, slice_get, not, ◌&&◌, if◌then◌else◌}
 use Rattle.std.specs.Option.{option_map_or}
 use Rattle.std.specs.List.{list_all}
 use Rattle.mps_base.specs.Address.{Address}
@@ -14,7 +14,7 @@ use Rattle.mps_base.specs.declared.names.Slot.{Slot}
 use Rattle.mps_model.specs.declared.call.Call.{Call}
 use Rattle.mps_model.specs.declared.call.Call.TheVariants as call
 use Rattle.mps_model.specs.Answer.{Answer, is_accepted, is_refused, is_block, is_unsupported}
-use Rattle.mps_model.specs.Graph.{Graph, Object, Reservation, contains, entry_at, is_automatic, object_at, ids_in_slots, ids_in_holds, ids_in_reservations, ids_of_client, Cache, CacheClass, PoolFrames, ids_in_frames, ids_of_cache}
+use Rattle.mps_model.specs.Graph.{Graph, Object, Reservation, contains, entry_at, is_automatic, object_at, ids_in_slots, ids_in_holds, ids_in_reservations, Cache, CacheClass, PoolFrames, ids_in_frames, ids_of_cache}
 use Rattle.mps_model.specs.World.{World, Pool, id_at, ids_in_pairs, is_live, segment_of, is_copying_pool, is_empty_segment, is_any_size_kind, pool_is}
 use Rattle.mps_model.specs.Checked.{Checked, Found, Numbered, pool_named, point_named, block_place_in, number_named, as_point, cache_named}
 use Rattle.mps_model.specs.Accessing.{address_or_null}

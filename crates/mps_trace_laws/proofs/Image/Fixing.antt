@@ -8,7 +8,7 @@ use Rattle.mps_model.specs.Graph.{Object, entry_at, size_of}
 use Rattle.mps_abstract.specs.Colours.{Colours, is_white, keeping}
 use Rattle.mps_trace_laws.specs.Image.Memory.{Setting, Memory, Lies}
 use Rattle.mps_trace_laws.specs.Image.Image.{AreShaped, CellSet, ImageStands, is_white_over}
-use Rattle.mps_trace_laws.specs.Image.Fixing.{Target, AreAtHand, IsMarkSet, AreMarksMoved, marked_in, copied_in, address_moved, IsNotForwarded, IsToKeep, FixesOne, nothing, passed, kept, moved, IsFixedAt}
+use Rattle.mps_trace_laws.specs.Image.Fixing.{Target, AreAtHand, AreMarksMoved, copied_in, address_moved, IsNotForwarded, IsToKeep, FixesOne, nothing, passed, kept, moved, IsFixedAt}
 use Rattle.mps_amc.specs.Moving.{AreCopied}
 use Rattle.mps_trace_laws.proofs.Image.Entries.{entry_at-set_same, entry_at-set_other}
 use Rattle.mps_trace_laws.proofs.Image.Targets as targets

@@ -1,4 +1,4 @@
-use Rattle.std.proofs.Common.{◌≡◌, ℕ, ◌+◌, ◌*◌, ◌<◌, Some, sym, subst, rules}
+use Rattle.std.proofs.Common.{◌≡◌, ◌+◌, ◌*◌, ◌<◌, Some, sym, subst}
 use Rattle.mps_base.specs.Address.{word_of, words_of_grain}
 use Rattle.mps_base.specs.Run.{IsAscending}
 use Rattle.mps_base.specs.declared.address.Addr.{Addr}
