@@ -17,7 +17,7 @@ use Rattle.mps_model.specs.Graph.{Graph, Object, Cell, NumberCell, AreaWord, Pla
 use Rattle.mps_model.specs.Dependents.{may_depend, most_dependents}
 use Rattle.mps_model.specs.Tagging.{tag_count}
 use Rattle.mps_model.specs.Transforms.{has_live_reservation, is_blocked, is_old, most_pairs, most_transforms, pairs_of, world_substituted}
-use Rattle.mps_model.specs.World.{World, Pool, Dependency, Unclamped, Clamped, block_of_word, id_at, is_automatic_kind, is_parked, is_running, pairs_in, PoolKind, Collected, OneSize, AnySize, Frames, has_frames, pool_at, pool_is, pool_of, Parked}
+use Rattle.mps_model.specs.World.{World, Pool, Dependency, Unclamped, Clamped, block_of_word, id_at, is_automatic_kind, is_parked, is_running, pairs_in, PoolKind, Collected, OneSize, AnySize, Frames, has_frames, pool_at, pool_is, pool_of}
 use Rattle.mps_model.specs.Checked.{Act, Checked, Found, Numbered, block_place_in, cells_of_body, chain_named, dependency_named, done, label_named, transform_named, tag_at, number_at, object_in, point_named, pool_named, reference_at, refuse_when, required, says, slot_in, tells, with_graph, word_in, cache_named}
 use Rattle.mps_model.specs.Making.{graph_without_root, is_block_size, live_points, make_pool, may_have_point, most_chains, most_dependencies, most_labels, most_points, most_pools, refuse_at_limit, refuse_root, refuse_taken, most_caches, most_frames}
 use Rattle.mps_model.specs.Caches.{act_kept, act_taken, are_class_sizes, kept_by, may_have_cache, new_classes, taken_from}

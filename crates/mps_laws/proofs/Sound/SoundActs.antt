@@ -8,7 +8,7 @@ use Rattle.std.specs.Option.{option_map_or}
 use Rattle.std.specs.List.{list_all, flat_map}
 use Rattle.mps_base.specs.declared.names.Slot.{Slot}
 use Rattle.mps_model.proofs.Taking.{sized_where_allowed}
-use Rattle.mps_model.specs.Graph.{Graph, Object, Body, Automatic, Manual, Cell, HeadCell, NumberCell, ReferenceCell, Cache, CacheClass, ids_in_caches, ids_in_places, Point, Reservation, AreaWord, PlainWord, Hold, Slots, Thing, ChainThing, PoolThing, TableThing, AreaThing, BlocksThing, PointThing, DependencyThing, TransformThing, CacheThing, entries, entry_at, object_at, size_of, size_of_body, is_automatic, target_of_cell, targets_of_cells, slots_of, ids_in_slots, ids_in_blocks, with_last, without_first, body_with_cells, object_with_cells, graph_with_cells, with_target_cell, new_cells}
+use Rattle.mps_model.specs.Graph.{Graph, Object, Body, Automatic, Manual, Cell, HeadCell, Cache, CacheClass, ids_in_caches, ids_in_places, Point, Reservation, AreaWord, Hold, Slots, entries, entry_at, object_at, size_of, size_of_body, target_of_cell, targets_of_cells, slots_of, ids_in_blocks, with_last, body_with_cells, object_with_cells, graph_with_cells, new_cells}
 use Rattle.mps_model.specs.World.{World, Pool, is_live, is_live_and, words_of, is_copying_object, is_word_in, lies_in, live_ids, block_of_word, pool_at, is_automatic_kind, is_weak_kind}
 use Rattle.mps_model.specs.WellFormed.{are_shaped, are_right_cells, is_right_body, is_right_object, is_live_automatic}
 use Rattle.mps_model.specs.Checked.{Found, Numbered, slot_in, word_in, cells_of_body, reference_at, with_graph}

@@ -6,7 +6,7 @@ use Rattle.std.specs.Prelude.{not, is_some}
 use Rattle.std.specs.Option.{option_map_or}
 use Rattle.mps_base.specs.declared.names.Name.{Name}
 use Rattle.mps_base.specs.declared.refusal.Refusal.TheVariants as refusal
-use Rattle.mps_model.specs.Graph.{Point, Reservation, new_cells, Graph}
+use Rattle.mps_model.specs.Graph.{Point, Reservation, new_cells}
 use Rattle.mps_model.specs.World.{World, Pool, pool_at}
 use Rattle.mps_model.specs.WellFormed.{are_right_cells}
 use Rattle.mps_model.specs.Checked.{Checked, Numbered, ◌>>=◌, ◌>>◌, required, refuse_when, point_named, with_graph}
