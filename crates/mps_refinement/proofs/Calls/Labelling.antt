@@ -33,7 +33,7 @@ use Rattle.mps_heap_spec.specs.Making.{refuse_taken}
 use Rattle.mps_heap_spec.specs.State.{HeapState}
 use Rattle.mps_refinement.specs.Answering.{answer_to, says_interned, says_labelled}
 use Rattle.mps_refinement.specs.RightStep.{IsRight}
-use Rattle.mps_refinement.specs.StandsFor.{AreNamed, AreParts, Past, numbered_thing}
+use Rattle.mps_refinement.specs.StandsFor.{collector_of, AreNamed, AreParts, Past, numbered_thing}
 use Rattle.mps_refinement.proofs.Calls.MakingSteps.{alike_passed, checks_then, first_passed, free_name, taken_same}
 use Rattle.mps_refinement.proofs.Calls.Readings.{act_reading, reading_is_right}
 use Rattle.mps_refinement.proofs.Lookups.Found.{same_of}
@@ -41,7 +41,8 @@ use Rattle.mps_refinement.proofs.Lookups.LiveObjects.{object_then}
 use Rattle.mps_refinement.proofs.Lookups.Lookups.{key_same, own_number}
 use Rattle.mps_refinement.proofs.Parts.Named.{named_with}
 use Rattle.mps_refinement.proofs.Parts.PartsMade.{all_stay, labels_changed}
-use Rattle.mps_refinement.proofs.Worlds.Steps.{HasParts, KeepsMarks, plain_is_right}
+use Rattle.mps_refinement.proofs.Worlds.CollectorKept.{KeepsAll, all_kept}
+use Rattle.mps_refinement.proofs.Worlds.Steps.{HasParts, plain_is_right}
 
 -- ---- a label is made
 
@@ -103,7 +104,7 @@ module _ {F : Type 0} (layout : F → Layout) (h : HeapState F) (w : World) (pas
 module _ {F : Type 0} (layout : F → Layout) (h : HeapState F) (name : Name) where
   not_interned : (why : Refusal) → check_label h name ≡ Err why → IsRight layout h (call.Intern name) [] (answers.refused why) h
   not_interned why e = λ w line st.
-      plain_is_right layout w line (call.Intern name) (answers.refused why) (Err why) h h refl refl refl st (refl, refl)
+      plain_is_right layout w line (call.Intern name) (answers.refused why) (Err why) h h refl refl refl st (all_kept h)
       (act_is layout h w st.past st.parts name
       ∙ ap (λ x. x >> after_intern layout h w st.past st.parts name)
       (same_err (λ a b. Unit {0}) (check_label h name) (model_checks layout h w st.past st.parts name) why
@@ -115,7 +116,7 @@ module _ {F : Type 0} (layout : F → Layout) (h : HeapState F) (name : Name) wh
   interned number after passed makes = λ w line st.
       plain_is_right layout w line (call.Intern name) (says_interned number) (after_intern layout h w st.past st.parts name) h after
       refl refl refl st
-      (subst (λ (s : HeapState F). KeepsMarks h.segs s.segs) (sym makes.state) (refl, refl))
+      (subst (λ (s : HeapState F). KeepsAll (collector_of h) (collector_of s)) (sym makes.state) (all_kept h))
       (act_is layout h w st.past st.parts name
       ∙ ap (λ x. x >> after_intern layout h w st.past st.parts name)
       (alike_passed (check_label h name) (model_checks layout h w st.past st.parts name) (checks_alike layout h w st.past st.parts name)

@@ -72,13 +72,15 @@ same_thing past t None = refl
 same_thing past t (Some x) = ap Some (sym (same_numbered past t x))
 
 -- so names represent the same things at any time
-pub named_at : {F : Type 0} (past : Past) (t : Time) (h : HeapState F) (names : List NamedThing) → AreNamed past h names
-    → AreNamed (record past { time = t }) h names
-named_at past t h names are = record {
+pub named_at : {F : Type 0} (past : Past) (t : Time) (h : HeapState F) (names : List NamedThing) (labels : List Name)
+    → AreNamed past h names labels → AreNamed (record past { time = t }) h names labels
+named_at past t h names labels are = record {
   named = λ name. are.named name ∙ same_thing past t (thing_named h.names name);
   there = are.there;
   unique = are.unique;
   once = are.once;
+  label_count = are.label_count;
+  label_numbers = are.label_numbers;
 }
 
 pub nothing_there : {A : Type 0} (o : Option A) → o ≡ None → IsSome o → ⊥

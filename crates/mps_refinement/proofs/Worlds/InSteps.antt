@@ -79,6 +79,7 @@ formed_again w unparked f = record {
   parked = ap (λ b. not (b && is_running w)) unparked;
   transforms = ap (list_all (is_live_automatic w)) (none_there w.state unparked);
   caches = f.caches;
+  frames = f.frames;
 }
 
 -- ---- manual blocks
@@ -207,6 +208,7 @@ module _ (x : Collecting) (run : Running x) (reach : IsReached x.world) (ms : Li
           parked = ap (λ b. not (b && is_running u)) unparked;
           transforms = f.transforms;
           caches = f.caches;
+          frames = f.frames;
         }) live_then (subst (IsLaidOut (v.grains + 1)) (sym (asking_kept (Some count) v)) laid_then) (record {
           objects = g.objects;
           reservations = g.reservations;
