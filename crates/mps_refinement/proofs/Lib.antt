@@ -1,4 +1,5 @@
 pub mod Collect
+pub mod Units
 pub mod Worlds
 pub mod Parts
 pub mod Lookups

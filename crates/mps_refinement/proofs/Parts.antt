@@ -11,6 +11,7 @@ pub mod BlockParts
 pub mod ClearedWords
 pub mod PointWritten
 pub mod SegmentsTaken
+pub mod LaidSegments
 pub mod Unforwarded
 pub mod ReservedImage
 pub mod ReservedParts

@@ -14,6 +14,7 @@ pub mod OwnGap
 pub mod Reserved
 pub mod Ready
 pub mod PlacesByMoves
+pub mod CellsByMoves
 pub mod PlacedOnce
 pub mod ReachedGraph
 pub mod Staying

@@ -42,13 +42,13 @@ use Rattle.mps_abstract.specs.Colours.{AreAllScanned, Colours, is_white}
 use Rattle.mps_abstract.specs.Collecting.{AreAllExamined, Collecting, Running, is_reclaiming_band}
 use Rattle.mps_abstract.specs.Collecting as abstract
 use Rattle.mps_trace.specs.AmcState.{AmcState, tail_of}
-use Rattle.mps_trace.specs.declared.running.Band.{Band}
 use Rattle.mps_trace.specs.declared.running.Band.TheVariants as band
 use Rattle.mps_trace.specs.declared.running.Running.{Running as RunningState}
 use Rattle.mps_trace_laws.specs.Fix.Ranks.{AreMarksRanked}
 use Rattle.mps_trace_laws.specs.Image.Image.{Stands, no_colours}
 use Rattle.mps_seg.specs.Segs.{SegsState}
 pub use Rattle.mps_trace_laws.specs.Units.Finals.{address_of_id}
+pub use Rattle.mps_trace_laws.specs.Units.Standing.{band_of}
 
 -- ---- whether a collection runs
 
@@ -305,15 +305,9 @@ pub record IsTracing (t : Time) (s : CollectorState) (w : World) (x : Collecting
 pub record IsReclaiming (t : Time) (x : Collecting) : Type 0 where
   pub none_at_flip : t.at_flip ≡ []
   pub read : t.is_read ≡ (λ id. not (is_white t.condemned t.colours id))
+  pub band : IsTrue (is_reclaiming_band x.band)
   pub scanned : AreAllScanned x.colours
   pub examined : AreAllExamined x
-
--- the band of the abstract collector
-abbrev pub band_of : Band → abstract.Band
-band_of band.Exact = abstract.Exact
-band_of band.Final = abstract.Final
-band_of band.Weak = abstract.Weak
-band_of band.Reclaim = abstract.Reclaim
 
 -- a running collection is as far as the abstract one
 pub record IsAsFar (run : RunningState) (x : Collecting) : Type 0 where

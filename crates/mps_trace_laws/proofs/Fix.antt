@@ -26,3 +26,4 @@ pub mod Referring
 pub mod Housed
 pub mod Ranks
 pub mod RankedMarks
+pub mod NoFurther

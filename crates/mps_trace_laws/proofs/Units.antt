@@ -8,6 +8,7 @@ pub mod Still
 pub mod Posted
 pub mod CanExamine
 pub mod RoomLeft
+pub mod MovesBound
 pub mod Reclaiming
 pub mod Splatting
 pub mod Rows

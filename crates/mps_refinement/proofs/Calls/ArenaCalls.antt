@@ -61,7 +61,7 @@ module _ {F : Type 0} (layout : F → Layout) (h : HeapState F) (w : World) (pas
         };
       }))
 
-  state_has : (arena : ArenaState) → HasParts layout past.time (with_arena h arena) (with_state w (state_of arena))
+  pub state_has : (arena : ArenaState) → HasParts layout past.time (with_arena h arena) (with_state w (state_of arena))
   state_has arena = record {
     past = past;
     timed = refl;

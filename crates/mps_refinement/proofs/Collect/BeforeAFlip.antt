@@ -18,7 +18,9 @@ use Rattle.mps_refinement.proofs.Collect.OpenReservations.{reservations_are_open
 use Rattle.mps_refinement.proofs.Collect.ObjectsAtRest.{objects_at_rest}
 use Rattle.mps_refinement.proofs.Collect.PoolsKnown.{pools_known}
 use Rattle.mps_refinement.proofs.Collect.RootsHeld.{roots_held, rows, words_shown}
-use Rattle.mps_refinement.proofs.Collect.SegmentsAtRest.{blocks_in_order, segments_at_rest}
+use Rattle.mps_refinement.proofs.Collect.SegmentsAtRest.{segments_at_rest}
+use Rattle.mps_refinement.proofs.Parts.LaidSegments.{blocks_in_order}
+use Rattle.mps_refinement.proofs.Worlds.Ready.{laid_out}
 
 module _ {F : Type 0} (layout : F → Layout) (past : Past) (h : HeapState F) (w : World) (parts : AreParts layout past h w)
     (reached : IsReached w) (rest : Rests past.time (collector_of h) w)
@@ -27,7 +29,7 @@ module _ {F : Type 0} (layout : F → Layout) (past : Past) (h : HeapState F) (w
   -- whatever words are at hand for its pools
   pub stands_before : (t : TraceState F) → IsTraceOf h.pools t → StandsBefore layout t h.segs m h.points w
   stands_before t of =
-      let few = moves_are_few layout past h w parts reached (blocks_in_order layout past h w parts reached rest) in
+      let few = moves_are_few layout past h w parts reached (blocks_in_order layout past h w parts (laid_out w reached)) in
       record {
         objects = objects_at_rest layout past h w parts reached rest.none;
         segments = segments_at_rest layout past h w parts reached rest marked;

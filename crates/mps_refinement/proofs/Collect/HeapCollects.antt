@@ -18,7 +18,8 @@ use Rattle.mps_refinement.specs.Collect.Collecting.{MayCollect, ACollectIsRight}
 use Rattle.mps_refinement.proofs.Collect.BeforeAFlip.{is_before}
 use Rattle.mps_refinement.proofs.Collect.CanCollect.{can_collect_all}
 use Rattle.mps_refinement.proofs.Collect.LiveIsFew.{units_are_below}
-use Rattle.mps_refinement.proofs.Collect.SegmentsAtRest.{blocks_in_order}
+use Rattle.mps_refinement.proofs.Parts.LaidSegments.{blocks_in_order}
+use Rattle.mps_refinement.proofs.Worlds.Ready.{laid_out}
 use Rattle.mps_refinement.proofs.Collect.CollectRight.{IsBefore, collect_right, collect_keeps_room}
 use Rattle.mps_heap_spec.specs.Collecting.{CanCollectAll}
 
@@ -35,7 +36,7 @@ module _ {F : Type 0} (layout : F → Layout) (h : HeapState F) (m : Moves) (may
       let now = at_rest st.time in
       let registered = registered_at_rest layout st.past h may.world st.parts now.time in
       units_are_below layout st.past h may.world st.parts st.reached
-      (blocks_in_order layout st.past h may.world st.parts st.reached now) (length h.finals.registered)
+      (blocks_in_order layout st.past h may.world st.parts (laid_out may.world st.reached)) (length h.finals.registered)
       (ap length registered ∙ length-map may.world.graph.registered (address_of_id may.world.addresses))
 
 -- then it can, whatever the tails of its pools are

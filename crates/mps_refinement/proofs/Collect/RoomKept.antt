@@ -27,7 +27,7 @@ module _ {F : Type 0} (layout : F → Layout) (t : TraceState F) where
       → UnitStands layout t.formats t.chains at_flip x f run y → 0 < x.moves.spare
   has_room at_flip x f run y stands = elim stands.band [
     | tracing st ↦ let room = st.traces.room in omega (arith, room)
-    | reclaiming st ↦ let room = st.room in omega (arith, room)
+    | reclaiming st last ↦ let room = st.room in omega (arith, room)
   ]
 
   -- the begin

@@ -137,6 +137,7 @@ module _ (t : Time) (s s' : CollectorState) (u v : World) (y : Collecting) (r : 
         let freed = r.reclaiming begun in record {
           none_at_flip = freed.none_at_flip;
           read = freed.read;
+          band = freed.band;
           scanned = freed.scanned;
           examined = ap (λ n. without_position n position) freed.examined;
         };
@@ -163,7 +164,13 @@ module _ (t : Time) (s s' : CollectorState) (u v : World) (y : Collecting) (r : 
         record { read = traces.read; band = traces.band; tails = traces.tails; ranked = traces.ranked };
     reclaiming = λ begun.
         let freed = r.reclaiming begun in
-        record { none_at_flip = freed.none_at_flip; read = freed.read; scanned = freed.scanned; examined = freed.examined };
+        record {
+          none_at_flip = freed.none_at_flip;
+          read = freed.read;
+          band = freed.band;
+          scanned = freed.scanned;
+          examined = freed.examined;
+        };
     condemned = kept.condemned r.condemned;
     flip = record { made = kept.flip.made; still = kept.flip.still };
   }

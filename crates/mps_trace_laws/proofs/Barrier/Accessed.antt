@@ -29,7 +29,7 @@ use Rattle.mps_abstract.specs.Colours.{is_grey}
 use Rattle.mps_abstract.specs.Collecting.{Collecting, is_reclaiming_band, is_tracing_band, units_left}
 use Rattle.mps_abstract.specs.Units.{BarrierDone, barrier_done, is_grey_in}
 use Rattle.mps_trace_laws.specs.Image.Image.{black_cells}
-use Rattle.mps_trace_laws.specs.Barrier.Laws.{StandsForBarrier, IsBarrierOf, AnAccessIsABarrier, AnAccessCanBeDone, AReclaimNeedsNoBarrier}
+use Rattle.mps_trace_laws.specs.Barrier.Laws.{IsNoFurther, StandsForBarrier, IsBarrierOf, AnAccessIsABarrier, AnAccessCanBeDone, AReclaimNeedsNoBarrier}
 use Rattle.mps_trace_laws.proofs.Barrier.GreyWords.{IsWordIn, none_is, word_in, block_in}
 use Rattle.mps_trace_laws.proofs.Barrier.OneScan.{IsOneScan, aligned, grey_is_weak, grey_object, one_scan, one_splat_scan}
 use Rattle.mps_trace_laws.proofs.Fix.CanScan.{object_can_be_scanned}
@@ -39,6 +39,16 @@ use Rattle.mps_trace_laws.proofs.Splats.CanSplat.{object_can_be_splatted}
 use Rattle.mps_trace_laws.proofs.Splats.WeakScan.{room_for_splats}
 use Rattle.mps_trace_laws.proofs.Splats.Words.{scan_leaves_tails}
 
+no_further_then : {x y z : Collecting} → IsNoFurther x y → IsNoFurther y z → IsNoFurther x z
+no_further_then first second = record {
+  band = second.band ∙ first.band;
+  cursor = second.cursor ∙ first.cursor;
+  next = second.next ∙ first.next;
+  registered_before = second.registered_before ∙ first.registered_before;
+  registered = second.registered ∙ first.registered;
+  messages = second.messages ∙ first.messages;
+}
+
 module _ {F : Type 0} (layout : F → Layout) (formats : List (Option (Policy F))) (of : ChainsState) (at_flip : List (Option Address))
     (t : Segment)
   where
@@ -47,7 +57,7 @@ module _ {F : Type 0} (layout : F → Layout) (formats : List (Option (Policy F)
       pub moves : List Move
       pub after : Collecting
       pub barrier : (ms : List Move) (last : Collecting) → BarrierDone t after ms last → BarrierDone t y (moves ++ ms) last
-      pub band : after.band ≡ y.band
+      pub no_further : IsNoFurther y after
       pub stands : StandsForBarrier layout formats of at_flip z after
       pub held : Contains z.segs.segments t
       pub trail : z.moves.moves ≡ x.moves.moves ++ moves
@@ -59,7 +69,7 @@ module _ {F : Type 0} (layout : F → Layout) (formats : List (Option (Policy F)
       moves = [];
       after = y;
       barrier = λ ms last done. done;
-      band = refl;
+      no_further = record { band = refl; cursor = refl; next = refl; registered_before = refl; registered = refl; messages = refl };
       stands = stands;
       held = held;
       trail = sym (append-nil x.moves.moves);
@@ -74,7 +84,7 @@ module _ {F : Type 0} (layout : F → Layout) (formats : List (Option (Policy F)
       barrier = λ ms last done.
           subst (λ ns. BarrierDone t y ns last) (sym (append_assoc before.moves scan.moves ms))
           (before.barrier (scan.moves ++ ms) last (scan.barrier ms last done));
-      band = scan.band ∙ before.band;
+      no_further = no_further_then before.no_further scan.no_further;
       stands = scan.stands;
       held = held;
       trail = scan.trail ∙ ap (λ ms. ms ++ scan.moves) before.trail ∙ append_assoc x.moves.moves before.moves scan.moves;
@@ -88,7 +98,7 @@ module _ {F : Type 0} (layout : F → Layout) (formats : List (Option (Policy F)
     scans_to x y stands held tracing {z = z} (scans_one_more {y = v} count at earlier lowest scanned) =
         let before = scans_to x y stands held tracing earlier in
         one_more x v z y count before
-        (one_scan layout formats of at_flip t v before.after before.stands before.held (ap is_tracing_band before.band ∙ tracing) z at
+        (one_scan layout formats of at_flip t v before.after before.stands before.held (ap is_tracing_band before.no_further.band ∙ tracing) z at
         lowest scanned)
         (held_scanned layout formats of t v z at scanned before.held)
 
@@ -99,7 +109,7 @@ module _ {F : Type 0} (layout : F → Layout) (formats : List (Option (Policy F)
     splats_to x y stands held later {z = z} (splats_one_more {y = v} count at earlier lowest splatted) =
         let before = splats_to x y stands held later earlier in
         one_more x v z y count before
-        (one_splat_scan layout formats of at_flip t v before.after before.stands before.held (ap is_tracing_band before.band ∙ later) z at
+        (one_splat_scan layout formats of at_flip t v before.after before.stands before.held (ap is_tracing_band before.no_further.band ∙ later) z at
         lowest splatted)
         (held_splatted layout formats of t v z at splatted before.held)
 
@@ -158,6 +168,7 @@ module _ {F : Type 0} (layout : F → Layout) (formats : List (Option (Policy F)
       barrier =
           subst (λ ms. BarrierDone t y ms to.after) (append-nil to.moves)
           (to.barrier [] to.after (barrier_done (none_grey z to.after to.stands to.held drained)));
+      no_further = to.no_further;
       stands = to.stands;
       trail = to.trail;
     }
@@ -206,7 +217,7 @@ splats_can_be_done : {F : Type 0} (layout : F → Layout) (t : TraceState F) (s 
 splats_can_be_done layout t s m at_flip segment y stands later held few = record {
   can = λ count v at splats lowest.
       let to = splats_to layout t.formats t.chains at_flip segment (traced t s m) y stands held later splats in
-      let still = ap is_tracing_band to.band ∙ later in
+      let still = ap is_tracing_band to.no_further.band ∙ later in
       let g = grey_object layout t.formats t.chains at_flip segment v to.after to.stands to.held at lowest in
       subst (λ tails. CanSplat layout (record t { amc = tails }) v.segs v.moves at)
       (tails_stay layout t.formats segment (traced t s m) v splats)

@@ -21,7 +21,8 @@ use Rattle.mps_trace.specs.Trace.{Traced}
 use Rattle.mps_laws.proofs.Positions.Segments.{among_aligned}
 use Rattle.mps_model.specs.Accessing.{address_or_null}
 use Rattle.mps_model.specs.Graph.{Graph, Object, contains, entry_at, targets, targets_of, is_automatic, is_weak_object}
-use Rattle.mps_model.specs.World.{is_live_and}
+use Rattle.mps_model.specs.Collection.{Collection}
+use Rattle.mps_model.specs.World.{World, is_live_and}
 use Rattle.mps_abstract.specs.Colours.{is_grey}
 use Rattle.mps_abstract.specs.Collecting.{Collecting, Running, units_left, is_reclaiming_band, is_tracing_band}
 use Rattle.mps_abstract.specs.Units.{BarrierDone, barrier_scans, barrier_splats, collecting_after_scan, is_grey_in, splats_by}
@@ -30,13 +31,15 @@ use Rattle.mps_abstract.proofs.KeptPlaces.{running_may_keep}
 use Rattle.mps_abstract.proofs.Leavings.{fixes_move}
 use Rattle.mps_abstract.proofs.Scanning.{scanned_fewer, scanned_running}
 use Rattle.mps_abstract.proofs.Splatting.{are_splatted}
+use Rattle.mps_abstract.proofs.WholeCollections.WholePaths.{fixed_same}
 use Rattle.mps_abstract.proofs.UnitScans.{scanned_rightly, targets_may_be_fixed}
 use Rattle.mps_trace_laws.specs.Image.Memory.{pool_layout}
 use Rattle.mps_trace_laws.specs.Image.Image.{AreShaped}
 use Rattle.mps_trace_laws.specs.Fix.Scanning.{IsToBeScanned}
-use Rattle.mps_trace_laws.specs.Barrier.Laws.{StandsForBarrier}
+use Rattle.mps_trace_laws.specs.Barrier.Laws.{IsNoFurther, StandsForBarrier}
 use Rattle.mps_trace_laws.proofs.Barrier.GreyWords.{lowest_is, block_in}
 use Rattle.mps_trace_laws.proofs.Fix.Hands.{contains_among}
+use Rattle.mps_trace_laws.proofs.Fix.NoFurther.{as_far}
 use Rattle.mps_trace_laws.proofs.Fix.Ranks.{scanned_keeps_ranks}
 use Rattle.mps_trace_laws.proofs.Units.Entering.{held_in_order}
 use Rattle.mps_trace_laws.proofs.Fix.Scanned.{scan_is_a_scan}
@@ -63,7 +66,7 @@ pub record IsOneScan {F : Type 0} (layout : F → Layout) (formats : List (Optio
   pub moves : List Move
   pub after : Collecting
   pub barrier : (ms : List Move) (last : Collecting) → BarrierDone t after ms last → BarrierDone t y (moves ++ ms) last
-  pub band : after.band ≡ y.band
+  pub no_further : IsNoFurther y after
   pub stands : StandsForBarrier layout formats of at_flip z after
   pub trail : z.moves.moves ≡ x.moves.moves ++ moves
   pub fewer : units_left after < units_left y
@@ -127,12 +130,20 @@ module _ {F : Type 0} (layout : F → Layout) (formats : List (Option (Policy F)
         let scan = scan_is_a_scan layout formats of at_flip x z y g.id at g.object stands.shaped stands.traces g.found is in
         let right = scanned_rightly y scan.after g.id scan.moves stands.running tracing g.grey scan.fixes in
         let may = targets_may_be_fixed y g.id stands.running tracing g.grey in
+        let far = as_far scan.fixes in
         let left = fixes_move scan.fixes (running_may_keep y stands.running) (λ n h. (may n h).0) in
         record {
           moves = scan.moves;
           after = collecting_after_scan scan.after g.id;
           barrier = λ ms last done. barrier_scans g.id tracing g.inside scan.fixes done;
-          band = right.fixed.further.band;
+          no_further = record {
+            band = far.band;
+            cursor = far.cursor;
+            next = far.next;
+            registered_before = (fixed_same scan.fixes).registered_before;
+            registered = ap (λ (h : Graph). h.registered) right.fixed.further.graph;
+            messages = ap (λ (h : Graph). h.messages) right.fixed.further.graph;
+          };
           stands = record {
             running = right.running;
             band = ap is_reclaiming_band right.fixed.further.band ∙ stands.band;
@@ -174,7 +185,14 @@ module _ {F : Type 0} (layout : F → Layout) (formats : List (Option (Policy F)
             moves = splats_by y g.id scan.cells;
             after = collecting_after_scan scan.splatted g.id;
             barrier = λ ms last done. barrier_splats g.id later g.inside scan.splats done;
-            band = splatted.band;
+            no_further = record {
+              band = scan.but.band;
+              cursor = scan.but.cursor;
+              next = scan.but.next;
+              registered_before = ap (λ (c : Collection). c.registered_before) scan.but.running;
+              registered = ap (λ (w : World). w.graph.registered) scan.but.world;
+              messages = ap (λ (w : World). w.graph.messages) scan.but.world;
+            };
             stands =
                 subst (StandsForBarrier layout formats of at_flip z) (sym scan.after_is)
                 (record {

@@ -1,4 +1,5 @@
 -- The act of a flip, in words, is the abstract collector's: slots and messages are fixed, and the state stands before the first unit.
+use Rattle.mps_trace_laws.proofs.Fix.NoFurther.{IsAsFar, as_far}
 use Rattle.mps_trace_laws.proofs.Units.TwoLists.{all_due, mix}
 use Rattle.std.proofs.Common.{◌≡◌, ◌∙◌, ◌<◌, false, refl, sym, ap, ap₂, subst, List, [], ◌∷◌, ◌++◌, length, Option, Some, arith, ◌-◌}
 use Rattle.std.proofs.lemmas.List.{append_assoc, length-map}
@@ -8,7 +9,6 @@ use Rattle.std.specs.List.{flat_map}
 use Rattle.mps_base.specs.Address.{Address, Id}
 use Rattle.mps_base.specs.Segment.{Segment}
 use Rattle.mps_base.specs.Trail.{Moves}
-use Rattle.mps_base.specs.declared.moves.Move.{Move}
 use Rattle.mps_buffer.specs.Points.{PointsState}
 use Rattle.mps_trace.specs.State.{FinalsState}
 use Rattle.mps_format.specs.Layout.{Layout}
@@ -21,7 +21,6 @@ use Rattle.mps_model.specs.Graph.{Graph, entry_at, for_object, is_weak_object}
 use Rattle.mps_model.specs.World.{World, Pool, area_words, is_automatic_kind, is_copying_kind, is_copying_pool, generations_of, pool_is}
 use Rattle.mps_abstract.specs.Colours.{is_black}
 use Rattle.mps_abstract.specs.Collecting.{Collecting, is_reclaiming_band}
-use Rattle.mps_abstract.specs.Fixing.{Fixes, fixes_no_more, passes, keeps}
 use Rattle.mps_abstract.specs.FlipLaws.{collecting_after_flip, FixesHeld}
 use Rattle.mps_abstract.proofs.WholeCollections.WholeBegins.{begun_running}
 use Rattle.mps_abstract.proofs.WholeCollections.WholePaths.{fixed_same}
@@ -66,17 +65,6 @@ something_condemned formats ts w same known moves some =
     (has_some (automatic_of formats ts) some)
 
 -- ---- what fixes leave
-
--- a collector is as far as it was
-record IsAsFar (x y : Collecting) : Type 0 where
-  next : y.next ≡ x.next
-  band : y.band ≡ x.band
-  cursor : y.cursor ≡ x.cursor
-
-as_far : {x y : Collecting} {ids : List Id} {ms : List Move} → Fixes x ids ms y → IsAsFar x y
-as_far fixes_no_more = record { next = refl; band = refl; cursor = refl }
-as_far (passes black rest) = as_far rest
-as_far (keeps white keep rest) = let far = as_far rest in record { next = far.next; band = far.band; cursor = far.cursor }
 
 abbrev is_copying_in : Id → Graph → List Pool → Bool
 is_copying_in id g pools =

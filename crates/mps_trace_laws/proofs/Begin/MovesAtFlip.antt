@@ -84,6 +84,27 @@ some_counted : (objects : List Object) (condemned : List Id) (k : Colours) (id :
     → splats_at objects condemned k id ≡ option_map_or weak_cells (slice_get objects id) 0
 some_counted objects condemned k id is = ap (λ b. if b then option_map_or weak_cells (slice_get objects id) 0 else 0) is
 
+-- ---- any live objects of which those that are to be scanned are automatic
+
+module _ (objects : List Object) (addresses : List (Option Address)) (condemned : List Id) (k : Colours)
+    (automatic : (id : Id) → is_to_scan condemned k id ≡ true → option_map_or is_automatic (slice_get objects id) false ≡ true) where
+  each : (id : Id) → counted_at (is_white condemned k) (splats_at objects condemned k) id
+      ≤ option_map_or moves_of_object (slice_get objects id) 0
+  each id = elim (cases_Bool (is_to_scan condemned k id)) [
+    | inl is ↦
+        let cells = some_counted objects condemned k id is in
+        let most = of_automatic (is_white condemned k id) (slice_get objects id) (automatic id is) in
+        omega (arith, cells, most)
+    | inr isnt ↦ let none = none_counted objects condemned k id isnt in omega (arith, none)
+  ]
+
+  pub moves_of_live : 3 * white_left condemned k (numbers_of is_some 0 addresses)
+      + splats_left objects condemned k (numbers_of is_some 0 addresses) ≤ moves_of objects addresses
+  moves_of_live =
+      moves_counted (is_white condemned k) (splats_at objects condemned k) 0 objects addresses
+      (λ i. subst (λ n. counted_at (is_white condemned k) (splats_at objects condemned k) n
+      ≤ option_map_or moves_of_object (slice_get objects i) 0) (let same : i ≡ 0 + i = omega arith in same) (each i))
+
 -- ---- at the flip
 
 module _ (w : World) (rest : IsAtRest w) where
@@ -100,23 +121,8 @@ module _ (w : World) (rest : IsAtRest w) where
     ]
   ]
 
-  each : (id : Id) → counted_at (is_white y.running.condemned y.colours) (splats_at w.graph.objects y.running.condemned y.colours) id
-      ≤ option_map_or moves_of_object (slice_get w.graph.objects id) 0
-  each id = elim (cases_Bool (is_to_scan y.running.condemned y.colours id)) [
-    | inl is ↦
-        let cells = some_counted w.graph.objects y.running.condemned y.colours id is in
-        let most =
-        of_automatic (is_white y.running.condemned y.colours id) (slice_get w.graph.objects id)
-        (condemned_automatic w rest id (condemned id is))
-        in
-        omega (arith, cells, most)
-    | inr isnt ↦ let none = none_counted w.graph.objects y.running.condemned y.colours id isnt in omega (arith, none)
-  ]
-
   pub moves_at_flip : 3 * white_left y.running.condemned y.colours (live_ids w)
       + splats_left w.graph.objects y.running.condemned y.colours (live_ids w) ≤ moves_of w.graph.objects w.addresses
   moves_at_flip =
-      moves_counted (is_white y.running.condemned y.colours) (splats_at w.graph.objects y.running.condemned y.colours) 0 w.graph.objects
-      w.addresses (λ i. subst (λ n. counted_at (is_white y.running.condemned y.colours) (splats_at w.graph.objects y.running.condemned
-      y.colours) n ≤ option_map_or moves_of_object (slice_get w.graph.objects i) 0)
-      (let same : i ≡ 0 + i = omega arith in same) (each i))
+      moves_of_live w.graph.objects w.addresses y.running.condemned y.colours
+      (λ id is. condemned_automatic w rest id (condemned id is))

@@ -127,7 +127,7 @@ module _ {F : Type 0} (layout : F → Layout) (formats : List (Option (Policy F)
   the_last_band_is_entered scanned none =
       elim stands.band [
         | tracing st ↦ entered layout formats of at_flip x y stands.running st scanned (all_examined none)
-        | reclaiming st ↦ st
+        | reclaiming st last ↦ st
       ]
 
   -- where one is due objects are traced
@@ -141,7 +141,7 @@ module _ {F : Type 0} (layout : F → Layout) (formats : List (Option (Policy F)
   due_is_traced due =
       elim stands.band [
         | tracing st ↦ st
-        | reclaiming st ↦ absurd (let less = due_before due in let all = st.examined in omega (arith, less, all))
+        | reclaiming st last ↦ absurd (let less = due_before due in let all = st.examined in omega (arith, less, all))
       ]
 
   -- and where no block has an exact mark nothing but weak objects is grey

@@ -241,7 +241,7 @@ module _ {F : Type 0} (layout : F → Layout) (formats : List (Option (Policy F)
           subst (λ (w : World). IsUnreserved w.graph.points w.point_memories u) (sym leads)
           (stands.unreserved u (among.was u held) (sym (ap (λ bs. bit bs (grain_of u.base)) among.condemned) ∙ condemned)
           (sym (ap (λ (w : World). is_copying_pool w u.pool) leads) ∙ copying));
-      band = reclaiming reclaiming_on;
+      band = reclaiming reclaiming_on refl;
     }
 
     pub done : IsTracedUnitDone layout formats of at_flip x y z f (reclaimed_at base run)

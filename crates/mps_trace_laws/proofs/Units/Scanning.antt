@@ -64,7 +64,7 @@ module _ {F : Type 0} (layout : F
   traced_so n set =
       elim stands.band [
         | tracing st ↦ st
-        | reclaiming st ↦
+        | reclaiming st last ↦
             let marks = st.frees.stands.image.marks in
             let b = marks.marked n (or_right (bit x.segs.marks.kept n) (bit x.segs.marks.exact n || bit x.segs.marks.weak n) set) in
             absurd (false≢true (sym (st.scanned b.id) ∙ marks.grey_there b.id b.at b.address

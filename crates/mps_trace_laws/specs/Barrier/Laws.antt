@@ -30,12 +30,22 @@ pub record StandsForBarrier {F : Type 0} (layout : F → Layout) (formats : List
   pub ranked : AreMarksRanked x.segs
   pub none_dependent : is_tracing_band y.band ≡ false → y.world.graph.dependents ≡ []
 
--- a read barrier of the abstract collector, by the moves of the trail, after which the state represents it
+-- a collector is as far as it was: its band, its cursor, and the registrations that it has examined and still has to
+pub record IsNoFurther (x y : Collecting) : Type 0 where
+  pub band : y.band ≡ x.band
+  pub cursor : y.cursor ≡ x.cursor
+  pub next : y.next ≡ x.next
+  pub registered_before : y.running.registered_before ≡ x.running.registered_before
+  pub registered : y.world.graph.registered ≡ x.world.graph.registered
+  pub messages : y.world.graph.messages ≡ x.world.graph.messages
+
+-- a read barrier of the abstract collector, by the moves of the trail, after which the state represents it, and which gets it no further
 pub record IsBarrierOf {F : Type 0} (layout : F → Layout) (formats : List (Option (Policy F))) (of : ChainsState)
     (at_flip : List (Option Address)) (t : Segment) (x z : Traced) (y : Collecting) : Type 0 where
   pub moves : List Move
   pub after : Collecting
   pub barrier : BarrierDone t y moves after
+  pub no_further : IsNoFurther y after
   pub stands : StandsForBarrier layout formats of at_flip z after
   pub trail : z.moves.moves ≡ x.moves.moves ++ moves
 

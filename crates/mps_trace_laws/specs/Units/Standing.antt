@@ -68,7 +68,7 @@ pub data StandsInBand {F : Type 0} (layout : F → Layout) (formats : List (Opti
     (at_flip : List (Option Address)) (x : Traced) (y : Collecting) : Type 0
   where
     tracing : StandsTracing layout formats of at_flip x y → StandsInBand layout formats of at_flip x y
-    reclaiming : StandsReclaiming x y → StandsInBand layout formats of at_flip x y
+    reclaiming : StandsReclaiming x y → IsTrue (is_reclaiming_band y.band) → StandsInBand layout formats of at_flip x y
 
 -- the band of the abstract collector that a collection works in
 abbrev pub band_of : RunningBand → Band

@@ -1,0 +1,101 @@
+-- A running collection that ends within n units: the heap stands for the world at rest.
+use Rattle.std.proofs.Common.{ℕ, suc, ◌≤◌, refl, sym, subst, List, [], Option, None}
+use Rattle.mps_base.specs.Address.{Address}
+use Rattle.mps_base.specs.Trail.{Moves}
+use Rattle.mps_format.specs.Layout.{Layout}
+use Rattle.mps_model.specs.Effect.{world_after_moves}
+use Rattle.mps_model.specs.History.{HeldAreLive}
+use Rattle.mps_model.specs.WellFormed.{is_live_automatic}
+use Rattle.mps_model.specs.World.{World}
+use Rattle.mps_seg.specs.Table.{IsMarked}
+use Rattle.mps_trace.specs.Collect.{most_moves}
+use Rattle.mps_trace.specs.Pools.{trace_of}
+use Rattle.mps_trace.specs.PoolsCollecting.{IsTraceOf}
+use Rattle.mps_trace.specs.State.{FinalsState}
+use Rattle.mps_trace.specs.Trace.{TraceState, Traced, traced}
+use Rattle.mps_trace.specs.Unit.{EndsWithin}
+use Rattle.mps_abstract.specs.Collecting.{Collecting}
+use Rattle.mps_abstract.specs.Laws.{AreLastUnitsDone}
+use Rattle.mps_abstract.specs.Leaving.{EndsCollected}
+use Rattle.mps_abstract.proofs.KeptPlaces.{ends_stay}
+use Rattle.mps_abstract.proofs.Leavings.{ends_move}
+use Rattle.mps_abstract.proofs.Rows.{last_units_done}
+use Rattle.mps_trace_laws.specs.Units.Laws.{AreLastTracedUnitsDone}
+use Rattle.mps_trace_laws.proofs.Units.Rows.{the_end_is_done}
+use Rattle.mps_trace_laws.proofs.Units.Scanning.{scans_are_done}
+use Rattle.mps_heap_spec.specs.State.{HeapState}
+use Rattle.mps_refinement.specs.StandsFor.{AreParts, AreRegisteredAt, CollectorState, IsReached, Past, Rests, Runs, collector_of, rests, time_at_rest}
+use Rattle.mps_refinement.proofs.Collect.CollectedSegments.{none_condemned, none_kept}
+use Rattle.mps_refinement.proofs.Parts.Registered.{all_now, live_at}
+use Rattle.mps_refinement.proofs.Units.MovedParts.{collected_heap, parts_moved}
+use Rattle.mps_refinement.proofs.Units.ToUnits.{stands_for_units}
+use Rattle.mps_refinement.proofs.Worlds.InSteps.{known_after_last_units, live_after_last_units}
+use Rattle.mps_refinement.proofs.Worlds.Known.{IsKnown}
+use Rattle.mps_refinement.proofs.Worlds.Reached.{reached_well_formed}
+
+-- what the collector has once its collection has ended
+abbrev pub collector_at_rest : Traced → CollectorState
+collector_at_rest z = record { segs = z.segs; tails = z.amc; running = None }
+
+module _ {F : Type 0} (layout : F → Layout) (past : Past) (h : HeapState F) (x : Collecting) (parts : AreParts layout past h x.world)
+    (reach : IsReached x.world) (r : Runs past.time (collector_of h) x.world x)
+    (of : IsTraceOf h.pools (trace_of h.pools h.tails))
+    (marked : IsMarked h.segs.grains h.segs.marks h.segs.condemned h.segs.summaries)
+    (m : Moves) (room : most_moves h.segs.grains ≤ m.spare) (most : ℕ) (z : Traced) (f : FinalsState)
+    (ends : EndsWithin layout (trace_of h.pools h.tails).formats (trace_of h.pools h.tails).chains
+    (traced (trace_of h.pools h.tails) h.segs m) h.finals r.run most z f) where
+  abbrev w : World
+  w = x.world
+
+  abbrev t : TraceState F
+  t = trace_of h.pools h.tails
+
+  abbrev at_flip : List (Option Address)
+  at_flip = past.time.at_flip
+
+  abbrev here : Traced
+  here = traced t h.segs m
+
+  pub done : AreLastTracedUnitsDone here x (suc ends.count) z f
+  done =
+      the_end_is_done layout t.formats t.chains at_flip here z h.finals f r.run x most (scans_are_done layout t.formats t.chains at_flip)
+      (stands_for_units layout past h x parts reach r of marked m room) ends
+
+  pub last : AreLastUnitsDone x (suc ends.count) done.moves
+  last = last_units_done x (suc ends.count) done.moves r.invariant done.units
+
+  -- the world at rest
+  abbrev pub v : World
+  v = world_after_moves w done.moves
+
+  pub left : EndsCollected w v
+  left = ends_move r.invariant done.units
+
+  pub live : HeldAreLive v
+  live = live_after_last_units x (suc ends.count) done.moves reach r.invariant done.units
+
+  abbrev pub heap_after : HeapState F
+  heap_after = collected_heap h (collector_at_rest z) f
+
+  pub rests_after : Rests time_at_rest (collector_at_rest z) v
+  rests_after = record {
+    none = done.ended;
+    time = refl;
+    not_running = refl;
+    not_condemned = none_condemned ends.last.before z ends.last.over;
+    not_kept = none_kept ends.last.before z ends.last.over;
+  }
+
+  pub knows_after : IsKnown time_at_rest v
+  knows_after =
+      known_after_last_units time_at_rest (collector_at_rest z) x (suc ends.count) done.moves reach r.invariant done.units (rests rests_after)
+
+  registered_after : AreRegisteredAt time_at_rest v.addresses f.registered v.graph.registered
+  registered_after =
+      subst (λ ats. AreRegisteredAt time_at_rest v.addresses ats v.graph.registered) (sym done.finals.registrations)
+      (all_now v.addresses [] (is_live_automatic v) (λ id is. live_at v id is) v.graph.registered knows_after.formed.registered)
+
+  pub parts_after : AreParts layout (record past { time = time_at_rest }) heap_after v
+  parts_after =
+      parts_moved layout past h x parts (reached_well_formed w reach) r.invariant v left.but_collected (ends_stay r.invariant done.units)
+      time_at_rest (collector_at_rest z) f done.segments done.stands registered_after done.finals.waiting
