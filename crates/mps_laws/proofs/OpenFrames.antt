@@ -7,7 +7,8 @@ use Rattle.mps_model.specs.Graph.{with_last}
 use Rattle.mps_model.specs.WellFormed.{are_rising}
 
 -- a frame more at the end
-pub rising_last : (from most : ℕ) (ns : List ℕ) → from ≤ most → are_rising from most ns ≡ true → are_rising from most (with_last ns most) ≡ true
+pub rising_last : (from most : ℕ) (ns : List ℕ) → from ≤ most → are_rising from most ns ≡ true
+    → are_rising from most (with_last ns most) ≡ true
 rising_last from most [] low h =
     and_from (nat_le from most) (nat_le most most && true) (le-leb from most low)
     (and_from (nat_le most most) true (le-leb most most (omega arith)) refl)

@@ -210,20 +210,23 @@ module _ {F : Type 0} (layout : F → Layout) (h : HeapState F) (now : List Addr
       → IsRightIn layout w (step_of line (call.Definalize slot) [] (answer_to says_ok result)) after
   resolved_is_right slot result after comes w line st =
       subst (λ s. IsRightIn layout w (step_of line (call.Definalize slot) [] (answer_to says_ok result)) s) (sym comes.state)
-      (subst (λ r. IsRightIn layout w (step_of line (call.Definalize slot) [] (answer_to says_ok r)) (state_from h (unregistered_by layout now h slot))) (sym comes.answer)
+      (subst (λ r. IsRightIn layout w (step_of line (call.Definalize slot) [] (answer_to says_ok r))
+      (state_from h (unregistered_by layout now h slot))) (sym comes.answer)
       (of_both (unregistered_by layout now h slot) (both_of w slot) refl (unregistered_same slot w st.past st.parts (known_now st))))
     where
       of_both : (o : Checked (Outcome F (Unit {0}))) (y : Checked (Act × ℕ)) → both_of w slot ≡ y → Same (TakesAway st.past w) o y
           → IsRightIn layout w (step_of line (call.Definalize slot) [] (answer_to says_ok (answered o))) (state_from h o)
       of_both o y is (fits {a = out} {b = b} leads) =
           let taken : position_taken w (call.Definalize slot) ≡ Ok b.1 = takes_so w slot ∙ ap (λ z. z >>= (λ p. Ok p.1)) is in
-          answered_is_right layout w line (call.Definalize slot) (Replied reply.Ok) refl refl st.reached st.past.time (collector_of h) (Ok b.0) out.state st.time
+          answered_is_right layout w line (call.Definalize slot) (Replied reply.Ok) refl refl st.reached st.past.time (collector_of h)
+          (Ok b.0) out.state st.time
           (known_now st) (subst (λ p. KeepsCollector p (collector_of h) (collector_of out.state)) (sym taken) leads.keeps)
           (acts_so w slot ∙ ap (λ z. z >>= (λ p. Ok p.0)) is) (sym leads.answer) (λ y of condemned colours. tt) leads.formats
           (subst (λ p. HasParts layout (time_after p st.past.time) out.state (b.0).world) (sym taken) leads.has)
       of_both o y is (same.refused {why = why}) =
           let taken : position_taken w (call.Definalize slot) ≡ Err why = takes_so w slot ∙ ap (λ z. z >>= (λ p. Ok p.1)) is in
-          answered_is_right layout w line (call.Definalize slot) (refused why) refl refl st.reached st.past.time (collector_of h) (Err why) h st.time
+          answered_is_right layout w line (call.Definalize slot) (refused why) refl refl st.reached st.past.time (collector_of h) (Err why)
+          h st.time
           (known_now st) (subst (λ p. KeepsCollector p (collector_of h) (collector_of h)) (sym taken) (all_kept h))
           (acts_so w slot ∙ ap (λ z. z >>= (λ p. Ok p.0)) is) refl (λ y of condemned colours. tt) refl
           (subst (λ p. HasParts layout (time_after p st.past.time) h w) (sym taken)

@@ -69,7 +69,8 @@ module _ {F : Type 0} (layout : F → Layout) (h : HeapState F) (w : World) (pas
         (with_last w.graph.names (record { name = name; thing = graph.DependencyThing count }))
         (ap (λ ds. ds ++ reset_at h.epochs ∷ []) parts.dependencies ∙ ap (λ d. map kept_of w.dependencies ++ d ∷ []) reset_is
         ∙ sym (map-with_last kept_of w.dependencies new_now))
-        (named_made past past h made w.graph.names w.graph.labels parts.names name (thing.Dependency number) (graph.DependencyThing count) makes.names free
+        (named_made past past h made w.graph.names w.graph.labels parts.names name (thing.Dependency number) (graph.DependencyThing count)
+        makes.names free
         (ap graph.DependencyThing (makes.number_is ∙ count_is)) (λ other there. refl) stay
         (let e = makes.number_is in omega (arith, e, longer))
         (λ there. let e = makes.number_is in omega (arith, e, there)) refl));

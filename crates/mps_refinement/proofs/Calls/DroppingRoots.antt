@@ -63,7 +63,8 @@ module _ {F : Type 0} (layout : F → Layout) (h : HeapState F) (name : Name) (w
           slots_counted =
               ap (λ n. n - length items) parts.slots_counted ∙ ap (λ n. Rattle.mps_model.specs.Making.live_slots w.graph - n) long
               ∙ sym (table_dropped_slots w.graph (past.table_number key) found.0 found.1);
-          names_are = named_dropped past h (without_root h roots names (length items)) w.graph.names w.graph.labels parts.names name (thing.Table key) was
+          names_are = named_dropped past h (without_root h roots names (length items)) w.graph.names w.graph.labels parts.names name
+              (thing.Table key) was
               updates stay refl;
         });
   }
@@ -114,7 +115,8 @@ module _ {F : Type 0} (layout : F → Layout) (h : HeapState F) (name : Name) (w
           slots_counted =
               ap (λ n. n - length items) parts.slots_counted ∙ ap (λ n. Rattle.mps_model.specs.Making.live_slots w.graph - n) long
               ∙ sym (area_dropped_slots w.graph (past.area_number key) found.0 found.1);
-          names_are = named_dropped past h (without_root h roots names (length items)) w.graph.names w.graph.labels parts.names name (thing.Area key) was
+          names_are = named_dropped past h (without_root h roots names (length items)) w.graph.names w.graph.labels parts.names name
+              (thing.Area key) was
               updates stay refl;
         });
   }

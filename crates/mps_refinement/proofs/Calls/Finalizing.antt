@@ -37,7 +37,8 @@ module _ {F : Type 0} (layout : F → Layout) (h : HeapState F) where
       (same_refuse_when (nat_le max_finals (finals_count h.finals))
       (nat_le most_registrations (length w.graph.registered + length w.graph.messages)) (refusal.TooMany max_finals)
       (ap (nat_le max_finals) (ap₂ (λ (a b : ℕ). a + b)
-      (as_many w.addresses past.time.at_flip past.time.next past.time.registered_before h.finals.registered w.graph.registered parts.registered)
+      (as_many w.addresses past.time.at_flip past.time.next past.time.registered_before h.finals.registered w.graph.registered
+      parts.registered)
       (ap length parts.messages ∙ length-map w.graph.messages (address_of_id w.addresses)))))
       (fits (record {
         answer = refl;

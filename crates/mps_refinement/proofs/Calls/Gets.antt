@@ -35,12 +35,14 @@ module _ {F : Type 0} (layout : F → Layout) (h : HeapState F) (target source :
         subst (IsRightGet result) (sym comes.state)
         (subst (λ r. IsRightGet r out.state) (sym comes.answer)
         (resting_is_right layout w line (call.Get target source k) (says_ok out.answer) refl refl refl st.reached
-        (Err refusal.NotRegistered) st.past.time (collector_of h) (Ok a) out.state (at_rest st.time) leads.keeps e (sym leads.answer) leads.has))
+        (Err refusal.NotRegistered) st.past.time (collector_of h) (Ok a) out.state (at_rest st.time) leads.keeps e (sym leads.answer)
+        leads.has))
     of_both x y e (same.refused {why = why}) comes =
         subst (IsRightGet result) (sym comes.state)
         (subst (λ r. IsRightGet r h) (sym comes.answer)
         (resting_is_right layout w line (call.Get target source k) (refused why) refl refl refl st.reached
-        (Err refusal.NotRegistered) st.past.time (collector_of h) (Err why) h (at_rest st.time) (all_kept h) e refl (record { past = st.past; timed = refl; parts = st.parts })))
+        (Err refusal.NotRegistered) st.past.time (collector_of h) (Err why) h (at_rest st.time) (all_kept h) e refl
+        (record { past = st.past; timed = refl; parts = st.parts })))
 
     all_black : (id : ℕ) → is_black st.past.time.condemned st.past.time.colours id ≡ true
     all_black id = ap (λ (t : Time). is_black t.condemned t.colours id) (at_rest st.time).time

@@ -147,7 +147,8 @@ module _ {F : Type 0} (layout : F → Layout) (h : HeapState F) (w : World) (pas
             open_still =
                 resting_points h.segs.grains h.points
                 (record h.points { points = points }) parts.arena was_reserved;
-            names_are = named_made past (record past { point_number = numbers }) h made w.graph.names w.graph.labels parts.names name (thing.Point key)
+            names_are = named_made past (record past { point_number = numbers }) h made w.graph.names w.graph.labels parts.names name
+                (thing.Point key)
                 (graph.PointThing count) makes.names free (ap graph.PointThing (renumbered_here past.point_number key count))
                 (points_renumbered past h key count makes.point.was_free) stay (ap is_some now)
                 (nothing_there (point_at h.points key) makes.point.was_free) refl;

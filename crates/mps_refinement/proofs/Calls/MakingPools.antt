@@ -116,7 +116,8 @@ module _ {F : Type 0} (layout : F → Layout) (h : HeapState F) (name : Name) (p
             });
             image_stands = other_formats_stand (setting_at past.time h.segs w) (pool_layout (record w { pools = pools })) (memory_in h.segs)
                 w.addresses past.time.colours (black_cells past.time.condemned past.time.colours) format_as_before parts.image;
-            names_are = named_made past past h made w.graph.names w.graph.labels parts.names name (thing.Pool number) (graph.PoolThing (length w.pools))
+            names_are = named_made past past h made w.graph.names w.graph.labels parts.names name (thing.Pool number)
+                (graph.PoolThing (length w.pools))
                 makes.names free (ap graph.PoolThing (makes.number_is ∙ sym parts.pools.count)) (λ other there. refl) stay
                 (let e = makes.number_is in omega (arith, e, longer))
                 (λ there. let e = makes.number_is in omega (arith, e, there)) refl;
@@ -163,7 +164,8 @@ module _ {F : Type 0} (layout : F → Layout) (h : HeapState F) (name : Name) (p
           (done (model.with_pool w name q));
       alike = same_next (taken_same layout past h w parts name) limit_same;
       formats = refl;
-      keeps = λ key after makes. subst (λ (s : HeapState F). KeepsAll (collector_of h) (collector_of s)) (sym makes.state) (one_more_kept h);
+      keeps = λ key after makes. subst (λ (s : HeapState F). KeepsAll (collector_of h) (collector_of s)) (sym makes.state)
+          (one_more_kept h);
       has = λ number after ok makes.
           pool_parts number after
           (free_name h name (first_passed (refuse_taken h name) (refuse_at_limit (length h.pools) most_pools) tt ok).1) makes;
@@ -188,7 +190,8 @@ module _ {F : Type 0} (layout : F → Layout) (h : HeapState F) (name : Name) (p
       alike = same_next (taken_same layout past h w parts name)
           (same_next (same_refuse_when (not (is_block_size words)) (not (is_block_size words)) refusal.BadSize refl) limit_same);
       formats = refl;
-      keeps = λ key after makes. subst (λ (s : HeapState F). KeepsAll (collector_of h) (collector_of s)) (sym makes.state) (one_more_kept h);
+      keeps = λ key after makes. subst (λ (s : HeapState F). KeepsAll (collector_of h) (collector_of s)) (sym makes.state)
+          (one_more_kept h);
       has = λ number after ok makes.
           pool_parts number after
           (free_name h name (first_passed (refuse_taken h name) (refuse_size words >> refuse_at_limit (length h.pools) most_pools) tt ok).1)

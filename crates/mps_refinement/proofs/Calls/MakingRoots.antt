@@ -93,7 +93,8 @@ module _ {F : Type 0} (layout : F → Layout) (h : HeapState F) (name : Name) (s
           blocks_are = makes.table.blocks ∙ parts.blocks;
           roots_counted = ap (λ n. n + 1) parts.roots_counted ∙ sym (table_made_roots w.graph name slots);
           slots_counted = ap (λ n. n + slots) parts.slots_counted ∙ sym (table_made_slots w.graph name slots);
-          names_are = named_made past (past_of_roots layout past h w parts numbers past.area_number) h made w.graph.names w.graph.labels parts.names name
+          names_are = named_made past (past_of_roots layout past h w parts numbers past.area_number) h made w.graph.names w.graph.labels
+              parts.names name
               (thing.Table key) (graph.TableThing number) makes.names (free_root passed)
               (ap graph.TableThing (renumbered_here past.table_number key number))
               (tables_renumbered past h key number makes.table.tables.free) stay (ap is_some makes.table.tables.made)
@@ -161,7 +162,8 @@ module _ {F : Type 0} (layout : F → Layout) (h : HeapState F) (name : Name) (s
           blocks_are = makes.area.blocks ∙ parts.blocks;
           roots_counted = ap (λ n. n + 1) parts.roots_counted ∙ sym (area_made_roots w.graph name slots);
           slots_counted = ap (λ n. n + slots) parts.slots_counted ∙ sym (area_made_slots w.graph name slots);
-          names_are = named_made past (past_of_roots layout past h w parts past.table_number numbers) h made w.graph.names w.graph.labels parts.names name
+          names_are = named_made past (past_of_roots layout past h w parts past.table_number numbers) h made w.graph.names w.graph.labels
+              parts.names name
               (thing.Area key) (graph.AreaThing number) makes.names (free_root passed)
               (ap graph.AreaThing (renumbered_here past.area_number key number))
               (areas_renumbered past h key number makes.area.areas.free) stay (ap is_some makes.area.areas.made)
@@ -237,7 +239,8 @@ module _ {F : Type 0} (layout : F → Layout) (h : HeapState F) (name : Name) (s
               ∙ sym (map-with_last (map (address_of_target w.addresses)) w.graph.blocks (replicate slots None));
           roots_counted = ap (λ n. n + 1) parts.roots_counted ∙ sym (blocks_made_roots w.graph name slots);
           slots_counted = ap (λ n. n + slots) parts.slots_counted ∙ sym (blocks_made_slots w.graph name slots);
-          names_are = named_made past past h made w.graph.names w.graph.labels parts.names name (thing.Blocks number) (graph.BlocksThing count)
+          names_are = named_made past past h made w.graph.names w.graph.labels parts.names name (thing.Blocks number)
+              (graph.BlocksThing count)
               makes.names (free_root passed) (ap graph.BlocksThing same_count) (λ other there. refl) stay
               (let e = makes.number_is in omega (arith, e, longer))
               (λ there. let e = makes.number_is in omega (arith, e, there)) refl;

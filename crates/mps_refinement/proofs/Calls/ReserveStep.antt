@@ -227,7 +227,8 @@ module _ (w : World) (laid : HasLayout (w.grains + 1) w) (name : Name) (head : �
     -- it is right at any time
     pub reserved_rightly : {F : Type 0} (layout : F → Layout) (line : ℕ) (before after : HeapState F) → IsReached w
         → IsInTime t (collector_of before) v → HasParts layout t after (world_from u result)
-        → (v.collection ≡ None → IsSound (world_from u result)) → KeepsTime layout t (collector_of before) v (collector_of after) (world_from u result)
+        → (v.collection ≡ None → IsSound (world_from u result)) → KeepsTime layout t (collector_of before) v (collector_of after)
+        (world_from u result)
         → (world_from u result).formats ≡ v.formats → IsRightIn layout w (step_of line c ms answer) after
     reserved_rightly layout line before after reach (rests rest) has sound keeps formats =
         let step = moving_step w line c ms answer result (record {

@@ -262,7 +262,8 @@ module _ {F : Type 0} (layout : F → Layout) (past : Past) (h : HeapState F) (w
             record { different = of.different; apart = of.apart }
 
     moves_to : (after : HeapState F) → HasParts layout past.time after (world_from w result)
-        → KeepsTime layout past.time (collector_of h) w (collector_of after) (world_from w result) → (world_from w result).formats ≡ w.formats
+        → KeepsTime layout past.time (collector_of h) w (collector_of after) (world_from w result) → (world_from w result).formats
+        ≡ w.formats
         → MovesTo layout past.time (collector_of h) w (call.Commit name target) ms answer after result
     moves_to after has keeps formats = record {
       moving = own;
@@ -282,7 +283,8 @@ module _ {F : Type 0} (layout : F → Layout) (past : Past) (h : HeapState F) (w
 
   of_both : (x : Checked (Moved F Committed)) (y : Checked Act) → act_commit w name target ≡ y → Same CommitLeads x y → IsRightOutcome x
   of_both x y theirs (fits {a = o} {b = a} leads) =
-      moving_is_right layout past.time (collector_of h) w line (call.Commit name target) (λ v. refl) o.trail.moves (says_committed o.answer) o.state (Ok a) refl
+      moving_is_right layout past.time (collector_of h) w line (call.Commit name target) (λ v. refl) o.trail.moves (says_committed o.answer)
+      o.state (Ok a) refl
       reach now
       (moves_to o.trail.moves (says_committed o.answer) (Ok a) theirs leads.moves_are leads.still (sym leads.answer) (supported o.answer)
       leads.sound_after leads.blocks o.state leads.has (leads.keeps flips) leads.formats)
@@ -293,7 +295,8 @@ module _ {F : Type 0} (layout : F → Layout) (past : Past) (h : HeapState F) (w
           (flips_kept false w w (call.Commit name target) past.time.at_flip knows.formed.addresses of) of)
   of_both x y theirs (same.refused {why}) =
       subst (λ ms. IsRightIn layout w (step_of line (call.Commit name target) ms (refused why)) h) (sym none)
-      (moving_is_right layout past.time (collector_of h) w line (call.Commit name target) (λ v. refl) [] (refused why) h (Err why) refl reach now
+      (moving_is_right layout past.time (collector_of h) w line (call.Commit name target) (λ v. refl) [] (refused why) h (Err why) refl
+      reach now
       (moves_to [] (refused why) (Err why) theirs refl refl refl refl sound knows.live.blocks h
       (record { past = past; timed = refl; parts = parts })
       (keeps_still layout) refl))

@@ -68,7 +68,8 @@ module _ {F : Type 0} (layout : F → Layout) (h : HeapState F) (trail : Moves) 
     done_is_right ms state v is =
         let comes : act false (judged_world w c ms) (moved_world w c ms) c ≡ done v =
         ap (λ u. act false u (moved_world w c ms) c) (own.judged ms) ∙ is.comes in
-        moving_is_right layout past.time (collector_of h) w line c own.taken ms (Replied reply.Ok) state (done v) own.arena reach time (record {
+        moving_is_right layout past.time (collector_of h) w line c own.taken ms (Replied reply.Ok) state (done v) own.arena reach time
+        (record {
           moving = λ y same run. record {
             supported = refl;
             collected = own.collected ms (Replied reply.Ok) ∙ sym same;
@@ -136,7 +137,8 @@ module _ {F : Type 0} (layout : F → Layout) (h : HeapState F) (trail : Moves) 
   -- so a call is right if its outcome is right in each world that the heap represents
   pub outcome_is_right : (o : Checked (Moved F (Unit {0}))) (result : Checked (Unit {0})) (after : HeapState F) (trail_after : Moves)
       → ComesMoving h trail o result after trail_after
-      → ((w : World) (line : ℕ) (past : Past) → AreParts layout past h w → IsKnown past.time w → IsReached w → IsInTime past.time (collector_of h) w
+      → ((w : World) (line : ℕ) (past : Past) → AreParts layout past h w → IsKnown past.time w → IsReached w → IsInTime past.time
+      (collector_of h) w
       → IsRightOutcome w line o)
       → IsRight layout h c trail_after.moves (answer_to says_ok result) after
   outcome_is_right o result after trail_after comes right = λ w line st.

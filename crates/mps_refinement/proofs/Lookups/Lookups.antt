@@ -101,7 +101,8 @@ pub record IsKey {F : Type 0} (h : HeapState F) (name : Name) (as_ours : Thing �
   pub number : n ≡ numbers key
   pub named : option_and_then as_ours (thing_named h.names name) ≡ Some key
 
-module _ {F : Type 0} (past : Past) (h : HeapState F) (w : World) (names : AreNamed past h w.graph.names w.graph.labels) (as_ours : Thing → Option ℕ)
+module _ {F : Type 0} (past : Past) (h : HeapState F) (w : World) (names : AreNamed past h w.graph.names w.graph.labels)
+    (as_ours : Thing → Option ℕ)
     (as_models : graph.Thing → Option ℕ) (numbers : ℕ → ℕ)
     (numbered_as : (t : Thing) → as_models (numbered_thing past t) ≡ option_map numbers (as_ours t)) where
   through : (o : Option Thing) → option_and_then as_models (option_map (numbered_thing past) o)

@@ -173,7 +173,8 @@ module _ {F : Type 0} (layout : F → Layout) (past : Past) (h : HeapState F) (w
           ]
 
   -- all registrations resolve to the addresses of now
-  pub all_resolved : (next before : ℕ) (ats tos : List Address) (ids : List Id) → ((id : Id) → contains ids id ≡ true → past.time.is_read id ≡ true)
+  pub all_resolved : (next before : ℕ) (ats tos : List Address) (ids : List Id)
+      → ((id : Id) → contains ids id ≡ true → past.time.is_read id ≡ true)
       → All (is_live_automatic w) ids → AreRegistered w.addresses past.time.at_flip next before ats ids → AreResolved layout h ats tos
       → tos ≡ map (address_of_id w.addresses) ids
   all_resolved next before [] [] [] read all are to = refl
@@ -186,7 +187,8 @@ module _ {F : Type 0} (layout : F → Layout) (past : Past) (h : HeapState F) (w
       ap₂ (λ (b : Address) bs. b ∷ bs)
       (resolved_means id a t parts.0 (read id (Rattle.mps_abstract.proofs.Lists.contains_here id ids))
       (means_by w.addresses past.time.at_flip next before a id are.0) to.0)
-      (all_resolved (next - 1) (before - 1) ats tos ids (λ n there. read n (Rattle.mps_abstract.proofs.Lists.contains_later id ids n there)) parts.1 are.1 to.1)
+      (all_resolved (next - 1) (before - 1) ats tos ids (λ n there. read n (Rattle.mps_abstract.proofs.Lists.contains_later id ids n there))
+      parts.1 are.1 to.1)
 
 -- an id of a list stands somewhere in it
 position_there : (ids : List Id) (id : Id) → contains ids id ≡ true → (position : ℕ) × (slice_get ids position ≡ Some id)

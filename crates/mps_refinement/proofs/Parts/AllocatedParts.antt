@@ -107,7 +107,8 @@ segments_made s q pool words at = record s {
 module _ {F : Type 0} (layout : F → Layout) (past : Past) (h : HeapState F) (w : World) (parts : AreParts layout past h w)
     (known : IsKnown past.time w) (graph : IsSoundGraph w) (once : ArePlacedOnce (places_of w)) (pool words : ℕ) (some : 0 < words)
     (q : Placement)
-    (time : IsInTime past.time (collector_of h) w) (manual : pool_is is_automatic_kind w pool ≡ false) (not_copying : is_copying_pool w pool ≡ false)
+    (time : IsInTime past.time (collector_of h) w) (manual : pool_is is_automatic_kind w pool ≡ false)
+    (not_copying : is_copying_pool w pool ≡ false)
   where
     abbrev at : Address
     at = address_of_placement q
@@ -423,7 +424,8 @@ module _ {F : Type 0} (layout : F → Layout) (past : Past) (h : HeapState F) (w
           counted = places_counted w.graph.blocks found.number found.index found.list (Some new) has;
           registered =
               as_before w.addresses past.time.at_flip addresses_after (is_live_automatic w)
-              (λ j passes. still j (and_parts (is_live w j) (object_is is_automatic w j) passes).1) past.time.next past.time.registered_before
+              (λ j passes. still j (and_parts (is_live w j) (object_is is_automatic w j) passes).1) past.time.next
+              past.time.registered_before
               h.finals.registered w.graph.registered
               known.formed.registered parts.registered;
           messages = parts.messages ∙ messages_still w graph addresses_after still;

@@ -319,6 +319,7 @@ module _ {F : Type 0} (layout : F → Layout) (past : Past) (h : HeapState F) (w
         parts.messages ∙ sym (ids_still w.addresses at w.graph.messages known.held.messages),
       )
       parts.dependencies (pools_of parts)
-      (named_alike h heap_made past w.graph.names w.graph.labels parts.names (λ name. refl) refl (points_stay layout past h w parts segs_made
+      (named_alike h heap_made past w.graph.names w.graph.labels parts.names (λ name. refl) refl
+      (points_stay layout past h w parts segs_made
       (with_point h.points key (Some (after_close p))) (points_there h.points key p (after_close p) at_key)))
       (states_of parts)

@@ -1,5 +1,5 @@
--- The segments of a heap that stands for a world that is laid out, as a collection finds them: each block lies in a segment of its rank, and
--- each live reservation in one.
+-- The segments of a heap that stands for a world that is laid out, as a collection finds them: each block lies in a segment of its rank,
+-- and each live reservation in one.
 use Rattle.std.proofs.Common.{◌≡◌, ◌∙◌, ℕ, ◌+◌, ◌<◌, ◌≤◌, Bool, true, false, refl, sym, ap, subst, List, map, Some, arith}
 use Rattle.std.proofs.lemmas.Option.{slice_get-map}
 use Rattle.std.specs.Prelude.{if◌then◌else◌, option_map, slice_get}

@@ -56,7 +56,8 @@ module _ {F : Type 0} (layout : F → Layout) (past : Past) (h : HeapState F) (w
 
 module _ {F : Type 0} {layout : F → Layout} {past : Past} {h : HeapState F} {w : World} where
   pub parts_of_kinds : ArenaParts layout past h w → ImageParts layout past h w → RootParts layout past h w → PointParts layout past h w
-      → FinalParts layout past h w → DependencyParts layout past h w → PoolParts layout past h w → AreNamed past h w.graph.names w.graph.labels
+      → FinalParts layout past h w → DependencyParts layout past h w → PoolParts layout past h w → AreNamed past h w.graph.names
+      w.graph.labels
       → StateParts layout past h w → AreParts layout past h w
   parts_of_kinds arena image roots points finals dependencies pools names state = record {
     grains = arena.0;

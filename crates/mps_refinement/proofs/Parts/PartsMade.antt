@@ -60,7 +60,8 @@ module _ {F : Type 0} (layout : F → Layout) (past : Past) (h : HeapState F) (w
     pub blocks_are : roots.blocks ≡ map (map (address_of_target w.addresses)) blocks
     pub roots_counted : roots_live ≡ live_roots (record w.graph { tables = tables; areas = areas; blocks = blocks })
     pub slots_counted : slots_live ≡ live_slots (record w.graph { tables = tables; areas = areas; blocks = blocks })
-    pub names_are : AreNamed (past_of_roots table_number area_number) (state_of_roots roots roots_live slots_live names) named w.graph.labels
+    pub names_are : AreNamed (past_of_roots table_number area_number) (state_of_roots roots roots_live slots_live names) named
+        w.graph.labels
 
   pub roots_changed : (table_number area_number : ℕ → ℕ) (roots : RootsState) (roots_live slots_live : ℕ) (names : NamesState)
       (tables : List (Option Slots)) (areas : List (Option (List AreaWord))) (blocks : List Slots) (named : List NamedThing)

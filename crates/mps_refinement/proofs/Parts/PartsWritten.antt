@@ -57,7 +57,8 @@ module _ {F : Type 0} (layout : F → Layout) (past : Past) (h : HeapState F) (w
         parts.slots_counted ∙ sym are.slots_counted,
       )
       (points_of parts) (finals_of parts) parts.dependencies (pools_of parts)
-      (named_alike h (record h { roots = roots }) past w.graph.names w.graph.labels parts.names (λ name. refl) refl are.stay) (states_of parts)
+      (named_alike h (record h { roots = roots }) past w.graph.names w.graph.labels parts.names (λ name. refl) refl are.stay)
+      (states_of parts)
 
   -- other words, and other objects where they lie
   pub words_written : (words : List ℕ) (objects : List Object)

@@ -1,5 +1,5 @@
--- The read barrier between the calls of a client: what `access` does with a held segment of a heap in which a collection runs is the barrier
--- of the abstract collector, after which the heap stands for the world and the collection runs on as far as it was.
+-- The read barrier between the calls of a client: what `access` does with a held segment of a heap in which a collection runs is the
+-- barrier of the abstract collector, after which the heap stands for the world and the collection runs on as far as it was.
 use Rattle.std.proofs.Common.{◌≡◌, ◌∙◌, ℕ, ◌≤◌, true, false, refl, sym, ap, subst, List, [], ◌++◌, length, Option, Some, Contains, inl, inr, arith}
 use Rattle.std.proofs.lemmas.Bool.{cases_Bool, false≢true}
 use Rattle.std.proofs.lemmas.List.{append-nil}
@@ -159,7 +159,11 @@ module _ {F : Type 0} (layout : F → Layout) (past : Past) (h : HeapState F) (x
           (collector_after z r.run) h.finals b.stands.traces.state.segments b.stands.traces.state.image
           (subst (λ ats. AreRegistered y.world.addresses at_flip y.next y.running.registered_before ats y.world.graph.registered)
           (sym finals_after.registrations)
-          (registered_so y.world.addresses at_flip (is_live y.world) (λ id live. (address_or_null y.world id, address_of-live y.world id live)) y.next y.running.registered_before
+          (registered_so y.world.addresses at_flip (is_live y.world) (λ id live. (
+            address_or_null y.world id,
+            address_of-live y.world id
+                live,
+          )) y.next y.running.registered_before
           y.world.graph.registered
           (list_all-members (is_live y.world) y.world.graph.registered b.stands.running.examined.live_registered) lived))
           finals_after.waiting

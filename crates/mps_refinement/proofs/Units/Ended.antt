@@ -88,7 +88,8 @@ module _ {F : Type 0} (layout : F → Layout) (past : Past) (h : HeapState F) (x
 
   pub knows_after : IsKnown time_at_rest v
   knows_after =
-      known_after_last_units time_at_rest (collector_at_rest z) x (suc ends.count) done.moves reach r.invariant done.units (rests rests_after)
+      known_after_last_units time_at_rest (collector_at_rest z) x (suc ends.count) done.moves reach r.invariant done.units
+      (rests rests_after)
 
   registered_after : AreRegisteredAt time_at_rest v.addresses f.registered v.graph.registered
   registered_after =

@@ -35,10 +35,12 @@ module _ {F : Type 0} (layout : F → Layout) (past : Past) (h : HeapState F) (x
   units_are_few =
       let bounded = units_are_bounded x r.invariant in
       let many =
-      as_many w.addresses past.time.at_flip past.time.next past.time.registered_before h.finals.registered w.graph.registered parts.registered
+      as_many w.addresses past.time.at_flip past.time.next past.time.registered_before h.finals.registered w.graph.registered
+      parts.registered
       in
       let below =
-      units_are_below layout past h w parts reach (blocks_in_order layout past h w parts (laid_out w reach)) (length h.finals.registered) many
+      units_are_below layout past h w parts reach (blocks_in_order layout past h w parts (laid_out w reach)) (length h.finals.registered)
+      many
       in
       omega (arith, bounded, below)
 
@@ -54,12 +56,14 @@ module _ {F : Type 0} (layout : F → Layout) (past : Past) (h : HeapState F) (x
     -- any number of units can be done
     pub units_can_be_done : (most : ℕ) → AreUnitsReady layout t h.segs m h.finals r.run most
     units_can_be_done most =
-        units_are_ready layout t h.segs m past.time.at_flip h.finals r.run x most (scans_are_done layout t.formats t.chains past.time.at_flip)
+        units_are_ready layout t h.segs m past.time.at_flip h.finals r.run x most
+        (scans_are_done layout t.formats t.chains past.time.at_flip)
         stands
 
     -- and it doesn't go on after as many as that
     pub ends_in_time : (z : Traced) (f : FinalsState) (run : RunningState)
-        → UnitsTo layout t.formats t.chains (traced t h.segs m) h.finals r.run (most_units h.segs.grains (length h.finals.registered)) z f run
+        → UnitsTo layout t.formats t.chains (traced t h.segs m) h.finals r.run (most_units h.segs.grains (length h.finals.registered)) z f
+        run
         → ⊥
     ends_in_time z f run units =
         let few = units_are_few in

@@ -123,7 +123,8 @@ module _ {F : Type 0} (layout : F → Layout) (past : Past) (h : HeapState F) (x
         let left = going.left layout past h x parts reach r of marked m room n z f run units in
         let on = going.runs_later layout past h x parts reach r of marked m room n z f run units in
         subst (λ ms. IsRightIn layout w (step_of line (call.Step n) ms more) heap_after) (sym (moves_alone none done.trail))
-        (own_step_is_right layout (going.time_after layout past h x parts reach r of marked m room n z f run units) (collector_after z run) w
+        (own_step_is_right layout (going.time_after layout past h x parts reach r of marked m room n z f run units) (collector_after z run)
+        w
         later.world later on may line (call.Step n) refl done.moves more heap_after result refl reach own
         (ap (λ (u : World). u.formats) left.world)
         (record {

@@ -111,7 +111,11 @@ module _ (t : Time) (s s' : CollectorState) (u v : World) (y : Collecting) (r : 
 
   -- it runs on
   pub runs_after : (taken : Checked ℕ)
-      → Running (record y { world = after; running = remembering held (collection_without taken y.running); next = next_without taken y.next })
+      → Running (record y {
+        world = after;
+        running = remembering held (collection_without taken y.running);
+        next = next_without taken y.next;
+      })
       → IsRunKept taken t s s' u v y
       → Runs (time_after taken t) s' v
       (record y { world = after; running = remembering held (collection_without taken y.running); next = next_without taken y.next })

@@ -222,7 +222,8 @@ module _ (x : Collecting) (run : Running x) (reach : IsReached x.world) (ms : Li
 
 -- ---- after a barrier
 
-pub known_after_barrier : (now : Time) (s : CollectorState) (t : Segment) (x y : Collecting) (ms : List Move) → IsReached x.world → Running x
+pub known_after_barrier : (now : Time) (s : CollectorState) (t : Segment) (x y : Collecting) (ms : List Move) → IsReached x.world
+    → Running x
     → BarrierDone t x ms y → IsInTime now s y.world → IsKnown now y.world
 known_after_barrier now s t x y ms reach run barrier time =
     let done = barrier_is_done t x y ms run barrier in

@@ -78,7 +78,8 @@ held_read t s w (runs x r may) id h =
     read_where_kept t s w x r id (held_kept t s w (runs x r may) id h)
 
 -- what isn't automatic isn't condemned
-pub not_both : (o : Option Object) → option_map_or is_automatic o false ≡ true → option_map_or (λ x. not (is_automatic x)) o false ≡ true → ⊥
+pub not_both : (o : Option Object) → option_map_or is_automatic o false ≡ true → option_map_or (λ x. not (is_automatic x)) o false ≡ true
+    → ⊥
 not_both None a m = false≢true a
 not_both (Some o) a m = of_test (is_automatic o) a m
   where

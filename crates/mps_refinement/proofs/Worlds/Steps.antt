@@ -308,7 +308,8 @@ module _ {F : Type 0} (layout : F → Layout) where
         let of = known_now st in
         let left = says_left st.past w checked x st.parts same in
         answered_is_right w line c (answer_to says result) still (supported each result) st.reached st.past.time (collector_of h) x h
-        st.time of (none_taken w c (takes_none w c plain) (collector_of h) (collector_of h) (all_kept h)) (marks_do_not_matter w (is_block (answer_to says result)) c plain still)
+        st.time of (none_taken w c (takes_none w c plain) (collector_of h) (collector_of h) (all_kept h))
+        (marks_do_not_matter w (is_block (answer_to says result)) c plain still)
         (ap (answer_to says) is ∙ left.2) (λ y of condemned colours. none_kept y c (answer_to says result) plain) left.1
         (untimed st.past.time w c (takes_none w c plain) h (world_from w x) left.0)
 
@@ -434,7 +435,8 @@ module _ {F : Type 0} (layout : F → Layout) where
         not_kept = m.keeps.not_kept rest.not_condemned rest.not_kept;
       })
   moving_is_right t s w line c none ms answer after result arena reached (runs y r may) m =
-      own_step_is_right t s w w y r may line c (none y.world) ms answer after result arena reached (m.moving y r.world r.invariant) m.formats
+      own_step_is_right t s w w y r may line c (none y.world) ms answer after result arena reached (m.moving y r.world r.invariant)
+      m.formats
       m.has (run_kept m.keeps y r)
 
   -- ---- a call that is refused and makes no moves

@@ -98,7 +98,8 @@ module _ {F : Type 0} (layout : F → Layout) (formats : List (Option (Policy F)
     scans_to x y stands held tracing {z = z} (scans_one_more {y = v} count at earlier lowest scanned) =
         let before = scans_to x y stands held tracing earlier in
         one_more x v z y count before
-        (one_scan layout formats of at_flip t v before.after before.stands before.held (ap is_tracing_band before.no_further.band ∙ tracing) z at
+        (one_scan layout formats of at_flip t v before.after before.stands before.held (ap is_tracing_band before.no_further.band ∙ tracing)
+        z at
         lowest scanned)
         (held_scanned layout formats of t v z at scanned before.held)
 
@@ -109,7 +110,8 @@ module _ {F : Type 0} (layout : F → Layout) (formats : List (Option (Policy F)
     splats_to x y stands held later {z = z} (splats_one_more {y = v} count at earlier lowest splatted) =
         let before = splats_to x y stands held later earlier in
         one_more x v z y count before
-        (one_splat_scan layout formats of at_flip t v before.after before.stands before.held (ap is_tracing_band before.no_further.band ∙ later) z at
+        (one_splat_scan layout formats of at_flip t v before.after before.stands before.held
+        (ap is_tracing_band before.no_further.band ∙ later) z at
         lowest splatted)
         (held_splatted layout formats of t v z at splatted before.held)
 

@@ -370,7 +370,8 @@ pub the_last_reclaim_ends : (x : Collecting) (g : SegsState) (base : Addr) (move
     (moves' : Moves) → Running x
     → AreAllScanned x.colours → AreAllExamined x → FreesFor g x.world x.running x.colours (pool_layout x.world)
     → (next : IsNextCondemned g x.cursor base.0) → IsSwept g moves base g' moves'
-    → AreReservationsUnwritten x.world.graph.points x.world.point_memories g.words g'.words → IsTrue (is_last_condemned x.running next.segment.base)
+    → AreReservationsUnwritten x.world.graph.points x.world.point_memories g.words g'.words → IsTrue
+    (is_last_condemned x.running next.segment.base)
     → EndsSo x next.segment (addresses_of (lost_of g next.segment)) g'
 the_last_reclaim_ends x g base moves g' moves' run scanned examined f next reclaimed reserved last =
     ends x g (pool_layout x.world) base run scanned examined f next moves g' moves' refl reserved last reclaimed

@@ -60,7 +60,8 @@ due_posted : (at_flip : List (Option Address)) (objects : List Object) (register
     → AreDue at_flip objects (without_first registered id) next (before - 1)
 due_posted at_flip objects registered id next before first due = record {
   lived = λ position n up below e.
-      due.lived (suc position) n (omega (arith, up)) (omega (arith, below)) (sym (slice_get-without_after registered id next position first up) ∙ e);
+      due.lived (suc position) n (omega (arith, up)) (omega (arith, below)) (sym (slice_get-without_after registered id next position first
+      up) ∙ e);
   automatic = λ position n e. elim (cases_lt position next) [
     | inl less ↦ due.automatic position n (sym (slice_get-without_before registered id next position first less) ∙ e)
     | inr most ↦ due.automatic (suc position) n (sym (slice_get-without_after registered id next position first most) ∙ e)

@@ -168,7 +168,8 @@ module _ {F : Type 0} (layout : F
     ranked : AreMarksRanked z.segs
     ranked = scan_keeps_ranks layout formats of x z one (held_in_order z.segs scan.stands.state.held) st.ranked
 
-    unreserved_then : AreCondemnedUnreserved z.segs (is_copying_pool scan.after.world) scan.after.world.graph.points scan.after.world.point_memories
+    unreserved_then : AreCondemnedUnreserved z.segs (is_copying_pool scan.after.world) scan.after.world.graph.points
+        scan.after.world.point_memories
     unreserved_then =
         unreserved_still layout formats of x.segs z.segs y scan.after st.traces.state.held st.traces.state.segments.same_segments
         st.traces.state.condemned scan.stands.state.held scan.stands.state.segments.same_segments scan.stands.state.condemned stays

@@ -12,7 +12,8 @@ pub free_unless_kept-requires-clause-fits : goal.free_unless_kept-requires-claus
 free_unless_kept-requires-clause-fits c = λ lost.
     let b = c.in-Some.block in
     let found = c.in-Some.ensures in
-    room_for_a_free c.args.segs.now c.args.trail.now c.args.base.0 c.args.end.0 (word_of c.loop-block.from.0) c.loop-block.segs c.loop-block.trail
+    room_for_a_free c.args.segs.now c.args.trail.now c.args.base.0 c.args.end.0 (word_of c.loop-block.from.0) c.loop-block.segs
+    c.loop-block.trail
     (run_at b.at.0 b.words) c.loop-block.invariant found.nonzero found.first lost
 
 pub loop-block-preserved : goal.loop-block-preserved

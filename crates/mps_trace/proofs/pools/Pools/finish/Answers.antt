@@ -15,7 +15,8 @@ finish-requires g c =
 pub invariant_of-self : goal.invariant_of-self
 invariant_of-self g c =
     still_sound c.self.inside.pools.items c.self.inside.trace c.finish.new.self c.self.invariant c.finish.ensures.unchanged
-    (after_units g.F.Format.layout c.self.inside.trace.formats c.self.inside.trace.chains _ _ _ _ _ _ c.finish.result c.finish.ensures.goes_on
+    (after_units g.F.Format.layout c.self.inside.trace.formats c.self.inside.trace.chains _ _ _ _ _ _ c.finish.result
+    c.finish.ensures.goes_on
     c.finish.ensures.ended)
 
 pub returns-clause-goes_on : goal.returns-clause-goes_on
