@@ -80,6 +80,7 @@ formed_again w unparked f = record {
   transforms = ap (list_all (is_live_automatic w)) (none_there w.state unparked);
   caches = f.caches;
   frames = f.frames;
+  dependencies = f.dependencies;
 }
 
 -- ---- manual blocks
@@ -209,6 +210,7 @@ module _ (x : Collecting) (run : Running x) (reach : IsReached x.world) (ms : Li
           transforms = f.transforms;
           caches = f.caches;
           frames = f.frames;
+          dependencies = f.dependencies;
         }) live_then (subst (IsLaidOut (v.grains + 1)) (sym (asking_kept (Some count) v)) laid_then) (record {
           objects = g.objects;
           reservations = g.reservations;

@@ -4,7 +4,7 @@ use Rattle.std.proofs.lemmas.Bool.{false≢true, and_from}
 use Rattle.std.proofs.lemmas.Option.{same_Some}
 use Rattle.std.specs.Prelude.{not}
 use Rattle.mps_base.specs.Address.{Address, Id, Word, word_of}
-use Rattle.mps_model.specs.Graph.{Object, entry_at, size_of}
+use Rattle.mps_model.specs.Graph.{Object, size_of}
 use Rattle.mps_abstract.specs.Colours.{Colours, is_white, keeping}
 use Rattle.mps_trace_laws.specs.Image.Memory.{Setting, Memory, Lies}
 use Rattle.mps_trace_laws.specs.Image.Image.{AreShaped, CellSet, ImageStands, is_white_over}
