@@ -5,4 +5,5 @@ pub mod Standing
 pub mod Keeping
 pub mod Generated
 pub mod GoodInput
+pub mod Meanings
 pub mod ReadBack

@@ -1,10 +1,11 @@
 -- The log of a run is read to its end by the readers.
 use Rattle.std.proofs.Common.{◌≡◌, ◌≢◌, ◌<◌, ◌≤◌, ℕ, List, [], length, Option, Some, None, Ok, refl, sym, ap, ◌∙◌, append-nil, arith}
+use Rattle.std.proofs.lemmas.List.Elements.{recursion_from_All}
 use Rattle.mps_desk.specs.Desk.{Outside}
-use Rattle.mps_event.specs.declared.version.Version.TheVariants.{One}
+use Rattle.mps_event.specs.declared.version.Version.TheVariants.{Two}
+use Rattle.mps_event.specs.Grammar.{IsRecord}
 use Rattle.mps_model.specs.Step.{History}
-use Rattle.mps_model.specs.Replay.{Store}
-use Rattle.mps_model.specs.Log.{log_bytes, log_of}
+use Rattle.mps_model.specs.Log.{log_bytes, written_log}
 use Rattle.mps_model.specs.History.{live_blocks, world_after_history}
 use Rattle.mps_report.specs.Streams.{appended}
 use Rattle.mps_run.specs.Ending.{NoFaultRose}
@@ -13,34 +14,26 @@ use Rattle.mps_run.specs.LogPrefix.{LogPrefix}
 use Rattle.mps_run.specs.Script.{Line, HasRun}
 use Rattle.mps_tools.specs.Listing.{listing}
 use Rattle.mps_tools.specs.ReplayEnding.{Replays}
-use Rattle.mps_model.specs.Replayed.{State, replayed}
+use Rattle.mps_model.specs.Replayed.{at_the_start}
+use Rattle.mps_laws.specs.Replay.{replayed_state}
 use Rattle.mps_args.specs.Kinds.{all_kinds}
 use Rattle.mps_tools.specs.Portable.{portable}
 use Rattle.mps_tools.specs.Text.{portable_text}
 use Rattle.mps_cnv.proofs.AllKinds.{text_of_all}
+use Rattle.mps_txt.specs.Labels.{no_names}
 use Rattle.mps_txt.proofs.OwnText.{reads_its_own}
-use Rattle.mps_blocks.proofs.VersionOne.{blocks_of, version_one}
 use Rattle.mps_cli.specs.Asked.{ConvertsLog, ListsBlocks, ReadsText}
 use Rattle.mps_cli.specs.Built.{session_built}
 use Rattle.mps_cli.specs.ReadBack.{ListsLiveBlocks, ConvertsRecords, ReadsRecords, IsReadBack}
 use Rattle.mps_cli.proofs.GoodInput.{verdict}
+use Rattle.mps_cli.proofs.Meanings.{meaning_of}
 
--- a state of which these are the blocks
-record HasBlocks (o : Option State) (store : Store) : Type 0 where
-  pub state : State
-  pub is : o ≡ Some state
-  pub blocks : state.blocks ≡ store
-
-has_blocks : (o : Option State) (store : Store) → blocks_of o ≡ Some store → HasBlocks o store
-has_blocks None store e = absurd cc
-has_blocks (Some s) store e = record { state = s; is = refl; blocks = (let same : Some s.blocks ≡ Some store = e in cc) }
-
-module _ (ran : List Line) (history : History) (runs : HasRun session_built ran history) (few : length (log_of history) ≤ max_records) where
+module _ (ran : List Line) (history : History) (runs : HasRun session_built ran history) (few : length (written_log history) ≤ max_records) where
   -- the whole log is records
   all_of_it : LogPrefix (log_bytes history)
   all_of_it = record {
-    version = One;
-    records = log_of history;
+    version = Two;
+    records = written_log history;
     rest = [];
     each = runs.recorded;
     at_most = few;
@@ -48,13 +41,9 @@ module _ (ran : List Line) (history : History) (runs : HasRun session_built ran 
   }
 
   -- which are replayed to the blocks that live
-  live : HasBlocks (replayed (log_of history)) (live_blocks (world_after_history history))
-  live = has_blocks (replayed (log_of history)) (live_blocks (world_after_history history))
-      (version_one (log_of history) runs.recorded ∙ runs.replayed)
-
   replays : Replays (log_bytes history) (Ok tt)
   unfolding all_of_it
-  replays = record { prefix = all_of_it; state = live.state; replay = live.is; ends_at = refl }
+  replays = record { prefix = all_of_it; state = replayed_state (world_after_history history); replay = runs.replayed; ends_at = refl }
 
   module _ (status : ℕ) (old new : Outside) (none : NoFaultRose old new) (memory : status ≢ 8) where
     listed : (log : List ℕ) → old.text log ≡ Some (log_bytes history) → ListsBlocks log status old new
@@ -62,11 +51,8 @@ module _ (ran : List Line) (history : History) (runs : HasRun session_built ran 
     unfolding replays
     listed log known does =
         let ends = does.unique (verdict status old new none memory does.justified) (log_bytes history) known (Ok tt)
-        (listing live.state.blocks) (replays, refl) in
-        record {
-          status_is = ends.status_is;
-          printed = ends.printed ∙ ap (λ (blocks : Store). appended old.printed (listing blocks)) live.blocks;
-        }
+        (listing (live_blocks (world_after_history history))) (replays, refl) in
+        record { status_is = ends.status_is; printed = ends.printed }
 
     converted : (log : List ℕ) → old.text log ≡ Some (log_bytes history) → (kinds : ℕ) → ConvertsLog log kinds status old new
         → ConvertsRecords kinds history status old new
@@ -76,14 +62,15 @@ module _ (ran : List Line) (history : History) (runs : HasRun session_built ran 
         refl in
         record { status_is = ends.status_is; printed = ends.printed }
 
-    read : length (log_of history) < max_records → (text : List ℕ) → old.text text ≡ Some (portable One all_kinds (log_of history))
+    read : length (written_log history) < max_records → (text : List ℕ) → old.text text ≡ Some (portable Two all_kinds (written_log history))
         → ReadsText text status old new → ReadsRecords history status old new
     read fewer text there does =
-        let records = log_of history in
-        let bytes = portable_text One records in
-        let same : old.text text ≡ Some bytes = there ∙ ap Some (text_of_all records runs.recorded) in
-        let ends = (does.unique (verdict status old new none memory does.justified) bytes same).with_first_line One records (Ok tt)
-        (reads_its_own records runs.recorded fewer) in
+        let records = written_log history in
+        let bytes = portable_text Two records in
+        let meaning = meaning_of records (recursion_from_All (IsRecord Two) records runs.recorded) at_the_start _ no_names refl runs.replayed in
+        let same : old.text text ≡ Some bytes = there ∙ ap Some (text_of_all Two records runs.recorded) in
+        let ends = (does.unique (verdict status old new none memory does.justified) bytes same).with_first_line Two records (Ok tt)
+        (reads_its_own Two records meaning.named runs.recorded meaning.is fewer) in
         record { status_is = ends.status_is; printed = ends.printed }
 
 pub read_back : (ran : List Line) (history : History) → HasRun session_built ran history → IsReadBack history

@@ -8,8 +8,8 @@ use Rattle.mps_model.specs.Graph.{empty_graph}
 use Rattle.mps_model.specs.World.{World, Collected, empty_world}
 use Rattle.mps_commands.specs.Built.{Built}
 
--- whether the form of a call is built: all but chains of generations, what begins or drives a collection by steps, labels,
--- dependents, transforms, caches and frames; a collection of everything is if it can be counted
+-- whether the form of a call is built: all but chains of generations, what begins or drives a collection by steps, dependents,
+-- transforms, caches and frames; a collection of everything is if it can be counted
 abbrev pub is_built : (collects : Bool) → Call → Bool
 is_built collects (call.Chain chain count capacities) = false
 is_built collects (call.PoolOnChain pool kind format chain) = false
@@ -17,8 +17,6 @@ is_built collects call.Collect = collects
 is_built collects call.Start = false
 is_built collects (call.StartChain chain generation) = false
 is_built collects (call.Step units) = false
-is_built collects (call.Intern label) = false
-is_built collects (call.Label slot label) = false
 is_built collects (call.Depend holder dependent) = false
 is_built collects (call.Undepend holder) = false
 is_built collects (call.Transform transform) = false

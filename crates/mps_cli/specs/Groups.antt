@@ -25,6 +25,7 @@ reads_words (call.Head slot) = true
 reads_words (call.Address slot) = true
 reads_words (call.Load place word) = true
 reads_words (call.Tag slot cell) = true
+reads_words (call.Label slot label) = true
 reads_words _ = false
 
 -- a call that writes a slot, or a word of an object, a reservation or a manual block
@@ -59,7 +60,7 @@ is_on_areas (call.DependencyMerge dependency source) = true
 is_on_areas (call.DependencyStale dependency) = true
 is_on_areas _ = false
 
--- a call on the arena, or one that drops a thing
+-- a call on the arena, one that drops a thing, or one that makes a label
 abbrev pub is_on_arena : Call → Bool
 is_on_arena (call.Limit limit) = true
 is_on_arena call.Committed = true
@@ -70,6 +71,7 @@ is_on_arena call.Live = true
 is_on_arena (call.Dump at) = true
 is_on_arena (call.DropRoot root) = true
 is_on_arena (call.DropPoint point) = true
+is_on_arena (call.Intern label) = true
 is_on_arena _ = false
 
 -- a call that makes a thing in the arena

@@ -1,9 +1,9 @@
 -- What the readers make of the log of a run.
 use Rattle.std.specs.Prelude.{ℕ, ◌≡◌, ◌≢◌, ◌<◌, ◌≤◌, Some, List, length}
 use Rattle.mps_desk.specs.Desk.{Outside}
-use Rattle.mps_event.specs.declared.version.Version.TheVariants.{One}
+use Rattle.mps_event.specs.declared.version.Version.TheVariants.{Two}
 use Rattle.mps_model.specs.Step.{History}
-use Rattle.mps_model.specs.Log.{log_bytes, log_of}
+use Rattle.mps_model.specs.Log.{log_bytes, written_log}
 use Rattle.mps_model.specs.History.{live_blocks, world_after_history}
 use Rattle.mps_args.specs.Kinds.{all_kinds}
 use Rattle.mps_args.specs.Meaning.{Converts, Lists, Reads}
@@ -23,22 +23,22 @@ pub record ListsLiveBlocks (history : History) (status : ℕ) (old new : Outside
 -- `cnv` printed the portable text of a history's records of these kinds
 pub record ConvertsRecords (kinds : ℕ) (history : History) (status : ℕ) (old new : Outside) : Type 0 where
   pub status_is : status ≡ 0
-  pub printed : new.printed ≡ appended old.printed (portable One kinds (log_of history))
+  pub printed : new.printed ≡ appended old.printed (portable Two kinds (written_log history))
 
 -- `txt` printed the readable text of a history's records
 pub record ReadsRecords (history : History) (status : ℕ) (old new : Outside) : Type 0 where
   pub status_is : status ≡ 0
-  pub printed : new.printed ≡ appended old.printed (readable_text One (log_of history))
+  pub printed : new.printed ≡ appended old.printed (readable_text Two (written_log history))
 
 -- The readers read the log of this history to its end, and the text of that log, on any desk that has it, without a fault and with
 -- memory. A log of more records than 32 bits count is too long for them, and its text has one line more.
 pub record IsReadBack (history : History) : Type 0 where
-  pub listed : length (log_of history) ≤ max_records → (log : List ℕ) (status : ℕ) (old new : Outside)
+  pub listed : length (written_log history) ≤ max_records → (log : List ℕ) (status : ℕ) (old new : Outside)
       → old.text log ≡ Some (log_bytes history) → NoFaultRose old new → status ≢ 8
       → DoesAsAsked (Some (Lists log)) status old new → ListsLiveBlocks history status old new
-  pub converted : length (log_of history) ≤ max_records → (log : List ℕ) (kinds status : ℕ) (old new : Outside)
+  pub converted : length (written_log history) ≤ max_records → (log : List ℕ) (kinds status : ℕ) (old new : Outside)
       → old.text log ≡ Some (log_bytes history) → NoFaultRose old new → status ≢ 8
       → DoesAsAsked (Some (Converts log kinds)) status old new → ConvertsRecords kinds history status old new
-  pub read : length (log_of history) < max_records → (text : List ℕ) (status : ℕ) (old new : Outside)
-      → old.text text ≡ Some (portable One all_kinds (log_of history)) → NoFaultRose old new → status ≢ 8
+  pub read : length (written_log history) < max_records → (text : List ℕ) (status : ℕ) (old new : Outside)
+      → old.text text ≡ Some (portable Two all_kinds (written_log history)) → NoFaultRose old new → status ≢ 8
       → DoesAsAsked (Some (Reads text)) status old new → ReadsRecords history status old new

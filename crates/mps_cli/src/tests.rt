@@ -24,7 +24,7 @@ const FIRST: &[u8] =
 const FIRST_ANSWERS: &[u8] = b"ok\nok\nok\nok\nok\nok\nok\n7\n";
 
 /// Its log: the header, then ArenaCreate, PoolCreate, SegAlloc and Commit.
-const FIRST_LOG: &[u8] = b"MPSLOG\x01\x00\
+const FIRST_LOG: &[u8] = b"MPSLOG\x02\x00\
     \x01\x00\x02\x00\x01\x00\x00\x00\x08\x00\x00\x00\x00\x00\x00\x00\x08\x00\x00\x00\x00\x00\x00\x00\
     \x10\x00\x03\x00\x03\x00\x00\x00\x00\x00\x00\x00\x00\x00\x00\x00\x01\x00\x00\x00\x00\x00\x00\x00\x01\x00\x00\x00\x00\x00\x00\x00\
     \x30\x00\x04\x00\x05\x00\x00\x00\x00\x10\x00\x00\x00\x00\x00\x00\x01\x00\x00\x00\x00\x00\x00\x00\
@@ -70,6 +70,14 @@ const TAGGED: &[u8] =
 const TAGGED_ANSWERS: &[u8] =
     b"ok\nok\nok\nok\nok\nok\nok\nok\n5\nok\n5\n0x2000\n0x100000301 0x2005 0x0\nrefused 5\nrefused 3\nrefused 4\n";
 
+/// A label is made and put at an object, names share one space, and a null slot is refused before a name.
+const LABELLED: &[u8] =
+    b"arena 8 8\ntable t 4\npool p amc front\nap x p exact\nreserve x f:3:1\ninit x 2 7\ncommit x t.0\nnum t.0 2\n\
+    intern ring\nlabel t.0 ring\ncollect\nintern t\nlabel t.1 none\nlabel t.0 t\ntable ring 1\nintern second\nlabel t.0 second\n";
+
+const LABELLED_ANSWERS: &[u8] =
+    b"ok\nok\nok\nok\nok\nok\nok\n7\n0\n0x1000\nok\nrefused 2\nrefused 4\nrefused 1\nrefused 2\n1\n0x2000\n";
+
 /// Heads of one digit and of more, with spaces around them, and one that breaks the rules.
 const HEADS: &[u8] =
     b"arena 8 8\ntable t 1\npool p amc front\nap x p exact\nreserve x   f:2:0  \ncommit x t.0\nhead t.0\n\
@@ -83,7 +91,7 @@ const NO_ARENA_FIRST: &[u8] = b"\ntable t 4\narena 8 9\n";
 const ARENA_AGAIN: &[u8] = b"arena 8 9\n\narena 8 9\nlive\n";
 
 /// The header of a log.
-const HEADER: &[u8] = b"MPSLOG\x01\x00";
+const HEADER: &[u8] = b"MPSLOG\x02\x00";
 
 /// A status, what was printed and what was reported.
 #[derive(Clone, Copy)]

@@ -1,10 +1,10 @@
--- The portable text of all kinds has a line for each record of version 1.
+-- The portable text of all kinds has a line for each record.
 use Rattle.std.proofs.Common.{◌≡◌, ℕ, true, List, [], ◌∷◌, ◌++◌, Option, Some, None, refl, ap, ◌∙◌}
 use Rattle.std.specs.Prelude.{All, MatchOption, if◌then◌else◌}
 use Rattle.std.specs.List.{AllByRecursion, flat_map}
 use Rattle.std.proofs.lemmas.List.Elements.{recursion_from_All}
 use Rattle.mps_base.specs.Record.{Record}
-use Rattle.mps_event.specs.declared.version.Version.TheVariants.{One}
+use Rattle.mps_event.specs.declared.version.Version.{Version}
 use Rattle.mps_event.specs.declared.event.Event.{Event}
 use Rattle.mps_event.specs.declared.event.Event.TheVariants.{ArenaCreate, LimitSet, PoolCreate, Flip, End, SegAlloc, SegFree, Splat, Commit, Alloc, Move, Stay, Post, Free, Intern, Label}
 use Rattle.mps_event.specs.Event.{event_of}
@@ -41,13 +41,14 @@ line_of_event : (o : Option Event) (r : Record) (F : Event → Type 0) → Match
 line_of_event None r F h = absurd h
 line_of_event (Some event) r F h = ap (λ wanted. if wanted then record_line r else []) (all_have_it event)
 
-lines_of_all : (records : List Record) → AllByRecursion (IsRecord One) records
-    → flat_map (line_of_kinds One all) records ≡ flat_map record_line records
-lines_of_all [] h = refl
-lines_of_all (r ∷ rs) h =
-    ap (λ line. line ++ flat_map (line_of_kinds One all) rs) (line_of_event (event_of One r.code) r _ h.0.fields)
-    ∙ ap (λ lines. record_line r ++ lines) (lines_of_all rs h.1)
+lines_of_all : (version : Version) (records : List Record) → AllByRecursion (IsRecord version) records
+    → flat_map (line_of_kinds version all) records ≡ flat_map record_line records
+lines_of_all version [] h = refl
+lines_of_all version (r ∷ rs) h =
+    ap (λ line. line ++ flat_map (line_of_kinds version all) rs) (line_of_event (event_of version r.code) r _ h.0.fields)
+    ∙ ap (λ lines. record_line r ++ lines) (lines_of_all version rs h.1)
 
-pub text_of_all : (records : List Record) → All (IsRecord One) records
-    → portable One all records ≡ first_line One ++ flat_map record_line records
-text_of_all records h = ap (λ lines. first_line One ++ lines) (lines_of_all records (recursion_from_All (IsRecord One) records h))
+pub text_of_all : (version : Version) (records : List Record) → All (IsRecord version) records
+    → portable version all records ≡ first_line version ++ flat_map record_line records
+text_of_all version records h =
+    ap (λ lines. first_line version ++ lines) (lines_of_all version records (recursion_from_All (IsRecord version) records h))

@@ -1,9 +1,11 @@
 -- The ranges of the numbers of a call, as a script has them.
-use Rattle.std.specs.Prelude.{Bool, true, false, ℕ, ◌<◌, ◌≤◌, ◌≡◌, nat_le, IsTrue, refl}
+use Rattle.std.specs.Prelude.{Bool, true, false, ℕ, ◌<◌, ◌≤◌, ◌≡◌, nat_le, IsTrue, List, ◌++◌, length, drop, replicate, codes, refl}
 use Rattle.std.specs.List.{list_all}
 use Rattle.mps_base.specs.Address.{max_grains}
+use Rattle.mps_base.specs.Name.{is_name, max_name_bytes}
 use Rattle.mps_base.specs.declared.names.Kind.{Kind}
 use Rattle.mps_base.specs.declared.names.Kind.TheVariants as kind
+use Rattle.mps_base.specs.declared.names.Name.{Name}
 use Rattle.mps_model.specs.declared.call.Call.{Call}
 use Rattle.mps_model.specs.declared.call.Call.TheVariants as call
 use Rattle.mps_model.specs.Making.{most_slots}
@@ -35,7 +37,13 @@ IsLength length = (1 ≤ length) × (length ≤ most_slots)
 abbrev pub IsFormat : ℕ → Type 0
 IsFormat format = (1 ≤ format) × (format ≤ last_format)
 
--- the numbers of a call are in the ranges of the script; other calls than these have none
+-- a name of the grammar, and zeros after it
+pub record IsPaddedName (name : Name) : Type 0 where
+  pub word : List ℕ
+  pub is : is_name word ≡ true
+  pub padded : name.bytes ≡ word ++ drop (length word) (replicate max_name_bytes 0)
+
+-- the numbers of a call are in the ranges of the script, and what a call interns is a name of it; of other calls than these nothing is said
 abbrev pub IsInRange : Call → Type 0
 IsInRange (call.Arena grains limit) = (1 ≤ grains) × (grains ≤ max_grains) × (limit ≤ max_grains)
 IsInRange (call.Limit limit) = limit ≤ max_grains
@@ -46,6 +54,7 @@ IsInRange (call.Table table length) = IsLength length
 IsInRange (call.Area area length) = IsLength length
 IsInRange (call.Blocks blocks length) = IsLength length
 IsInRange (call.SetTag slot cell tag) = tag < tag_count
+IsInRange (call.Intern label) = IsPaddedName label
 IsInRange _ = Unit {0}
 
 pub a_limit_of_all_grains : are_grains 2048 ≡ true
@@ -56,3 +65,6 @@ a_limit_of_more_grains = refl
 
 pub no_pool_of_leaves_on_a_chain : may_be_on_chain kind.Lo ≡ false
 no_pool_of_leaves_on_a_chain = refl
+
+pub a_name_of_four_letters : IsInRange (call.Intern (record { bytes = codes "ring" ++ replicate 12 0 }))
+a_name_of_four_letters = record { word = codes "ring"; is = refl; padded = refl }

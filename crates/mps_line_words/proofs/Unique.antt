@@ -8,17 +8,17 @@ use Rattle.mps_base.specs.declared.names.Name.{Name}
 use Rattle.mps_line_words.specs.Name.{name_from, name_of}
 use Rattle.mps_line_words.proofs.FirstName.{is_other}
 
-abbrev is_zero : ℕ → Bool
+abbrev pub is_zero : ℕ → Bool
 is_zero byte = byte == 0
 
 abbrev first_of : List ℕ → ℕ
 first_of [] = 0
 first_of (byte ∷ bytes) = byte
 
-no_zero : (byte : ℕ) → is_name_byte byte ≡ true → is_zero byte ≡ false
+pub no_zero : (byte : ℕ) → is_name_byte byte ≡ true → is_zero byte ≡ false
 no_zero byte named = is_other byte 0 refl named
 
-zeros_left : (k n : ℕ) → list_all is_zero (drop k (replicate n 0)) ≡ true
+pub zeros_left : (k n : ℕ) → list_all is_zero (drop k (replicate n 0)) ≡ true
 zeros_left zero zero = refl
 zeros_left zero (suc n) = zeros_left zero n
 zeros_left (suc k) zero = refl
@@ -51,7 +51,7 @@ first_named true others is = refl
 first_named false others is = absurd cc
 
 -- all bytes of a name may stand in a name
-all_named : (word : List ℕ) → is_name word ≡ true → list_all is_name_byte word ≡ true
+pub all_named : (word : List ℕ) → is_name word ≡ true → list_all is_name_byte word ≡ true
 all_named [] is = absurd cc
 all_named (first ∷ rest) is =
     let parts = and_parts (is_letter first) (nat_lt (length rest) max_name_bytes && list_all is_name_byte rest) is in

@@ -3,7 +3,7 @@ use Rattle.std.proofs.Common.{◌≡◌, ℕ, ◌+◌, refl, sym, ◌∙◌, ap,
 use Rattle.std.specs.Prelude.{option_and_then}
 use Rattle.mps_base.specs.Record.{Record}
 use Rattle.mps_model.specs.Step.{Step, History}
-use Rattle.mps_model.specs.Log.{log_from, pools_made, pools_made_by, records_of_step}
+use Rattle.mps_model.specs.Log.{labelled_log_from, log_from, pools_made, pools_made_by, records_of_step, records_with_label}
 use Rattle.mps_model.specs.Replay.{Store, store_after, replay_from}
 use Rattle.mps_model.specs.World.{World}
 use Rattle.mps_model.specs.History.{IsLegalFrom, IsLegalStep, world_after, world_after_steps}
@@ -37,6 +37,16 @@ log_from-append pools (s ∷ ss) more =
     (add_assoc pools (pools_made_by s.call s.answer) (pools_made ss))
     ∙ sym (append_assoc (records_of_step pools s) (log_from (pools + pools_made_by s.call s.answer) ss)
     (log_from (pools + (pools_made_by s.call s.answer + pools_made ss)) more))
+
+pub labelled_log_from-append : (pools : ℕ) (h more : History)
+    → labelled_log_from pools (h ++ more) ≡ labelled_log_from pools h ++ labelled_log_from (pools + pools_made h) more
+labelled_log_from-append pools [] more = ap (λ n. labelled_log_from n more) (sym (add-zero pools))
+labelled_log_from-append pools (s ∷ ss) more =
+    ap (λ rest. records_with_label pools s ++ rest) (labelled_log_from-append (pools + pools_made_by s.call s.answer) ss more)
+    ∙ ap (λ n. records_with_label pools s ++ (labelled_log_from (pools + pools_made_by s.call s.answer) ss ++ labelled_log_from n more))
+    (add_assoc pools (pools_made_by s.call s.answer) (pools_made ss))
+    ∙ sym (append_assoc (records_with_label pools s) (labelled_log_from (pools + pools_made_by s.call s.answer) ss)
+    (labelled_log_from (pools + (pools_made_by s.call s.answer + pools_made ss)) more))
 
 -- replaying what goes on, from the store after a first record
 replay_on : (rs those : List Record) → ((s : Store)

@@ -95,6 +95,10 @@ records_of_label (call.Intern label) (Replied (reply.Interned number)) line =
 records_of_label (call.Label slot label) (Replied (reply.Labelled at number)) line = record_with line label_code (at.0 ∷ number ∷ []) ∷ []
 records_of_label _ _ line = []
 
+-- all records of a command itself
+abbrev pub records_of_answered : (pools : ℕ) → Call → Answer → (line : ℕ) → List Record
+records_of_answered pools call answer line = records_of_command pools call answer line ++ records_of_label call answer line
+
 -- the records of a step, and that of its label
 abbrev pub records_with_label : (pools : ℕ) → Step → List Record
 records_with_label pools s = records_of_step pools s ++ records_of_label s.call s.answer s.line
@@ -110,11 +114,15 @@ log_in_version version history = if version == 2 then labelled_log_from 0 histor
 
 -- the version of the logs that runs write
 abbrev pub written_version : ℕ
-written_version = 1
+written_version = 2
+
+-- the records of a history, as a run writes them
+abbrev pub written_log : History → List Record
+written_log history = log_in_version written_version history
 
 -- the bytes of a history's log
 abbrev pub log_bytes : History → List ℕ
-log_bytes history = header_bytes written_version ++ records_bytes (log_in_version written_version history)
+log_bytes history = header_bytes written_version ++ records_bytes (written_log history)
 
 -- ---- vectors
 

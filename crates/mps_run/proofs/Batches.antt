@@ -12,7 +12,7 @@ use Rattle.mps_base.specs.Record.{record_bytes, records_bytes}
 use Rattle.std.specs.Prelude.{All}
 use Rattle.std.proofs.lemmas.List.{map-append}
 use Rattle.std.proofs.lemmas.List.Elements.{All-append}
-use Rattle.mps_event.specs.declared.version.Version.TheVariants.{One}
+use Rattle.mps_event.specs.declared.version.Version.TheVariants.{Two}
 use Rattle.mps_event.specs.Grammar.{IsRecord}
 use Rattle.mps_model.specs.Log.{record_of, records_of}
 use Rattle.mps_report.specs.Streams.{Logs, LogsPart}
@@ -48,11 +48,11 @@ records_append line first second =
     ∙ (sym (flat_map-append (move_bytes line) first second) ∙ moves_bytes line (first ++ second)))
 
 -- they are such as a log may hold
-pub records_append_all : (line : ℕ) (first second : List Move) → All (IsRecord One) (records_of first line)
-    → All (IsRecord One) (records_of second line) → All (IsRecord One) (records_of (first ++ second) line)
+pub records_append_all : (line : ℕ) (first second : List Move) → All (IsRecord Two) (records_of first line)
+    → All (IsRecord Two) (records_of second line) → All (IsRecord Two) (records_of (first ++ second) line)
 records_append_all line first second a b =
-    subst (All (IsRecord One)) (sym (map-append (λ (m : Move). record_of m line) first second))
-    (All-append (IsRecord One) (records_of first line) (records_of second line) a b)
+    subst (All (IsRecord Two)) (sym (map-append (λ (m : Move). record_of m line) first second))
+    (All-append (IsRecord Two) (records_of first line) (records_of second line) a b)
 
 module _ (line : ℕ) (done batch rest moves : List Move) (a b c : Outside) where
   pub logs_batch : done ++ (batch ++ rest) ≡ moves → Logs a b (records_bytes (records_of done line))

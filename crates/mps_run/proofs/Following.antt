@@ -6,7 +6,7 @@ use Rattle.std.proofs.lemmas.Slice.Eq.{bytes_eq-Decides}
 use Rattle.mps_desk.specs.Desk.{Outside, File, Files, HasRisen, file_named, with_file}
 use Rattle.mps_desk.proofs.Files.{file_named-with_file_other}
 use Rattle.mps_base.specs.Record.{records_bytes}
-use Rattle.mps_model.specs.Log.{log_of, log_bytes, pools_made}
+use Rattle.mps_model.specs.Log.{written_log, log_bytes, pools_made}
 use Rattle.mps_commands.specs.Built.{Built}
 use Rattle.mps_log_reader.specs.Ending.{is_input_verdict}
 use Rattle.mps_report.specs.declared.stop.Stop.TheVariants as stop
@@ -114,8 +114,8 @@ whole_of built ends script old new whole l = record {
       (record { write = not_write_failed ends whole; log = λ is. absurd (not_log_failed ends whole is) }) l;
   ends_at = l.ends_at;
   logged = l.logged ∙ ap (λ (p : List ℕ). appended old.logged (log_header ++ p))
-      (ap (λ (p : List ℕ). records_bytes (log_of l.history) ++ p) (logged_none ends l.part (pools_made l.history) old new l.is_part whole)
-      ∙ append-nil (records_bytes (log_of l.history)));
+      (ap (λ (p : List ℕ). records_bytes (written_log l.history) ++ p) (logged_none ends l.part (pools_made l.history) old new l.is_part whole)
+      ∙ append-nil (records_bytes (written_log l.history)));
 }
 
 whole_run : (built : Built) (ends : Ending) (script : List ℕ) (old new : Outside) → is_input_verdict (status_of_ending ends) ≡ true

@@ -6,7 +6,7 @@ use Rattle.std.proofs.lemmas.Grind.{common_steps}
 use Rattle.mps_desk.specs.Desk.{Outside, OnlyReports}
 use Rattle.mps_base.specs.Record.{records_bytes}
 use Rattle.mps_model.specs.Step.{Step}
-use Rattle.mps_model.specs.Log.{log_of, pools_made}
+use Rattle.mps_model.specs.Log.{written_log, pools_made}
 use Rattle.mps_model.specs.World.{World, empty_world}
 use Rattle.mps_model.specs.History.{world_after_history}
 use Rattle.mps_model.proofs.Appending.{IsLegalFrom-append}
@@ -68,7 +68,7 @@ module _ (built : Built) (stands : World → Type 0) (p : Progress) (old now new
     begun = tt;
     ends_at = at;
     printed = printed ∙ (f.printed ∙ ap (appended old.printed) (sym (append-nil (answers_of f.history))));
-    logged = logged ∙ (f.logged ∙ ap (appended old.logged) (sym (append-nil (records_bytes (log_of f.history)))));
+    logged = logged ∙ (f.logged ∙ ap (appended old.logged) (sym (append-nil (records_bytes (written_log f.history)))));
   }
 
   some_line : (rest : List ℕ) → 0 < length rest → 0 < length (lines_of rest)
@@ -217,8 +217,8 @@ module _ (built : Built) (stands : World → Type 0) (p : Progress) (old now mid
         ∙ appended_twice old.printed (answers_of f.history) (printed_of s.within.part));
     logged = s.within.logged
         ∙ (ap (λ known. appended known (logged_of p.pools s.within.part)) (logged ∙ f.logged)
-        ∙ (appended_twice old.logged (records_bytes (log_of f.history)) (logged_of p.pools s.within.part)
-        ∙ ap (λ n. appended old.logged (records_bytes (log_of f.history) ++ logged_of n s.within.part)) f.come.pools));
+        ∙ (appended_twice old.logged (records_bytes (written_log f.history)) (logged_of p.pools s.within.part)
+        ∙ ap (λ n. appended old.logged (records_bytes (written_log f.history) ++ logged_of n s.within.part)) f.come.pools));
   }
 
   -- the line that was read stops the run
@@ -237,7 +237,7 @@ leaves_as : {built : Built} {ends : Ending} {header script : List ℕ} {old mid 
     → RunEndsAt built ends_now l.ran l.later script new.input
     → new.printed ≡ appended first.printed (answers_of l.history ++ printed_of l.part)
     → new.logged
-    ≡ appended first.logged (header_now ++ (records_bytes (log_of l.history) ++ logged_of (pools_made l.history) l.part))
+    ≡ appended first.logged (header_now ++ (records_bytes (written_log l.history) ++ logged_of (pools_made l.history) l.part))
     → Leaves built ends_now header_now script first new
 leaves_as l ends_now header_now first new is_part ends_at printed logged = record {
   ran = l.ran;
@@ -303,7 +303,7 @@ pub leaves_after_header : (built : Built) (ends : Ending) (script : List ℕ) (o
     → start.printed ≡ old.printed
     → start.logged ≡ appended old.logged log_header → Leaves built ends [] script start new → LeavesRun built ends script old new
 leaves_after_header built ends script old start new grew printed logged l =
-    let later = records_bytes (log_of l.history) ++ logged_of (pools_made l.history) l.part in
+    let later = records_bytes (written_log l.history) ++ logged_of (pools_made l.history) l.part in
     inr (leaves_as l ends log_header old new (part_earlier ends l.part old start new grew l.is_part) l.ends_at
     (l.printed ∙ ap (λ known. appended known (answers_of l.history ++ printed_of l.part)) printed)
     (l.logged ∙ (ap (λ known. appended known later) logged ∙ appended_twice old.logged log_header later)))

@@ -9,6 +9,7 @@ pub mod OneOutput
 pub mod Pieces
 pub mod RecordBytes
 pub mod Records
+pub mod Interning
 pub mod Reported
 pub mod SoFar
 mod SomeWords

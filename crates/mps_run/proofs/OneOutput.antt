@@ -7,7 +7,7 @@ use Rattle.std.proofs.lemmas.List.Elements.{filter-append, All-tail, All-head}
 use Rattle.mps_base.specs.Record.{Record, record_bytes, records_bytes, header_bytes}
 use Rattle.mps_base.specs.declared.moves.Move.{Move}
 use Rattle.mps_base.specs.declared.moves.Move.TheVariants as moves
-use Rattle.mps_event.specs.declared.version.Version.TheVariants.{One}
+use Rattle.mps_event.specs.declared.version.Version.TheVariants.{Two}
 use Rattle.mps_event.specs.Grammar.{IsRecord}
 use Rattle.mps_event.proofs.Records.{one_beginning}
 use Rattle.mps_model.specs.declared.call.Call.{Call}
@@ -21,11 +21,12 @@ use Rattle.mps_model.specs.Checked.{Checked, Found, ◌>>=◌, word_in}
 use Rattle.mps_model.specs.Accessing.{Poked, AsBlock, AsNumber, AsMarked, act_poked, act_poke_in, poked}
 use Rattle.mps_model.specs.Reply.{answer_from, reply_to}
 use Rattle.mps_model.specs.History.{IsLegalStep, IsLegalFrom, IsAnsweredStep, judged_world, moved_world, world_after}
-use Rattle.mps_model.specs.Log.{record_of, records_of, records_of_accepted, records_of_command, records_of_step, log_from, log_of, log_bytes, pools_made_by}
+use Rattle.mps_model.specs.Log.{record_of, records_of, records_of_accepted, records_of_command, records_of_step, log_from, log_of, log_bytes, pools_made_by, written_log, written_version}
 use Rattle.mps_model.specs.Text.{line_of_answer}
 use Rattle.mps_commands.specs.Built.{Built}
 use Rattle.mps_commands.specs.RightAnswer.{step_in}
 use Rattle.mps_laws.proofs.Replays.RecordsOfMoves.{records_of-injective}
+use Rattle.mps_laws.proofs.Replays.LabelledLogs.{is_unlabelled, without_labels}
 use Rattle.mps_laws.proofs.Replays.Lines.{on_line, on_line-own, on_line-later, records_of_line}
 use Rattle.mps_script.specs.declared.line.BadLine.{BadLine}
 use Rattle.mps_script.specs.Line.{call_of_line}
@@ -36,15 +37,15 @@ use Rattle.mps_run.specs.Script.{Line, ScriptCommand, HasRun, IsStepUnsupportedW
 no_bytes : (r : Record) (rest : List ℕ) → [] ≡ record_bytes r ++ rest → ⊥
 no_bytes r rest e = absurd cc
 
-pub records_told : (rs qs : List Record) → All (IsRecord One) rs → All (IsRecord One) qs → records_bytes rs ≡ records_bytes qs → rs ≡ qs
+pub records_told : (rs qs : List Record) → All (IsRecord Two) rs → All (IsRecord Two) qs → records_bytes rs ≡ records_bytes qs → rs ≡ qs
 records_told [] [] h k e = refl
 records_told [] (q ∷ qs) h k e = absurd (no_bytes q (records_bytes qs) e)
 records_told (r ∷ rs) [] h k e = absurd (no_bytes r (records_bytes rs) (sym e))
 records_told (r ∷ rs) (q ∷ qs) h k e =
-    let first = All-head (IsRecord One) r rs h in
-    let first' = All-head (IsRecord One) q qs k in
-    let both = one_beginning One r q (records_bytes rs) (records_bytes qs) first first' e in
-    let rest : rs ≡ qs = records_told rs qs (All-tail (IsRecord One) r rs h) (All-tail (IsRecord One) q qs k) both.1 in
+    let first = All-head (IsRecord Two) r rs h in
+    let first' = All-head (IsRecord Two) q qs k in
+    let both = one_beginning Two r q (records_bytes rs) (records_bytes qs) first first' e in
+    let rest : rs ≡ qs = records_told rs qs (All-tail (IsRecord Two) r rs h) (All-tail (IsRecord Two) q qs k) both.1 in
     λ j. both.0 j ∷ rest j
 
 -- ---- the records of a line tell its moves
@@ -262,8 +263,10 @@ told_from built w pools (h ∷ hs) (k ∷ ks) same up up' legal legal' due due' 
 pub one_history : (built : Built) (ran : List Line) (these those : History) → HasRun built ran these → HasRun built ran those
     → answers_of these ≡ answers_of those → log_bytes these ≡ log_bytes those → these ≡ those
 one_history built ran these those runs runs' printed logged =
-    let records : log_of these ≡ log_of those =
-    records_told (log_of these) (log_of those) runs.recorded runs'.recorded
-    (append_cancel_left (header_bytes 1) (records_bytes (log_of these)) (records_bytes (log_of those)) logged) in
+    let records : written_log these ≡ written_log those =
+    records_told (written_log these) (written_log those) runs.recorded runs'.recorded
+    (append_cancel_left (header_bytes written_version) (records_bytes (written_log these)) (records_bytes (written_log those)) logged) in
+    let blocks : log_of these ≡ log_of those =
+    sym (without_labels 0 these) ∙ ap (filter is_unlabelled) records ∙ without_labels 0 those in
     told_from built empty_world 0 these those (runs.commands ∙ sym runs'.commands) (lines_ascend ran 0 these runs.commands).1
-    (lines_ascend ran 0 those runs'.commands).1 runs.legal runs'.legal runs.unsupported runs'.unsupported records printed
+    (lines_ascend ran 0 those runs'.commands).1 runs.legal runs'.legal runs.unsupported runs'.unsupported blocks printed

@@ -5,7 +5,7 @@ use Rattle.std.proofs.Math.Seq.{take-append-add, take-append_seam}
 use Rattle.std.specs.Prelude.{All}
 use Rattle.std.proofs.lemmas.List.{take_more, take-append-drop, map-append}
 use Rattle.std.proofs.lemmas.List.Elements.{All-push}
-use Rattle.mps_event.specs.declared.version.Version.TheVariants.{One}
+use Rattle.mps_event.specs.declared.version.Version.TheVariants.{Two}
 use Rattle.mps_event.specs.Grammar.{IsRecord}
 use Rattle.std.proofs.lemmas.Grind.{flat_map-append}
 use Rattle.mps_desk.specs.Desk.{Outside}
@@ -13,7 +13,7 @@ use Rattle.mps_base.specs.declared.moves.Move.{Move}
 use Rattle.mps_base.specs.Record.{record_bytes, records_bytes}
 use Rattle.mps_model.specs.declared.call.Call.{Call}
 use Rattle.mps_model.specs.declared.reply.Reply.{Reply}
-use Rattle.mps_model.specs.Log.{record_of, records_of, records_of_command}
+use Rattle.mps_model.specs.Log.{record_of, records_of, records_of_answered}
 use Rattle.mps_model.specs.Answer.{Replied, Dumped}
 use Rattle.mps_model.specs.Text.{word_text, words_text, line_of_answer}
 use Rattle.mps_report.specs.Streams.{Logs, LogsPart, Prints, PrintsPart}
@@ -49,35 +49,35 @@ moves_bytes line (m ∷ ms) = ap (λ (p : List ℕ). move_bytes line m ++ p) (mo
 
 -- one record more, such as a log may hold
 pub records_more : (line : ℕ) (moves : List Move) (i : ℕ) (d : Move) → i < length moves
-    → All (IsRecord One) (records_of (take i moves) line) → IsRecord One (record_of (get_or moves i d) line)
-    → All (IsRecord One) (records_of (take (i + 1) moves) line)
+    → All (IsRecord Two) (records_of (take i moves) line) → IsRecord Two (record_of (get_or moves i d) line)
+    → All (IsRecord Two) (records_of (take (i + 1) moves) line)
 records_more line moves i d h before next =
-    subst (All (IsRecord One))
+    subst (All (IsRecord Two))
     (sym (ap (λ ms. records_of ms line) (take_more moves i d h)
     ∙ map-append (λ (m : Move). record_of m line) (take i moves) (get_or moves i d ∷ [])))
-    (All-push (IsRecord One) (records_of (take i moves) line) (record_of (get_or moves i d) line) before next)
+    (All-push (IsRecord Two) (records_of (take i moves) line) (record_of (get_or moves i d) line) before next)
 
 -- ---- records of a command
 
 module _ (line pools : ℕ) (moves : List Move) (call : Call) (given : Reply) (a b c : Outside) where
   -- the records of the command itself
   abbrev own : List ℕ
-  own = records_bytes (records_of_command pools call (Replied given) line)
+  own = records_bytes (records_of_answered pools call (Replied given) line)
 
   both : records_bytes (records_of moves line) ++ own
-      ≡ records_bytes (records_of moves line ++ records_of_command pools call (Replied given) line)
-  both = sym (flat_map-append record_bytes (records_of moves line) (records_of_command pools call (Replied given) line))
+      ≡ records_bytes (records_of moves line ++ records_of_answered pools call (Replied given) line)
+  both = sym (flat_map-append record_bytes (records_of moves line) (records_of_answered pools call (Replied given) line))
 
   pub logs_all : Logs a b (records_bytes (records_of moves line)) → Logs b c own
-      → Logs a c (records_bytes (records_of moves line ++ records_of_command pools call (Replied given) line))
+      → Logs a c (records_bytes (records_of moves line ++ records_of_answered pools call (Replied given) line))
   logs_all first second = subst (λ (p : List ℕ). Logs a c p) both (logs_then a b c _ _ first second)
 
   pub part_in_moves : LogsPart a b (records_bytes (records_of moves line))
-      → LogsPart a b (records_bytes (records_of moves line ++ records_of_command pools call (Replied given) line))
+      → LogsPart a b (records_bytes (records_of moves line ++ records_of_answered pools call (Replied given) line))
   part_in_moves p = subst (λ (p : List ℕ). LogsPart a b p) both (part_of_first a b _ own p)
 
   pub part_in_own : Logs a b (records_bytes (records_of moves line)) → LogsPart b c own
-      → LogsPart a c (records_bytes (records_of moves line ++ records_of_command pools call (Replied given) line))
+      → LogsPart a c (records_bytes (records_of moves line ++ records_of_answered pools call (Replied given) line))
   part_in_own first p = subst (λ (p : List ℕ). LogsPart a c p) both (part_of_second a b c _ _ first p)
 
 -- ---- words

@@ -3,19 +3,19 @@ use Rattle.std.proofs.Common.{◌≡◌, ℕ, ◌+◌, ◌≤◌, Bool, Option, 
 use Rattle.std.specs.Prelude.{All}
 use Rattle.std.proofs.lemmas.Grind.{flat_map-append}
 use Rattle.std.proofs.lemmas.List.Elements.{All-append, All-from_recursion}
-use Rattle.mps_event.specs.declared.version.Version.TheVariants.{One}
+use Rattle.mps_event.specs.declared.version.Version.TheVariants.{Two}
 use Rattle.mps_event.specs.Grammar.{IsRecord}
 use Rattle.mps_desk.specs.Desk.{Outside}
 use Rattle.mps_base.specs.Record.{record_bytes, records_bytes}
 use Rattle.mps_model.specs.Step.{Step, History}
-use Rattle.mps_model.specs.Log.{log_from, log_of, pools_made}
+use Rattle.mps_model.specs.Log.{labelled_log_from, written_log, pools_made}
 use Rattle.mps_model.specs.World.{World, empty_world}
 use Rattle.mps_model.specs.History.{world_after, world_after_steps, world_after_history}
 use Rattle.mps_model.specs.Text.{line_of_answer}
-use Rattle.mps_model.proofs.Appending.{log_from-append, IsLegalFrom-append, world_after_steps-append}
+use Rattle.mps_model.proofs.Appending.{labelled_log_from-append, IsLegalFrom-append, world_after_steps-append}
 use Rattle.mps_model.specs.Any.{numbered_layout}
 use Rattle.mps_laws.proofs.Flipping.{no_more_than_steps}
-use Rattle.mps_laws.proofs.Replays.Replay.{log_replays}
+use Rattle.mps_laws.proofs.Replays.LabelledLogs.{labelled_log_replays}
 use Rattle.mps_commands.specs.Built.{Built}
 use Rattle.mps_commands.specs.RightAnswer.{HasFewFlips}
 use Rattle.mps_script.specs.Line.{lines_of, call_of_line}
@@ -46,7 +46,7 @@ pub record SoFar (built : Built) (stands : World → Type 0) (p : Progress) (old
   pub history : History
   pub come : HasCome built stands p ran history
   pub printed : now.printed ≡ appended old.printed (answers_of history)
-  pub logged : now.logged ≡ appended old.logged (records_bytes (log_of history))
+  pub logged : now.logged ≡ appended old.logged (records_bytes (written_log history))
 
 pub nothing_run : (built : Built) → HasRun built [] []
 nothing_run built = record {
@@ -56,7 +56,7 @@ nothing_run built = record {
   legal = tt;
   unsupported = tt;
   replayed = refl;
-  recorded = All-from_recursion (IsRecord One) [] tt;
+  recorded = All-from_recursion (IsRecord Two) [] tt;
 }
 
 nothing_come : (built : Built) (stands : World → Type 0) → stands empty_world → HasCome built stands not_begun [] []
@@ -104,9 +104,9 @@ pools_made-append [] steps = sym (zero-add (pools_made steps))
 pools_made-append (s ∷ ss) steps = let e = pools_made-append ss steps in omega (arith, e)
 
 -- the records of a history with more steps, where n pools were made before these
-log_more : (h steps : History) (pools : ℕ) → pools ≡ pools_made h → log_of (h ++ steps) ≡ log_of h ++ log_from pools steps
+log_more : (h steps : History) (pools : ℕ) → pools ≡ pools_made h → written_log (h ++ steps) ≡ written_log h ++ labelled_log_from pools steps
 log_more h steps pools count =
-    log_from-append 0 h steps ∙ sym (ap (λ n. log_of h ++ log_from n steps) (count ∙ sym (zero-add (pools_made h))))
+    labelled_log_from-append 0 h steps ∙ sym (ap (λ n. written_log h ++ labelled_log_from n steps) (count ∙ sym (zero-add (pools_made h))))
 
 -- the history with the steps of a line that was run
 module _ (built : Built) (stood stands_now : World → Type 0) (p q : Progress) (ran : List Line) (history : History) (line : Line)
@@ -119,7 +119,7 @@ module _ (built : Built) (stood stands_now : World → Type 0) (p q : Progress) 
   run_more =
       let legal = IsLegalFrom-append empty_world history l.ran.steps c.run.legal
       (l.ran.answered.legal (world_after_history history) c.stands_for) in
-      let logs : log_of (history ++ l.ran.steps) ≡ log_of history ++ log_from p.pools l.ran.steps =
+      let logs : written_log (history ++ l.ran.steps) ≡ written_log history ++ labelled_log_from p.pools l.ran.steps =
       log_more history l.ran.steps p.pools c.pools in
       record {
         bounded = let size = length-append ran (line ∷ []) in omega (arith, size, c.counted, l.lines, bounded);
@@ -129,9 +129,9 @@ module _ (built : Built) (stood stands_now : World → Type 0) (p q : Progress) 
         legal = legal;
         unsupported = unsupported-append built empty_world history l.ran.steps c.run.unsupported
             (l.ran.answered.unsupported (world_after_history history) c.stands_for (few_flips built stood p ran history c));
-        replayed = log_replays numbered_layout (history ++ l.ran.steps) legal;
-        recorded = subst (All (IsRecord One)) (sym logs)
-            (All-append (IsRecord One) (log_of history) (log_from p.pools l.ran.steps) c.run.recorded l.ran.recorded);
+        replayed = labelled_log_replays numbered_layout (history ++ l.ran.steps) legal;
+        recorded = subst (All (IsRecord Two)) (sym logs)
+            (All-append (IsRecord Two) (written_log history) (labelled_log_from p.pools l.ran.steps) c.run.recorded l.ran.recorded);
       }
 
   pub come_more : HasCome built stands_now q (ran ++ line ∷ []) (history ++ l.ran.steps)
@@ -156,12 +156,12 @@ printed_more before now new h steps first more =
 
 -- what was logged of it, where n pools were made before
 pub logged_more : (before now new : Option (List ℕ)) (h steps : History) (pools : ℕ) → pools ≡ pools_made h
-    → now ≡ appended before (records_bytes (log_of h)) → new ≡ appended now (records_bytes (log_from pools steps))
-    → new ≡ appended before (records_bytes (log_of (h ++ steps)))
+    → now ≡ appended before (records_bytes (written_log h)) → new ≡ appended now (records_bytes (labelled_log_from pools steps))
+    → new ≡ appended before (records_bytes (written_log (h ++ steps)))
 logged_more before now new h steps pools count first more =
-    more ∙ (ap (λ known. appended known (records_bytes (log_from pools steps))) first
-    ∙ (appended_twice before (records_bytes (log_of h)) (records_bytes (log_from pools steps))
-    ∙ ap (appended before) (sym (flat_map-append record_bytes (log_of h) (log_from pools steps))
+    more ∙ (ap (λ known. appended known (records_bytes (labelled_log_from pools steps))) first
+    ∙ (appended_twice before (records_bytes (written_log h)) (records_bytes (labelled_log_from pools steps))
+    ∙ ap (appended before) (sym (flat_map-append record_bytes (written_log h) (labelled_log_from pools steps))
     ∙ ap records_bytes (sym (log_more h steps pools count)))))
 
 -- the line after those that were run was run too. Meanwhile nothing was printed or logged but of it

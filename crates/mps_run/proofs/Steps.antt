@@ -1,19 +1,20 @@
 -- The step of a command that was answered, from what was logged and printed of it, and of the line in which it stands.
-use Rattle.std.proofs.Common.{◌≡◌, ℕ, ◌+◌, ◌≤◌, Bool, true, None, Some, Ok, Err, OnOk, IfErr, [], ◌∷◌, ◌++◌, List, take, refl, sym, ◌∙◌, ap, subst, arith, append-nil, inl, inr, ◌⊎◌}
+use Rattle.std.proofs.Common.{◌≡◌, ℕ, ◌+◌, ◌≤◌, Bool, true, None, Some, Ok, Err, OnOk, IfErr, [], ◌∷◌, ◌++◌, List, take, refl, sym, ◌∙◌, ap, subst, arith, append_assoc, append-nil, inl, inr, ◌⊎◌}
 use Rattle.std.specs.Prelude.{◌↔◌, IsTrue, if◌then◌else◌, is_ok, All}
 use Rattle.std.proofs.lemmas.List.Elements.{All-from_recursion}
-use Rattle.mps_event.specs.declared.version.Version.TheVariants.{One}
+use Rattle.mps_event.specs.declared.version.Version.TheVariants.{Two}
 use Rattle.mps_event.specs.Grammar.{IsRecord}
 use Rattle.mps_desk.specs.Desk.{Outside}
 use Rattle.mps_base.specs.declared.moves.Move.{Move}
 use Rattle.mps_base.specs.Record.{Record, records_bytes}
 use Rattle.mps_model.specs.declared.call.Call.{Call}
+use Rattle.mps_model.specs.declared.call.Call.TheVariants as call
 use Rattle.mps_model.specs.declared.reply.Reply.{Reply}
 use Rattle.mps_model.specs.declared.reply.Reply.TheVariants as reply
 use Rattle.mps_model.specs.Answer.{Replied, answer_of, is_accepted}
 use Rattle.mps_model.specs.Step.{Step}
 use Rattle.mps_model.specs.World.{World}
-use Rattle.mps_model.specs.Log.{records_of, records_of_accepted, records_of_command, records_of_step, pools_of_accepted, pools_made_by}
+use Rattle.mps_model.specs.Log.{records_of, records_of_accepted, records_of_answered, records_of_command, records_of_label, records_with_label, pools_of_accepted, pools_made_by}
 use Rattle.mps_model.specs.Text.{line_of_answer}
 use Rattle.mps_commands.specs.Built.{Built}
 use Rattle.mps_commands.specs.RightAnswer.{step_in, IsLegalIn, StandsAfter, IsUnsupportedExactly}
@@ -35,6 +36,18 @@ use Rattle.mps_run.specs.Script.{Line, commands_of_call}
 accepted_alike : (words : List ℕ) (given : Reply) → is_accepted (answer_of words given) ≡ is_accepted (Replied given)
 accepted_alike words (reply.Words at count) = refl
 accepted_alike words given = refl
+
+-- their labels are alike
+label_alike : (words : List ℕ) (given : Reply) (c : Call) (line : ℕ)
+    → records_of_label c (Replied given) line ≡ records_of_label c (answer_of words given) line
+label_alike words (reply.Words at count) c line = none c
+  where
+    none : (c : Call) → records_of_label c (Replied (reply.Words at count)) line
+        ≡ records_of_label c (answer_of words (reply.Words at count)) line
+    none (call.Intern label) = refl
+    none (call.Label slot label) = refl
+    none _ = refl
+label_alike words given c line = refl
 
 -- and `unsupported` alike
 unsupported_alike : (words : List ℕ) (given : Reply) → answer_of words given ≡ Replied reply.Unsupported → given ≡ reply.Unsupported
@@ -59,12 +72,17 @@ module _ (built : Built) (stood stands_now : World → Type 0) (line : ℕ) (cal
 
   -- the records that are logged
   abbrev the_records : (pools : ℕ) → List Record
-  the_records pools = records_of moves line ++ records_of_command pools call (Replied given) line
+  the_records pools = records_of moves line ++ records_of_answered pools call (Replied given) line
 
   -- they are those that the model gives the step
-  same_records : (pools : ℕ) → the_records pools ≡ records_of_step pools the_step
+  same_records : (pools : ℕ) → the_records pools ≡ records_with_label pools the_step
   same_records pools =
-      ap (λ (b : Bool). records_of moves line ++ (if b then records_of_accepted pools call line else [])) (sym (accepted_alike words given))
+      ap (λ (b : Bool). records_of moves line ++ ((if b then records_of_accepted pools call line else [])
+      ++ records_of_label call (Replied given) line)) (sym (accepted_alike words given))
+      ∙ ap (λ rs. records_of moves line ++ (records_of_command pools call (answer_of words given) line ++ rs))
+      (label_alike words given call line)
+      ∙ sym (append_assoc (records_of moves line) (records_of_command pools call (answer_of words given) line)
+      (records_of_label call (answer_of words given) line))
 
   same_pools : pools_made_by call (Replied given) ≡ pools_made_by call (answer_of words given)
   same_pools = ap (λ (b : Bool). if b then pools_of_accepted call else 0) (sym (accepted_alike words given))
@@ -79,7 +97,7 @@ module _ (built : Built) (stood stands_now : World → Type 0) (line : ℕ) (cal
   module _ (pools pools_after : ℕ) (old new : Outside) where
     pub steps_of : (ends : Ending) → pools_after ≡ pools + pools_made_by call (Replied given) → pools_made_by call (Replied given) ≤ 1
         → LogsThenPrints (records_bytes (the_records pools)) (line_of_answer (answer_of words given)) ends old new
-        → OnOk ends (All (IsRecord One) (the_records pools))
+        → OnOk ends (All (IsRecord Two) (the_records pools))
         → OnOk ends (StepsRan built stood stands_now (record { line = line; call = call } ∷ []) pools pools_after old new)
     unfolding begun
     steps_of (Ok value) made at_most l recorded = record {
@@ -93,9 +111,9 @@ module _ (built : Built) (stood stands_now : World → Type 0) (line : ℕ) (cal
       pools = omega (arith, made, same_pools);
       at_most = omega (arith, made, at_most);
       logged = l.0
-          ∙ ap (λ rs. appended old.logged (records_bytes rs)) (same_records pools ∙ sym (append-nil (records_of_step pools the_step)));
+          ∙ ap (λ rs. appended old.logged (records_bytes rs)) (same_records pools ∙ sym (append-nil (records_with_label pools the_step)));
       printed = l.1 ∙ ap (appended old.printed) (sym (append-nil (line_of_answer (answer_of words given))));
-      recorded = subst (All (IsRecord One)) (same_records pools ∙ sym (append-nil (records_of_step pools the_step))) recorded;
+      recorded = subst (All (IsRecord Two)) (same_records pools ∙ sym (append-nil (records_with_label pools the_step))) recorded;
     }
     steps_of (Err why) made at_most l recorded = tt
 
@@ -159,7 +177,7 @@ module _ (built : Built) (stood stands_now : World → Type 0) (p : Progress) (l
           at_most = omega arith;
           logged = appended_empty old.logged;
           printed = appended_empty old.printed;
-          recorded = All-from_recursion (IsRecord One) [] tt;
+          recorded = All-from_recursion (IsRecord Two) [] tt;
         };
       }
 

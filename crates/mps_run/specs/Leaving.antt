@@ -8,7 +8,7 @@ use Rattle.mps_model.specs.Answer.{Replied}
 use Rattle.mps_model.specs.FirstCall.{is_arena}
 use Rattle.mps_model.specs.Step.{Step, History}
 use Rattle.mps_model.specs.Text.{line_of_answer}
-use Rattle.mps_model.specs.Log.{log_of, records_of_step, pools_made}
+use Rattle.mps_model.specs.Log.{records_with_label, pools_made, written_log, written_version}
 use Rattle.mps_model.specs.World.{empty_world}
 use Rattle.mps_model.specs.History.{IsLegalHistory}
 use Rattle.mps_commands.specs.Built.{Built}
@@ -31,7 +31,7 @@ pub data Part : Type 0 where
 
 -- the bytes of the records of a step, where n pools were made before it
 abbrev pub record_bytes_of : (pools : ℕ) → Step → List ℕ
-record_bytes_of pools step = records_bytes (records_of_step pools step)
+record_bytes_of pools step = records_bytes (records_with_label pools step)
 
 -- what was logged of it
 abbrev pub logged_of : (pools : ℕ) → Part → List ℕ
@@ -113,11 +113,11 @@ pub record Leaves (built : Built) (ends : Ending) (header script : List ℕ) (ol
   pub begun : IsOfNext built ran later history part
   pub ends_at : RunEndsAt built ends ran later script new.input
   pub printed : new.printed ≡ appended old.printed (answers_of history ++ printed_of part)
-  pub logged : new.logged ≡ appended old.logged (header ++ (records_bytes (log_of history) ++ logged_of (pools_made history) part))
+  pub logged : new.logged ≡ appended old.logged (header ++ (records_bytes (written_log history) ++ logged_of (pools_made history) part))
 
--- the header of a log of version 1
+-- the header of a log
 abbrev pub log_header : List ℕ
-log_header = header_bytes 1
+log_header = header_bytes written_version
 
 -- nothing was printed, and a prefix of the header was logged, or nothing
 pub record LeavesHeader (old new : Outside) : Type 0 where

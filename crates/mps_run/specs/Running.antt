@@ -2,11 +2,11 @@
 use Rattle.std.specs.Prelude.{ℕ, ◌≡◌, ◌+◌, ◌≤◌, ◌⊎◌, IsTrue, true, false, All, Ok, Err, List, [], ◌∷◌, take}
 use Rattle.mps_desk.specs.Desk.{Outside, HasRisen}
 use Rattle.mps_base.specs.Record.{records_bytes}
-use Rattle.mps_event.specs.declared.version.Version.TheVariants.{One}
+use Rattle.mps_event.specs.declared.version.Version.TheVariants.{Two}
 use Rattle.mps_event.specs.Grammar.{IsRecord}
 use Rattle.mps_model.specs.declared.call.Call.{Call}
 use Rattle.mps_model.specs.Step.{Step, History}
-use Rattle.mps_model.specs.Log.{log_from, pools_made}
+use Rattle.mps_model.specs.Log.{labelled_log_from, pools_made}
 use Rattle.mps_model.specs.World.{World}
 use Rattle.mps_model.specs.History.{IsLegalFrom, world_after_steps}
 use Rattle.mps_commands.specs.Built.{Built}
@@ -42,10 +42,10 @@ pub record StepsRan (built : Built) (stood stands_now : World → Type 0) (comma
   -- how many pools were made before and after
   pub pools : after ≡ before + pools_made steps
   pub at_most : after ≤ before + 1
-  pub logged : new.logged ≡ appended old.logged (records_bytes (log_from before steps))
+  pub logged : new.logged ≡ appended old.logged (records_bytes (labelled_log_from before steps))
   pub printed : new.printed ≡ appended old.printed (answers_of steps)
   -- these records are such as a log may hold
-  pub recorded : All (IsRecord One) (log_from before steps)
+  pub recorded : All (IsRecord Two) (labelled_log_from before steps)
 
 -- the line after those that were run is good, and its command was answered, where it has one
 pub record LineRan (built : Built) (stood stands_now : World → Type 0) (before after : Progress) (line : Line) (old new : Outside)

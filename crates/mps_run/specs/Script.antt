@@ -2,17 +2,18 @@
 use Rattle.std.specs.Prelude.{ℕ, ◌≡◌, ◌↔◌, ◌+◌, ◌≤◌, IsTrue, true, All, Option, Some, None, Result, Ok, Err, List, [], ◌∷◌, ◌++◌, map, length, codes, refl}
 use Rattle.std.specs.List.{flat_map}
 use Rattle.mps_base.specs.Address.{last_u32}
-use Rattle.mps_event.specs.declared.version.Version.TheVariants.{One}
+use Rattle.mps_event.specs.declared.version.Version.TheVariants.{Two}
 use Rattle.mps_event.specs.Grammar.{IsRecord}
 use Rattle.mps_model.specs.declared.call.Call.{Call}
 use Rattle.mps_model.specs.declared.call.Call.TheVariants as call
 use Rattle.mps_model.specs.declared.reply.Reply.TheVariants as reply
 use Rattle.mps_model.specs.Answer.{Replied}
 use Rattle.mps_model.specs.Step.{Step, History}
-use Rattle.mps_model.specs.Log.{log_of}
+use Rattle.mps_model.specs.Log.{written_log}
 use Rattle.mps_model.specs.World.{World, empty_world}
-use Rattle.mps_model.specs.Replay.{replay}
-use Rattle.mps_model.specs.History.{IsLegalHistory, world_after, world_after_history, live_blocks}
+use Rattle.mps_model.specs.Replayed as model
+use Rattle.mps_model.specs.History.{IsLegalHistory, world_after, world_after_history}
+use Rattle.mps_laws.specs.Replay.{replayed_state}
 use Rattle.mps_model.specs.Text.{line_of_answer}
 use Rattle.mps_commands.specs.Built.{Built}
 use Rattle.mps_script.specs.declared.line.BadLine.{BadLine}
@@ -75,10 +76,10 @@ pub record HasRun (built : Built) (ran : List Line) (history : History) : Type 0
   pub legal : IsLegalHistory history
   -- a command is answered `unsupported` exactly where it isn't built
   pub unsupported : AreUnsupportedWhereDue built empty_world history
-  -- the blocks that replaying its log gives are those that are live in the world after it
-  pub replayed : replay (log_of history) ≡ Some (live_blocks (world_after_history history))
+  -- the blocks that replaying its log gives are those that are live in the world after it, and as many names are interned as it has labels
+  pub replayed : model.replayed (written_log history) ≡ Some (replayed_state (world_after_history history))
   -- its records are such as a log may hold
-  pub recorded : All (IsRecord One) (log_of history)
+  pub recorded : All (IsRecord Two) (written_log history)
 
 pub a_comment_has_no_command : commands_from 1 (codes "# x" ∷ codes "live" ∷ []) ≡ record { line = 2; call = call.Live } ∷ []
 a_comment_has_no_command = refl

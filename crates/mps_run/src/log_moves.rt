@@ -3,7 +3,7 @@ ghost use Rattle.std.specs.Prelude.{◌≡◌, ◌≤◌, ◌*◌, ◌∷◌, []
 ghost use Rattle.mps_base.specs.Record.{record_bytes, records_bytes};
 ghost use Rattle.mps_event.specs.Grammar.{AreFields, IsRecord};
 ghost use Rattle.mps_event.specs.Event.{code_of};
-ghost use Rattle.mps_event.specs.declared.version.Version.TheVariants.{One};
+ghost use Rattle.mps_event.specs.declared.version.Version.TheVariants.{Two};
 ghost use Rattle.mps_model.specs.Log.{record_of, records_of};
 ghost use Rattle.mps_report.specs.Streams.{Logs, LogsPart};
 
@@ -20,7 +20,7 @@ const MOVES_IN_A_BATCH: usize = 64;
 pub(crate) fn log_moves<D: Desk>(desk: &mut D, line: u32, moves: &[Move]) -> Result<(), Failed>
     ensures logged { OnOk result (Logs (D.outside desk.old) (D.outside desk.new) (records_bytes (records_of moves.now line))) }
     ensures failed { OnErr result (LogsPart (D.outside desk.old) (D.outside desk.new) (records_bytes (records_of moves.now line))) }
-    ensures recorded { OnOk result (All (IsRecord One) (records_of moves.now line)) }
+    ensures recorded { OnOk result (All (IsRecord Two) (records_of moves.now line)) }
 {
     match moves {
         [] => Ok(()),
@@ -34,7 +34,7 @@ pub(crate) fn log_moves<D: Desk>(desk: &mut D, line: u32, moves: &[Move]) -> Res
 fn log_batches<D: Desk>(desk: &mut D, line: u32, moves: &[Move]) -> Result<(), Failed>
     ensures logged { OnOk result (Logs (D.outside desk.old) (D.outside desk.new) (records_bytes (records_of moves.now line))) }
     ensures failed { OnErr result (LogsPart (D.outside desk.old) (D.outside desk.new) (records_bytes (records_of moves.now line))) }
-    ensures recorded { OnOk result (All (IsRecord One) (records_of moves.now line)) }
+    ensures recorded { OnOk result (All (IsRecord Two) (records_of moves.now line)) }
 {
     for batch in moves.chunks(MOVES_IN_A_BATCH) {
         log_batch(desk, line, batch)?;
@@ -47,7 +47,7 @@ fn log_batch<D: Desk>(desk: &mut D, line: u32, moves: &[Move]) -> Result<(), Fai
     requires at_most { length moves.now ≤ 64 }
     ensures logged { OnOk result (Logs (D.outside desk.old) (D.outside desk.new) (records_bytes (records_of moves.now line))) }
     ensures failed { OnErr result (LogsPart (D.outside desk.old) (D.outside desk.new) (records_bytes (records_of moves.now line))) }
-    ensures recorded { All (IsRecord One) (records_of moves.now line) }
+    ensures recorded { All (IsRecord Two) (records_of moves.now line) }
 {
     let mut bytes = [0u8; MOVES_IN_A_BATCH * MAX_RECORD_BYTES];
     let mut length = 0;
@@ -62,7 +62,7 @@ fn log_batch<D: Desk>(desk: &mut D, line: u32, moves: &[Move]) -> Result<(), Fai
 fn log_move<D: Desk>(desk: &mut D, line: u32, moved: &Move) -> Result<(), Failed>
     ensures logged { OnOk result (Logs (D.outside desk.old) (D.outside desk.new) (record_bytes (record_of moved.now line))) }
     ensures failed { OnErr result (LogsPart (D.outside desk.old) (D.outside desk.new) (record_bytes (record_of moved.now line))) }
-    ensures recorded { IsRecord One (record_of moved.now line) }
+    ensures recorded { IsRecord Two (record_of moved.now line) }
 {
     let mut bytes = [0u8; MAX_RECORD_BYTES];
     let length = put_move(&mut bytes, line, moved);
@@ -75,7 +75,7 @@ fn put_move(bytes: &mut [u8], line: u32, moved: &Move) -> usize
     requires fits { 64 ≤ length bytes.old }
     ensures written { take result bytes.new ≡ record_bytes (record_of moved.now line) }
     ensures at_most { result ≤ 64 }
-    ensures recorded { IsRecord One (record_of moved.now line) }
+    ensures recorded { IsRecord Two (record_of moved.now line) }
 {
     match *moved {
         Move::Seg {
@@ -119,12 +119,12 @@ fn put_move(bytes: &mut [u8], line: u32, moved: &Move) -> usize
 /// Puts the record of an event that makes a block at the beginning of the bytes, and returns its length.
 #[inline(always)]
 fn put_block(bytes: &mut [u8], line: u32, event: Event, at: Addr, words: u32, pool: u32) -> usize
-    requires known { AreFields One (code_of event) (at.0 ∷ words ∷ pool ∷ []) }
+    requires known { AreFields Two (code_of event) (at.0 ∷ words ∷ pool ∷ []) }
     requires fits { 64 ≤ length bytes.old }
     ensures written { take result bytes.new
         ≡ record_bytes (record { line = line; code = code_of event; fields = at.0 ∷ words ∷ pool ∷ [] }) }
     ensures at_most { result ≤ 64 }
-    ensures recorded { IsRecord One (record { line = line; code = code_of event; fields = at.0 ∷ words ∷ pool ∷ [] }) }
+    ensures recorded { IsRecord Two (record { line = line; code = code_of event; fields = at.0 ∷ words ∷ pool ∷ [] }) }
 {
     put_record(bytes, line, event, &[at.0, words as u64, pool as u64])
 }

@@ -2,10 +2,10 @@
 ghost use Rattle.std.specs.Prelude.{◌≡◌, ◌≢◌, ◌⊎◌, ◌+◌, ◌<◌, ◌≤◌, ◌∷◌, ◌++◌, [], true, false, Err, All, IfErr, OnOk, OnErr};
 ghost use Rattle.mps_desk.specs.Desk.{HasRisen, IsSteady, OnlyLogs};
 ghost use Rattle.mps_base.specs.Record.{records_bytes};
-ghost use Rattle.mps_event.specs.declared.version.Version.TheVariants.{One};
+ghost use Rattle.mps_event.specs.declared.version.Version.TheVariants.{Two};
 ghost use Rattle.mps_event.specs.Grammar.{IsRecord};
 ghost use Rattle.mps_model.specs.Answer.{Replied, answer_of};
-ghost use Rattle.mps_model.specs.Log.{pools_made_by, pools_of_accepted as pools_if_accepted, records_of, records_of_command};
+ghost use Rattle.mps_model.specs.Log.{pools_made_by, pools_of_accepted as pools_if_accepted, records_of, records_of_answered};
 ghost use Rattle.mps_model.specs.Text.{line_of_answer};
 ghost use Rattle.mps_commands.specs.Range.{IsInRange};
 ghost use Rattle.mps_report.specs.Streams.{LogTakes};
@@ -133,11 +133,12 @@ fn log_then_print<D: Desk, C: Commands>(
     reply: &Reply,
     commands: &C,
 ) -> Result<(), Stop<BadScriptLine>>
+    requires range { IsInRange call.now }
     ensures does { LogsThenPrints
-        (records_bytes (records_of (C.moves commands.now) line ++ records_of_command pools call.now (Replied reply.now) line))
+        (records_bytes (records_of (C.moves commands.now) line ++ records_of_answered pools call.now (Replied reply.now) line))
         (line_of_answer (answer_of (C.words commands.now) reply.now)) result (D.outside desk.old) (D.outside desk.new) }
-    ensures recorded { OnOk result (All (IsRecord One)
-        (records_of (C.moves commands.now) line ++ records_of_command pools call.now (Replied reply.now) line)) }
+    ensures recorded { OnOk result (All (IsRecord Two)
+        (records_of (C.moves commands.now) line ++ records_of_answered pools call.now (Replied reply.now) line)) }
     ensures cause { HasCause result (D.outside desk.old) (D.outside desk.new) }
     ensures steady { OnOk result (IsSteady (D.outside desk.old) (D.outside desk.new)) }
     ensures input { (D.outside desk.new).input ≡ (D.outside desk.old).input }

@@ -161,6 +161,16 @@ no_tags :
     ≡ true
 no_tags = refl
 
+labels :
+    calls (codes "intern a" ∷ codes "label t.0 a" ∷ []) ≡ Some (call.Intern a) ∷ Some (call.Label (t 0) a) ∷ []
+labels = refl
+
+no_labels :
+    are_wrong (codes "intern" ∷ codes "intern 2ring" ∷ codes "intern ring 1" ∷ codes "intern t.0" ∷ codes "label t.0" ∷ codes "label t ring"
+    ∷ codes "label t.0 t.1" ∷ codes "label t.0 ring 1" ∷ [])
+    ≡ true
+no_labels = refl
+
 slots :
     calls (codes "copy t.0 t.1" ∷ codes "clear t.0" ∷ codes "same t.0 t.1" ∷ codes "null t.0" ∷ codes "head t.0" ∷ codes "addr t.0" ∷ [])
     ≡ Some (call.Copy (t 0) (t 1)) ∷ Some (call.Clear (t 0)) ∷ Some (call.Same (t 0) (t 1)) ∷ Some (call.Null (t 0))

@@ -142,11 +142,13 @@ g_to_k_forms =
     (codes "get", three slot_of slot_of decimal_number call.Get)
     ∷ (codes "init", init)
     ∷ (codes "head", one slot_of call.Head)
+    ∷ (codes "intern", one name_of call.Intern)
     ∷ []
 
 abbrev pub l_forms : List Form
 l_forms =
     (codes "load", two slot_of decimal_number call.Load)
+    ∷ (codes "label", two slot_of name_of call.Label)
     ∷ (codes "ld", one name_of call.Dependency)
     ∷ (codes "ldadd", two name_of slot_of call.DependencyAdd)
     ∷ (codes "ldmerge", two name_of name_of call.DependencyMerge)

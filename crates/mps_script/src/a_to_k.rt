@@ -98,6 +98,8 @@ pub fn call_of_g_to_k(line: &[u8], into: &mut Call) -> Option<()>
         init(arguments, into)
     } else if let Some(arguments) = strip_word(line, b"head") {
         head(arguments, into)
+    } else if let Some(arguments) = strip_word(line, b"intern") {
+        intern(arguments, into)
     } else {
         None
     }
@@ -303,5 +305,16 @@ fn head(arguments: &[u8], into: &mut Call) -> Option<()>
 {
     let slot = slot(arguments)?;
     *into = Call::Head { slot: slot.slot() };
+    Some(())
+}
+
+/// `intern L`.
+fn intern(arguments: &[u8], into: &mut Call) -> Option<()>
+    ensures { filled result into.new ≡ one name_of call.Intern (words arguments.now) }
+{
+    let label = name(arguments)?;
+    *into = Call::Intern {
+        label: label.name(),
+    };
     Some(())
 }

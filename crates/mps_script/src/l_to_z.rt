@@ -11,6 +11,7 @@ ghost use Rattle.mps_script.specs.Filled.{filled};
 ghost use Rattle.mps_script.specs.Form.{call_in, grains_from, length_of_root, tag_number, l_forms, m_to_o_forms, p_to_r_forms, s_to_z_forms};
 
 use crate::grains::grains;
+use crate::labels::slot_name;
 use crate::pools::pool;
 use crate::roots::name_length;
 use crate::several::{alone, name_head, start};
@@ -28,6 +29,8 @@ pub fn call_of_l(line: &[u8], into: &mut Call) -> Option<()>
 {
     if let Some(arguments) = strip_word(line, b"load") {
         load(arguments, into)
+    } else if let Some(arguments) = strip_word(line, b"label") {
+        label(arguments, into)
     } else if let Some(arguments) = strip_word(line, b"ld") {
         dependency(arguments, into)
     } else if let Some(arguments) = strip_word(line, b"ldadd") {
@@ -170,6 +173,19 @@ fn dependency_stale(arguments: &[u8], into: &mut Call) -> Option<()>
     let dependency = name(arguments)?;
     *into = Call::DependencyStale {
         dependency: dependency.name(),
+    };
+    Some(())
+}
+
+/// `label S L`.
+#[inline(always)]
+fn label(arguments: &[u8], into: &mut Call) -> Option<()>
+    ensures { filled result into.new ≡ two slot_of name_of call.Label (words arguments.now) }
+{
+    let (slot, label) = slot_name(arguments)?;
+    *into = Call::Label {
+        slot: slot.slot(),
+        label: label.name(),
     };
     Some(())
 }

@@ -6,6 +6,7 @@ mod chain;
 mod commands;
 mod grains;
 mod l_to_z;
+mod labels;
 mod laws;
 mod line;
 mod pools;

@@ -1,16 +1,16 @@
--- A text of records of version 1 is read to its end.
+-- A text of records that have a meaning is read to its end.
 use Rattle.std.proofs.Common.{◌≡◌, ◌<◌, ℕ, List, [], ◌∷◌, ◌++◌, length, Some, Ok, refl, sym, ap, ◌∙◌, append_assoc, append-nil}
-use Rattle.std.specs.Prelude.{All, codes, option_and_then}
-use Rattle.std.specs.List.{AllByRecursion, flat_map}
-use Rattle.std.proofs.lemmas.List.Elements.{recursion_from_All}
+use Rattle.std.specs.Prelude.{All, codes}
+use Rattle.std.specs.List.{flat_map}
 use Rattle.mps_base.specs.Record.{Record}
-use Rattle.mps_event.specs.declared.version.Version.TheVariants.{One}
+use Rattle.mps_event.specs.declared.version.Version.{Version}
+use Rattle.mps_event.specs.declared.version.Version.TheVariants.{One, Two}
 use Rattle.mps_event.specs.Grammar.{IsRecord}
+use Rattle.mps_log_reader.specs.Opening.{first_line}
 use Rattle.mps_log_reader.specs.RecordLine.{record_line}
-use Rattle.mps_txt.specs.Labels.{no_names, after_records}
+use Rattle.mps_txt.specs.Labels.{Naming, no_names, after_records}
 use Rattle.mps_txt.specs.Line.{record_text}
 use Rattle.mps_txt.specs.Text.{TextEndsWith, max_lines, portable_text, terminated}
-use Rattle.mps_txt.proofs.VersionOne.{named_none}
 
 -- ---- it ends with a line feed
 
@@ -34,24 +34,22 @@ after_line_feed (x ∷ y ∷ ys) = ap (λ bytes. x ∷ bytes) (after_line_feed (
 terminated_there : (bytes : List ℕ) → EndsInLineFeed bytes → terminated bytes ≡ bytes
 terminated_there bytes e = ap terminated e.is ∙ after_line_feed e.front ∙ sym e.is
 
--- ---- each line has a meaning
+first_line_ends : (version : Version) → EndsInLineFeed (first_line version)
+first_line_ends One = record { front = codes "mpslog 1"; is = refl }
+first_line_ends Two = record { front = codes "mpslog 2"; is = refl }
 
-meaning_of : (records : List Record) → AllByRecursion (IsRecord One) records → after_records One no_names records ≡ Some no_names
-meaning_of [] h = refl
-meaning_of (r ∷ rs) h = ap (λ named. option_and_then (λ next. after_records One next rs) named) (named_none r h.0) ∙ meaning_of rs h.1
-
-pub reads_its_own : (records : List Record) → All (IsRecord One) records → length records < max_lines
-    → TextEndsWith One records (Ok tt) (portable_text One records)
-reads_its_own records each few = record {
-  named = no_names;
+pub reads_its_own : (version : Version) (records : List Record) (named : Naming) → All (IsRecord version) records
+    → after_records version no_names records ≡ Some named → length records < max_lines
+    → TextEndsWith version records (Ok tt) (portable_text version records)
+reads_its_own version records named each meaning few = record {
+  named = named;
   rest = [];
   begins = record {
     each = each;
-    meaning = meaning_of records (recursion_from_All (IsRecord One) records each);
+    meaning = meaning;
     at_most = few;
-    spelled = terminated_there (portable_text One records)
-        (lines_end (codes "mpslog 1\n") records (record { front = codes "mpslog 1"; is = refl }))
-        ∙ sym (append-nil (portable_text One records));
+    spelled = terminated_there (portable_text version records) (lines_end (first_line version) records (first_line_ends version))
+        ∙ sym (append-nil (portable_text version records));
   };
   ends_at = refl;
 }

@@ -1,17 +1,17 @@
-// Answers the calls on the arena, and those that drop a thing.
+// Answers the calls on the arena, those that drop a thing, and that which makes a label.
 ghost use Rattle.std.specs.Prelude.{◌≡◌, IfNone, IfSome, is_some, []};
 ghost use Rattle.mps_commands.specs.Range.{IsInRange};
 ghost use Rattle.mps_model.specs.declared.call.Call.TheVariants as call;
 ghost use Rattle.mps_cli.specs.Groups.{is_on_arena};
 ghost use Rattle.mps_cli.specs.Standing.{IsAnswered};
 
-use crate::session::replies::done;
+use crate::session::replies::{done, interned};
 use mps_base::Addr;
 use mps_format::AnyFormat;
 use mps_heap::Heap;
 use mps_model::{Call, Reply};
 
-/// Answers a call on the arena, or one that drops a thing; `None` if it is another.
+/// Answers a call on the arena, one that drops a thing, or one that makes a label; `None` if it is another.
 pub fn answer(heap: &mut Heap<AnyFormat>, call: &Call) -> Option<Reply>
     requires range { IsInRange call.now }
     ensures right { IfSome result (λ reply. IsAnswered heap.old call.now [] reply heap.new) }
@@ -28,6 +28,7 @@ pub fn answer(heap: &mut Heap<AnyFormat>, call: &Call) -> Option<Reply>
         Call::Dump { at } => Some(dump(heap, Addr(at))),
         Call::DropRoot { root } => Some(done(heap.drop_root(root))),
         Call::DropPoint { point } => Some(done(heap.drop_point(point))),
+        Call::Intern { label } => Some(interned(heap.intern(label))),
         _ => None,
     }
 }

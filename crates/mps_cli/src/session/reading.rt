@@ -3,7 +3,7 @@ ghost use Rattle.std.specs.Prelude.{◌≡◌, [], true};
 ghost use Rattle.mps_cli.specs.Groups.{reads_words};
 ghost use Rattle.mps_cli.specs.Standing.{IsAnswered};
 
-use crate::session::replies::{address, head, number, tag, yes_or_no};
+use crate::session::replies::{address, head, labelled, number, tag, yes_or_no};
 use mps_format::AnyFormat;
 use mps_heap::Heap;
 use mps_model::{Call, Reply};
@@ -22,6 +22,7 @@ pub fn reads_words(call: &Call) -> bool
             | Call::Address { .. }
             | Call::Load { .. }
             | Call::Tag { .. }
+            | Call::Label { .. }
     )
 }
 
@@ -40,6 +41,7 @@ pub fn answer(heap: &Heap<AnyFormat>, call: &Call, reply: &mut Reply)
         Call::Address { slot } => address(heap.addr(slot)),
         Call::Load { place, word } => number(heap.load(place, word)),
         Call::Tag { slot, cell } => tag(heap.tag(slot, cell)),
+        Call::Label { slot, label } => labelled(heap.label(slot, label)),
         _ => unreachable!(),
     };
 }

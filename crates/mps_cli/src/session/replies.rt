@@ -1,5 +1,5 @@
 // The replies to the heap's calls, by their results.
-ghost use Rattle.mps_refinement.specs.Answering.{answer_to, says_block, says_bool, says_committed, says_head, says_message, says_number, says_ok, says_word};
+ghost use Rattle.mps_refinement.specs.Answering.{answer_to, says_block, says_bool, says_committed, says_head, says_interned, says_labelled, says_message, says_number, says_ok, says_word};
 ghost use Rattle.mps_refinement.specs.Making.{answer_of_making};
 ghost use Rattle.mps_heap.specs.Answers.{says_address};
 ghost use Rattle.std.specs.Prelude.{◌≡◌, ◌≢◌, Err, IfOk, OnErr};
@@ -61,6 +61,26 @@ pub fn tag(came: Result<u8, Refusal>) -> Reply
 {
     match came {
         Ok(n) => Reply::Number(u64::from(n)),
+        Err(why) => Reply::Refused(why),
+    }
+}
+
+/// Of a call that makes a label.
+pub fn interned(came: Result<u32, Refusal>) -> Reply
+    ensures { Tells result (answer_to says_interned came) }
+{
+    match came {
+        Ok(number) => Reply::Interned(number),
+        Err(why) => Reply::Refused(why),
+    }
+}
+
+/// Of a call that labels an object.
+pub fn labelled(came: Result<(Addr, u32), Refusal>) -> Reply
+    ensures { Tells result (answer_to says_labelled came) }
+{
+    match came {
+        Ok((at, number)) => Reply::Labelled(at, number),
         Err(why) => Reply::Refused(why),
     }
 }

@@ -1,8 +1,8 @@
 // Scripts on standard input.
 use super::{
     ARENA_AGAIN, COLLECTED, COLLECTED_ANSWERS, COMMENTS, Ends, FIRST, FIRST_ANSWERS, FIRST_LOG,
-    FULL_ARENA, FULL_ARENA_ANSWERS, HEADER, HEADS, HEADS_ANSWERS, NO_ARENA_FIRST, NOT_BUILT,
-    NOT_BUILT_ANSWERS, TAGGED, TAGGED_ANSWERS, compare, run,
+    FULL_ARENA, FULL_ARENA_ANSWERS, HEADER, HEADS, HEADS_ANSWERS, LABELLED, LABELLED_ANSWERS,
+    NO_ARENA_FIRST, NOT_BUILT, NOT_BUILT_ANSWERS, TAGGED, TAGGED_ANSWERS, compare, run,
 };
 use mps_desk::{DeskCall, MemDesk};
 use std::alloc::{AllocError, Global};
@@ -66,7 +66,7 @@ fn compare_log(rt: &impl Abort, desk: &MemDesk, case: &ScriptCase) {
 
 /// Whole and in pieces of 1 and of 7 bytes, the first script has its answers, and its log byte for byte. Then scripts that
 /// have no command, an arena that is full, heads in their forms, and commands out of turn.
-const SCRIPTS: [ScriptCase; 12] = [
+const SCRIPTS: [ScriptCase; 13] = [
     ScriptCase {
         script: FIRST,
         most: 0,
@@ -162,6 +162,18 @@ const SCRIPTS: [ScriptCase; 12] = [
         },
         log: HEADER,
         log_bytes: 256,
+    },
+    ScriptCase {
+        script: LABELLED,
+        most: 0,
+        failing: None,
+        ends: Ends {
+            status: 0,
+            printed: LABELLED_ANSWERS,
+            reported: b"",
+        },
+        log: FIRST_LOG,
+        log_bytes: 368,
     },
     ScriptCase {
         script: HEADS,

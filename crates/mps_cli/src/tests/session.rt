@@ -106,7 +106,8 @@ fn is_in_range(call: &Call) -> bool
         Call::Table { length, .. } => 1 <= length && length <= 65536,
         Call::Pool { format, .. } => 1 <= format && format <= 3,
         Call::Blocks { length, .. } => 1 <= length && length <= 65536,
-        Call::Limit { .. } | Call::Chain { .. } | Call::PoolOnChain { .. } => false,
+        Call::Limit { .. } | Call::Chain { .. } | Call::PoolOnChain { .. } | Call::Intern { .. } =>
+            false,
         Call::Area { length, .. } => 1 <= length && length <= 65536,
         Call::SetTag { tag, .. } => tag < 8,
         _ => true,

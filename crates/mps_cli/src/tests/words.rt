@@ -156,7 +156,7 @@ const LINES_OF_WORDS: [WordsCase; 16] = [
         line: "cnv -f l -k object",
         ends: Ends {
             status: 0,
-            printed: b"mpslog 1\n7 80 1000 3 0\n",
+            printed: b"mpslog 2\n7 80 1000 3 0\n",
             reported: b"",
         },
         named: None,

@@ -1,8 +1,8 @@
 -- The log of version 2 of a legal history replays to its live blocks, and to as many names as it has labels.
-use Rattle.std.proofs.Common.{◌≡◌, ◌∙◌, ◌⊎◌, ℕ, ◌+◌, Bool, true, false, refl, sym, ap, subst, List, [], ◌∷◌, ◌++◌, length, Option, Some, None, Ok, Err, inl, inr}
+use Rattle.std.proofs.Common.{◌≡◌, ◌∙◌, ◌⊎◌, ℕ, ◌+◌, Bool, true, false, refl, sym, ap, append_assoc, subst, List, [], ◌∷◌, ◌++◌, length, Option, Some, None, Ok, Err, inl, inr}
 use Rattle.std.proofs.lemmas.Option.{same_Some, slice_get_within}
 use Rattle.std.proofs.lemmas.Bool.{and_from, and_parts, eq-eqb, false≢true, lt-ltb, true≢false}
-use Rattle.std.specs.Prelude.{◌==◌, ◌&&◌, if◌then◌else◌, not, option_and_then, option_map, slice_get}
+use Rattle.std.specs.Prelude.{◌==◌, ◌&&◌, if◌then◌else◌, not, filter, option_and_then, option_map, slice_get}
 use Rattle.std.specs.List.{list_all}
 use Rattle.mps_base.specs.Record.{Record, intern_code, label_code}
 use Rattle.mps_base.specs.declared.moves.Move.{Move}
@@ -21,7 +21,7 @@ use Rattle.mps_model.specs.Accessing.{address_or_null}
 use Rattle.mps_model.specs.Making.{refuse_at_limit, refuse_taken, most_labels}
 use Rattle.mps_model.specs.Labelling.{act_intern, act_label, graph_with_label}
 use Rattle.mps_model.specs.Reply.{act, answer_from, world_from}
-use Rattle.mps_model.specs.Log.{labelled_log_from, pools_made_by, record_of, records_of, records_of_accepted, records_of_command, records_of_label, records_of_step, records_with_label}
+use Rattle.mps_model.specs.Log.{labelled_log_from, log_from, pools_made_by, record_of, records_of, records_of_accepted, records_of_command, records_of_label, records_of_step, records_with_label}
 use Rattle.mps_model.specs.Replay.{Store, is_live, replay_from, store_after}
 use Rattle.mps_model.specs.Replayed.{State, after_interning, after_labelling, replayed_after, replayed_from}
 use Rattle.mps_model.specs.History.{HeldAreLive, IsAnsweredStep, IsLegalFrom, IsLegalStep, judged_world, moved_world, world_after, world_after_call, world_after_steps}
@@ -46,7 +46,7 @@ use Rattle.mps_laws.proofs.SameArena.{moved_alone}
 -- ---- records of blocks
 
 -- whether a record is of no label
-abbrev is_unlabelled : Record → Bool
+abbrev pub is_unlabelled : Record → Bool
 is_unlabelled r = not (r.code == intern_code) && not (r.code == label_code)
 
 abbrev AreUnlabelled : List Record → Type 0
@@ -136,6 +136,32 @@ step_unlabelled : (pools : ℕ) (s : Step) → AreUnlabelled (records_of_step po
 step_unlabelled pools s =
     moves_unlabelled s.moves s.line (records_of_command pools s.call s.answer s.line)
     (command_unlabelled pools s.call s.answer s.line)
+
+-- ---- the log without records of labels
+
+all_kept : (rs those : List Record) → AreUnlabelled rs → filter is_unlabelled (rs ++ those) ≡ rs ++ filter is_unlabelled those
+all_kept [] those h = refl
+all_kept (r ∷ rs) those h =
+    let parts = and_parts (is_unlabelled r) (list_all is_unlabelled rs) h in
+    ap (λ b. if b then r ∷ filter is_unlabelled (rs ++ those) else filter is_unlabelled (rs ++ those)) parts.0
+    ∙ ap (λ kept. r ∷ kept) (all_kept rs those parts.1)
+
+none_kept : (c : Call) (answer : Answer) (line : ℕ) (those : List Record)
+    → filter is_unlabelled (records_of_label c answer line ++ those) ≡ filter is_unlabelled those
+none_kept (call.Intern label) (Replied (reply.Interned number)) line those = refl
+none_kept (call.Label slot label) (Replied (reply.Labelled at number)) line those = refl
+none_kept _ _ line those = refl
+
+-- what is left is the log of version 1
+pub without_labels : (pools : ℕ) (h : History) → filter is_unlabelled (labelled_log_from pools h) ≡ log_from pools h
+without_labels pools [] = refl
+without_labels pools (s ∷ ss) =
+    let rest = labelled_log_from (pools + pools_made_by s.call s.answer) ss in
+    let labelled = records_of_label s.call s.answer s.line in
+    ap (filter is_unlabelled) (append_assoc (records_of_step pools s) labelled rest)
+    ∙ all_kept (records_of_step pools s) (labelled ++ rest) (step_unlabelled pools s)
+    ∙ ap (λ rs. records_of_step pools s ++ rs)
+    (none_kept s.call s.answer s.line rest ∙ without_labels (pools + pools_made_by s.call s.answer) ss)
 
 -- ---- the records of labels
 

@@ -3,7 +3,7 @@ use Rattle.std.specs.Prelude.{All}
 use Rattle.std.proofs.lemmas.Grind.{common_steps}
 use Rattle.std.proofs.lemmas.List.Elements.{All-from_recursion}
 use Rattle.mps_base.specs.declared.moves.Move.TheVariants as moves
-use Rattle.mps_event.specs.declared.version.Version.TheVariants.{One}
+use Rattle.mps_event.specs.declared.version.Version.TheVariants.{Two}
 use Rattle.mps_event.specs.Grammar.{IsRecord}
 use Rattle.mps_model.specs.Log.{records_of}
 use Rattle.mps_run.proofs.Batches.{one_record_more}
@@ -11,7 +11,7 @@ use Rattle.mps_run.proofs.Pieces.{records_more}
 use Rattle.mps_run.proofs.log_moves.log_batch.Goals as goal
 
 pub loop-moved-init : goal.loop-moved-init
-loop-moved-init g c = (search rules, search rules, All-from_recursion (IsRecord One) [] tt)
+loop-moved-init g c = (search rules, search rules, All-from_recursion (IsRecord Two) [] tt)
 
 pub loop-moved-preserved : goal.loop-moved-preserved
 loop-moved-preserved g c = (
@@ -26,4 +26,4 @@ loop-moved-preserved g c = (
 pub returns-clause-recorded : goal.returns-clause-recorded
 returns-clause-recorded g c =
     let all : take c.loop-moved.moved-index c.args.moves.now ≡ c.args.moves.now = grind (arith, common_steps) in
-    subst (λ ms. All (IsRecord One) (records_of ms c.args.line)) all c.loop-moved.invariant.2
+    subst (λ ms. All (IsRecord Two) (records_of ms c.args.line)) all c.loop-moved.invariant.2

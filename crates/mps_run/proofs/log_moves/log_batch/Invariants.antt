@@ -1,7 +1,7 @@
 use Rattle.std.proofs.Common.{◌≡◌, ◌*◌, ◌≤◌, take}
 use Rattle.std.specs.Prelude.{All}
 use Rattle.mps_base.specs.Record.{records_bytes}
-use Rattle.mps_event.specs.declared.version.Version.TheVariants.{One}
+use Rattle.mps_event.specs.declared.version.Version.TheVariants.{Two}
 use Rattle.mps_event.specs.Grammar.{IsRecord}
 use Rattle.mps_model.specs.Log.{records_of}
 use Rattle.mps_run.proofs.log_moves.log_batch.Given as goal
@@ -10,4 +10,4 @@ use Rattle.mps_run.proofs.log_moves.log_batch.Given as goal
 abbrev pub invariant-loop-moved : goal.invariant-loop-moved
 invariant-loop-moved g l = (l.length ≤ 64 * l.moved-index)
     × (take l.length l.bytes ≡ records_bytes (records_of (take l.moved-index l.moves) l.line))
-    × All (IsRecord One) (records_of (take l.moved-index l.moves) l.line)
+    × All (IsRecord Two) (records_of (take l.moved-index l.moves) l.line)

@@ -6,7 +6,7 @@ use Rattle.mps_base.specs.declared.moves.Move.{Move}
 use Rattle.std.specs.Slice.Iter.{chunks_rest}
 use Rattle.mps_report.proofs.Logging.{logs_none}
 use Rattle.std.proofs.lemmas.List.Elements.{All-from_recursion}
-use Rattle.mps_event.specs.declared.version.Version.TheVariants.{One}
+use Rattle.mps_event.specs.declared.version.Version.TheVariants.{Two}
 use Rattle.mps_event.specs.Grammar.{IsRecord}
 use Rattle.mps_run.proofs.Batches.{records_append_all, logs_batch, logs_part_of_batch}
 use Rattle.mps_run.proofs.Records.{at_error}
@@ -21,7 +21,7 @@ loop-batch-init g c = (
     [],
     search rules,
     logs_none (g.D.Desk.outside c.args.desk.now),
-    All-from_recursion (IsRecord One) [] tt,
+    All-from_recursion (IsRecord Two) [] tt,
   ),
 )
 
@@ -58,4 +58,4 @@ returns-clause-recorded g c =
     let none = nil_from_length (chunks_rest c.loop-batch.batch-iterator) c.in-None.ensures.steps.1.0 in
     let whole : so_far.0 ≡ c.args.moves.now =
     sym (append-nil so_far.0) ∙ (ap (λ (ms : List Move). so_far.0 ++ ms) (sym none) ∙ so_far.1) in
-    subst (λ (ms : List Move). All (IsRecord One) (records_of ms c.args.line)) whole so_far.3
+    subst (λ (ms : List Move). All (IsRecord Two) (records_of ms c.args.line)) whole so_far.3

@@ -1,7 +1,7 @@
 use Rattle.std.proofs.Common.{◌≡◌, List, ◌++◌}
 use Rattle.std.specs.Slice.Iter.{chunks_rest, chunks_size}
 use Rattle.std.specs.Prelude.{All}
-use Rattle.mps_event.specs.declared.version.Version.TheVariants.{One}
+use Rattle.mps_event.specs.declared.version.Version.TheVariants.{Two}
 use Rattle.mps_event.specs.Grammar.{IsRecord}
 use Rattle.mps_base.specs.declared.moves.Move.{Move}
 use Rattle.mps_base.specs.Record.{records_bytes}
@@ -17,4 +17,4 @@ invariant-loop-batch g l =
     × (chunks_size l.batch-iterator ≡ 64)
     × ((done : List Move) × (done ++ chunks_rest l.batch-iterator ≡ l.moves)
     × Logs (g.D.Desk.outside l.initial.desk) (g.D.Desk.outside l.desk) (records_bytes (records_of done l.line))
-    × All (IsRecord One) (records_of done l.line))
+    × All (IsRecord Two) (records_of done l.line))

@@ -1,7 +1,7 @@
 use Rattle.std.proofs.Common.{[], arith}
 use Rattle.std.proofs.lemmas.List.{nil_from_length}
 use Rattle.std.proofs.lemmas.List.Elements.{All-from_recursion}
-use Rattle.mps_event.specs.declared.version.Version.TheVariants.{One}
+use Rattle.mps_event.specs.declared.version.Version.TheVariants.{Two}
 use Rattle.mps_event.specs.Grammar.{IsRecord}
 use Rattle.mps_report.proofs.Logging.{logs_none}
 use Rattle.mps_run.proofs.log_moves.log_moves.Goals as goal
@@ -12,4 +12,4 @@ returns-in-empty-clause-logged g c =
 
 pub returns-in-empty-clause-recorded : goal.returns-in-empty-clause-recorded
 returns-in-empty-clause-recorded g c =
-    rw (nil_from_length c.args.moves.now (omega (arith, c.in-empty.len_below))) (All-from_recursion (IsRecord One) [] tt)
+    rw (nil_from_length c.args.moves.now (omega (arith, c.in-empty.len_below))) (All-from_recursion (IsRecord Two) [] tt)

@@ -17,3 +17,6 @@ returns-in-DropRoot-clause-right c = answered c.in-DropRoot.is c.done-in-DropRoo
 
 pub returns-in-DropPoint-clause-right : goal.returns-in-DropPoint-clause-right
 returns-in-DropPoint-clause-right c = answered c.in-DropPoint.is c.done-in-DropPoint.ensures c.drop_point.ensures.right
+
+pub returns-in-Intern-clause-right : goal.returns-in-Intern-clause-right
+returns-in-Intern-clause-right c = answered c.in-Intern.is c.interned.ensures c.intern.ensures.right

@@ -1,0 +1,17 @@
+use Rattle.std.proofs.Common.{Some, ◌∙◌, None, ap}
+use Rattle.mps_line_words.specs.Name.{name_of, slot_of}
+use Rattle.mps_line_words.specs.Reading.{single}
+use Rattle.mps_line_words.specs.Word.{words}
+use Rattle.mps_line_words.proofs.Headed.{onto_some}
+use Rattle.mps_script.proofs.labels.slot_name.Goals as goal
+
+pub returns-in_err-others : goal.returns-in_err-others
+returns-in_err-others c =
+    c.from_residual-in_err-others.ensures
+    ∙ onto_some slot_of (single name_of) (words c.args.arguments.now) _ _ c.in_ok-table.ensures.found None c.in_err-others.ensures
+
+pub returns : goal.returns
+returns c =
+    ap (λ slot. Some (slot, c.in_ok-others.others)) c.new.ensures
+    ∙ onto_some slot_of (single name_of) (words c.args.arguments.now) _ _
+    c.in_ok-table.ensures.found (Some c.in_ok-others.others) c.in_ok-others.ensures
