@@ -1,6 +1,6 @@
 -- Colours after an object is kept, and after it was scanned.
 use Rattle.std.proofs.Common.{◌≡◌, ◌∙◌, ◌⊎◌, Bool, true, false, refl, sym, ap, List, subst, inl, inr}
-use Rattle.std.proofs.lemmas.Bool.{false≢true, and_parts, or_parts, or_left, or_right, or_cases, eq-eqb, eqb-true, cases_Bool, cases_eq}
+use Rattle.std.proofs.lemmas.Bool.{false≢true, and_parts, or_parts, or_left, or_right, or_cases, eq-eqb, cases_Bool, cases_eq}
 use Rattle.std.specs.Prelude.{◌==◌, ◌&&◌, ◌||◌, not}
 use Rattle.mps_base.specs.Address.{Id}
 use Rattle.mps_model.specs.Graph.{contains}

@@ -1,6 +1,6 @@
 -- The moves by which a white object is kept are legal, and what they are among the moves of a scan.
 use Rattle.std.proofs.Common.{◌≡◌, ◌∙◌, ℕ, ◌≤◌, ◌+◌, ◌*◌, Bool, true, false, refl, sym, ap, List, [], ◌∷◌, Option, Some, None, subst, inl, inr, arith}
-use Rattle.std.proofs.lemmas.Bool.{false≢true, true≢false, eq-eqb, leb-true, cases_Bool, le-leb}
+use Rattle.std.proofs.lemmas.Bool.{false≢true, eq-eqb, cases_Bool, le-leb}
 use Rattle.std.specs.Prelude.{if◌then◌else◌, option_and_then, nat_le, nat_lt, not}
 use Rattle.std.specs.Option.{option_map_or}
 use Rattle.mps_base.specs.Address.{Id, word_of, address_of_word, address_of_grain, grains_needed}

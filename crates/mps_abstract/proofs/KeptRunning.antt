@@ -210,12 +210,6 @@ module _ (x : Collecting) (run : Running x) (tracing : is_tracing_band x.band �
     units = units;
   }
 
-  pub same_world : w' ≡ now
-  same_world =
-      r.world
-      ∙ ap (λ (c : Collection). record x.world { addresses = r.addresses; segments = r.segments; tails = r.tails; collection = Some c })
-      r.running
-
   pub same_state : record x { world = w'; running = c'; colours = keeping x.colours id } ≡ kept_state
   same_state =
       ap (λ (w : World). record x { world = w; running = c'; colours = keeping x.colours id }) r.world

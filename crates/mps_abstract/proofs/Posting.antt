@@ -23,7 +23,7 @@ use Rattle.mps_abstract.proofs.Lists.{contains_here, contains_later, contains_ca
 use Rattle.mps_abstract.proofs.Keeping.{it_is_kept, kept_before}
 use Rattle.mps_abstract.proofs.Kept.{IsKept, keeps_leaves}
 use Rattle.mps_abstract.proofs.KeptRunning as kept
-use Rattle.mps_abstract.proofs.KeptRunning.{kept_state, same_state, same_world, after, now, not_reclaiming}
+use Rattle.mps_abstract.proofs.KeptRunning.{kept_state, same_state, not_reclaiming}
 use Rattle.mps_abstract.proofs.Registrations.{StandsFirst, position_first, contains-without_first, length-without_first, slice_get-without_before, slice_get-without_after}
 use Rattle.mps_abstract.proofs.Examining.{examined_is_tracing}
 use Rattle.mps_abstract.proofs.UnitScans.{IsUnitShown}

@@ -1,6 +1,5 @@
 -- Records that replay have a meaning in a text: names are interned in order, and no label has the number of none.
-use Rattle.std.proofs.Common.{◌≡◌, ◌∙◌, ℕ, ◌+◌, Bool, true, false, refl, sym, ap, subst, List, [], ◌∷◌, ◌++◌, length, Option, Some, None, arith}
-use Rattle.std.proofs.lemmas.Bool.{and_parts, false≢true}
+use Rattle.std.proofs.Common.{◌≡◌, ◌∙◌, ℕ, ◌+◌, Bool, true, false, refl, sym, ap, List, [], ◌∷◌, length, Option, Some, None, arith}
 use Rattle.std.proofs.lemmas.List.{length-append}
 use Rattle.std.proofs.lemmas.Option.{none-some, same_Some}
 use Rattle.std.specs.Prelude.{◌==◌, ◌&&◌, nat_lt, if◌then◌else◌, IsTrue, MatchOption, option_and_then, option_map, slice_index}
@@ -14,7 +13,7 @@ use Rattle.mps_event.specs.Grammar.{IsRecord, interns_a_name}
 use Rattle.mps_event.specs.Name.{interned_bytes, name_in}
 use Rattle.mps_event.proofs.Records.{code-is}
 use Rattle.mps_model.specs.Replay.{Store, store_after, is_live}
-use Rattle.mps_model.specs.Replayed.{State, after_interning, after_labelling, replayed_after, replayed_from}
+use Rattle.mps_model.specs.Replayed.{State, replayed_after, replayed_from}
 use Rattle.mps_txt.specs.Labels.{Naming, after_event, after_record, after_records, id_at, moved, relabelled, with_label, with_name, without_label}
 
 -- a record has a meaning, and as many names have numbers after it as in the replay

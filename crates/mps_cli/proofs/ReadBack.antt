@@ -1,5 +1,5 @@
 -- The log of a run is read to its end by the readers.
-use Rattle.std.proofs.Common.{◌≡◌, ◌≢◌, ◌<◌, ◌≤◌, ℕ, List, [], length, Option, Some, None, Ok, refl, sym, ap, ◌∙◌, append-nil, arith}
+use Rattle.std.proofs.Common.{◌≡◌, ◌≢◌, ◌<◌, ◌≤◌, ℕ, List, [], length, Some, Ok, refl, sym, ap, ◌∙◌, append-nil, arith}
 use Rattle.std.proofs.lemmas.List.Elements.{recursion_from_All}
 use Rattle.mps_desk.specs.Desk.{Outside}
 use Rattle.mps_event.specs.declared.version.Version.TheVariants.{Two}
@@ -7,7 +7,6 @@ use Rattle.mps_event.specs.Grammar.{IsRecord}
 use Rattle.mps_model.specs.Step.{History}
 use Rattle.mps_model.specs.Log.{log_bytes, written_log}
 use Rattle.mps_model.specs.History.{live_blocks, world_after_history}
-use Rattle.mps_report.specs.Streams.{appended}
 use Rattle.mps_run.specs.Ending.{NoFaultRose}
 use Rattle.mps_run.specs.LogReaderEnding.{max_records}
 use Rattle.mps_run.specs.LogPrefix.{LogPrefix}
@@ -28,7 +27,8 @@ use Rattle.mps_cli.specs.ReadBack.{ListsLiveBlocks, ConvertsRecords, ReadsRecord
 use Rattle.mps_cli.proofs.GoodInput.{verdict}
 use Rattle.mps_cli.proofs.Meanings.{meaning_of}
 
-module _ (ran : List Line) (history : History) (runs : HasRun session_built ran history) (few : length (written_log history) ≤ max_records) where
+module _ (ran : List Line) (history : History) (runs : HasRun session_built ran history)
+    (few : length (written_log history) ≤ max_records) where
   -- the whole log is records
   all_of_it : LogPrefix (log_bytes history)
   all_of_it = record {
@@ -62,12 +62,14 @@ module _ (ran : List Line) (history : History) (runs : HasRun session_built ran 
         refl in
         record { status_is = ends.status_is; printed = ends.printed }
 
-    read : length (written_log history) < max_records → (text : List ℕ) → old.text text ≡ Some (portable Two all_kinds (written_log history))
+    read : length (written_log history) < max_records → (text : List ℕ)
+        → old.text text ≡ Some (portable Two all_kinds (written_log history))
         → ReadsText text status old new → ReadsRecords history status old new
     read fewer text there does =
         let records = written_log history in
         let bytes = portable_text Two records in
-        let meaning = meaning_of records (recursion_from_All (IsRecord Two) records runs.recorded) at_the_start _ no_names refl runs.replayed in
+        let meaning = meaning_of records (recursion_from_All (IsRecord Two) records runs.recorded) at_the_start _ no_names refl
+        runs.replayed in
         let same : old.text text ≡ Some bytes = there ∙ ap Some (text_of_all Two records runs.recorded) in
         let ends = (does.unique (verdict status old new none memory does.justified) bytes same).with_first_line Two records (Ok tt)
         (reads_its_own Two records meaning.named runs.recorded meaning.is fewer) in

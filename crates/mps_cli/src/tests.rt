@@ -6,6 +6,7 @@ mod collected;
 mod desk;
 mod gathered;
 mod host;
+mod long_lines;
 mod memory;
 mod played;
 mod scripts;

@@ -8,10 +8,6 @@ use Rattle.mps_model.specs.Replay.{Store, store_after, replay_from}
 use Rattle.mps_model.specs.World.{World}
 use Rattle.mps_model.specs.History.{IsLegalFrom, IsLegalStep, world_after, world_after_steps}
 
-append_nil : {A : Type 0} (xs : List A) → xs ++ [] ≡ xs
-append_nil [] = refl
-append_nil (x ∷ xs) = ap (λ ys. x ∷ ys) (append_nil xs)
-
 append_assoc : {A : Type 0} (xs ys zs : List A) → (xs ++ ys) ++ zs ≡ xs ++ (ys ++ zs)
 append_assoc [] ys zs = refl
 append_assoc (x ∷ xs) ys zs = ap (λ rest. x ∷ rest) (append_assoc xs ys zs)
@@ -27,16 +23,6 @@ pub IsLegalFrom-append : (w : World) (h more : History) → IsLegalFrom w h → 
     → IsLegalFrom w (h ++ more)
 IsLegalFrom-append w [] more first then_more = then_more
 IsLegalFrom-append w (s ∷ ss) more first then_more = (first.0, IsLegalFrom-append (world_after w s) ss more first.1 then_more)
-
--- the log of a history that goes on
-pub log_from-append : (pools : ℕ) (h more : History) → log_from pools (h ++ more) ≡ log_from pools h ++ log_from (pools + pools_made h) more
-log_from-append pools [] more = ap (λ n. log_from n more) (sym (add-zero pools))
-log_from-append pools (s ∷ ss) more =
-    ap (λ rest. records_of_step pools s ++ rest) (log_from-append (pools + pools_made_by s.call s.answer) ss more)
-    ∙ ap (λ n. records_of_step pools s ++ (log_from (pools + pools_made_by s.call s.answer) ss ++ log_from n more))
-    (add_assoc pools (pools_made_by s.call s.answer) (pools_made ss))
-    ∙ sym (append_assoc (records_of_step pools s) (log_from (pools + pools_made_by s.call s.answer) ss)
-    (log_from (pools + (pools_made_by s.call s.answer + pools_made ss)) more))
 
 pub labelled_log_from-append : (pools : ℕ) (h more : History)
     → labelled_log_from pools (h ++ more) ≡ labelled_log_from pools h ++ labelled_log_from (pools + pools_made h) more

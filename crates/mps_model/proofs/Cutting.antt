@@ -6,14 +6,6 @@ use Rattle.mps_model.specs.World.{World, is_running}
 use Rattle.mps_model.specs.Effect.{world_after_move, world_after_moves}
 use Rattle.mps_model.specs.Units.{IsUnitPiece, does_nothing, UnitsDone, none_yet, one_more, AreUnits}
 
-append_assoc : {A : Type 0} (xs ys zs : List A) → (xs ++ ys) ++ zs ≡ xs ++ (ys ++ zs)
-append_assoc [] ys zs = refl
-append_assoc (x ∷ xs) ys zs = ap (λ rest. x ∷ rest) (append_assoc xs ys zs)
-
-append_nil : {A : Type 0} (xs : List A) → xs ++ [] ≡ xs
-append_nil [] = refl
-append_nil (x ∷ xs) = ap (λ ys. x ∷ ys) (append_nil xs)
-
 -- moves that go on
 pub world_after_moves-append : (w : World) (these those : List Move)
     → world_after_moves w (these ++ those) ≡ world_after_moves (world_after_moves w these) those

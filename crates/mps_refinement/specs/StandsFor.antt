@@ -18,7 +18,7 @@ use Rattle.mps_laws.proofs.Naming.{AreTakenOnce}
 use Rattle.mps_ld.specs.State.{LdState}
 use Rattle.mps_ld.specs.Flips.{AreFlips}
 use Rattle.mps_model.specs.Graph as graph
-use Rattle.mps_model.specs.Graph.{Graph, AreaWord, PlainWord, Hold, Reservation, Slots, thing_in, entry_at, contains}
+use Rattle.mps_model.specs.Graph.{AreaWord, PlainWord, Hold, Reservation, Slots, thing_in, entry_at, contains}
 use Rattle.mps_model.specs.Making.{live_roots, live_slots, live_points}
 use Rattle.mps_model.specs.Step.{History}
 use Rattle.mps_model.specs.History.{IsLegalHistoryOf}

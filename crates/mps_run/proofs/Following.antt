@@ -114,7 +114,8 @@ whole_of built ends script old new whole l = record {
       (record { write = not_write_failed ends whole; log = λ is. absurd (not_log_failed ends whole is) }) l;
   ends_at = l.ends_at;
   logged = l.logged ∙ ap (λ (p : List ℕ). appended old.logged (log_header ++ p))
-      (ap (λ (p : List ℕ). records_bytes (written_log l.history) ++ p) (logged_none ends l.part (pools_made l.history) old new l.is_part whole)
+      (ap (λ (p : List ℕ). records_bytes (written_log l.history) ++ p) (logged_none ends l.part (pools_made l.history) old new l.is_part
+      whole)
       ∙ append-nil (records_bytes (written_log l.history)));
 }
 

@@ -14,13 +14,13 @@ use Rattle.mps_answers.specs.Reading.{first_of_two, both, named_in, single, onto
 use Rattle.mps_script.specs.Calls.{none, one, two, three, or}
 use Rattle.mps_numerals.specs.Decimal.{decimal_number}
 use Rattle.mps_answers.specs.Number.{number_of, number_within, prefixed_hexadecimal}
-use Rattle.mps_answers.specs.Name.{name_from, name_of, slot_of}
+use Rattle.mps_answers.specs.Name.{name_of, slot_of}
 use Rattle.mps_answers.specs.Head.{head_of}
 use Rattle.mps_script.specs.Form.{Form, kinds, kinds_on_chains, formats, ranks, keyword, grains_from, length_of_root, tag_number, capacities, padded, chain, automatic_pool, pool_on_chain, pool_mfs, pool_mvff, pool, init, start, a_to_b_forms, c_forms, d_to_f_forms, g_to_k_forms, l_forms, m_to_o_forms, p_to_r_forms, s_to_z_forms, forms, call_in, command_call}
 use Rattle.mps_script.specs.Line.{begins_comment, or_bad, call_of_words, call_of_line}
 use Rattle.mps_script.specs.declared.line.BadLine.{BadLine}
-use Rattle.mps_base.specs.Name.{is_name}
 use Rattle.mps_commands.specs.Range.{IsInRange, IsPaddedName, are_grains, may_be_on_chain, IsFormat}
+use Rattle.mps_run.proofs.Interning.{named_in_range}
 
 -- the call, where there is one, is in range
 abbrev AreInRange : Option Call → Type 0
@@ -158,17 +158,10 @@ area_in_range ws = and_then_in_range (λ p. call.Area p.0 p.1) (pair name_of len
 blocks_in_range : FormInRange (two name_of length_of_root call.Blocks)
 blocks_in_range ws = and_then_in_range (λ p. call.Blocks p.0 p.1) (pair name_of length_of_root ws) (root_within ws)
 
-named_by : (b : Bool) (word : List ℕ) (name : Name) → is_name word ≡ b → (if b then Some (name_from word) else None) ≡ Some name
-    → IsPaddedName name
-named_by true word name is e =
-    let same : name_from word ≡ name = (let whole : Some (name_from word) ≡ Some name = e in cc) in
-    subst IsPaddedName same (record { word = word; is = is; padded = refl })
-named_by false word name is e = absurd (let wrong : None ≡ Some name = e in cc)
-
 intern_in_range : FormInRange (one name_of call.Intern)
 intern_in_range ws =
     and_then_in_range call.Intern (single name_of ws) (λ name e.
-    single_gives IsPaddedName name_of (λ word x is. named_by (is_name word) word x refl is) ws name e)
+    single_gives IsPaddedName name_of (λ word x is. named_in_range word x is) ws name e)
 
 tag_in_range : FormInRange (three slot_of decimal_number tag_number call.SetTag)
 tag_in_range ws =

@@ -1,13 +1,13 @@
 -- The record of a name that is interned has its 16 bytes, which are a name of the grammar and zeros.
-use Rattle.std.proofs.Common.{◌≡◌, ◌∙◌, ℕ, ◌+◌, ◌-◌, Bool, true, false, refl, sym, ap, subst, List, [], ◌∷◌, ◌++◌, length, take, drop, replicate, append-nil, arith}
+use Rattle.std.proofs.Common.{◌≡◌, ◌∙◌, ℕ, ◌-◌, Bool, true, false, Option, Some, None, subst, refl, sym, ap, List, [], ◌∷◌, ◌++◌, length, take, drop, replicate, append-nil, arith}
 use Rattle.std.proofs.lemmas.Bool.{and_parts}
 use Rattle.std.proofs.lemmas.Bool.Decides.{nat_tests}
 use Rattle.std.proofs.lemmas.List.{drop_at, length-drop, length-take, take-append-drop, take_all}
 use Rattle.std.proofs.lemmas.List.Sums.{prefix_len-le-length}
 use Rattle.std.specs.Int.{w64, from_le_bytes, to_le_bytes}
 use Rattle.std.specs.List.{list_all, position_or_len}
-use Rattle.std.specs.Prelude.{◌&&◌, not, position, unwrap_or}
-use Rattle.mps_base.specs.Name.{is_name, is_name_byte, max_name_bytes}
+use Rattle.std.specs.Prelude.{◌&&◌, if◌then◌else◌, not, position, unwrap_or}
+use Rattle.mps_base.specs.Name.{is_name, max_name_bytes}
 use Rattle.mps_base.specs.Record.{Record, number_bytes, number_of_bytes}
 use Rattle.mps_base.specs.declared.names.Name.{Name}
 use Rattle.mps_commands.specs.Range.{IsPaddedName}
@@ -18,9 +18,21 @@ use Rattle.mps_model.specs.Answer.{Replied}
 use Rattle.mps_model.specs.Log.{records_of_label}
 use Rattle.mps_model.specs.declared.call.Call.TheVariants as call
 use Rattle.mps_model.specs.declared.reply.Reply.TheVariants as reply
+use Rattle.mps_line_words.specs.Name.{name_from, name_of}
 use Rattle.mps_line_words.proofs.FirstName.{none_in_names}
 use Rattle.mps_line_words.proofs.Prefixes.{before_past}
 use Rattle.mps_line_words.proofs.Unique.{all_named, is_zero, no_zero, zeros_left}
+
+-- the name that a word writes
+named_by : (b : Bool) (word : List ℕ) (name : Name) → is_name word ≡ b → (if b then Some (name_from word) else None) ≡ Some name
+    → IsPaddedName name
+named_by true word name is e =
+    let same : name_from word ≡ name = (let whole : Some (name_from word) ≡ Some name = e in cc) in
+    subst IsPaddedName same (record { word = word; is = is; padded = refl })
+named_by false word name is e = absurd (let wrong : None ≡ Some name = e in cc)
+
+pub named_in_range : (word : List ℕ) (name : Name) → name_of word ≡ Some name → IsPaddedName name
+named_in_range word name e = named_by (is_name word) word name refl e
 
 -- the first zero of bytes, or their end
 first_zero : (xs : List ℕ) → unwrap_or (position is_zero xs) (length xs) ≡ position_or_len is_zero xs
@@ -64,7 +76,8 @@ abbrev pub the_record : (line number low high : ℕ) → Record
 the_record line number low high = record { line = line; code = code_of Intern; fields = number ∷ low ∷ high ∷ [] }
 
 module _ (label : Name) (line number wide low high : ℕ) (long : length label.bytes ≡ 16) (same : wide ≡ number)
-    (first : low ≡ from_le_bytes w64 (take 8 label.bytes)) (last : high ≡ from_le_bytes w64 (take (length label.bytes - 8) (drop 8 label.bytes))) where
+    (first : low ≡ from_le_bytes w64 (take 8 label.bytes))
+    (last : high ≡ from_le_bytes w64 (take (length label.bytes - 8) (drop 8 label.bytes))) where
   short : length (drop 8 label.bytes) ≡ 8
   short = omega (arith, long, length-drop 8 label.bytes)
 
@@ -84,7 +97,8 @@ module _ (label : Name) (line number wide low high : ℕ) (long : length label.b
 
   -- its fields have the bytes of a name
   pub interned_named : IsPaddedName label → to_le_bytes w64 low ≡ take 8 label.bytes
-      → to_le_bytes w64 high ≡ take (length label.bytes - 8) (drop 8 label.bytes) → is_padded_name (interned_bytes (wide ∷ low ∷ high ∷ [])) ≡ true
+      → to_le_bytes w64 high ≡ take (length label.bytes - 8) (drop 8 label.bytes)
+      → is_padded_name (interned_bytes (wide ∷ low ∷ high ∷ [])) ≡ true
   interned_named is front back =
       ap is_padded_name
       (ap (λ bytes. bytes ++ number_bytes 8 high) front ∙ ap (λ bytes. take 8 label.bytes ++ bytes) (back ∙ last_half)

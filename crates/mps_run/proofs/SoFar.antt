@@ -104,7 +104,8 @@ pools_made-append [] steps = sym (zero-add (pools_made steps))
 pools_made-append (s ∷ ss) steps = let e = pools_made-append ss steps in omega (arith, e)
 
 -- the records of a history with more steps, where n pools were made before these
-log_more : (h steps : History) (pools : ℕ) → pools ≡ pools_made h → written_log (h ++ steps) ≡ written_log h ++ labelled_log_from pools steps
+log_more : (h steps : History) (pools : ℕ) → pools ≡ pools_made h
+    → written_log (h ++ steps) ≡ written_log h ++ labelled_log_from pools steps
 log_more h steps pools count =
     labelled_log_from-append 0 h steps ∙ sym (ap (λ n. written_log h ++ labelled_log_from n steps) (count ∙ sym (zero-add (pools_made h))))
 

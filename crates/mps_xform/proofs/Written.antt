@@ -1,6 +1,6 @@
 -- A word of a block that isn't its head is written.
 use Rattle.std.proofs.Common.{ℕ, ◌≡◌, ◌≢◌, IsTrue, Option, Some, None, Contains, length, sym, ap, ◌∙◌, subst, arith}
-use Rattle.std.specs.Prelude.{option_map, slice_index, slice_set}
+use Rattle.std.specs.Prelude.{option_map, slice_set}
 use Rattle.std.proofs.lemmas.List.{length-set, get_or-set_other}
 use Rattle.mps_base.specs.Run.{Run, IsAscending}
 use Rattle.mps_base.specs.Address.{word_of}

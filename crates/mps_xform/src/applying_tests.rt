@@ -240,11 +240,15 @@ fn all_agree(
 {
     let other = transforms.make();
     let mut seed = 1u64;
-    let mut alike = added_alike(transforms, other, plain, 1, 2)?;
-    for _ in 0..40 {
-        alike = alike && agree_in_turn(transforms, segs, plain, &mut seed)?;
+    if !added_alike(transforms, other, plain, 1, 2)? {
+        return Ok(false);
     }
-    Ok(alike)
+    for _ in 0..40 {
+        if !agree_in_turn(transforms, segs, plain, &mut seed)? {
+            return Ok(false);
+        }
+    }
+    Ok(true)
 }
 
 // Makes the block and takes the steps.

@@ -12,7 +12,7 @@ use Rattle.mps_base.specs.declared.moves.Move.TheVariants as moves
 use Rattle.mps_base.specs.declared.names.Name.{Name}
 use Rattle.mps_base.specs.declared.names.Slot.{Slot}
 use Rattle.mps_model.specs.Answer.{Answer, is_refused}
-use Rattle.mps_model.specs.Graph.{Graph, Object, Cache, CacheClass, PoolFrames, contains, entry_at, ids_in_blocks, ids_of_cache, ids_of_client, ids_in_caches, is_automatic, targets, object_at}
+use Rattle.mps_model.specs.Graph.{Graph, Object, Cache, CacheClass, PoolFrames, contains, entry_at, ids_in_blocks, ids_of_client, ids_in_caches, is_automatic, targets, object_at}
 use Rattle.mps_model.specs.World.{World, has_frames, is_any_size_kind, is_empty_segment, is_live, object_is, pool_is, segment_of}
 use Rattle.mps_model.specs.Checked.{Checked, Found, Numbered, block_place_in, cache_named}
 use Rattle.mps_model.specs.Caches.{flushed, kept_by}

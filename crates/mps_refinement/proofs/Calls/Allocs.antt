@@ -51,7 +51,7 @@ use Rattle.mps_refinement.specs.StandsFor.{AreParts, IsPool, IsReached, Past, ad
 use Rattle.mps_refinement.proofs.Parts.BlockParts.{parts_with_frames, world_with_frames}
 use Rattle.mps_refinement.proofs.Parts.AllocatedParts.{parts_made, segments_made, noted_clear}
 use Rattle.mps_refinement.proofs.Calls.AllocatingStep as allocating
-use Rattle.mps_refinement.proofs.Calls.AllocatingStep.{alloc_empty, alloc_from, alloc_in, alloc_is, alloc_manual, alloc_placed, alloc_sized}
+use Rattle.mps_refinement.proofs.Calls.AllocatingStep.{alloc_empty, alloc_from, alloc_in, alloc_manual, alloc_placed, alloc_sized}
 use Rattle.mps_refinement.proofs.Lookups.Found.{some_there}
 use Rattle.mps_refinement.proofs.Worlds.Known.{IsKnown}
 use Rattle.mps_refinement.proofs.Lookups.Lookups.{IsPlaceEntry, IsPlaceFound, IsPoolFound, place_same, pool_same}
@@ -244,9 +244,6 @@ module _ {F : Type 0} (layout : F → Layout) (h : HeapState F) (trail : Moves) 
         module _ (allowed : allows_size p.value.kind words ≡ true) (empty : is_some found.value ≡ false) where
           to_empty : act_alloc w w name words place ≡ alloc_placed w w words place p found (placement_of w (ForAlloc p.number words))
           to_empty = to_place ∙ ap (alloc_sized w w words place p found) allowed ∙ ap (alloc_empty w w words place p found) empty
-
-          entry_there : slice_get found.list found.index ≡ Some found.value
-          entry_there = ap (slice_get found.list) is.found_index ∙ is.there
 
           abbrev ok : Answer
           ok = Replied reply.Ok

@@ -22,11 +22,10 @@ use Rattle.mps_laws.proofs.Sound.SoundChanges.{made_sound, with_made, made_lives
 use Rattle.mps_laws.proofs.Sound.SoundEffects.{reservation_gone_sound, slot_sound}
 use Rattle.mps_laws.proofs.Sound.SoundGraph.{PassesOrNull, all-at}
 use Rattle.mps_model.specs.Allocating as model
-use Rattle.mps_model.specs.Allocating.{act_commit, reserved_address, world_committed}
 use Rattle.mps_model.specs.Checked.{Found, Numbered, with_graph}
 use Rattle.mps_model.specs.Graph as graph
-use Rattle.mps_model.specs.Graph.{Automatic, Object, Reservation, entry_at, is_live_reservation, slots_of, targets_of, targets_of_point, with_last, ids_in_blocks}
-use Rattle.mps_model.specs.World.{World, PointMemory, extent_of_reservation, is_copying_pool, is_live, is_running, reserved_extents}
+use Rattle.mps_model.specs.Graph.{Object, Reservation, entry_at, slots_of, targets_of_point, with_last, ids_in_blocks}
+use Rattle.mps_model.specs.World.{World, PointMemory, extent_of_reservation, is_copying_pool, is_live, reserved_extents}
 use Rattle.mps_heap_spec.specs.Allocating.{with_closed}
 use Rattle.mps_heap_spec.specs.declared.found.Entry.{Entry}
 use Rattle.mps_heap_spec.specs.declared.found.Kept.{Kept}

@@ -12,10 +12,9 @@ use Rattle.mps_laws.proofs.Same.{Same, fits, same_next, same_refuse_when, same_t
 use Rattle.mps_ld.specs.Flips.{AreFlips}
 use Rattle.mps_ld.specs.State.{LdState, after_merge, reset_at}
 use Rattle.mps_model.specs.declared.call.Call.TheVariants as call
-use Rattle.mps_model.specs.Answer.{Answer, Replied}
+use Rattle.mps_model.specs.Answer.{Answer}
 use Rattle.mps_model.specs.Checked.{Checked, Numbered, ◌>>◌, done, tells}
 use Rattle.mps_model.specs.Dependency as model_dependency
-use Rattle.mps_model.specs.Dependency.{act_dependency}
 use Rattle.mps_model.specs.Graph as graph
 use Rattle.mps_model.specs.Graph.{with_last}
 use Rattle.mps_model.specs.Making as model

@@ -12,7 +12,7 @@ use Rattle.mps_laws.proofs.Same as same
 use Rattle.mps_model.specs.declared.call.Call.TheVariants as call
 use Rattle.mps_model.specs.Checked.{Act, Checked, ◌>>=◌, done, required, with_graph}
 use Rattle.mps_model.specs.Graph as graph
-use Rattle.mps_model.specs.Graph.{AreaWord, Graph, Slots, without_name}
+use Rattle.mps_model.specs.Graph.{AreaWord, Slots, without_name}
 use Rattle.mps_model.specs.Making.{graph_without_root}
 use Rattle.mps_model.specs.World.{World}
 use Rattle.mps_names.specs.State.{NamesState, Updates, thing_named}

@@ -6,7 +6,7 @@ use Rattle.mps_format.specs.Layout.{Layout}
 use Rattle.mps_laws.proofs.Same.{Same, fits, refused, same_err}
 use Rattle.mps_model.specs.declared.call.Call.{Call}
 use Rattle.mps_model.specs.declared.reply.Reply.TheVariants as reply
-use Rattle.mps_model.specs.Answer.{Answer, Replied}
+use Rattle.mps_model.specs.Answer.{Replied}
 use Rattle.mps_model.specs.Answer as answers
 use Rattle.mps_model.specs.Checked.{Act, Checked}
 use Rattle.mps_model.specs.Reply.{act}

@@ -23,7 +23,7 @@ use Rattle.mps_model.specs.Making as model
 use Rattle.mps_model.specs.Making.{is_block_size, most_pools, refuse_at_limit}
 use Rattle.mps_model.specs.Reply.{act}
 use Rattle.mps_model.specs.World as world
-use Rattle.mps_model.specs.World.{World, Collected, OneSize, AnySize, empty_world_of, is_copying_kind}
+use Rattle.mps_model.specs.World.{World, Collected, OneSize, AnySize, is_copying_kind}
 use Rattle.mps_names.specs.State.{thing_named}
 use Rattle.mps_names.specs.declared.names.Thing.TheVariants as thing
 use Rattle.mps_heap_spec.specs.Making.{IsMaking, MakesPool, check_pool, check_pool_of_size, refuse_taken}

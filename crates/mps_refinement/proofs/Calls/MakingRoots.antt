@@ -12,7 +12,7 @@ use Rattle.mps_laws.proofs.Same.{same_next}
 use Rattle.mps_model.specs.declared.call.Call.TheVariants as call
 use Rattle.mps_model.specs.Checked.{◌>>◌, done, with_graph}
 use Rattle.mps_model.specs.Graph as graph
-use Rattle.mps_model.specs.Graph.{AreaWord, NamedThing, PlainWord, Slots, with_last}
+use Rattle.mps_model.specs.Graph.{AreaWord, PlainWord, Slots, with_last}
 use Rattle.mps_model.specs.Making as model
 use Rattle.mps_model.specs.Making.{graph_with_area, graph_with_blocks, graph_with_table}
 use Rattle.mps_model.specs.World.{World}

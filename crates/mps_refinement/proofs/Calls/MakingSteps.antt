@@ -6,14 +6,14 @@ use Rattle.mps_base.specs.declared.names.Name.{Name}
 use Rattle.mps_base.specs.declared.refusal.Refusal.{Refusal}
 use Rattle.mps_base.specs.declared.refusal.Refusal.TheVariants as refusal
 use Rattle.mps_format.specs.Layout.{Layout}
-use Rattle.mps_laws.proofs.Same.{Alike, Same, fits, same_err, same_next, same_ok, same_refuse_when}
+use Rattle.mps_laws.proofs.Same.{Alike, Same, fits, same_err, same_next, same_refuse_when}
 use Rattle.mps_model.specs.declared.call.Call.{Call}
 use Rattle.mps_model.specs.declared.reply.Reply.TheVariants as reply
 use Rattle.mps_model.specs.Answer.{Replied}
 use Rattle.mps_model.specs.Checked.{Checked, ◌>>◌, done, refuse_when}
 use Rattle.mps_model.specs.Graph as graph
 use Rattle.mps_model.specs.Making as model
-use Rattle.mps_model.specs.Making.{refuse_at_limit, most_roots, most_slots}
+use Rattle.mps_model.specs.Making.{most_roots, most_slots}
 use Rattle.mps_model.specs.Reply.{act}
 use Rattle.mps_model.specs.World.{World}
 use Rattle.mps_names.specs.State.{thing_named}

@@ -3,7 +3,6 @@ use Rattle.mps_heap_spec.specs.declared.arena.ArenaState.{ArenaState}
 use Rattle.mps_heap_spec.specs.declared.arena.ArenaState.TheVariants as arena
 use Rattle.mps_model.specs.Policy.{is_place}
 use Rattle.std.proofs.Common.{◌≡◌, ◌∙◌, ℕ, ◌-◌, ◌≤◌, Bool, true, false, refl, sym, ap, subst, List, ◌∷◌, length, Option, Some, None, Ok, Err, arith}
-use Rattle.std.proofs.lemmas.Bool.{cases_Bool}
 use Rattle.std.specs.Prelude.{not, ◌&&◌, is_some, slice_get, IsTrue}
 use Rattle.mps_base.specs.declared.names.Name.{Name}
 use Rattle.mps_base.specs.declared.refusal.Refusal.TheVariants as refusal
@@ -15,13 +14,12 @@ use Rattle.mps_laws.proofs.Same as same
 use Rattle.mps_laws.proofs.Same.{Same, fits, same_then}
 use Rattle.mps_laws.proofs.Sound.SoundGraph.{IsSoundGraph}
 use Rattle.mps_model.specs.Allocating as model
-use Rattle.mps_model.specs.Allocating.{without_front}
 use Rattle.mps_model.specs.Checked.{Checked, Numbered, ◌>>=◌, ◌>>◌, required, refuse_when}
 use Rattle.mps_model.specs.Checked as checked
 use Rattle.mps_model.specs.Graph as graph
-use Rattle.mps_model.specs.Graph.{has_references, new_cells, new_cells_from, entry_at, Reservation}
+use Rattle.mps_model.specs.Graph.{has_references, new_cells, new_cells_from}
 use Rattle.mps_model.specs.World as world
-use Rattle.mps_model.specs.World.{World, PointMemory, is_copying_pool, is_leaf_kind, pool_at}
+use Rattle.mps_model.specs.World.{World, is_leaf_kind, pool_at}
 use Rattle.mps_heap_spec.specs.Allocating.{check_reserve, takes_head}
 use Rattle.mps_heap_spec.specs.declared.found.Kept.{Kept}
 use Rattle.mps_heap_spec.specs.declared.found.Reserving.{Reserving}

@@ -14,12 +14,11 @@ use Rattle.mps_laws.proofs.Same.{Same, fits}
 use Rattle.mps_laws.proofs.Same as same
 use Rattle.mps_model.specs.declared.call.Call.TheVariants as call
 use Rattle.mps_model.specs.Allocating as model
-use Rattle.mps_model.specs.Allocating.{act_reserve, without_front}
 use Rattle.mps_model.specs.Checked.{Checked}
 use Rattle.mps_model.specs.Graph.{new_cells}
 use Rattle.mps_model.specs.History.{IsPoll}
 use Rattle.mps_model.specs.Placement.{ForReserve, placement_of}
-use Rattle.mps_model.specs.World.{World, PointMemory, is_copying_pool, is_live, is_running}
+use Rattle.mps_model.specs.World.{World, PointMemory, is_running}
 use Rattle.mps_heap_spec.specs.Allocating.{check_reserve, after_reserve}
 use Rattle.mps_heap_spec.specs.declared.arena.ArenaState.{ArenaState}
 use Rattle.mps_heap_spec.specs.declared.arena.ArenaState.TheVariants as arena
@@ -36,7 +35,6 @@ use Rattle.mps_refinement.proofs.Worlds.Placing.{reserve_agrees}
 use Rattle.mps_refinement.proofs.Calls.ReserveChecks.{is_unclamped, polls_for, IsReserving, reserve_checked}
 use Rattle.mps_refinement.proofs.Calls.ReserveStep.{Polls}
 use Rattle.mps_refinement.proofs.Calls.Reserving as resting
-use Rattle.mps_refinement.proofs.Calls.Reserving.{reserve_from}
 use Rattle.mps_refinement.proofs.Calls.RightReserve.{reserve_runs_on}
 
 abbrev no_moves : List Move

@@ -6,7 +6,7 @@ use Rattle.mps_seg.specs.Arena.{answer_of_placement}
 use Rattle.mps_base.specs.Address.{word_of, address_of_word, address_of_grain, grain_of}
 use Rattle.mps_base.specs.Placement.{Placement, Place, NewSegment, OverLimit, NoFreeRun}
 use Rattle.mps_base.specs.Run.{Run}
-use Rattle.mps_base.specs.Segment.{Segment, segment_over, with_segment, words_of_segment}
+use Rattle.mps_base.specs.Segment.{Segment, segment_over, with_segment}
 use Rattle.mps_base.specs.Trail.{Moves}
 use Rattle.mps_base.specs.declared.moves.Move.{Move}
 use Rattle.mps_base.specs.declared.moves.Move.TheVariants as moves
@@ -34,13 +34,13 @@ use Rattle.mps_model.specs.declared.reply.Reply.TheVariants as reply
 use Rattle.mps_model.specs.Allocating as model
 use Rattle.mps_model.specs.Allocating.{act_reserve, without_front}
 use Rattle.mps_model.specs.Answer.{Answer, Replied, refused}
-use Rattle.mps_model.specs.Checked.{Act, Checked, Numbered, ◌>>=◌, done, point_named}
+use Rattle.mps_model.specs.Checked.{Checked, Numbered, ◌>>=◌, done, point_named}
 use Rattle.mps_model.specs.Graph as graph
-use Rattle.mps_model.specs.Graph.{contains, entry_at, ids_in_blocks, new_cells}
+use Rattle.mps_model.specs.Graph.{contains, new_cells}
 use Rattle.mps_model.specs.History.{segment_taken, segment_of_reserve, segment_where_judged}
 use Rattle.mps_model.specs.LegalMove.{IsPlaceAt}
 use Rattle.mps_model.specs.Placement.{ForReserve, placement_of, placement_at_front, placement_at_point, new_segment_for, buffer_of}
-use Rattle.mps_model.specs.World.{World, PointMemory, is_copying_pool, is_live, is_running}
+use Rattle.mps_model.specs.World.{World, PointMemory, is_copying_pool, is_live}
 use Rattle.mps_heap_spec.specs.Allocating.{check_reserve, held_at, after_reserve}
 use Rattle.mps_model.specs.World as world
 use Rattle.mps_heap_spec.specs.Coming.{Moved, answer_moved, state_moved, trail_moved}
@@ -57,7 +57,7 @@ use Rattle.mps_refinement.proofs.Worlds.Placing.{reserve_agrees}
 use Rattle.mps_refinement.proofs.Calls.ReserveChecks.{IsReserving, checked_point, reserve_checked}
 use Rattle.mps_refinement.proofs.Calls.ReserveStep.{Polls, cut_segment, cut_without, layout_after, reserved_rightly}
 use Rattle.mps_refinement.proofs.Parts.ReservedParts.{parts_after}
-use Rattle.mps_refinement.proofs.Worlds.Reserved.{IsReservedBy, memory_in_own, own, own_rank, refused_there, reserved_at_place, reserved_in_new, reserved_world}
+use Rattle.mps_refinement.proofs.Worlds.Reserved.{memory_in_own, own, own_rank, refused_there, reserved_at_place, reserved_in_new, reserved_world}
 use Rattle.mps_refinement.proofs.Calls.Reserving.{reserve_from}
 use Rattle.mps_refinement.proofs.Worlds.RestingActs.{resting_sound}
 use Rattle.mps_refinement.proofs.Parts.AllocatedParts.{noted_clear}

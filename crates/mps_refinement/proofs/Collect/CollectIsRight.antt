@@ -20,7 +20,7 @@ use Rattle.mps_model.specs.Checked.{done}
 use Rattle.mps_model.specs.Graph.{contains, ids_in_blocks, ids_of_client, targets}
 use Rattle.mps_model.specs.Collection.{Collection}
 use Rattle.mps_model.specs.World as world
-use Rattle.mps_model.specs.World.{World, Pool, address_of, is_live, live_ids, is_automatic_kind, pool_is, pool_at, is_running}
+use Rattle.mps_model.specs.World.{World, Pool, is_live, live_ids}
 use Rattle.mps_model.specs.Effect.{Everything, condemned_by, is_on_chain, world_after_moves}
 use Rattle.mps_model.specs.Flip.{flip_act, is_nothing}
 use Rattle.mps_model.specs.History.{HeldAreLive}

@@ -15,7 +15,7 @@ use Rattle.mps_trace_laws.proofs.Image.Extents.{all_extents, all_reserved}
 use Rattle.mps_laws.proofs.InOrder.{all_append}
 use Rattle.mps_trace_laws.specs.Image.Memory.{LiesReserved, live_reservation}
 use Rattle.mps_model.specs.Graph as graph
-use Rattle.mps_model.specs.Graph.{Object, Reservation, entry_at, is_live_reservation, size_of}
+use Rattle.mps_model.specs.Graph.{Reservation, entry_at, is_live_reservation}
 use Rattle.mps_model.specs.World.{World, PointMemory, extent, extent_of_reservation, extents_of, is_copying_pool, reserved_extents}
 use Rattle.mps_trace_laws.specs.Flip.Ended.{BeginApart, open_run, open_run_at, open_runs}
 use Rattle.mps_heap_spec.specs.State.{HeapState}

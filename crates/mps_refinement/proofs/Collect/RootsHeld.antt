@@ -14,7 +14,7 @@ use Rattle.std.specs.Option.{option_map_or}
 use Rattle.mps_base.specs.Address.{Address, Id}
 use Rattle.mps_format.specs.Layout.{Layout}
 use Rattle.mps_model.specs.Effect.{Everything}
-use Rattle.mps_model.specs.Graph.{AreaWord, PlainWord, Hold, Slots, contains, entries, entry_at, ids_in_slots, slots_of}
+use Rattle.mps_model.specs.Graph.{AreaWord, PlainWord, Hold, Slots, contains, entries, entry_at, slots_of}
 use Rattle.mps_model.specs.World.{World, area_words, is_live, shown_word, shown_words}
 use Rattle.mps_root.specs.State.{items_of, kept}
 use Rattle.mps_root.specs.declared.roots.Stored.{Stored}

@@ -27,12 +27,6 @@ module _ (before after : List (Option Address)) where
   abbrev pub AreSame : List Id → Type 0
   AreSame ids = (id : Id) → contains ids id ≡ true → entry_at after id ≡ entry_at before id
 
-  pub same_ids : (ids : List Id) → AreSame ids → map (address_of_id before) ids ≡ map (address_of_id after) ids
-  same_ids [] same = refl
-  same_ids (id ∷ ids) same =
-      ap (λ o. option_map_or (λ at. at) o 0 ∷ map (address_of_id before) ids) (sym (same id (contains_here id ids)))
-      ∙ ap (λ rest. address_of_id after id ∷ rest) (same_ids ids (λ n h. same n (contains_later id ids n h)))
-
   pub same_slots : (slots : Slots) → AreSame (entries slots) → map (address_of_target before) slots ≡ map (address_of_target after) slots
   same_slots [] same = refl
   same_slots (None ∷ slots) same = ap (λ rest. 0 ∷ rest) (same_slots slots same)

@@ -7,7 +7,7 @@ use Rattle.mps_base.specs.declared.refusal.Refusal.{Refusal}
 use Rattle.mps_base.specs.declared.refusal.Refusal.TheVariants as refusal
 use Rattle.mps_laws.proofs.Same.{Same, fits, refused, BothOrNeither, both, neither, same_then, same_required}
 use Rattle.mps_model.specs.Checked as model
-use Rattle.mps_model.specs.Checked.{Checked, Numbered, Found, ◌>>=◌, ◌>>◌, required, numbered}
+use Rattle.mps_model.specs.Checked.{Checked, Numbered, Found, ◌>>=◌, ◌>>◌, numbered}
 use Rattle.mps_heap_spec.specs.Finding.{under, entry_in}
 use Rattle.mps_heap_spec.specs.declared.found.Entry.{Entry}
 use Rattle.mps_heap_spec.specs.declared.found.Kept.{Kept}

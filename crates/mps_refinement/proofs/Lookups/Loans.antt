@@ -17,7 +17,7 @@ use Rattle.mps_laws.proofs.Same.{HasFit, Same, fits, same_ok}
 use Rattle.mps_model.specs.Allocating as allocating
 use Rattle.mps_model.specs.Allocating.{words_at}
 use Rattle.mps_model.specs.Checked as model
-use Rattle.mps_model.specs.Checked.{Checked, Found, Numbered}
+use Rattle.mps_model.specs.Checked.{Checked, Found}
 use Rattle.mps_model.specs.Graph.{size_of, size_of_body}
 use Rattle.mps_model.specs.World.{World}
 use Rattle.mps_heap_spec.specs.Finding.{block_place_in}

@@ -1,7 +1,7 @@
 -- Where a block is now that was registered by its address, and what `definalize` comes to by that: a registration has the address that
 -- its object has now or had at the flip.
 use Rattle.std.proofs.Common.{◌≡◌, ◌∙◌, ℕ, zero, suc, ◌-◌, ◌<◌, ◌%◌, Bool, true, false, refl, sym, ap, ap₂, subst, List, [], ◌∷◌, map, Some, inl, inr, arith}
-use Rattle.std.proofs.lemmas.Bool.{and_parts, cases_Bool, cases_eq, eq-eqb, eqb-true, or_cases, false≢true, ne_eqb, true≢false}
+use Rattle.std.proofs.lemmas.Bool.{and_parts, cases_Bool, cases_eq, eqb-true, or_cases, false≢true}
 use Rattle.std.proofs.lemmas.List.{get_or-drop}
 use Rattle.std.proofs.lemmas.Option.{none-some, same_Some}
 use Rattle.std.specs.Prelude.{◌==◌, drop, option_map, slice_get, slice_index, ◌≡◌, ℕ, ◌+◌, true, false, Some, List, [], ◌∷◌}
@@ -17,7 +17,7 @@ use Rattle.mps_trace_laws.specs.Image.Memory.{Lies, pool_layout, pool_over_word}
 use Rattle.mps_trace_laws.proofs.Image.Shaped.{are_shaped_objects}
 use Rattle.mps_laws.proofs.Sound.SoundGraph.{All}
 use Rattle.mps_model.specs.Checked.{head_of_body, Checked, ◌>>=◌, required}
-use Rattle.mps_model.specs.Graph.{Object, contains, entry_at, is_automatic, position_of_first, without_first}
+use Rattle.mps_model.specs.Graph.{Object, contains, entry_at, is_automatic}
 use Rattle.mps_model.specs.World as world
 use Rattle.mps_model.specs.World.{World, is_live, object_is}
 use Rattle.mps_model.specs.WellFormed.{is_live_automatic}
@@ -25,7 +25,7 @@ use Rattle.mps_heap_spec.specs.State.{HeapState}
 use Rattle.mps_format.specs.Pools.{format_of_pool}
 use Rattle.mps_format.specs.declared.pool.Pool.{Pool}
 use Rattle.mps_format.specs.declared.pool.Pool.TheVariants as pool
-use Rattle.mps_refinement.specs.StandsFor.{AreParts, AreRegistered, CollectorState, IsInTime, IsPool, Past, Runs, address_of_id, rests, runs}
+use Rattle.mps_refinement.specs.StandsFor.{AreParts, AreRegistered, CollectorState, IsInTime, IsPool, Past, address_of_id, rests, runs}
 use Rattle.mps_refinement.proofs.Lookups.Found.{some_there}
 use Rattle.mps_refinement.proofs.Parts.Registered.{means_by}
 use Rattle.mps_refinement.proofs.Worlds.Known.{IsKnown, read_where_kept}

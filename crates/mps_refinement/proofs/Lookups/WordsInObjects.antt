@@ -12,7 +12,7 @@ use Rattle.mps_laws.proofs.Sound.Referred.{live_is_among}
 use Rattle.mps_model.specs.Allocating.{allows_size}
 use Rattle.mps_model.specs.Graph.{Body, Automatic, Manual, Object, contains, entry_at, is_automatic, is_automatic_body, size_of}
 use Rattle.mps_model.specs.World as world
-use Rattle.mps_model.specs.World.{World, block_of_word, is_automatic_kind, is_copying_kind, is_copying_object, is_live, is_live_and, is_weak_kind, is_word_in, lies_in, live_ids, object_is, pool_at, words_of}
+use Rattle.mps_model.specs.World.{World, block_of_word, is_automatic_kind, is_copying_kind, is_copying_object, is_live_and, is_weak_kind, is_word_in, lies_in, live_ids, object_is, words_of}
 use Rattle.mps_model.specs.WellFormed.{are_right_cells, is_right_body}
 use Rattle.mps_seg.specs.Collecting.{is_condemned_at, is_kept_at, is_white_at}
 use Rattle.mps_heap_spec.specs.Areas.{block_over, is_hold, is_of_pool}

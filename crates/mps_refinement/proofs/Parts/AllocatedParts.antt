@@ -24,7 +24,7 @@ use Rattle.mps_trace_laws.proofs.Image.SegmentWords.{segments_are_home}
 use Rattle.mps_laws.proofs.Positions.LegalMoves.{HasLayout}
 use Rattle.mps_laws.proofs.Lookups.{entry_at-at_last, entry_at-last, entry_within, slice_get-at_last, slice_get-kept}
 use Rattle.mps_laws.proofs.Positions.Occupancy.{Occupant, OfBlock, OfReservation, Shape, occupancy_of, run_of, shape_of, run_of_block}
-use Rattle.mps_laws.proofs.Positions.Segments.{IsAmong, among_aligned, among_with, found_segment, segment_bounds}
+use Rattle.mps_laws.proofs.Positions.Segments.{IsAmong, among_aligned, found_segment, segment_bounds}
 use Rattle.mps_laws.proofs.Sound.SoundGraph.{IsSoundGraph, auto}
 use Rattle.mps_model.specs.Allocating.{address_of_placement}
 use Rattle.mps_model.specs.Checked.{Found}
@@ -62,14 +62,6 @@ placed_at_word (Place word) = omega arith
 placed_at_word (NewSegment grain grains) = omega arith
 placed_at_word (OverLimit committed need limit) = refl
 placed_at_word (NoFreeRun need longest) = refl
-
--- held segments stay
-among_after : (q : Placement) (pool : ℕ) (ss : List Segment) (t : Segment) → IsAmong t ss → IsAmong t
-    (segments_after q pool 0 rank.Exact ss)
-among_after (Place word) pool ss t there = there
-among_after (NewSegment grain grains) pool ss t there = among_with _ t ss there
-among_after (OverLimit committed need limit) pool ss t there = there
-among_after (NoFreeRun need longest) pool ss t there = there
 
 -- a new segment is not condemned
 pub noted_clear : (q : Placement) (bits : List Bool) (grain : ℕ) → bit bits grain ≡ false → bit (noted_for q false bits) grain ≡ false

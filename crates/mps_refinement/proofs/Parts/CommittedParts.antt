@@ -44,7 +44,6 @@ use Rattle.mps_refinement.proofs.Parts.PointWritten.{other_point, points_stay, p
 use Rattle.mps_refinement.specs.Numbering.{AreNumbered}
 use Rattle.mps_refinement.proofs.Parts.Numbering.{numbered_written}
 use Rattle.mps_refinement.proofs.Worlds.Ready.{live_is}
-use Rattle.mps_refinement.proofs.Parts.ReservedImage.{none_condemned}
 use Rattle.mps_seg.specs.Segs.{SegsState}
 use Rattle.mps_seg.specs.Collecting.{is_condemned_at, is_white_at}
 use Rattle.mps_extents.specs.Table.{bit}

@@ -24,7 +24,7 @@ use Rattle.mps_laws.proofs.Sound.SoundGraph.{IsSoundGraph, auto}
 use Rattle.mps_trace.specs.Manual.{any_size, block_removed, segs_after_free, given_back, is_none, is_unused}
 use Rattle.mps_model.specs.Graph.{Object, entry_at, is_automatic, is_automatic_body, size_of}
 use Rattle.mps_model.specs.World as world
-use Rattle.mps_model.specs.World.{World, Collected, OneSize, AnySize, begins_in, is_any_size_kind, is_automatic_kind, object_is, is_copying_object, is_copying_pool, is_live}
+use Rattle.mps_model.specs.World.{World, OneSize, AnySize, begins_in, is_any_size_kind, is_automatic_kind, object_is, is_copying_object, is_copying_pool, is_live}
 use Rattle.mps_model.specs.Effect.{with_address}
 use Rattle.mps_seg.specs.Segs.{SegsState}
 use Rattle.mps_heap_spec.specs.declared.found.Entry.{Entry}

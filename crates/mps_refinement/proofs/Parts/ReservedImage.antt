@@ -4,22 +4,19 @@ use Rattle.std.proofs.Common.{◌≡◌, ◌∙◌, ℕ, zero, suc, ◌+◌, ◌
 use Rattle.std.proofs.lemmas.Bool.{false≢true}
 use Rattle.std.proofs.lemmas.Option.{none-some, same_Some, slice_get-map}
 use Rattle.std.specs.Prelude.{◌≢◌, slice_get, slice_set, option_map, option_and_then, if◌then◌else◌}
-use Rattle.mps_base.specs.Address.{Address, Word, word_of, address_of_word}
+use Rattle.mps_base.specs.Address.{Address, Word, word_of}
 use Rattle.mps_base.specs.Run.{Run, Covers}
-use Rattle.mps_base.specs.Segment.{Segment, segment_over, words_of_segment}
-use Rattle.mps_extents.specs.Table.{bit}
+use Rattle.mps_base.specs.Segment.{Segment}
 use Rattle.mps_format.specs.Layout.{Layout}
 use Rattle.mps_trace_laws.specs.Image.Changes.{AreFree, IsOfNoMovedBlock}
 use Rattle.mps_trace_laws.specs.Image.Image.{IsFixedWord}
-use Rattle.mps_trace_laws.specs.Image.Memory.{Lies, LiesReserved, Setting, is_condemned_word, live_reservation, words_of_arena}
+use Rattle.mps_trace_laws.specs.Image.Memory.{Lies, LiesReserved, Setting, live_reservation, words_of_arena}
 use Rattle.mps_model.specs.Graph.{Cell, HeadCell, NumberCell, ReferenceCell, Object, Point, Reservation, entry_at, is_live_reservation, new_cells, new_cells_from, size_of}
 use Rattle.mps_model.specs.World.{World, PointMemory, extent}
-use Rattle.mps_seg.specs.Collecting.{bit_of}
-use Rattle.mps_seg.specs.Segs.{SegsState}
 use Rattle.mps_laws.proofs.Positions.LegalMoves.{HasLayout}
 use Rattle.mps_laws.proofs.Lookups.{entry_at-set_other, entry_at-set_same, entry_is_there, entry_within, slice_get-set_other, slice_get-set_same}
 use Rattle.mps_laws.proofs.Positions.Occupancy.{Occupancy, Occupant, OfBlock, OfReservation, occupancy_of, run_of, run_of_block, run_of_reservation, run_of_reserved, shape_of, shape_of_point, reserved_words}
-use Rattle.mps_laws.proofs.Positions.Segments.{IsAmong, among_aligned, found_segment, segment_bounds}
+use Rattle.mps_laws.proofs.Positions.Segments.{among_aligned, segment_bounds}
 use Rattle.mps_refinement.specs.StandsFor.{Time}
 
 abbrev is_block : Occupant → Bool
@@ -187,26 +184,7 @@ module _ (w : World) (n : ℕ) (q : Point) (there : entry_at w.graph.points n �
       unforwarded = unforwarded;
     }
 
-    -- the segment over a word of a block is the one that was over it
-    pub still_over : ((t : Segment) → IsAmong t w.segments → IsAmong t segments) → (id i : ℕ) (o : Object) (k : Word)
-        → Lies w.graph.objects w.addresses id i o k → segment_over segments (address_of_word k) ≡ segment_over w.segments
-        (address_of_word k)
-    still_over more id i o k l =
-        let c = block_covers (occupancy_of w) w.graph.objects w.addresses id i o k refl refl l in
-        let home = laid.placed.homes (OfBlock id) (omega (arith, c.0, c.1)) in
-        let inside : Covers (words_of_segment home.segment) k = (omega (arith, home.above, c.0), omega (arith, home.below, c.1)) in
-        found_segment 1 (w.grains + 1) segments home.segment after.ascending after.aligned (more home.segment home.held) k inside
-        ∙ sym (found_segment 1 (w.grains + 1) w.segments home.segment laid.ascending laid.aligned home.held k inside)
-
 -- ---- words and segments
-
--- where no segment is condemned no word is
-pub none_condemned : (s : SegsState) → ((grain : ℕ) → bit s.condemned grain ≡ false) → (n : Word) → is_condemned_word s n ≡ false
-none_condemned s clear n = of_grain (Rattle.mps_seg.specs.Collecting.first_grain_over s (address_of_word n))
-  where
-    of_grain : (o : Option ℕ) → bit_of s.condemned o ≡ false
-    of_grain None = refl
-    of_grain (Some grain) = clear grain
 
 -- a word of a new block is its head, or 0
 pub new_cell_is_fixed : (t : Time) (addresses : List (Option Address)) (f : Layout) (head l : ℕ) (c : Cell) (word : ℕ)

@@ -2,7 +2,7 @@
 use Rattle.std.proofs.Common.{◌≡◌, ◌∙◌, ◌⊎◌, ℕ, ◌+◌, ◌-◌, ◌%◌, ◌<◌, ◌≤◌, false, refl, sym, ap, subst, List, length, Some, None, inl, inr, arith, slice_index, map, Contains}
 use Rattle.std.proofs.lemmas.Bool.{cases_eq}
 use Rattle.std.proofs.lemmas.Option.{same_Some, slice_get_within}
-use Rattle.std.specs.Prelude.{◌≢◌, not, ◌==◌, slice_get, slice_set, option_map, if◌then◌else◌}
+use Rattle.std.specs.Prelude.{not, slice_get, slice_set, option_map, if◌then◌else◌}
 use Rattle.mps_base.specs.Address.{word_of, Word, address_of_word, grain_of, max_grains}
 use Rattle.mps_base.specs.Placement.{Placement}
 use Rattle.mps_base.specs.Segment.{Segment, grains_of_segment, segment_over}

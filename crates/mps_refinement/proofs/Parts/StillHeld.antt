@@ -89,10 +89,6 @@ module _ (w : World) (sound : IsSoundGraph w) where
     registered_automatic ids all =
         all-weaker (is_live_automatic w) (auto w) (λ id is. (and_parts (is_live w id) (auto w id) is).1) ids all
 
-    -- the same registrations and messages
-    pub registered_still : map (address_of_id w.addresses) w.graph.registered ≡ map (address_of_id after) w.graph.registered
-    registered_still = ids_map w.graph.registered (registered_automatic w.graph.registered sound.registered)
-
     pub messages_still : map (address_of_id w.addresses) w.graph.messages ≡ map (address_of_id after) w.graph.messages
     messages_still = ids_map w.graph.messages sound.messages
 

@@ -23,7 +23,7 @@ use Rattle.mps_abstract.proofs.Due.{work_is_due}
 use Rattle.mps_laws.proofs.Positions.Segments.{found_among}
 use Rattle.mps_laws.proofs.Reading.{bind_ok, object_found}
 use Rattle.mps_laws.proofs.Same as same
-use Rattle.mps_laws.proofs.Same.{Same, fits, same_err, same_ok}
+use Rattle.mps_laws.proofs.Same.{Same, fits}
 use Rattle.mps_model.specs.declared.call.Call.{Call}
 use Rattle.mps_model.specs.declared.call.Call.TheVariants as call
 use Rattle.mps_model.specs.declared.reply.Reply.TheVariants as reply

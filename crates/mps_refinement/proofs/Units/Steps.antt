@@ -164,11 +164,6 @@ module _ {F : Type 0} (layout : F → Layout) (past : Past) (h : HeapState F) (x
         ∙ with_collection-none v (λ (c : Collection). record c { spent = c.spent + n }) over.ended)
         ∙ ap (λ (o : Option Collection). says (if is_some o then reply.More else reply.Idle) v) over.ended
 
-    now_is : asking (if is_unclamped w then Some n else None) v ≡ v
-    now_is =
-        ap (λ (b : Bool). asking (if b then Some n else None) v) unclamped
-        ∙ with_collection-none v (λ (c : Collection). record c { spent = c.spent + n }) over.ended
-
     pub last_step_is_right : IsRightIn layout w (step_of line (call.Step n) z.moves.moves idle)
         (ended.heap_after layout past h x parts reach r of marked m room n z f ends)
     last_step_is_right =

@@ -12,7 +12,7 @@ use Rattle.mps_model.specs.World.{World, Pool, id_at, is_copying_pool, object_is
 use Rattle.mps_model.specs.Checked.{as_point, number_named}
 use Rattle.mps_model.specs.Effect.{world_after_move, world_after_moves, after_segment, after_free, after_moved, after_post, after_splat, holding, where_one, with_collection, reclaiming, segment_base_of, segment_of_move, placing, graph_nulled, without_object}
 use Rattle.mps_model.specs.Policy.{units_asked}
-use Rattle.mps_model.specs.History.{after_own_segment, asking, judged_world, moved_world, moves_of_poll, own_segment, rank_of_point, with_buffer}
+use Rattle.mps_model.specs.History.{after_own_segment, asking, moved_world, moves_of_poll, own_segment, rank_of_point, with_buffer}
 use Rattle.mps_laws.proofs.Lookups.{length-slice_set}
 use Rattle.mps_model.proofs.Nulled.{splatted_holds}
 
@@ -97,11 +97,6 @@ own_kept w (moves.Seg base grains pool generation ∷ ms) (Some point) =
       | false ↦ refl
     ]
 own_kept w _ _ = refl
-
--- the world in which a call is judged, and the one in which it takes effect
-pub judged_kept : (w : World) (c : Call) (ms : List Move) → places_of (judged_world w c ms) ≡ places_of w
-judged_kept w (call.Reserve name head) ms = moves_kept w (moves_of_poll ms)
-judged_kept w _ ms = refl
 
 pub moved_kept : (w : World) (c : Call) (ms : List Move) → places_of (moved_world w c ms) ≡ places_of w
 moved_kept w (call.Reserve name head) ms =

@@ -3,7 +3,7 @@
 use Rattle.std.proofs.Common.{◌≡◌, ◌∙◌, ℕ, ◌+◌, ◌<◌, Bool, false, refl, sym, ap, subst, List, length, map, Option, Some, None, Contains, arith}
 use Rattle.std.proofs.lemmas.Bool.{eq-eqb}
 use Rattle.std.proofs.lemmas.Option.{none-some, same_Some}
-use Rattle.std.specs.Prelude.{not, ◌==◌, slice_get, option_and_then, if◌then◌else◌}
+use Rattle.std.specs.Prelude.{not, slice_get, option_and_then, if◌then◌else◌}
 use Rattle.mps_base.specs.Address.{Address, word_of}
 use Rattle.mps_base.specs.Run.{Run}
 use Rattle.mps_base.specs.Segment.{Segment, grains_of_segment}

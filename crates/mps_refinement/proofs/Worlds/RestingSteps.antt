@@ -5,12 +5,11 @@ use Rattle.std.specs.Prelude.{MatchBool, ◌&&◌, if◌then◌else◌, not}
 use Rattle.mps_base.specs.declared.moves.Move.{Move}
 use Rattle.mps_model.specs.declared.call.Call.{Call}
 use Rattle.mps_model.specs.declared.call.Call.TheVariants as call
-use Rattle.mps_model.specs.declared.reply.Reply.TheVariants as reply
-use Rattle.mps_model.specs.Answer.{Answer, Replied, is_block, is_refused, is_unsupported}
+use Rattle.mps_model.specs.Answer.{Answer, is_block, is_refused, is_unsupported}
 use Rattle.mps_model.specs.Step.{Step}
 use Rattle.mps_model.specs.Graph.{AreaWord}
 use Rattle.mps_model.specs.World.{World, block_of_word, is_running, is_unclamped}
-use Rattle.mps_model.specs.Checked.{Act, Checked, Found, ◌>>=◌, done, word_in}
+use Rattle.mps_model.specs.Checked.{Act, Checked, Found, ◌>>=◌}
 use Rattle.mps_model.specs.Accessing.{AsBlock, act_poke_in, act_poked, poked, poked_in}
 use Rattle.mps_model.specs.Policy.{units_asked}
 use Rattle.mps_model.specs.Reply.{act, answer_from, world_from}
@@ -18,9 +17,7 @@ use Rattle.mps_model.specs.LegalMove.{AreLegalMoves}
 use Rattle.mps_model.specs.History.{IsAnsweredStep, AreMovesOf, HeldAreLive, IsPossiblyMarked, OfPoked, OfPokedBlock, are_held_kept, asking, has_units_left, judged_world, moved_world, moves_of_collector, with_client_remembered, world_after, world_after_call}
 use Rattle.mps_model.proofs.AtRest.{is_running-none, with_collection-none}
 use Rattle.mps_changes.specs.Change.{makes_arena}
-use Rattle.mps_laws.proofs.Acts.{for_world}
 use Rattle.mps_laws.proofs.QuietSteps.{IsQuiet, IsRight, IsSound, remembered_sound}
-use Rattle.mps_laws.proofs.SameArena.{IsSameArena, act_same, itself, moved_same}
 use Rattle.mps_refinement.proofs.Worlds.RestingActs.{may_move}
 
 -- ---- quiet calls
@@ -102,24 +99,11 @@ module _ (w : World) (rest : w.collection ≡ None) where
   found_alike marked (Ok at) word o = poked_alike marked at word o
   found_alike marked (Err why) word o = refl
 
-  -- what a collector has marked doesn't count
-  pub marks_do_not_count : (marked : Bool) (c : Call) → act marked w w c ≡ act false w w c
-  marks_do_not_count marked (call.Poke word value) = found_alike marked (word_in w word) value (block_of_word w value)
-  marks_do_not_count marked c = refl
-
 -- ---- formats
 
 moves_no_arena : (c : Call) → may_move c ≡ true → makes_arena c ≡ false
 moves_no_arena (call.Arena grains limit) h = absurd (false≢true h)
 moves_no_arena _ h = refl
-
--- a call that may move changes no format
-pub formats_after_moving : (w : World) (c : Call) (ms : List Move) (marked : Bool) → may_move c ≡ true
-    → (world_from (moved_world w c ms) (act marked (judged_world w c ms) (moved_world w c ms) c)).formats ≡ w.formats
-formats_after_moving w c ms marked h =
-    (for_world (IsSameArena (moved_world w c ms)) (moved_world w c ms) (act marked (judged_world w c ms) (moved_world w c ms) c)
-    (act_same marked (judged_world w c ms) (moved_world w c ms) c (moves_no_arena c h)) (itself (moved_world w c ms))).formats
-    ∙ (moved_same w c ms).formats
 
 -- ---- steps with moves
 
@@ -156,19 +140,3 @@ moving_step w line c ms answer result m =
       });
       world = after;
     }
-
--- a call that is done, with its moves
-pub done_step : (w after : World) (line : ℕ) (c : Call) (ms : List Move) → AreLegalMoves w None (moves_of_collector c ms)
-    → AreMovesOf w c (Replied reply.Ok) ms → act false (judged_world w c ms) (moved_world w c ms) c ≡ done after
-    → IsPossiblyMarked w c (Replied reply.Ok) → IsSound after
-    → IsRight w (record { line = line; call = c; moves = ms; answer = Replied reply.Ok }) (with_client_remembered after)
-done_step w after line c ms legal due comes marked sound =
-    moving_step w line c ms (Replied reply.Ok) (done after) (record {
-      legal = legal;
-      due = due;
-      comes = comes;
-      answers = refl;
-      marked = marked;
-      supported = refl;
-      sound = sound;
-    })

@@ -1,6 +1,5 @@
-use Rattle.std.proofs.Common.{◌≡◌, ◌∙◌, rules, refl, ap, subst, List, [], ◌∷◌, append-nil}
+use Rattle.std.proofs.Common.{◌≡◌, ◌∙◌, rules, refl, ap, subst, [], ◌∷◌, append-nil}
 use Rattle.std.proofs.lemmas.List.Elements.{All-from_recursion}
-use Rattle.mps_base.specs.Record.{Record}
 use Rattle.mps_commands.specs.Range.{IsInRange}
 use Rattle.mps_event.specs.declared.version.Version.TheVariants.{Two}
 use Rattle.mps_event.specs.Grammar.{IsRecord}

@@ -1,4 +1,4 @@
-use Rattle.std.proofs.Common.{◌≡◌, ◌∙◌, None, sym, ap}
+use Rattle.std.proofs.Common.{◌∙◌, sym, ap}
 use Rattle.std.proofs.lemmas.Option.{none-some}
 use Rattle.mps_base.specs.Segment.{segment_over}
 use Rattle.mps_seg.specs.Segs.{SegsState}

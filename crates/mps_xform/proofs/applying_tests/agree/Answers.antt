@@ -3,6 +3,7 @@ use Rattle.mps_format.specs.Front.{front_layout}
 use Rattle.mps_seg.specs.Segs.{SegsState}
 use Rattle.mps_xform.specs.Applying.{CanApply}
 use Rattle.mps_xform.proofs.applying_tests.agree.Goals as goal
+use Rattle.mps_xform.proofs.applying_tests.agree.Goals.{in-0, in-2-to-19, in-20-to-49, in-50-to-149+else-not-written_alike, in_default+in_ok-added_alike-in_default+else-not-branch}
 
 pub returns-clause-can : goal.returns-clause-can
 returns-clause-can c =

@@ -1,4 +1,4 @@
-use Rattle.std.proofs.Common.{ℕ, ◌≡◌, ◌≢◌, sym, subst, arith}
+use Rattle.std.proofs.Common.{◌≢◌, sym, subst, arith}
 use Rattle.mps_base.specs.Address.{word_of}
 use Rattle.mps_format.specs.Front.{front_layout}
 use Rattle.mps_seg.specs.Extents.{run_over}
