@@ -3,7 +3,7 @@ use Rattle.std.proofs.Common.{◌≡◌, ℕ, ◌+◌, refl, sym, ◌∙◌, ap,
 use Rattle.std.specs.Prelude.{option_and_then}
 use Rattle.mps_base.specs.Record.{Record}
 use Rattle.mps_model.specs.Step.{Step, History}
-use Rattle.mps_model.specs.Log.{labelled_log_from, log_from, pools_made, pools_made_by, records_of_step, records_with_label}
+use Rattle.mps_model.specs.Log.{labelled_log_from, pools_made, pools_made_by, records_with_label}
 use Rattle.mps_model.specs.Replay.{Store, store_after, replay_from}
 use Rattle.mps_model.specs.World.{World}
 use Rattle.mps_model.specs.History.{IsLegalFrom, IsLegalStep, world_after, world_after_steps}

@@ -1,5 +1,5 @@
 -- Moves cut into units.
-use Rattle.std.proofs.Common.{◌≡◌, ℕ, zero, suc, arith, inl, inr, refl, sym, subst, ap, List, [], ◌∷◌, ◌++◌}
+use Rattle.std.proofs.Common.{◌≡◌, ℕ, zero, suc, arith, inl, inr, refl, sym, subst, List, [], ◌∷◌, ◌++◌}
 use Rattle.std.specs.Prelude.{IsTrue}
 use Rattle.mps_base.specs.declared.moves.Move.{Move}
 use Rattle.mps_model.specs.World.{World, is_running}

@@ -1,5 +1,5 @@
 -- The record of a name that is interned has its 16 bytes, which are a name of the grammar and zeros.
-use Rattle.std.proofs.Common.{◌≡◌, ◌∙◌, ℕ, ◌-◌, Bool, true, false, Option, Some, None, subst, refl, sym, ap, List, [], ◌∷◌, ◌++◌, length, take, drop, replicate, append-nil, arith}
+use Rattle.std.proofs.Common.{◌≡◌, ◌∙◌, ℕ, ◌-◌, Bool, true, false, Some, None, subst, refl, sym, ap, List, [], ◌∷◌, ◌++◌, length, take, drop, replicate, append-nil, arith}
 use Rattle.std.proofs.lemmas.Bool.{and_parts}
 use Rattle.std.proofs.lemmas.Bool.Decides.{nat_tests}
 use Rattle.std.proofs.lemmas.List.{drop_at, length-drop, length-take, take-append-drop, take_all}

@@ -118,41 +118,35 @@ fn log_made<D: Desk>(desk: &mut D, line: u32, pools: u64, call: &Call) -> Result
         ),
         Call::Limit { limit } => log_record(desk, line, Event::LimitSet, &[limit]),
         Call::Pool { kind, format, .. } => {
-            log_record(
-                desk,
-                line,
-                Event::PoolCreate,
-                &[pools, kind_number(kind), format],
-            )
+            log_pool(desk, line, pools, kind_number(kind), format)
         }
         Call::PoolOnChain { kind, format, .. } => {
-            log_record(
-                desk,
-                line,
-                Event::PoolCreate,
-                &[pools, kind_number(kind), format],
-            )
+            log_pool(desk, line, pools, kind_number(kind), format)
         }
-        Call::PoolMfs { words, .. } => log_record(
-            desk,
-            line,
-            Event::PoolCreate,
-            &[pools, MFS_NUMBER, words],
-        ),
-        Call::PoolMvff { .. } => log_record(
-            desk,
-            line,
-            Event::PoolCreate,
-            &[pools, MVFF_NUMBER, 0],
-        ),
-        Call::PoolFrames { .. } => log_record(
-            desk,
-            line,
-            Event::PoolCreate,
-            &[pools, SNC_NUMBER, 0],
-        ),
+        Call::PoolMfs { words, .. } => log_pool(desk, line, pools, MFS_NUMBER, words),
+        Call::PoolMvff { .. } => log_pool(desk, line, pools, MVFF_NUMBER, 0),
+        Call::PoolFrames { .. } => log_pool(desk, line, pools, SNC_NUMBER, 0),
         _ => Ok(()),
     }
+}
+
+/// Writes the record of a pool: its number, that of its kind, and its format or the size of its blocks.
+#[inline(always)]
+fn log_pool<D: Desk>(
+    desk: &mut D,
+    line: u32,
+    number: u64,
+    kind: u64,
+    parameter: u64,
+) -> Result<(), Failed>
+    requires known { AreFields Two (code_of Event.PoolCreate) (number ∷ kind ∷ parameter ∷ []) }
+    ensures logged { OnOk result (Logs (D.outside desk.old) (D.outside desk.new)
+        (record_bytes (record { line = line; code = code_of Event.PoolCreate; fields = number ∷ kind ∷ parameter ∷ [] }))) }
+    ensures failed { OnErr result (LogsPart (D.outside desk.old) (D.outside desk.new)
+        (record_bytes (record { line = line; code = code_of Event.PoolCreate; fields = number ∷ kind ∷ parameter ∷ [] }))) }
+    ensures recorded { IsRecord Two (record { line = line; code = code_of Event.PoolCreate; fields = number ∷ kind ∷ parameter ∷ [] }) }
+{
+    log_record(desk, line, Event::PoolCreate, &[number, kind, parameter])
 }
 
 /// Writes the record of a call that made a label, with its number and the bytes of its name; of another call nothing.

@@ -1,13 +1,12 @@
 -- A text of version 1 has no names and no labels, and none of its records takes memory.
 use Rattle.std.proofs.Common.{rules, ◌≡◌, ℕ, Bool, true, false, cond, List, [], ◌∷◌, Option, Some, None, refl, sym, subst, ◌∙◌}
-use Rattle.std.specs.Prelude.{◌==◌, IfSome, MatchOption, find, option_and_then}
+use Rattle.std.specs.Prelude.{◌==◌, IfSome, find, option_and_then}
 use Rattle.std.specs.List.{AllByRecursion}
 use Rattle.mps_base.specs.Record.{Record}
 use Rattle.mps_event.specs.declared.version.Version.{Version}
 use Rattle.mps_event.specs.declared.version.Version.TheVariants.{One, Two}
 use Rattle.mps_event.specs.declared.event.Event.{Event}
 use Rattle.mps_event.specs.Event.{code_of, common_events, event_of}
-use Rattle.mps_event.specs.Grammar.{IsRecord}
 use Rattle.mps_txt.specs.Labels.{Naming, no_names, after_event, after_record, after_records, takes_memory, record_takes_memory}
 use Rattle.mps_txt.proofs.LinesSoFar.{naming_is, first_step}
 
@@ -40,15 +39,6 @@ event_after : (o : Option Event) (fields : List ℕ) (t : Naming) → IfSome o (
     → option_and_then (λ event. after_event event fields no_names) o ≡ Some t → t ≡ no_names
 event_after None fields t h e = absurd (let f : None ≡ Some t = e in cc)
 event_after (Some event) fields t h e = naming_is t no_names (sym e ∙ h.after)
-
-event_named : (o : Option Event) (fields : List ℕ) (F : Event → Type 0) → IfSome o (KeepsNone fields) → MatchOption o ⊥ F
-    → option_and_then (λ event. after_event event fields no_names) o ≡ Some no_names
-event_named None fields F h there = absurd there
-event_named (Some event) fields F h there = h.after
-
--- without names and labels a record of version 1 makes none
-pub named_none : (r : Record) → IsRecord One r → after_record One no_names r ≡ Some no_names
-named_none r h = event_named (event_of One r.code) r.fields _ (keeps_none r.code r.fields) h.fields
 
 record_after : (r : Record) (s t : Naming) → s ≡ no_names → after_record One s r ≡ Some t → t ≡ no_names
 record_after r s t none e =

@@ -113,8 +113,7 @@ module _ (v : World) (s : IsSoundGraph v) where
   slot_written into target others passes =
       held_written (with_slot v.graph into target) refl refl
       (inr (all-written (auto v) slots_of v.graph.tables into.number (Some (slice_set into.list into.index target)) s.slots
-      (entries-written (auto v) into.list into.index target others passes)))
-      (inl refl) (inl refl) (inl refl) (inl refl)
+      (entries-written (auto v) into.list into.index target others passes))) (inl refl) (inl refl) (inl refl) (inl refl)
 
   -- a word of an area is written
   pub word_written : (place : Slot) (at : Found AreaWord) (word : AreaWord) → word_in v place ≡ Ok at → is_sound_word v word ≡ true
@@ -312,8 +311,7 @@ module _ (v : World) (s : IsSoundGraph v) where
       held_written v s (with_block_place v.graph place block) refl refl (inl refl) (inl refl)
       (inr (all-append (manual v) (ids_in_places (with_block_place v.graph place block)) (ids_in_caches v.graph)
       (all-written (manual v) entries v.graph.blocks place.number (slice_set place.list place.index block) parts.0
-      (entries-written (manual v) place.list place.index block others passes)) parts.1))
-      (inl refl) (inl refl)
+      (entries-written (manual v) place.list place.index block others passes)) parts.1)) (inl refl) (inl refl)
 
   -- caches have other blocks
   pub cached_written : (cache : Numbered Cache) (classes : List CacheClass)
@@ -419,8 +417,7 @@ module _ (v : World) (s : IsSoundGraph v) where
       let parts = and_parts (auto v id) (is_live_and (λ at. is_word_in (is_copying_object v id) at (words_of v id) word) v id) h in
       and_from (auto v id)
       (if is_copying_object v id then nat_lt (word - address_or_null v id) (8 * words_of v id) else (word - address_or_null v id) ==
-      0) parts.0
-      (of_address (entry_at v.addresses id) parts.1)
+      0) parts.0 (of_address (entry_at v.addresses id) parts.1)
     where
       of_address : (x : Option ℕ) → option_map_or (λ at. is_word_in (is_copying_object v id) at (words_of v id) word) x false ≡ true
           → (if is_copying_object v id then nat_lt (word - option_map_or (λ at. at) x 0) (8 * words_of v id)

@@ -15,8 +15,8 @@ use Rattle.mps_laws.proofs.Sound.SoundGraph.{All, IsSoundGraph, all-at, auto, en
 use Rattle.mps_model.specs.Allocating.{takes_head}
 use Rattle.mps_model.specs.Checked.{cells_of_body}
 use Rattle.mps_model.specs.Graph.{AreaWord, PlainWord, Hold, Body, Automatic, Manual, ReferenceCell, Object, Point, Reservation, entries, entry_at, held_by_word, holds_of, is_automatic, is_live_reservation, object_at, slots_of, target_of_cell, targets, targets_of, targets_of_body, targets_of_cells, targets_of_point, targets_of_reservation}
-use Rattle.mps_model.specs.World.{World, Pool, is_copying_object, is_live, object_is, pool_at, words_of}
-use Rattle.mps_model.specs.WellFormed.{are_right_cells, are_shaped, is_live_automatic}
+use Rattle.mps_model.specs.World.{World, Pool, is_copying_object, object_is, pool_at, words_of}
+use Rattle.mps_model.specs.WellFormed.{are_right_cells, are_shaped}
 use Rattle.mps_model.specs.Graph.{new_cells}
 use Rattle.mps_refinement.specs.Numbering.{AreNumbered}
 use Rattle.mps_refinement.proofs.Lookups.ManualBlocks.{passes_there}
@@ -84,10 +84,6 @@ module _ (w : World) (sound : IsSoundGraph w) where
         let parts = and_parts (auto w id) (list_all (auto w) ids) all in
         ap (λ y. y ∷ map (address_of_id w.addresses) ids) (target_still id parts.0)
         ∙ ap (λ ys. address_of_id after id ∷ ys) (ids_map ids parts.1)
-
-    registered_automatic : (ids : List Id) → All (is_live_automatic w) ids → All (auto w) ids
-    registered_automatic ids all =
-        all-weaker (is_live_automatic w) (auto w) (λ id is. (and_parts (is_live w id) (auto w id) is).1) ids all
 
     pub messages_still : map (address_of_id w.addresses) w.graph.messages ≡ map (address_of_id after) w.graph.messages
     messages_still = ids_map w.graph.messages sound.messages

@@ -1,22 +1,19 @@
 -- Steps where no collection runs: calls that may not move are quiet, and no step changes what the numbers of formats mean.
-use Rattle.std.proofs.Common.{◌≡◌, ◌∙◌, ℕ, ◌+◌, Bool, true, false, true≢false, refl, sym, ap, subst, [], List, Option, Some, None, Ok, Err}
-use Rattle.std.proofs.lemmas.Bool.{false≢true}
+use Rattle.std.proofs.Common.{◌≡◌, ◌∙◌, ℕ, ◌+◌, Bool, true, false, true≢false, refl, sym, ap, subst, [], List, Option, Some, None}
 use Rattle.std.specs.Prelude.{MatchBool, ◌&&◌, if◌then◌else◌, not}
 use Rattle.mps_base.specs.declared.moves.Move.{Move}
 use Rattle.mps_model.specs.declared.call.Call.{Call}
 use Rattle.mps_model.specs.declared.call.Call.TheVariants as call
 use Rattle.mps_model.specs.Answer.{Answer, is_block, is_refused, is_unsupported}
 use Rattle.mps_model.specs.Step.{Step}
-use Rattle.mps_model.specs.Graph.{AreaWord}
 use Rattle.mps_model.specs.World.{World, block_of_word, is_running, is_unclamped}
-use Rattle.mps_model.specs.Checked.{Act, Checked, Found, ◌>>=◌}
-use Rattle.mps_model.specs.Accessing.{AsBlock, act_poke_in, act_poked, poked, poked_in}
+use Rattle.mps_model.specs.Checked.{Act, Checked}
+use Rattle.mps_model.specs.Accessing.{AsBlock, poked, poked_in}
 use Rattle.mps_model.specs.Policy.{units_asked}
 use Rattle.mps_model.specs.Reply.{act, answer_from, world_from}
 use Rattle.mps_model.specs.LegalMove.{AreLegalMoves}
 use Rattle.mps_model.specs.History.{IsAnsweredStep, AreMovesOf, HeldAreLive, IsPossiblyMarked, OfPoked, OfPokedBlock, are_held_kept, asking, has_units_left, judged_world, moved_world, moves_of_collector, with_client_remembered, world_after, world_after_call}
 use Rattle.mps_model.proofs.AtRest.{is_running-none, with_collection-none}
-use Rattle.mps_changes.specs.Change.{makes_arena}
 use Rattle.mps_laws.proofs.QuietSteps.{IsQuiet, IsRight, IsSound, remembered_sound}
 use Rattle.mps_refinement.proofs.Worlds.RestingActs.{may_move}
 
@@ -88,22 +85,7 @@ module _ (w : World) (rest : w.collection ≡ None) where
   }
   quiet_at_rest c answer h s = record { judged = refl; moved = refl; due = refl; marked = tt; supported = s }
 
-  poked_alike : (marked : Bool) (at : Found AreaWord) (word : ℕ) (o : Option ℕ)
-      → act_poke_in w at word marked o ≡ act_poke_in w at word false o
-  poked_alike marked at word None = refl
-  poked_alike marked at word (Some id) =
-      ap (λ p. act_poked w at id word p marked) (poked_at_rest id) ∙ ap (λ p. act_poked w at id word p false) (sym (poked_at_rest id))
-
-  found_alike : (marked : Bool) (x : Checked (Found AreaWord)) (word : ℕ) (o : Option ℕ)
-      → (x >>= (λ at. act_poke_in w at word marked o)) ≡ (x >>= (λ at. act_poke_in w at word false o))
-  found_alike marked (Ok at) word o = poked_alike marked at word o
-  found_alike marked (Err why) word o = refl
-
 -- ---- formats
-
-moves_no_arena : (c : Call) → may_move c ≡ true → makes_arena c ≡ false
-moves_no_arena (call.Arena grains limit) h = absurd (false≢true h)
-moves_no_arena _ h = refl
 
 -- ---- steps with moves
 

@@ -10,20 +10,20 @@ pub returns-in-Limit-clause-logged : goal.returns-in-Limit-clause-logged
 returns-in-Limit-clause-logged g c = rw c.in-Limit.is (simp append-nil c.log_record-in-Limit.ensures.logged)
 
 pub returns-in-Pool-clause-logged : goal.returns-in-Pool-clause-logged
-returns-in-Pool-clause-logged g c = rw c.in-Pool.is (rw c.kind_number.ensures at c.log_record-in-Pool.ensures.logged)
+returns-in-Pool-clause-logged g c = rw c.in-Pool.is (rw c.kind_number.ensures at c.log_pool.ensures.logged)
 
 pub returns-in-PoolOnChain-clause-logged : goal.returns-in-PoolOnChain-clause-logged
 returns-in-PoolOnChain-clause-logged g c = rw c.in-PoolOnChain.is
-    (rw c.kind_number-in-PoolOnChain.ensures at c.log_record-in-PoolOnChain.ensures.logged)
+    (rw c.kind_number-in-PoolOnChain.ensures at c.log_pool-in-PoolOnChain.ensures.logged)
 
 pub returns-in-PoolMfs-clause-logged : goal.returns-in-PoolMfs-clause-logged
-returns-in-PoolMfs-clause-logged g c = rw c.in-PoolMfs.is (simp append-nil c.log_record-in-PoolMfs.ensures.logged)
+returns-in-PoolMfs-clause-logged g c = rw c.in-PoolMfs.is (simp append-nil c.log_pool-in-PoolMfs.ensures.logged)
 
 pub returns-in-PoolMvff-clause-logged : goal.returns-in-PoolMvff-clause-logged
-returns-in-PoolMvff-clause-logged g c = rw c.in-PoolMvff.is (simp append-nil c.log_record-in-PoolMvff.ensures.logged)
+returns-in-PoolMvff-clause-logged g c = rw c.in-PoolMvff.is (simp append-nil c.log_pool-in-PoolMvff.ensures.logged)
 
 pub returns-in-PoolFrames-clause-logged : goal.returns-in-PoolFrames-clause-logged
-returns-in-PoolFrames-clause-logged g c = rw c.in-PoolFrames.is (simp append-nil c.log_record-in-PoolFrames.ensures.logged)
+returns-in-PoolFrames-clause-logged g c = rw c.in-PoolFrames.is (simp append-nil c.log_pool-in-PoolFrames.ensures.logged)
 
 pub returns-in-Arena-clause-failed : goal.returns-in-Arena-clause-failed
 returns-in-Arena-clause-failed g c = rw c.in-Arena.is (simp append-nil c.log_record.ensures.failed)
@@ -32,20 +32,20 @@ pub returns-in-Limit-clause-failed : goal.returns-in-Limit-clause-failed
 returns-in-Limit-clause-failed g c = rw c.in-Limit.is (simp append-nil c.log_record-in-Limit.ensures.failed)
 
 pub returns-in-Pool-clause-failed : goal.returns-in-Pool-clause-failed
-returns-in-Pool-clause-failed g c = rw c.in-Pool.is (rw c.kind_number.ensures at c.log_record-in-Pool.ensures.failed)
+returns-in-Pool-clause-failed g c = rw c.in-Pool.is (rw c.kind_number.ensures at c.log_pool.ensures.failed)
 
 pub returns-in-PoolOnChain-clause-failed : goal.returns-in-PoolOnChain-clause-failed
 returns-in-PoolOnChain-clause-failed g c = rw c.in-PoolOnChain.is
-    (rw c.kind_number-in-PoolOnChain.ensures at c.log_record-in-PoolOnChain.ensures.failed)
+    (rw c.kind_number-in-PoolOnChain.ensures at c.log_pool-in-PoolOnChain.ensures.failed)
 
 pub returns-in-PoolMfs-clause-failed : goal.returns-in-PoolMfs-clause-failed
-returns-in-PoolMfs-clause-failed g c = rw c.in-PoolMfs.is (simp append-nil c.log_record-in-PoolMfs.ensures.failed)
+returns-in-PoolMfs-clause-failed g c = rw c.in-PoolMfs.is (simp append-nil c.log_pool-in-PoolMfs.ensures.failed)
 
 pub returns-in-PoolMvff-clause-failed : goal.returns-in-PoolMvff-clause-failed
-returns-in-PoolMvff-clause-failed g c = rw c.in-PoolMvff.is (simp append-nil c.log_record-in-PoolMvff.ensures.failed)
+returns-in-PoolMvff-clause-failed g c = rw c.in-PoolMvff.is (simp append-nil c.log_pool-in-PoolMvff.ensures.failed)
 
 pub returns-in-PoolFrames-clause-failed : goal.returns-in-PoolFrames-clause-failed
-returns-in-PoolFrames-clause-failed g c = rw c.in-PoolFrames.is (simp append-nil c.log_record-in-PoolFrames.ensures.failed)
+returns-in-PoolFrames-clause-failed g c = rw c.in-PoolFrames.is (simp append-nil c.log_pool-in-PoolFrames.ensures.failed)
 
 pub returns-in_default-clause-logged : goal.returns-in_default-clause-logged
 returns-in_default-clause-logged g c =

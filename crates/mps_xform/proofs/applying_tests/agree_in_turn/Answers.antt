@@ -10,4 +10,5 @@ pub returns-clause-aligned : goal.returns-clause-aligned
 returns-clause-aligned c =
     let P : TransformsState → Type 0 = λ t. All (λ p. p.new.0 % bytes_of_word ≡ 0) t.pairs in
     let Q : Pair → Type 0 = λ p. p.new.0 % bytes_of_word ≡ 0 in
-    subst P (sym c.drop_transform.ensures) (All-filter (λ p. not (is_of c.make-transform.result p)) Q c.loop.transforms.pairs c.loop.invariant.aligned)
+    subst P (sym c.drop_transform.ensures)
+    (All-filter (λ p. not (is_of c.make-transform.result p)) Q c.loop.transforms.pairs c.loop.invariant.aligned)
