@@ -3,6 +3,7 @@ pub mod Leavings
 pub mod SameAddresses
 pub mod FlippedPoints
 pub mod CollectedParts
+pub mod Finished
 pub mod CollectIsRight
 pub mod StrongMoving
 pub mod RootsAfter

@@ -10,7 +10,7 @@ use Rattle.mps_trace.specs.Trace.{TraceState}
 use Rattle.mps_trace_laws.specs.Begin.Before.{StandsBefore}
 use Rattle.mps_trace.specs.PoolsCollecting.{IsTraceOf}
 use Rattle.mps_heap_spec.specs.State.{HeapState}
-use Rattle.mps_refinement.specs.StandsFor.{AreParts, AreSlots, IsReached, Past, Rests, collector_of}
+use Rattle.mps_refinement.specs.StandsFor.{AreParts, AreSlots, Past, Rests, collector_of}
 use Rattle.mps_refinement.proofs.Collect.CollectRight.{IsBefore}
 use Rattle.mps_refinement.proofs.Collect.KeysInOrder.{keys_in_order}
 use Rattle.mps_refinement.proofs.Collect.LiveIsFew.{moves_are_few}
@@ -20,19 +20,19 @@ use Rattle.mps_refinement.proofs.Collect.PoolsKnown.{pools_known}
 use Rattle.mps_refinement.proofs.Collect.RootsHeld.{roots_held, rows, words_shown}
 use Rattle.mps_refinement.proofs.Collect.SegmentsAtRest.{segments_at_rest}
 use Rattle.mps_refinement.proofs.Parts.LaidSegments.{blocks_in_order}
-use Rattle.mps_refinement.proofs.Worlds.Ready.{laid_out}
+use Rattle.mps_refinement.proofs.Worlds.Known.{IsKnown}
 
 module _ {F : Type 0} (layout : F → Layout) (past : Past) (h : HeapState F) (w : World) (parts : AreParts layout past h w)
-    (reached : IsReached w) (rest : Rests past.time (collector_of h) w)
+    (known : IsKnown past.time w) (rest : Rests past.time (collector_of h) w)
     (marked : IsMarked h.segs.grains h.segs.marks h.segs.condemned h.segs.summaries)
     (m : Moves) (room : most_moves h.segs.grains ≤ m.spare) where
   -- whatever words are at hand for its pools
   pub stands_before : (t : TraceState F) → IsTraceOf h.pools t → StandsBefore layout t h.segs m h.points w
   stands_before t of =
-      let few = moves_are_few layout past h w parts reached (blocks_in_order layout past h w parts (laid_out w reached)) in
+      let few = moves_are_few layout past h w parts known.formed known.laid (blocks_in_order layout past h w parts known.laid) in
       record {
-        objects = objects_at_rest layout past h w parts reached rest.none;
-        segments = segments_at_rest layout past h w parts reached rest marked;
+        objects = objects_at_rest layout past h w parts past.time known rest.none;
+        segments = segments_at_rest layout past h w parts known.laid rest marked;
         pools = pools_known layout h.pools t w parts.pools parts.chains of;
         reservations = reservations_are_open layout past h w parts;
         room = omega (arith, few, room);
@@ -42,9 +42,9 @@ module _ {F : Type 0} (layout : F → Layout) (past : Past) (h : HeapState F) (w
   pub is_before : IsBefore layout h m w
   is_before = record {
     stands = stands_before;
-    rows = rows layout past h w parts reached;
-    roots = roots_held layout past h w parts reached rest.time;
-    areas = words_shown layout past h w parts reached;
+    rows = rows layout past h w parts known.graph known.held;
+    roots = roots_held layout past h w parts known.graph known.held rest.time;
+    areas = words_shown layout past h w parts known.graph known.held;
     ordered =
         keys_in_order (AreSlots w.addresses) past.table_number h.roots (kept h.roots.tables) w.graph.tables parts.tables parts.ordered;
   }

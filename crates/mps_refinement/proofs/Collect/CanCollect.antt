@@ -24,8 +24,7 @@ use Rattle.mps_trace_laws.proofs.Units.Ready.{units_are_ready}
 use Rattle.mps_trace_laws.proofs.Units.Rows.{units_run_out}
 use Rattle.mps_trace_laws.specs.Begin.Before.{StandsBefore}
 use Rattle.mps_trace_laws.specs.Begin.Begun.{IsActDone, ACollectionBegins, RootsCanBeFixed, UnitsAreFew}
-use Rattle.mps_refinement.specs.StandsFor.{StandsFor}
-use Rattle.mps_refinement.proofs.Worlds.Ready.{all_are_reserved}
+use Rattle.mps_buffer.specs.Points.{AreReserved}
 use Rattle.mps_refinement.proofs.Collect.CollectRight.{IsBefore}
 use Rattle.mps_refinement.proofs.Collect.NullRoots.{null_roots_can_be_fixed}
 use Rattle.mps_format.specs.declared.pool.Policy.{Policy}
@@ -33,7 +32,7 @@ use Rattle.mps_format.specs.declared.pool.Policy.{Policy}
 module _ {F : Type 0} (layout : F → Layout) (begins : ACollectionBegins F) (can_fix : RootsCanBeFixed F) (few : UnitsAreFew)
     (scans : (formats : List (Option (Policy F))) (of : ChainsState) (at_flip : List (Option Address))
     → AreScansDone layout formats of at_flip)
-    (h : HeapState F) (m : Moves) (w : World) (st : StandsFor layout h w)
+    (h : HeapState F) (m : Moves) (w : World) (reserved : AreReserved h.points.flips h.points.points h.segs)
     (k : IsBefore layout h m w)
     (below : length (live_ids w) + length w.graph.registered + length w.segments
     < most_units h.segs.grains (length h.finals.registered)) where
@@ -78,7 +77,7 @@ module _ {F : Type 0} (layout : F → Layout) (begins : ACollectionBegins F) (ca
     can_collect_one = record {
       ordered = segments_are_in_order h.segs (held_in_order h.segs before.segments.held);
       blocks = before.segments.whole.order;
-      reserved = all_are_reserved layout h w st;
+      reserved = reserved;
       fits = let there = before.room in omega (arith, there);
       roots_ready = roots_ready;
       units_ready = can_end;

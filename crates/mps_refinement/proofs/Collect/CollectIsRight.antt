@@ -1,7 +1,6 @@
--- A `collect` of a heap at rest is right: its step is legal, and the heap stands for the world after it.
+-- A `collect` is right, if what ran before it is finished: its step is legal, and the heap stands for the world after it.
 use Rattle.mps_model.specs.History.{world_after, with_client_remembered}
 use Rattle.mps_model.proofs.AtRest.{with_client_remembered-none}
-use Rattle.mps_refinement.proofs.Parts.Resting.{at_rest}
 use Rattle.std.proofs.Common.{◌≡◌, ◌∙◌, ℕ, zero, suc, ◌<◌, Bool, true, false, refl, sym, ap, subst, List, [], ◌∷◌, ◌++◌, length, Option, Some, None, is_some, inl, inr, arith}
 use Rattle.std.proofs.lemmas.Bool.{false≢true, true≢false}
 use Rattle.std.proofs.lemmas.Option.{same_Some, slice_get_within}
@@ -12,7 +11,6 @@ use Rattle.mps_base.specs.Address.{Id}
 use Rattle.mps_base.specs.declared.moves.Move.{Move}
 use Rattle.mps_buffer.specs.Points.{WereMadeBefore}
 use Rattle.mps_format.specs.Layout.{Layout}
-use Rattle.mps_buffer.specs.Points.{WereMadeBefore}
 use Rattle.mps_model.specs.declared.call.Call.TheVariants as call
 use Rattle.mps_model.specs.declared.reply.Reply.TheVariants as reply
 use Rattle.mps_model.specs.Answer.{Replied}
@@ -35,7 +33,7 @@ use Rattle.mps_abstract.specs.Colours.{AllReferredLive}
 use Rattle.mps_abstract.specs.Collecting.{Collecting}
 use Rattle.mps_abstract.specs.Units.{Ends}
 use Rattle.mps_abstract.specs.FlipLaws.{IsAtRest, collecting_after_flip, FixesHeld}
-use Rattle.mps_abstract.specs.WholeLaws.{IsCollectDone}
+use Rattle.mps_abstract.specs.WholeLaws.{IsCollectDone, IsWholeDone}
 use Rattle.mps_abstract.proofs.Addresses.{listed_is_live, live_is_listed}
 use Rattle.mps_abstract.proofs.Lists.{contains_cases, contains_here, contains_later, contains_left, contains_right, list_all-members}
 use Rattle.mps_abstract.proofs.FlipActs.FlipBegins.{client_of_fixed, flip_done, flip_ended}
@@ -43,13 +41,15 @@ use Rattle.mps_abstract.proofs.Rows.{last_units_done}
 use Rattle.mps_abstract.proofs.WholeCollections.WholeBegins.{nothing_remembered, begun_running}
 use Rattle.mps_abstract.proofs.WholeCollections.WholeEnds.{a_whole_collection}
 use Rattle.mps_refinement.specs.RightStep.{IsRightIn, step_of}
-use Rattle.mps_refinement.specs.StandsFor.{AreParts, ArePools, IsPool, IsReached, Past, Rests, StandsFor, time_at_rest, collector_of}
-use Rattle.mps_refinement.proofs.Worlds.Reached.{reached_well_formed, reached_live, reached_next}
+use Rattle.mps_refinement.specs.StandsFor.{AreParts, ArePools, IsPool, IsReached, Past, Rests, Time, time_at_rest, collector_of}
+use Rattle.mps_refinement.proofs.Worlds.Known.{IsKnown}
+use Rattle.mps_refinement.proofs.Worlds.Reached.{reached_well_formed, reached_next}
 use Rattle.mps_refinement.proofs.Worlds.RestingActs.{resting_sound}
 use Rattle.mps_refinement.proofs.Worlds.RestingSteps.{IsMoving, moving_step}
 use Rattle.mps_refinement.proofs.Worlds.Steps.{HasParts, moved_to_rest}
 use Rattle.mps_refinement.specs.Collect.Leaving.{IsCollected, AreInPlace}
 use Rattle.mps_refinement.specs.Collect.Standing.{IsCollectedHeap, world_collected}
+use Rattle.mps_refinement.proofs.Collect.Finished.{HasFinished, IsFinished}
 use Rattle.mps_refinement.proofs.Collect.Leavings.{a_collection_moves_objects}
 use Rattle.mps_refinement.proofs.Collect.CollectedParts as parts_of
 
@@ -101,14 +101,15 @@ module _ {F : Type 0} (layout : F → Layout) where
           ap (λ (o : Option ℕ). option_map_or (λ on. on == chain) o false)
           (sym (ap (λ (x : Pool). x.chain) same) ∙ no_chain w.formats p.0 is.0 is.2)
 
-  pub may_begin : (past : Past) (h : HeapState F) (w : World) → AreParts layout past h w → IsReached w → w.collection ≡ None → IsAtRest w
-  may_begin past h w parts reached none =
-      let live = reached_live w reached in
+  pub may_begin : (past : Past) (h : HeapState F) (w : World) → AreParts layout past h w → (t : Time) → IsKnown t w → w.collection ≡ None
+      → IsAtRest w
+  may_begin past h w parts t known none =
+      let live = known.live in
       let referred : list_all (is_live w) (flat_map (targets w.graph) (live_ids w)) ≡ true =
       sym (ap (λ o. is_some o || list_all (is_live w) (flat_map (targets w.graph) (live_ids w))) none) ∙ live.referred in
       record {
         none_runs = none;
-        well_formed = reached_well_formed w reached;
+        well_formed = known.formed;
         held_live = λ id held. list_all-contains (is_live w) (ids_of_client w.graph) id live.client held;
         referred_live = λ id target there refers.
             list_all-contains (is_live w) (flat_map (targets w.graph) (live_ids w)) target referred
@@ -120,18 +121,18 @@ module _ {F : Type 0} (layout : F → Layout) where
 
   -- what is shown of the moves of a collection of everything, whose act of a flip left this state
   pub record IsCollection (w : World) (acted : Collecting) (ms : List Move) : Type 0 where
-    pub moves_done : IsCollectDone w ms
+    pub whole : IsWholeDone w ms
     pub leaves : IsCollected w (world_after_moves w ms)
     pub places : AreInPlace w acted (world_after_moves w ms)
     pub held_live : (id : Id) → contains (ids_of_client (world_after_moves w ms).graph) id ≡ true
         → is_live (world_after_moves w ms) id ≡ true
     pub referred_live : AllReferredLive (world_after_moves w ms).graph (is_live (world_after_moves w ms))
 
-  module _ (past : Past) (h after : HeapState F) (w : World) (parts : AreParts layout past h w) (reached : IsReached w)
+  module _ (past : Past) (h after : HeapState F) (w : World) (parts : AreParts layout past h w) (known : IsKnown past.time w)
       (timed : past.time ≡ time_at_rest) (made : WereMadeBefore (length w.flips) h.points) (acted : Collecting) (ms : List Move)
       (c : IsCollection w acted ms) where
     abbrev v : World
-    v = parts_of.v layout past h after w parts timed (reached_well_formed w reached) made acted c.leaves.but_collected.objects
+    v = parts_of.v layout past h after w parts timed known.formed made acted c.leaves.but_collected.objects
         c.leaves.but_collected.registered c.leaves.but_collected.messages c.leaves.but_collected.dependents
         c.leaves.but_collected.unpaired c.leaves.but_collected.addresses
         c.leaves.but_collected.segments c.leaves.but_collected.tails
@@ -167,58 +168,71 @@ module _ {F : Type 0} (layout : F → Layout) where
       live_then = record {
         client = list_all-members (is_live v) (ids_of_client v.graph) held_then;
         blocks = list_all-members (is_live v) (ids_in_blocks v.graph) (λ id there.
-            ap is_some (places_then.manual id (parts_of.places_same layout past h after w parts timed (reached_well_formed w reached)
+            ap is_some (places_then.manual id (parts_of.places_same layout past h after w parts timed known.formed
             made acted c.leaves.but_collected.objects c.leaves.but_collected.registered c.leaves.but_collected.messages
             c.leaves.but_collected.dependents c.leaves.but_collected.unpaired
             c.leaves.but_collected.addresses c.leaves.but_collected.segments c.leaves.but_collected.tails heap_then
             places_then id there))
-            ∙ list_all-contains (is_live w) (ids_in_blocks w.graph) id (reached_live w reached).blocks there);
+            ∙ list_all-contains (is_live w) (ids_in_blocks w.graph) id known.live.blocks there);
         referred = all_flat (is_live v) (targets v.graph) (live_ids v) (λ id listed.
             list_all-members (is_live v) (targets v.graph id) (λ target refers.
             referred_then id target (listed_is_live v id listed) refers));
         transforms = refl;
       }
 
-      moves : IsMoving w call.Collect ms (Replied reply.Ok) (done (world_collected w ms))
-      moves = record {
-        legal = c.moves_done.legal;
-        due = c.moves_done.due;
-        comes = refl;
-        answers = refl;
-        marked = tt;
-        supported = refl;
-        sound = subst IsSound (sym world_is) (resting_sound v refl live_then);
-      }
+      -- after the moves that finish what ran before
+      module _ (from : World) (earlier : List Move) (finished : IsFinished from earlier w) (line : ℕ) where
+        abbrev both : List Move
+        both = earlier ++ ms
 
-      -- the world after it is reached, so what is registered is live
-      reached_then : (line : ℕ) → IsReached v
-      reached_then line =
-          let step = moving_step w line call.Collect ms (Replied reply.Ok) (done (world_collected w ms)) moves in
-          let same : world_after w (step_of line call.Collect ms (Replied reply.Ok)) ≡ v =
-          step.world ∙ (ap with_client_remembered world_is ∙ with_client_remembered-none v refl) in
-          subst IsReached same
-          (reached_next w (step_of line call.Collect ms (Replied reply.Ok)) reached step.legal (ap (λ (u : World). u.formats) same) refl)
+        both_done : IsCollectDone from both
+        both_done = finished.collected ms c.whole
 
-      pub collection_is_right : (line : ℕ) → h.running ≡ None → IsRightIn layout w (step_of line call.Collect ms (Replied reply.Ok)) after
-      collection_is_right line none_running =
-          moved_to_rest layout past.time w line call.Collect ms (Replied reply.Ok) after (done (world_collected w ms)) refl
-          (ap (λ (u : World). u.formats) world_is) reached moves
-          (subst (λ u. HasParts layout past.time after u) (sym world_is) (record {
-            past = past;
-            timed = refl;
-            parts = parts_of.collected_parts layout past h after w parts timed (reached_well_formed w reached) made acted
-                c.leaves.but_collected.objects c.leaves.but_collected.registered c.leaves.but_collected.messages
-                c.leaves.but_collected.dependents c.leaves.but_collected.unpaired
-                c.leaves.but_collected.addresses c.leaves.but_collected.segments c.leaves.but_collected.tails heap_then places_then
-                (reached_well_formed v (reached_then line)).registered;
-          }))
-          (subst (λ u. Rests past.time (collector_of after) u) (sym world_is) (record {
-            none = refl;
-            time = timed;
-            not_running = heap_then.running ∙ none_running;
-            not_condemned = heap_then.not_condemned;
-            not_kept = heap_then.not_kept;
-          }))
+        moves : IsMoving from call.Collect both (Replied reply.Ok) (done (world_collected w ms))
+        moves = record {
+          legal = both_done.legal;
+          due = both_done.due;
+          comes = ap (λ (u : World). done (record u { state = world.Parked [] }))
+              (world_after_moves-append from earlier ms ∙ ap (λ u. world_after_moves u ms) finished.leads);
+          answers = refl;
+          marked = tt;
+          supported = refl;
+          sound = subst IsSound (sym world_is) (resting_sound v refl live_then);
+        }
+
+        formats_then : v.formats ≡ from.formats
+        formats_then = finished.formats
+
+        -- the world after it is reached, so what is registered is live
+        reached_then : IsReached v
+        reached_then =
+            let step = moving_step from line call.Collect both (Replied reply.Ok) (done (world_collected w ms)) moves in
+            let same : world_after from (step_of line call.Collect both (Replied reply.Ok)) ≡ v =
+            step.world ∙ (ap with_client_remembered world_is ∙ with_client_remembered-none v refl) in
+            subst IsReached same
+            (reached_next from (step_of line call.Collect both (Replied reply.Ok)) finished.reached step.legal
+            (ap (λ (u : World). u.formats) same ∙ formats_then) refl)
+
+        pub collection_is_right : h.running ≡ None → IsRightIn layout from (step_of line call.Collect both (Replied reply.Ok)) after
+        collection_is_right none_running =
+            moved_to_rest layout past.time from line call.Collect both (Replied reply.Ok) after (done (world_collected w ms)) refl
+            (ap (λ (u : World). u.formats) world_is ∙ formats_then) finished.reached moves
+            (subst (λ u. HasParts layout past.time after u) (sym world_is) (record {
+              past = past;
+              timed = refl;
+              parts = parts_of.collected_parts layout past h after w parts timed known.formed made acted
+                  c.leaves.but_collected.objects c.leaves.but_collected.registered c.leaves.but_collected.messages
+                  c.leaves.but_collected.dependents c.leaves.but_collected.unpaired
+                  c.leaves.but_collected.addresses c.leaves.but_collected.segments c.leaves.but_collected.tails heap_then places_then
+                  (reached_well_formed v reached_then).registered;
+            }))
+            (subst (λ u. Rests past.time (collector_of after) u) (sym world_is) (record {
+              none = refl;
+              time = timed;
+              not_running = heap_then.running ∙ none_running;
+              not_condemned = heap_then.not_condemned;
+              not_kept = heap_then.not_kept;
+            }))
 
   -- ---- where something is condemned
 
@@ -232,8 +246,7 @@ module _ {F : Type 0} (layout : F → Layout) where
       world_after_moves-append w (flip_act w Everything) later ∙ ap (λ (u : World). world_after_moves u later) act_leads in
       let last = last_units_done y count later (begun_running w first y rest some fixed) ends in
       record {
-        moves_done = a_whole_collection.2 w (flip_act w Everything ++ later) rest.none_runs
-            (a_whole_collection.0 w first later y count rest some fixed ends);
+        whole = a_whole_collection.0 w first later y count rest some fixed ends;
         leaves = a_collection_moves_objects.0 w first later y count rest some fixed ends;
         places = a_collection_moves_objects.1 w first later y count rest some fixed ends;
         held_live = subst (λ (u : World). (id : Id) → contains (ids_of_client u.graph) id ≡ true → is_live u id ≡ true) (sym leads)
@@ -241,17 +254,16 @@ module _ {F : Type 0} (layout : F → Layout) where
         referred_live = subst (λ (u : World). AllReferredLive u.graph (is_live u)) (sym leads) last.referred_live;
       }
 
-  -- a `collect` of a heap at rest, where something is condemned
-  pub collect_is_right : (h after : HeapState F) (w : World) (line : ℕ) (first later : List Move) (y : Collecting) (count : ℕ)
-      → (st : StandsFor layout h w) → WereMadeBefore (length w.flips) h.points
+  -- a `collect`, where something is condemned once what ran before is finished
+  pub collect_is_right : (h after : HeapState F) (from : World) (earlier : List Move) (w : World) (line : ℕ) (first later : List Move)
+      (y : Collecting) (count : ℕ) (st : HasFinished layout h from earlier w) → WereMadeBefore (length w.flips) h.points
       → is_nothing (condemned_by w Everything) ≡ false → FixesHeld w (collecting_after_flip w Everything []) first y → Ends y count later
       → IsCollectedHeap st.past w h after y.world.addresses (world_collected w (flip_act w Everything ++ later))
-      → IsRightIn layout w (step_of line call.Collect (flip_act w Everything ++ later) (Replied reply.Ok)) after
-  collect_is_right h after w line first later y count st made some fixed ends heap =
-      let now = at_rest st.time in
-      let rest = may_begin st.past h w st.parts st.reached now.none in
-      collection_is_right st.past h after w st.parts st.reached now.time made y (flip_act w Everything ++ later)
-      (ends_collection w first later y count rest some fixed ends) heap line now.not_running
+      → IsRightIn layout from (step_of line call.Collect (earlier ++ (flip_act w Everything ++ later)) (Replied reply.Ok)) after
+  collect_is_right h after from earlier w line first later y count st made some fixed ends heap =
+      let rest = may_begin st.past h w st.parts st.past.time st.known st.rest.none in
+      collection_is_right st.past h after w st.parts st.known st.rest.time made y (flip_act w Everything ++ later)
+      (ends_collection w first later y count rest some fixed ends) heap from earlier st.finished line st.rest.not_running
 
   -- ---- where nothing is condemned
 
@@ -260,7 +272,7 @@ module _ {F : Type 0} (layout : F → Layout) where
   nothing_collection w rest nothing =
       let ended = flip_ended w Everything rest refl nothing in
       record {
-        moves_done = a_whole_collection.2 w (flip_act w Everything) rest.none_runs (a_whole_collection.1 w rest nothing);
+        whole = a_whole_collection.1 w rest nothing;
         leaves = a_collection_moves_objects.2 w rest nothing;
         places = subst (λ ms. AreInPlace w (collecting_after_flip w Everything []) (world_after_moves w ms)) (sym ended.act) (record {
           manual = λ id there. refl;
@@ -274,12 +286,13 @@ module _ {F : Type 0} (layout : F → Layout) where
       }
 
   -- a `collect` where nothing is condemned: slots and messages hold what they held
-  pub collect_of_nothing_is_right : (h after : HeapState F) (w : World) (line : ℕ) → (st : StandsFor layout h w)
-      → WereMadeBefore (length w.flips) h.points → is_nothing (condemned_by w Everything) ≡ true
+  pub collect_of_nothing_is_right : (h after : HeapState F) (from : World) (earlier : List Move) (w : World) (line : ℕ)
+      (st : HasFinished layout h from earlier w) → WereMadeBefore (length w.flips) h.points
+      → is_nothing (condemned_by w Everything) ≡ true
       → IsCollectedHeap st.past w h after w.addresses (world_collected w (flip_act w Everything))
-      → IsRightIn layout w (step_of line call.Collect (flip_act w Everything) (Replied reply.Ok)) after
-  collect_of_nothing_is_right h after w line st made nothing heap =
-      let now = at_rest st.time in
-      collection_is_right st.past h after w st.parts st.reached now.time made (collecting_after_flip w Everything [])
+      → IsRightIn layout from (step_of line call.Collect (earlier ++ flip_act w Everything) (Replied reply.Ok)) after
+  collect_of_nothing_is_right h after from earlier w line st made nothing heap =
+      collection_is_right st.past h after w st.parts st.known st.rest.time made (collecting_after_flip w Everything [])
       (flip_act w Everything)
-      (nothing_collection w (may_begin st.past h w st.parts st.reached now.none) nothing) heap line now.not_running
+      (nothing_collection w (may_begin st.past h w st.parts st.past.time st.known st.rest.none) nothing) heap from earlier st.finished
+      line st.rest.not_running

@@ -1,6 +1,6 @@
--- A call `collect` of a heap that stands for a world is right, and keeps the room of its trail.
+-- A `collect` of a heap that has finished what ran before is right, and keeps the room of its trail.
 use Rattle.std.proofs.Common.{◌≡◌, ◌∙◌, ℕ, suc, ◌<◌, false, refl, sym, ap, subst, List, [], ◌∷◌, ◌++◌, length, Option, IsSome, arith}
-use Rattle.std.proofs.lemmas.List.{append_assoc, append_cancel_left}
+use Rattle.std.proofs.lemmas.List.{append_assoc}
 use Rattle.mps_base.specs.Address.{Address, Id}
 use Rattle.mps_base.specs.Segment.{Segment}
 use Rattle.mps_base.specs.Trail.{Moves}
@@ -34,16 +34,17 @@ use Rattle.mps_trace_laws.specs.Units.Laws.{HasSegmentsOf, HasFinalsOf, AreScans
 use Rattle.mps_trace_laws.proofs.Units.Rows.{the_end_is_done}
 use Rattle.mps_trace_laws.specs.Begin.Before.{StandsBefore}
 use Rattle.mps_trace_laws.specs.Begin.Begun.{AreRootsHeld, IsActDone, ACollectionBegins, ACollectionOfNothingEnds, IsOverAtOnce}
-use Rattle.mps_refinement.proofs.Parts.Resting.{at_rest, registered_at_rest}
-use Rattle.mps_refinement.specs.RightMoving.{IsRightMoving, KeepsRoom}
+use Rattle.mps_refinement.proofs.Parts.Resting.{registered_at_rest}
+use Rattle.mps_refinement.specs.RightMoving.{KeepsRoom}
 use Rattle.mps_refinement.specs.RightStep.{IsRightIn, step_of}
-use Rattle.mps_refinement.specs.StandsFor.{StandsFor, AreSlots}
+use Rattle.mps_refinement.specs.StandsFor.{AreSlots}
 use Rattle.mps_refinement.specs.Numbering.{AreNumbered}
 use Rattle.mps_abstract.specs.Leaving.{IsButCollected}
 use Rattle.mps_refinement.proofs.Collect.ActedRoots.{IsInOrder, tables_acted}
 use Rattle.mps_refinement.proofs.Collect.CollectIsRight.{collect_is_right, collect_of_nothing_is_right}
 use Rattle.mps_refinement.proofs.Collect.CollectedHeaps.{IsLeft, collected_heap, same_condemned}
 use Rattle.mps_refinement.proofs.Collect.CollectedSegments.{none_condemned, none_kept, segments_at_once}
+use Rattle.mps_refinement.proofs.Collect.Finished.{HasFinished}
 use Rattle.mps_refinement.proofs.Collect.Leavings.{a_collection_moves_objects}
 use Rattle.mps_refinement.proofs.Collect.RoomKept.{begin_pushes, units_keep_room, at_once_keeps_room}
 use Rattle.mps_refinement.proofs.Collect.RootsAfter.{roots_stay, tables_after, AreRootsAfter}
@@ -60,12 +61,13 @@ pub record IsBefore {F : Type 0} (layout : F → Layout) (h : HeapState F) (m : 
   pub areas : AreWordsShown (words_of_areas h.roots.areas) (area_words w)
   pub ordered : (key : ℕ) → IsSome (kept h.roots.tables key) → IsInOrder h.roots key
 
--- the call made these moves, rightly in a world
-pub record IsRightThere {F : Type 0} (layout : F → Layout) (w : World) (m m' : Moves) (h' : HeapState F) : Type 0 where
-  pub moves : List Move
-  pub appended : m'.moves ≡ m.moves ++ moves
-  pub right : (line : ℕ) → IsRightIn layout w (step_of line call.Collect moves (Replied reply.Ok)) h'
-  pub room : KeepsRoom m m'
+-- the call made these moves after those that finish what ran before, rightly in a world
+pub record IsRightThere {F : Type 0} (layout : F → Layout) (from : World) (earlier : List Move) (m m' : Moves) (h' : HeapState F) : Type 0
+  where
+    pub moves : List Move
+    pub appended : m'.moves ≡ m.moves ++ moves
+    pub right : (line : ℕ) → IsRightIn layout from (step_of line call.Collect (earlier ++ moves) (Replied reply.Ok)) h'
+    pub room : KeepsRoom m m'
 
 module _ {F : Type 0} (layout : F → Layout) (begins : ACollectionBegins F) (nothing_ends : ACollectionOfNothingEnds F)
     (scans : (formats : List (Option (Policy F))) (of : ChainsState) (at_flip : List (Option Address))
@@ -85,7 +87,7 @@ module _ {F : Type 0} (layout : F → Layout) (begins : ACollectionBegins F) (no
   abbrev most : ℕ
   most = most_units h.segs.grains (length h.finals.registered)
 
-  module _ (w : World) (st : StandsFor layout h w) (known : IsBefore layout h m w) where
+  module _ (from : World) (earlier : List Move) (w : World) (st : HasFinished layout h from earlier w) (known : IsBefore layout h m w) where
     before : StandsBefore layout t h.segs m h.points w
     before = known.stands t collected.of_pools
 
@@ -151,14 +153,14 @@ module _ {F : Type 0} (layout : F → Layout) (begins : ACollectionBegins F) (no
             finals = subst (HasFinalsOf h'.finals) (sym leads) last.finals;
           }
 
-      pub right_in_units : IsRightThere layout w m m' h'
+      pub right_in_units : IsRightThere layout from earlier m m' h'
       right_in_units = record {
         moves = flip_act w Everything ++ last.moves;
         appended =
             last.trail ∙ ap (λ ms. ms ++ last.moves) (act.trail ∙ ap (λ ms. m.moves ++ ms) (sym act_leads.act))
             ∙ append_assoc m.moves (flip_act w Everything) last.moves;
         right = λ line.
-            collect_is_right layout h h' w line act.first last.moves y (suc ends.count) st
+            collect_is_right layout h h' from earlier w line act.first last.moves y (suc ends.count) st
             made_then some act.fixes last.units
             (collected_heap layout st.past h w st.parts m h' m' collected before y.world.addresses u moved left);
         room =
@@ -193,17 +195,17 @@ module _ {F : Type 0} (layout : F → Layout) (begins : ACollectionBegins F) (no
             (subst (λ ms. HasFinalsOf h.finals (world_after_moves w ms))
             (sym (flip_ended w Everything before.objects.rest refl over.nothing).act)
             (record {
-              registrations = registered_at_rest layout st.past h w st.parts (at_rest st.time).time;
+              registrations = registered_at_rest layout st.past h w st.parts st.rest.time;
               waiting = st.parts.messages;
             }));
       }
 
-      pub right_at_once : IsRightThere layout w m m' h'
+      pub right_at_once : IsRightThere layout from earlier m m' h'
       right_at_once = record {
         moves = flip_act w Everything;
         appended = over.trail;
         right = λ line.
-            collect_of_nothing_is_right layout h h' w line st made_then
+            collect_of_nothing_is_right layout h h' from earlier w line st made_then
             over.nothing
             (collected_heap layout st.past h w st.parts m h' m' collected before w.addresses v moved_at_once left_at_once);
         room =
@@ -211,28 +213,8 @@ module _ {F : Type 0} (layout : F → Layout) (begins : ACollectionBegins F) (no
             (let room = before.room in omega (arith, room));
       }
 
-    pub right_there : IsRightThere layout w m m' h'
+    pub right_there : IsRightThere layout from earlier m m' h'
     right_there = elim collected.collects [
       | at_once ends ↦ right_at_once ends
       | in_units {between = b} {finals_between = f} run begun ends ↦ right_in_units b f run begun ends
     ]
-
-  -- ---- in each world
-
-  -- the call made the same moves, whatever the world is
-  pub collect_right : (w : World) → StandsFor layout h w → ((v : World) → StandsFor layout h v → IsBefore layout h m v)
-      → IsRightMoving layout h call.Collect m.moves m'.moves (Replied reply.Ok) h'
-  collect_right w st known =
-      let one = right_there w st (known w st) in
-      record {
-        moves = one.moves;
-        appended = one.appended;
-        right = λ v line other.
-            let there = right_there v other (known v other) in
-            subst (λ ms. IsRightIn layout v (step_of line call.Collect ms (Replied reply.Ok)) h')
-            (append_cancel_left m.moves there.moves one.moves (sym there.appended ∙ one.appended)) (there.right line);
-      }
-
-  -- and its trail keeps its room
-  pub collect_keeps_room : (w : World) → StandsFor layout h w → IsBefore layout h m w → KeepsRoom m m'
-  collect_keeps_room w st known = (right_there w st known).room

@@ -1,7 +1,7 @@
 -- The call `collect` of a heap that stands for a world: it can be done, it is right, and its trail keeps its room.
-use Rattle.mps_refinement.proofs.Parts.Resting.{at_rest, registered_at_rest}
-use Rattle.std.proofs.Common.{◌∙◌, ◌+◌, ◌<◌, ◌≤◌, ap, length}
-use Rattle.std.proofs.lemmas.List.{length-map}
+use Rattle.mps_refinement.proofs.Parts.Resting.{registered_at_rest}
+use Rattle.std.proofs.Common.{◌∙◌, ◌+◌, ◌<◌, ◌≤◌, sym, ap, subst, List, [], length}
+use Rattle.std.proofs.lemmas.List.{append_cancel_left, length-map}
 use Rattle.mps_base.specs.Trail.{Moves}
 use Rattle.mps_format.specs.Layout.{Layout}
 use Rattle.mps_model.specs.World.{World, live_ids}
@@ -19,40 +19,70 @@ use Rattle.mps_refinement.proofs.Collect.BeforeAFlip.{is_before}
 use Rattle.mps_refinement.proofs.Collect.CanCollect.{can_collect_all}
 use Rattle.mps_refinement.proofs.Collect.LiveIsFew.{units_are_below}
 use Rattle.mps_refinement.proofs.Parts.LaidSegments.{blocks_in_order}
-use Rattle.mps_refinement.proofs.Worlds.Ready.{laid_out}
-use Rattle.mps_refinement.proofs.Collect.CollectRight.{IsBefore, collect_right, collect_keeps_room}
-use Rattle.mps_heap_spec.specs.Collecting.{CanCollectAll}
+use Rattle.mps_refinement.proofs.Worlds.Ready.{all_reserved}
+use Rattle.mps_refinement.proofs.Collect.CollectRight.{IsBefore, IsRightThere, right_there}
+use Rattle.mps_refinement.proofs.Collect.Finished.{HasFinished, none_to_finish}
+use Rattle.mps_refinement.specs.RightStep.{IsRightIn, step_of}
+use Rattle.mps_heap_spec.specs.Collecting.{CanCollectAll, IsCollected}
+use Rattle.mps_base.specs.declared.moves.Move.{Move}
+use Rattle.mps_buffer.specs.Points.{WereMadeBefore}
+use Rattle.mps_model.specs.Answer.{Replied}
+use Rattle.mps_model.specs.declared.call.Call.TheVariants as call
+use Rattle.mps_model.specs.declared.reply.Reply.TheVariants as reply
+use Rattle.mps_seg.specs.Table.{IsMarked}
 
-module _ {F : Type 0} (layout : F → Layout) (h : HeapState F) (m : Moves) (may : MayCollect layout h m) where
-  -- all that has to be known of it before, in each world
-  known_before : (w : World) → StandsFor layout h w → (n : Moves) → most_moves h.segs.grains ≤ n.spare → IsBefore layout h n w
-  known_before w st n room = is_before layout st.past h w st.parts st.reached (at_rest st.time) may.marked n room
+-- ---- once what ran before is finished
+
+module _ {F : Type 0} (layout : F → Layout) (h : HeapState F) (m : Moves) (from : World) (earlier : List Move) (w : World)
+    (st : HasFinished layout h from earlier w)
+    (marked : IsMarked h.segs.grains h.segs.marks h.segs.condemned h.segs.summaries) (room : most_moves h.segs.grains ≤ m.spare) where
+  -- all that has to be known of it before
+  before : IsBefore layout h m w
+  before = is_before layout st.past h w st.parts st.known st.rest marked m room
 
   -- it has fewer units than it does at most
-  units_few : length (live_ids may.world) + length may.world.graph.registered + length may.world.segments
+  units_few : length (live_ids w) + length w.graph.registered + length w.segments
       < most_units h.segs.grains (length h.finals.registered)
   units_few =
-      let st = may.stands in
-      let now = at_rest st.time in
-      let registered = registered_at_rest layout st.past h may.world st.parts now.time in
-      units_are_below layout st.past h may.world st.parts st.reached
-      (blocks_in_order layout st.past h may.world st.parts (laid_out may.world st.reached)) (length h.finals.registered)
-      (ap length registered ∙ length-map may.world.graph.registered (address_of_id may.world.addresses))
+      let registered = registered_at_rest layout st.past h w st.parts st.rest.time in
+      units_are_below layout st.past h w st.parts st.known.formed st.known.laid
+      (blocks_in_order layout st.past h w st.parts st.known.laid) (length h.finals.registered)
+      (ap length registered ∙ length-map w.graph.registered (address_of_id w.addresses))
 
--- then it can, whatever the tails of its pools are
+  -- it can collect, whatever the tails of its pools are
+  pub a_finished_heap_can_collect : CanCollectAll layout h m
+  a_finished_heap_can_collect =
+      can_collect_all layout (a_collection_begins flip_stands) (roots_can_be_fixed flip_stands) units_are_few (scans_are_done layout) h m
+      w (all_reserved layout st.past h w st.parts) before units_few
+
+  -- and then the moves of both are a `collect`
+  pub a_finished_heap_collects : (h' : HeapState F) (m' : Moves) → WereMadeBefore h.points.flips h.points → IsCollected layout h m h' m'
+      → IsRightThere layout from earlier m m' h'
+  a_finished_heap_collects h' m' made collected =
+      right_there layout (a_collection_begins flip_stands) a_collection_of_nothing_ends (scans_are_done layout) h m h' m' collected made
+      from earlier w st before
+
+-- ---- a heap at rest
+
 pub a_heap_can_collect : {F : Type 0}
     → (layout : F → Layout) (h : HeapState F) (m : Moves) → MayCollect layout h m → CanCollectAll layout h m
 a_heap_can_collect layout h m may =
-    can_collect_all layout (a_collection_begins flip_stands) (roots_can_be_fixed flip_stands) units_are_few (scans_are_done layout) h m
-    may.world may.stands (known_before layout h m may may.world may.stands m may.room)
-    (units_few layout h m may)
+    a_finished_heap_can_collect layout h m may.world [] may.world (none_to_finish may.stands) may.marked may.room
 
+-- it makes the same moves, whatever the world is
 pub a_collect_is_right : {F : Type 0} → ACollectIsRight F
-a_collect_is_right layout h m h' m' may made collected = record {
-  right =
-      collect_right layout (a_collection_begins flip_stands) a_collection_of_nothing_ends (scans_are_done layout) h m h' m' collected made
-      may.world may.stands (λ w stands. known_before layout h m may w stands m may.room);
-  room =
-      collect_keeps_room layout (a_collection_begins flip_stands) a_collection_of_nothing_ends (scans_are_done layout) h m h' m' collected
-      made may.world may.stands (known_before layout h m may may.world may.stands m may.room);
-}
+a_collect_is_right layout h m h' m' may made collected =
+    let of_world = λ (v : World) (stands : StandsFor layout h v).
+    a_finished_heap_collects layout h m v [] v (none_to_finish stands) may.marked may.room h' m' made collected in
+    let here = of_world may.world may.stands in
+    record {
+      right = record {
+        moves = here.moves;
+        appended = here.appended;
+        right = λ v line stands.
+            let there = of_world v stands in
+            subst (λ ms. IsRightIn layout v (step_of line call.Collect ms (Replied reply.Ok)) h')
+            (append_cancel_left m.moves there.moves here.moves (sym there.appended ∙ here.appended)) (there.right line);
+      };
+      room = here.room;
+    }

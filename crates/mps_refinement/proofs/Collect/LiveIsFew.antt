@@ -1,6 +1,6 @@
 -- How many objects are live at most, how many segments are held, and how many moves a collection takes, in an arena of n grains: each
 -- object has a word of its own, and two if it is automatic, and each segment a grain.
-use Rattle.mps_refinement.proofs.Worlds.Reached.{reached_well_formed}
+use Rattle.mps_model.specs.WellFormed.{IsWellFormed}
 use Rattle.std.proofs.Common.{◌≡◌, ℕ, zero, suc, ◌+◌, ◌*◌, ◌<◌, ◌≤◌, true, ap, subst, List, [], ◌∷◌, length, map, Some, Contains, arith}
 use Rattle.std.proofs.lemmas.List.{length-map}
 use Rattle.mps_base.specs.Address.{words_of_grain}
@@ -16,9 +16,8 @@ use Rattle.mps_trace_laws.specs.Begin.MovesOfObjects.{moves_of}
 use Rattle.mps_model.specs.World.{World, live_ids}
 use Rattle.mps_laws.proofs.Positions.LegalMoves.{HasLayout}
 use Rattle.mps_heap_spec.specs.State.{HeapState}
-use Rattle.mps_refinement.specs.StandsFor.{AreParts, IsReached, Past}
+use Rattle.mps_refinement.specs.StandsFor.{AreParts, Past}
 use Rattle.mps_refinement.proofs.Calls.LiveBlocks.{blocks_are_counted}
-use Rattle.mps_refinement.proofs.Worlds.Ready.{laid_out}
 
 -- what a list contains stands at an index
 contained_at : {A : Type 0} (xs : List A) (x : A) → Contains xs x → (k : ℕ) × (slice_get xs k ≡ Some x)
@@ -41,25 +40,25 @@ segments_are_few w laid =
     omega (arith, few, long)
 
 module _ {F : Type 0} (layout : F → Layout) (past : Past) (h : HeapState F) (w : World) (parts : AreParts layout past h w)
-    (reached : IsReached w) (ascending : IsAscending 0 (words_of_grain * (h.segs.grains + 1)) h.segs.blocks) where
+    (formed : IsWellFormed w) (laid : HasLayout (w.grains + 1) w) (ascending : IsAscending 0 (words_of_grain * (h.segs.grains + 1)) h.segs.blocks) where
   pub live_is_few : length (live_ids w) ≤ words_of_grain * (w.grains + 1)
   live_is_few =
       let few = runs_are_few 0 (words_of_grain * (h.segs.grains + 1)) h.segs.blocks ascending in
-      let counted = blocks_are_counted layout h w past parts (reached_well_formed w reached) in
+      let counted = blocks_are_counted layout h w past parts formed in
       let grains = parts.grains in
       omega (arith, few, counted, grains)
 
   large : (o : Object) → Contains w.graph.objects o → is_automatic o ≡ true → 2 ≤ size_of o
   large o there automatic =
       let k = contained_at w.graph.objects o there in
-      ((well_formed_is_shaped w parts.lawful (reached_well_formed w reached)).sizes k.0 o k.1 automatic).0
+      ((well_formed_is_shaped w parts.lawful formed).sizes k.0 o k.1 automatic).0
 
   -- so there is room for all moves of a collection where there is for this many
   pub moves_are_few : moves_of w.graph.objects w.addresses + length w.segments + 4 ≤ most_moves h.segs.grains
   moves_are_few =
       let moves = room_is_enough w.graph.objects w.addresses (words_of_grain * (h.segs.grains + 1))
       (subst (λ (rs : List Run). IsAscending 0 (words_of_grain * (h.segs.grains + 1)) rs) parts.image.runs.blocks ascending) large in
-      let segments = segments_are_few w (laid_out w reached) in
+      let segments = segments_are_few w laid in
       let grains = parts.grains in
       omega (arith, moves, segments, grains)
 
@@ -68,6 +67,6 @@ module _ {F : Type 0} (layout : F → Layout) (past : Past) (h : HeapState F) (w
       → length (live_ids w) + length w.graph.registered + length w.segments < most_units h.segs.grains registrations
   units_are_below registrations registered =
       let live = live_is_few in
-      let segments = segments_are_few w (laid_out w reached) in
+      let segments = segments_are_few w laid in
       let grains = parts.grains in
       omega (arith, live, segments, grains, registered)

@@ -13,10 +13,11 @@ use Rattle.mps_trace_laws.proofs.Image.Shaped.{all_at}
 use Rattle.mps_trace_laws.specs.Begin.Before.{AreObjectsAtRest}
 use Rattle.mps_trace_laws.specs.Units.Finals.{AreDue}
 use Rattle.mps_heap_spec.specs.State.{HeapState}
-use Rattle.mps_refinement.specs.StandsFor.{AreParts, IsReached, Past}
+use Rattle.mps_refinement.specs.StandsFor.{AreParts, Past, Time}
 use Rattle.mps_refinement.proofs.Lookups.BlockRuns.{targets_live}
 use Rattle.mps_refinement.proofs.Parts.Registered.{live_at}
-use Rattle.mps_refinement.proofs.Worlds.Reached.{reached_sound, reached_well_formed}
+use Rattle.mps_refinement.proofs.Worlds.Known.{IsKnown}
+use Rattle.mps_refinement.proofs.Worlds.RestingActs.{resting_sound}
 use Rattle.mps_refinement.proofs.Collect.CollectIsRight.{may_begin}
 use Rattle.mps_refinement.proofs.Collect.StrongMoving.{strong_moving}
 
@@ -45,14 +46,14 @@ registered_are_due w formed = record {
 -- ---- all of them
 
 module _ {F : Type 0} (layout : F → Layout) (past : Past) (h : HeapState F) (w : World) (parts : AreParts layout past h w)
-    (reached : IsReached w) (none : w.collection ≡ None)
+    (t : Time) (known : IsKnown t w) (none : w.collection ≡ None)
   where
     pub objects_at_rest : AreObjectsAtRest w
     objects_at_rest = record {
-      rest = may_begin layout past h w parts reached none;
-      due = registered_are_due w (reached_well_formed w reached);
-      strong_moving = strong_moving w reached;
+      rest = may_begin layout past h w parts t known none;
+      due = registered_are_due w known.formed;
+      strong_moving = strong_moving w known.graph;
       none_dependent = parts.dependents;
-      shaped = well_formed_is_shaped w parts.lawful (reached_well_formed w reached);
-      targets_live = targets_live w none (reached_sound w reached none);
+      shaped = well_formed_is_shaped w parts.lawful known.formed;
+      targets_live = targets_live w none (resting_sound w none known.live);
     }

@@ -1,8 +1,7 @@
 -- What the roots of a heap at rest hold, as a flip of everything finds it: the tables in their order have the slots of the world's, and
 -- words of areas are those that the world shows.
-use Rattle.mps_laws.proofs.Sound.HeldIds.{AreHeld, of_client}
+use Rattle.mps_laws.proofs.Sound.HeldIds.{AreHeld}
 use Rattle.mps_refinement.proofs.Parts.Resting.{registered_at_rest}
-use Rattle.mps_refinement.proofs.Worlds.Reached.{reached_live}
 use Rattle.std.proofs.Common.{◌≡◌, ◌∙◌, ℕ, zero, suc, ◌+◌, ◌<◌, Bool, true, false, refl, sym, ap, subst, List, [], ◌∷◌, ◌++◌, length, map, Option, Some, None, IsSome, inl, inr, arith}
 use Rattle.std.proofs.lemmas.List.{length-map, map-append}
 use Rattle.std.proofs.lemmas.List.Folds.{flat_map-map}
@@ -30,11 +29,10 @@ use Rattle.mps_trace_laws.specs.Roots.Rows.{AreHeldAtFlip, HoldsAtFlip, WasAt}
 use Rattle.mps_trace_laws.specs.Roots.Tables.{AreTablesHeld}
 use Rattle.mps_trace_laws.specs.Begin.Begun.{AreRootsHeld}
 use Rattle.mps_refinement.specs.Numbering.{numbers_from}
-use Rattle.mps_refinement.specs.StandsFor.{AreParts, IsReached, Past, address_of_id, address_of_target, stored_word, time_at_rest}
+use Rattle.mps_refinement.specs.StandsFor.{AreParts, Past, address_of_id, address_of_target, stored_word, time_at_rest}
 use Rattle.mps_refinement.proofs.Lookups.Found.{some_there}
 use Rattle.mps_refinement.proofs.Lookups.ManualBlocks.{passes_there}
 use Rattle.mps_refinement.proofs.Parts.Ordering.{all_in_order, ordered_apart}
-use Rattle.mps_refinement.proofs.Worlds.ReachedGraph.{reached_graph}
 use Rattle.mps_refinement.proofs.Collect.SameAddresses.{has_entry}
 
 -- ---- tables in order
@@ -153,15 +151,9 @@ both_ways false false there back = refl
 -- ---- a heap at rest
 
 module _ {F : Type 0} (layout : F → Layout) (past : Past) (h : HeapState F) (w : World) (parts : AreParts layout past h w)
-    (reached : IsReached w) where
+    (sound : IsSoundGraph w) (live_held : AreHeld (is_live w) w.graph) where
   abbrev y : Collecting
   y = collecting_after_flip w Everything []
-
-  sound : IsSoundGraph w
-  sound = reached_graph w reached
-
-  live_held : AreHeld (is_live w) w.graph
-  live_held = of_client (is_live w) w.graph (reached_live w reached).client
 
   abbrev pub rows : List Slots
   rows = rows_in_order past.table_number h.roots.order w.graph.tables

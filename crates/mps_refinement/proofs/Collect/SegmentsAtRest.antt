@@ -14,16 +14,12 @@ use Rattle.mps_model.specs.World.{World}
 use Rattle.mps_laws.proofs.Positions.LegalMoves.{HasLayout}
 use Rattle.mps_trace_laws.specs.Begin.Before.{AreSegmentsAtRest}
 use Rattle.mps_heap_spec.specs.State.{HeapState}
-use Rattle.mps_refinement.specs.StandsFor.{AreParts, IsReached, Past, Rests, collector_of}
-use Rattle.mps_refinement.proofs.Worlds.Ready.{laid_out}
+use Rattle.mps_refinement.specs.StandsFor.{AreParts, Past, Rests, collector_of}
 
 module _ {F : Type 0} (layout : F → Layout) (past : Past) (h : HeapState F) (w : World) (parts : AreParts layout past h w)
-    (reached : IsReached w) (rest : Rests past.time (collector_of h) w) where
+    (laid : HasLayout (w.grains + 1) w) (rest : Rests past.time (collector_of h) w) where
   image : StandsAtRest h.segs w
   image = image_at_rest layout past h w parts rest.time
-
-  laid : HasLayout (w.grains + 1) w
-  laid = laid_out w reached
 
   -- no block is grey, as no object is
   none_grey : (n : Word) → (bit h.segs.marks.exact n || bit h.segs.marks.weak n) ≡ false

@@ -1,4 +1,4 @@
--- No object of a pool that copies is weak: in a world that a legal history reaches weak objects are those of pools with weak references.
+-- No object of a pool that copies is weak: where the graph is sound weak objects are those of pools with weak references.
 use Rattle.std.proofs.Common.{◌≡◌, ◌∙◌, Bool, true, false, refl, sym, ap, Option, Some, None}
 use Rattle.std.proofs.lemmas.Bool.{false≢true, true≢false, and_parts}
 use Rattle.std.specs.Prelude.{◌&&◌, ◌||◌, not, slice_get}
@@ -8,8 +8,7 @@ use Rattle.mps_base.specs.declared.names.Kind.TheVariants as kind
 use Rattle.mps_model.specs.Graph.{Body, Automatic, Manual, Object, is_weak_body, is_weak_object, object_at}
 use Rattle.mps_model.specs.World.{World, Pool, PoolKind, Collected, OneSize, AnySize, Frames, is_automatic_kind, is_copying_kind, is_copying_object, is_copying_pool, is_weak_kind, object_is}
 use Rattle.mps_model.specs.WellFormed.{are_right_cells, is_right_body}
-use Rattle.mps_refinement.specs.StandsFor.{IsReached}
-use Rattle.mps_refinement.proofs.Worlds.ReachedGraph.{reached_graph}
+use Rattle.mps_laws.proofs.Sound.SoundGraph.{IsSoundGraph}
 
 copying_is_strong : (k : PoolKind) → is_copying_kind k ≡ true → is_weak_kind k ≡ false
 copying_is_strong (Collected kind.Amc) copying = refl
@@ -31,9 +30,9 @@ not_weak w q (Automatic head cells is_weak) strong right = of_tests is_weak (is_
     of_tests false k e h = refl
     of_tests true k e h = absurd (true≢false (sym h ∙ e))
 
-module _ (w : World) (reached : IsReached w) where
+module _ (w : World) (sound : IsSoundGraph w) where
   strong_object : (id : Id) (o : Object) → object_at w.graph id ≡ Some o → is_copying_pool w o.pool ≡ true → is_weak_object o ≡ false
-  strong_object id o e copying = of_pool (slice_get w.pools o.pool) refl ((reached_graph w reached).objects id o e)
+  strong_object id o e copying = of_pool (slice_get w.pools o.pool) refl (sound.objects id o e)
     where
       of_pool : (x : Option Pool) → slice_get w.pools o.pool ≡ x → option_map_or (λ p. is_right_body w p o.body) x false ≡ true
           → is_weak_object o ≡ false

@@ -23,6 +23,7 @@ use Rattle.mps_refinement.proofs.Collect.LiveIsFew.{units_are_below}
 use Rattle.mps_refinement.proofs.Parts.LaidSegments.{blocks_in_order}
 use Rattle.mps_refinement.proofs.Parts.Registered.{as_many}
 use Rattle.mps_refinement.proofs.Units.ToUnits.{stands_for_units}
+use Rattle.mps_refinement.proofs.Worlds.Reached.{reached_well_formed}
 use Rattle.mps_refinement.proofs.Worlds.Ready.{laid_out}
 
 module _ {F : Type 0} (layout : F → Layout) (past : Past) (h : HeapState F) (x : Collecting) (parts : AreParts layout past h x.world)
@@ -39,7 +40,8 @@ module _ {F : Type 0} (layout : F → Layout) (past : Past) (h : HeapState F) (x
       parts.registered
       in
       let below =
-      units_are_below layout past h w parts reach (blocks_in_order layout past h w parts (laid_out w reach)) (length h.finals.registered)
+      units_are_below layout past h w parts (reached_well_formed w reach) (laid_out w reach)
+      (blocks_in_order layout past h w parts (laid_out w reach)) (length h.finals.registered)
       many
       in
       omega (arith, bounded, below)

@@ -43,6 +43,7 @@ use Rattle.mps_refinement.proofs.Parts.SegmentsTaken.{condemned_held}
 use Rattle.mps_refinement.proofs.Units.Registrations.{as_registered, lived_then}
 use Rattle.mps_refinement.proofs.Units.Tails.{condemned_bits, tails_stand}
 use Rattle.mps_refinement.proofs.Worlds.Reached.{reached_well_formed}
+use Rattle.mps_refinement.proofs.Worlds.ReachedGraph.{reached_graph}
 use Rattle.mps_refinement.proofs.Worlds.Ready.{laid_out}
 use Rattle.mps_refinement.proofs.Worlds.Unreserved.{condemned_unreserved}
 
@@ -99,7 +100,7 @@ module _ {F : Type 0} (layout : F → Layout) (past : Past) (h : HeapState F) (x
   known = record {
     shaped = well_formed_is_shaped w parts.lawful formed;
     pools = pools.pools;
-    strong_moving = strong_moving w reach;
+    strong_moving = strong_moving w (reached_graph w reach);
     none_dependent = parts.dependents;
   }
 
@@ -120,7 +121,7 @@ module _ {F : Type 0} (layout : F → Layout) (past : Past) (h : HeapState F) (x
   enough : moves_left x + 2 ≤ m.spare
   enough =
       let bounded = moves_are_bounded x r.invariant in
-      let few = moves_are_few layout past h w parts reach (blocks_in_order layout past h w parts laid) in
+      let few = moves_are_few layout past h w parts formed laid (blocks_in_order layout past h w parts laid) in
       omega (arith, bounded, few, room)
 
   -- ---- the image

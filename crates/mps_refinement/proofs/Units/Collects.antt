@@ -1,0 +1,101 @@
+-- A `collect` over a running collection: what runs is finished first, and a collection of everything follows. It can be done, it is right,
+-- and its trail keeps its room.
+use Rattle.std.proofs.Common.{◌≡◌, ◌∙◌, ℕ, suc, ◌≤◌, refl, sym, ap, subst, [], ◌++◌}
+use Rattle.mps_base.specs.Trail.{Moves}
+use Rattle.mps_buffer.specs.Points.{WereMadeBefore}
+use Rattle.mps_format.specs.Layout.{Layout}
+use Rattle.mps_model.specs.declared.call.Call.TheVariants as call
+use Rattle.mps_model.specs.declared.reply.Reply.TheVariants as reply
+use Rattle.mps_model.specs.Answer.{Answer, Replied}
+use Rattle.mps_model.specs.World.{World}
+use Rattle.mps_seg.specs.Table.{IsMarked}
+use Rattle.mps_trace.specs.Collect.{most_moves}
+use Rattle.mps_trace.specs.Pools.{trace_of}
+use Rattle.mps_trace.specs.PoolsCollecting.{IsTraceOf}
+use Rattle.mps_trace.specs.State.{FinalsState}
+use Rattle.mps_trace.specs.Trace.{Traced, traced}
+use Rattle.mps_trace.specs.Unit.{EndsWithin}
+use Rattle.mps_abstract.specs.Collecting.{Collecting}
+use Rattle.mps_abstract.proofs.WholeCollections.WholeEnds.{a_whole_collection}
+use Rattle.mps_trace_laws.specs.Units.Laws.{AreLastTracedUnitsDone}
+use Rattle.mps_trace_laws.proofs.Units.Scanning.{scans_are_done}
+use Rattle.mps_heap_spec.specs.Collecting.{CanCollectAll, IsCollected}
+use Rattle.mps_heap_spec.specs.State.{HeapState}
+use Rattle.mps_refinement.specs.RightMoving.{KeepsRoom}
+use Rattle.mps_refinement.specs.RightStep.{IsRightIn, step_of}
+use Rattle.mps_refinement.specs.StandsFor.{AreParts, IsReached, Past, Runs, collector_of, time_at_rest}
+use Rattle.mps_refinement.proofs.Collect.CollectRight.{IsRightThere}
+use Rattle.mps_refinement.proofs.Collect.Finished.{HasFinished}
+use Rattle.mps_refinement.proofs.Collect.HeapCollects.{a_finished_heap_can_collect, a_finished_heap_collects}
+use Rattle.mps_refinement.proofs.Collect.PushedMoves.{none_pushed}
+use Rattle.mps_refinement.proofs.Collect.RoomKept.{units_keep_room}
+use Rattle.mps_refinement.proofs.Units.Ended as ended
+use Rattle.mps_refinement.proofs.Units.Steps.{moves_alone}
+use Rattle.mps_refinement.proofs.Units.ToUnits.{stands_for_units}
+
+module _ {F : Type 0} (layout : F → Layout) (past : Past) (h : HeapState F) (x : Collecting) (parts : AreParts layout past h x.world)
+    (reach : IsReached x.world) (r : Runs past.time (collector_of h) x.world x)
+    (of : IsTraceOf h.pools (trace_of h.pools h.tails))
+    (marked : IsMarked h.segs.grains h.segs.marks h.segs.condemned h.segs.summaries)
+    (m : Moves) (room : most_moves h.segs.grains ≤ m.spare) (most : ℕ) (z : Traced) (f : FinalsState)
+    (ends : EndsWithin layout (trace_of h.pools h.tails).formats (trace_of h.pools h.tails).chains
+    (traced (trace_of h.pools h.tails) h.segs m) h.finals r.run most z f) where
+  abbrev w : World
+  w = x.world
+
+  abbrev ok : Answer
+  ok = Replied reply.Ok
+
+  abbrev over : AreLastTracedUnitsDone (traced (trace_of h.pools h.tails) h.segs m) x (suc ends.count) z f
+  over = ended.done layout past h x parts reach r of marked m room most z f ends
+
+  -- the world at rest, and the heap that stands for it
+  abbrev v : World
+  v = ended.v layout past h x parts reach r of marked m room most z f ends
+
+  abbrev pub at_rest : HeapState F
+  at_rest = ended.heap_after layout past h x parts reach r of marked m room most z f ends
+
+  finished : HasFinished layout at_rest w over.moves v
+  finished = record {
+    past = record past { time = time_at_rest };
+    parts = ended.parts_after layout past h x parts reach r of marked m room most z f ends;
+    rest = ended.rests_after layout past h x parts reach r of marked m room most z f ends;
+    known = ended.knows_after layout past h x parts reach r of marked m room most z f ends;
+    finished = record {
+      reached = reach;
+      leads = refl;
+      formats =
+          ap (λ (u : World). u.formats)
+          (ended.left layout past h x parts reach r of marked m room most z f ends).but_collected.world;
+      collected = λ full whole. a_whole_collection.3 x over.moves full (suc ends.count) r.invariant over.units whole;
+    };
+  }
+
+  -- the units to the end keep the room of the trail
+  pub finish_keeps_room : KeepsRoom m z.moves
+  finish_keeps_room =
+      units_keep_room layout (trace_of h.pools h.tails) past.time.at_flip m (traced (trace_of h.pools h.tails) h.segs m) z h.finals f r.run
+      x most (scans_are_done layout (trace_of h.pools h.tails).formats (trace_of h.pools h.tails).chains past.time.at_flip)
+      (stands_for_units layout past h x parts reach r of marked m room) (none_pushed m) ends
+
+  -- with the tables of marks and the trail that are left
+  module _ (marked_then : IsMarked z.segs.grains z.segs.marks z.segs.condemned z.segs.summaries)
+      (room_then : most_moves z.segs.grains ≤ z.moves.spare) where
+    pub can_collect_then : CanCollectAll layout at_rest z.moves
+    can_collect_then = a_finished_heap_can_collect layout at_rest z.moves w over.moves v finished marked_then room_then
+
+    module _ (made : WereMadeBefore h.points.flips h.points) (h' : HeapState F) (m' : Moves)
+        (collected : IsCollected layout at_rest z.moves h' m') where
+      there : IsRightThere layout w over.moves z.moves m' h'
+      there = a_finished_heap_collects layout at_rest z.moves w over.moves v finished marked_then room_then h' m' made collected
+
+      -- the moves of both are due of the call, and the heap stands for the world after them
+      pub collecting_is_right : (line : ℕ) → m.moves ≡ [] → IsRightIn layout w (step_of line call.Collect m'.moves ok) h'
+      collecting_is_right line none =
+          let both : m'.moves ≡ over.moves ++ there.moves =
+          there.appended ∙ ap (λ ms. ms ++ there.moves) (moves_alone none over.trail) in
+          subst (λ ms. IsRightIn layout w (step_of line call.Collect ms ok) h') (sym both) (there.right line)
+
+      pub collecting_keeps_room : KeepsRoom m m'
+      collecting_keeps_room = there.room ∙ finish_keeps_room
