@@ -1,7 +1,7 @@
 -- `definalize` is right at any time if it is known where the registered objects are now, and so it is right at rest.
 use Rattle.std.proofs.Common.{◌≡◌, ◌∙◌, ℕ, ◌+◌, Bool, true, false, refl, sym, ap, ap₂, subst, List, [], ◌∷◌, map, Option, Some, None, inl, inr, Ok, Err}
 use Rattle.std.proofs.lemmas.Bool.{and_parts, cases_eq, eq-eqb, ne_eqb}
-use Rattle.std.specs.Prelude.{◌==◌, option_map, if◌then◌else◌}
+use Rattle.std.specs.Prelude.{◌==◌, option_map, if◌then◌else◌, slice_get}
 use Rattle.std.specs.List.{list_all, remove}
 use Rattle.std.specs.Option.{option_map_or}
 use Rattle.mps_base.specs.Address.{Address, Id}
@@ -35,7 +35,10 @@ use Rattle.mps_refinement.proofs.Parts.PartsByKind.{parts_of_kinds, arena_of, im
 use Rattle.mps_refinement.proofs.Parts.Registered.{one_less}
 use Rattle.mps_refinement.proofs.Worlds.Steps.{answer_to, HasParts, answered_is_right}
 use Rattle.mps_refinement.proofs.Calls.Readings.{says_ok}
-use Rattle.mps_refinement.proofs.Lookups.Resolving.{AreResolved, spared, unregistered_by, all_resolved, registered_read}
+use Rattle.mps_refinement.proofs.Lookups.Resolving.{AreResolved, unregistered_by, all_can_be_found, all_resolved, registered_read}
+use Rattle.mps_format.specs.Pools.{policy_of_pool}
+use Rattle.mps_trace.specs.Finding.{CanFind, passes as passes_through}
+use Rattle.std.proofs.lemmas.Option.{same_Some}
 use Rattle.mps_refinement.proofs.Parts.Resting.{at_rest, none_over}
 use Rattle.mps_extents.specs.Table.{bit}
 use Rattle.mps_seg.specs.Collecting.{first_grain_over}
@@ -232,13 +235,31 @@ module _ {F : Type 0} (layout : F → Layout) (h : HeapState F) (now : List Addr
           (subst (λ p. HasParts layout (time_after p st.past.time) h w) (sym taken)
           (record { past = st.past; timed = refl; parts = st.parts }))
 
+-- ---- what the call asks `find` for
+
+-- of each registration it can be asked, at any time
+pub registrations_can_be_found : {F : Type 0} (layout : F → Layout) (h : HeapState F) (w : World) → StandsFor layout h w → (n : ℕ)
+    (at : Address) → slice_get h.finals.registered n ≡ Some at
+    → CanFind layout (map policy_of_pool h.pools) h.segs (record { 0 = at })
+registrations_can_be_found layout h w st =
+    let t = st.past.time in
+    let knows = known_now st in
+    all_can_be_found layout st.past h w st.parts knows t.next t.registered_before h.finals.registered w.graph.registered
+    (registered_read t knows.collector w knows.now) knows.formed.registered st.parts.registered
+
 -- ---- at rest
 
 module _ {F : Type 0} (layout : F → Layout) (h : HeapState F) where
   -- nothing is condemned, so each block is where it was registered
   none_moved : ((grain : ℕ) → bit h.segs.condemned grain ≡ false) → (ats : List Address) → AreResolved layout h ats ats
-  none_moved none [] = tt
-  none_moved none (at ∷ ats) = (spared (none_over h.segs none (first_grain_over h.segs at)), none_moved none ats)
+  none_moved none ats = record {
+    long = refl;
+    each = λ n at to e f. record {
+      found = Some (record { 0 = at });
+      finds = passes_through (none_over h.segs none (first_grain_over h.segs at));
+      is = same_Some to at (sym f ∙ e);
+    };
+  }
 
   -- no collection runs that would be less far
   same_at_rest : h.running ≡ None → (slot : Slot) → unregistered_by layout h.finals.registered h slot ≡ after_definalize layout h slot

@@ -21,9 +21,8 @@ use Rattle.mps_trace_laws.specs.Roots.OneRoot.{IsWhere}
 use Rattle.mps_trace_laws.specs.Roots.Rows.{HoldsAtFlip, AreHeldAtFlip}
 use Rattle.mps_trace_laws.specs.Roots.Tables.{AreTablesHeld}
 use Rattle.mps_refinement.specs.Numbering.{AreNumbered}
-use Rattle.mps_refinement.proofs.Lookups.Found.{some_there}
+use Rattle.mps_refinement.proofs.Lookups.Found.{some_there, something}
 use Rattle.mps_refinement.specs.StandsFor.{AreSlots, address_of_target}
-use Rattle.mps_refinement.proofs.Collect.CollectIsRight.{something}
 use Rattle.mps_refinement.proofs.Collect.RootsAfter.{AreRootsAfter, still_there, was_there}
 use Rattle.mps_refinement.proofs.Collect.SameAddresses.{has_entry}
 

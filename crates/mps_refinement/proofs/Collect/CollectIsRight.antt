@@ -1,7 +1,7 @@
 -- A `collect` is right, if what ran before it is finished: its step is legal, and the heap stands for the world after it.
 use Rattle.mps_model.specs.History.{world_after, with_client_remembered}
 use Rattle.mps_model.proofs.AtRest.{with_client_remembered-none}
-use Rattle.std.proofs.Common.{◌≡◌, ◌∙◌, ℕ, zero, suc, ◌<◌, Bool, true, false, refl, sym, ap, subst, List, [], ◌∷◌, ◌++◌, length, Option, Some, None, is_some, inl, inr, arith}
+use Rattle.std.proofs.Common.{◌≡◌, ◌∙◌, ℕ, Bool, true, false, refl, sym, ap, subst, List, [], ◌∷◌, ◌++◌, length, Option, Some, None, is_some, inl, inr, arith}
 use Rattle.std.proofs.lemmas.Bool.{false≢true, true≢false}
 use Rattle.std.proofs.lemmas.Option.{same_Some, slice_get_within}
 use Rattle.std.specs.Prelude.{◌==◌, ◌||◌, slice_get, option_and_then}
@@ -49,6 +49,7 @@ use Rattle.mps_refinement.proofs.Worlds.RestingSteps.{IsMoving, moving_step}
 use Rattle.mps_refinement.proofs.Worlds.Steps.{HasParts, moved_to_rest}
 use Rattle.mps_refinement.specs.Collect.Leaving.{IsCollected, AreInPlace}
 use Rattle.mps_refinement.specs.Collect.Standing.{IsCollectedHeap, world_collected}
+use Rattle.mps_refinement.proofs.Lookups.Found.{something}
 use Rattle.mps_refinement.proofs.Collect.Finished.{HasFinished, IsFinished}
 use Rattle.mps_refinement.proofs.Collect.Leavings.{a_collection_moves_objects}
 use Rattle.mps_refinement.proofs.Collect.CollectedParts as parts_of
@@ -70,12 +71,6 @@ all_flat p next [] each = refl
 all_flat p next (x ∷ xs) each =
     all-append p (next x) (flat_map next xs) (each x (contains_here x xs))
     (all_flat p next xs (λ y h. each y (contains_later x xs y h)))
-
--- what stands at a place that is within a list
-pub something : {A : Type 0} (xs : List A) (n : ℕ) → n < length xs → (x : A) × (slice_get xs n ≡ Some x)
-something [] n less = absurd (omega (arith, less))
-something (x ∷ xs) zero less = (x, refl)
-something (x ∷ xs) (suc n) less = something xs n (omega (arith, less))
 
 -- ---- a heap at rest may begin a collection
 

@@ -21,7 +21,7 @@ use Rattle.mps_trace.specs.Roots.{FixesRoot, is_null, leads, FixesSlots, FixesTa
 use Rattle.mps_trace.specs.Trace.{TraceState, Traced}
 use Rattle.mps_trace_laws.specs.Roots.Rows.{HoldsAtFlip, WasAt, AreHeldAtFlip}
 use Rattle.mps_trace_laws.specs.Begin.Begun.{AreRootsHeld}
-use Rattle.mps_refinement.proofs.Collect.CollectIsRight.{something}
+use Rattle.mps_refinement.proofs.Lookups.Found.{something}
 use Rattle.mps_format.specs.declared.pool.Policy.{Policy}
 
 -- ---- lists

@@ -1,8 +1,8 @@
 -- What a collector knows of the pools of a heap, where it has their policies and none is on a chain.
-use Rattle.std.proofs.Common.{◌≡◌, ◌∙◌, ℕ, true, false, refl, sym, ap, subst, List, [], length, replicate, Option, Some, None, is_some, arith}
+use Rattle.std.proofs.Common.{◌≡◌, ◌∙◌, ℕ, true, false, refl, sym, ap, subst, List, [], length, map, replicate, Option, Some, None, is_some, arith}
 use Rattle.std.proofs.lemmas.Bool.{false≢true}
 use Rattle.std.proofs.lemmas.List.{length-replicate}
-use Rattle.std.proofs.lemmas.Option.{none-some, same_Some, slice_get-map, slice_get_within, unwrap_or-slice_get}
+use Rattle.std.proofs.lemmas.Option.{slice_get_within, unwrap_or-slice_get}
 use Rattle.std.specs.Prelude.{option_map, option_and_then, slice_get}
 use Rattle.std.specs.Option.{option_map_or, unwrap_or}
 use Rattle.mps_base.specs.Generation.{target_generation}
@@ -22,9 +22,9 @@ use Rattle.mps_trace.specs.PoolsCollecting.{IsTraceOf}
 use Rattle.mps_format.specs.Pools.{policy_of_pool, is_copying_pool}
 use Rattle.mps_format.specs.declared.pool.Pool.{Pool}
 use Rattle.mps_format.specs.declared.pool.Pool.TheVariants as pool
-use Rattle.mps_refinement.specs.StandsFor.{ArePools, IsPool}
+use Rattle.mps_refinement.specs.StandsFor.{ArePools}
 use Rattle.mps_refinement.proofs.Lookups.PoolKinds.{copying_by_number, kind_of, kinds_alike}
-use Rattle.mps_refinement.proofs.Collect.CollectIsRight.{something}
+use Rattle.mps_refinement.proofs.Lookups.Policies.{AtNumber, both, neither, at_number, layout_of_policy, moves_of_policy, policy_at, policy_of_automatic}
 use Rattle.mps_format.specs.declared.pool.Policy.{Policy}
 
 -- ---- one pool
@@ -35,29 +35,10 @@ module _ {F : Type 0} where
   has_format (pool.OneSize words) = refl
   has_format pool.AnySize = refl
 
-  format_where_automatic : (p : Pool F) → is_automatic_kind (kind_of p) ≡ true
-      → (format : Policy F) × (policy_of_pool p ≡ Some format)
-  format_where_automatic (pool.Automatic kind format) automatic =
-      (record { format = format; moves = is_copying_pool (pool.Automatic kind format) }, refl)
-  format_where_automatic (pool.OneSize words) automatic = absurd (false≢true automatic)
-  format_where_automatic pool.AnySize automatic = absurd (false≢true automatic)
-
-  moves_by : (p : Pool F) (format : Policy F) → policy_of_pool p ≡ Some format → format.moves ≡ is_copying_pool p
-  moves_by (pool.Automatic kind other) format e = ap (λ (x : Policy F). x.moves) (sym (same_Some _ format e))
-  moves_by (pool.OneSize words) format e = absurd (none-some format e)
-  moves_by pool.AnySize format e = absurd (none-some format e)
-
   moves_as : (p : Pool F) → option_map_or (λ (x : Policy F). x.moves) (policy_of_pool p) false ≡ is_copying_pool p
   moves_as (pool.Automatic kind format) = refl
   moves_as (pool.OneSize words) = refl
   moves_as pool.AnySize = refl
-
-  layout_is : (layout : F → Layout) (formats : ℕ → Layout) (p : Pool F) (q : world.Pool) (format : Policy F) → IsPool layout formats p q
-      → policy_of_pool p ≡ Some format → layout format.format ≡ formats q.format
-  layout_is layout formats (pool.Automatic kind other) q format is e = ap (λ (x : Policy F). layout x.format) (sym
-      (same_Some _ format e)) ∙ sym is.1
-  layout_is layout formats (pool.OneSize words) q format is e = absurd (none-some format e)
-  layout_is layout formats pool.AnySize q format is e = absurd (none-some format e)
 
   -- the format of a pool by its number, with None for what is no pool
   format_there : (formats : List (Option (Policy F))) (number : ℕ) (o : Option (Option (Policy F))) → slice_get formats number ≡ o
@@ -87,38 +68,18 @@ none_on_chain (Some chain) = refl
 
 module _ {F : Type 0} (layout : F → Layout) (pools : List (Pool F)) (t : TraceState F) (w : World)
     (are : ArePools layout w.formats pools w.pools) (none : w.chains ≡ []) (of : IsTraceOf pools t) where
-  -- a pool and what it stands for have one number, and so does what is no pool
-  data AtNumber (number : ℕ) : Type 0 where
-    both : (p : Pool F) (q : world.Pool) → slice_get pools number ≡ Some p → slice_get w.pools number ≡ Some q
-        → IsPool layout w.formats p q → AtNumber number
-    neither : slice_get pools number ≡ None → slice_get w.pools number ≡ None → AtNumber number
-
-  at_number : (number : ℕ) → AtNumber number
-  at_number number = of_ours (slice_get pools number) (slice_get w.pools number) refl refl
-    where
-      of_ours : (o : Option (Pool F)) (x : Option world.Pool) → slice_get pools number ≡ o → slice_get w.pools number ≡ x
-          → AtNumber number
-      of_ours (Some p) x e f = let is = are.each number p e in both p is.0 e is.1 is.2
-      of_ours None None e f = neither e f
-      of_ours None (Some q) e f =
-          let within = slice_get_within w.pools number q f in
-          let count = are.count in
-          let p = something pools number (omega (arith, within, count)) in
-          absurd (none-some p.0 (sym e ∙ p.1))
-
   format_at : (number : ℕ) (o : Option (Pool F)) → slice_get pools number ≡ o → slice_get t.formats number ≡ option_map policy_of_pool o
   format_at number o e =
-      ap (λ (formats : List (Option (Policy F))). slice_get formats number) of.formats ∙ slice_get-map policy_of_pool pools number
-      ∙ ap (option_map policy_of_pool) e
+      ap (λ (formats : List (Option (Policy F))). slice_get formats number) of.formats ∙ policy_at pools number o e
 
   kind_at : (number : ℕ) (q : world.Pool) → slice_get w.pools number ≡ Some q
       → pool_is is_automatic_kind w number ≡ is_automatic_kind q.kind
   kind_at number q e = ap (λ (o : Option world.Pool). option_map_or (λ p. is_automatic_kind p.kind) o false) e
 
   formats_known : AreFormatsOf t.formats (pool_is is_automatic_kind w)
-  formats_known number = by_cases (at_number number)
+  formats_known number = by_cases (at_number layout pools w are number)
     where
-      by_cases : AtNumber number → is_automatic t.formats number ≡ pool_is is_automatic_kind w number
+      by_cases : AtNumber layout pools w are number → is_automatic t.formats number ≡ pool_is is_automatic_kind w number
       by_cases (both p q e f is) =
           format_there t.formats number (Some (policy_of_pool p)) (format_at number (Some p) e) ∙ has_format p
           ∙ ap is_automatic_kind (sym (kinds_alike layout w.formats p q is)) ∙ sym (kind_at number q f)
@@ -127,9 +88,9 @@ module _ {F : Type 0} (layout : F → Layout) (pools : List (Pool F)) (t : Trace
           ∙ sym (ap (λ (o : Option world.Pool). option_map_or (λ p. is_automatic_kind p.kind) o false) f)
 
   moves_known : AreMovesOf t.formats (world.is_copying_pool w)
-  moves_known number = by_cases (at_number number)
+  moves_known number = by_cases (at_number layout pools w are number)
     where
-      by_cases : AtNumber number → moves_blocks t.formats number ≡ world.is_copying_pool w number
+      by_cases : AtNumber layout pools w are number → moves_blocks t.formats number ≡ world.is_copying_pool w number
       by_cases (both p q e f is) =
           moves_there t.formats number (Some (policy_of_pool p)) (format_at number (Some p) e) ∙ moves_as p
           ∙ copying_by_number layout w.formats p q is w number f
@@ -137,30 +98,10 @@ module _ {F : Type 0} (layout : F → Layout) (pools : List (Pool F)) (t : Trace
           moves_there t.formats number None (format_at number None e)
           ∙ sym (ap (λ (o : Option world.Pool). option_map_or (λ p. world.is_copying_kind p.kind) o false) f)
 
-  -- an automatic pool, with its policy
-  record IsCollectedPool (number : ℕ) : Type 0 where
-    pool_is : Pool F
-    there : slice_get pools number ≡ Some pool_is
-    format : Policy F
-    format_is : policy_of_pool pool_is ≡ Some format
-
-  collected : (number : ℕ) → pool_is is_automatic_kind w number ≡ true → IsCollectedPool number
-  collected number automatic = by_cases (at_number number)
-    where
-      by_cases : AtNumber number → IsCollectedPool number
-      by_cases (both p q e f is) =
-          let kind : is_automatic_kind (kind_of p) ≡ true =
-          ap is_automatic_kind (sym (kinds_alike layout w.formats p q is)) ∙ sym (kind_at number q f) ∙ automatic in
-          let format = format_where_automatic p kind in
-          record { pool_is = p; there = e; format = format.0; format_is = format.1 }
-      by_cases (neither e f) =
-          absurd (false≢true
-          (sym (ap (λ (o : Option world.Pool). option_map_or (λ p. is_automatic_kind p.kind) o false) f) ∙ automatic))
-
   mover : (number : ℕ) → world.is_copying_pool w number ≡ true → (p : Pool F) × (slice_get pools number ≡ Some p)
-  mover number copying = by_cases (at_number number)
+  mover number copying = by_cases (at_number layout pools w are number)
     where
-      by_cases : AtNumber number → (p : Pool F) × (slice_get pools number ≡ Some p)
+      by_cases : AtNumber layout pools w are number → (p : Pool F) × (slice_get pools number ≡ Some p)
       by_cases (both p q e f is) = (p, e)
       by_cases (neither e f) =
           absurd (false≢true (sym (ap (λ (o : Option world.Pool). option_map_or (λ p. world.is_copying_kind p.kind) o false) f) ∙ copying))
@@ -177,34 +118,16 @@ module _ {F : Type 0} (layout : F → Layout) (pools : List (Pool F)) (t : Trace
       (option_and_then (λ chain. slice_get cs chain) (option_and_then (λ (p : world.Pool). p.chain) (world.pool_at w number)))) none
       ∙ none_on_chain (option_and_then (λ (p : world.Pool). p.chain) (world.pool_at w number))
 
-  formats_right : (number : ℕ) (format : Policy F) → slice_get t.formats number ≡ Some (Some format)
-      → layout format.format ≡ pool_layout w number
-  formats_right number format there = by_cases (at_number number)
-    where
-      by_cases : AtNumber number → layout format.format ≡ pool_layout w number
-      by_cases (both p q e f is) =
-          layout_is layout w.formats p q format is
-          (same_Some (policy_of_pool p) (Some format) (sym (format_at number (Some p) e) ∙ there))
-          ∙ sym (ap (λ (o : Option world.Pool). w.formats (option_map_or (λ (x : world.Pool). x.format) o 0)) f)
-      by_cases (neither e f) = absurd (none-some (Some format) (sym (format_at number None e) ∙ there))
-
-  moves_right : (number : ℕ) (format : Policy F) → slice_get t.formats number ≡ Some (Some format)
-      → format.moves ≡ world.is_copying_pool w number
-  moves_right number format there = by_cases (at_number number)
-    where
-      by_cases : AtNumber number → format.moves ≡ world.is_copying_pool w number
-      by_cases (both p q e f is) =
-          moves_by p format (same_Some (policy_of_pool p) (Some format) (sym (format_at number (Some p) e) ∙ there))
-          ∙ copying_by_number layout w.formats p q is w number f
-      by_cases (neither e f) = absurd (none-some (Some format) (sym (format_at number None e) ∙ there))
+  there : (number : ℕ) → slice_get t.formats number ≡ slice_get (map policy_of_pool pools) number
+  there number = ap (λ (formats : List (Option (Policy F))). slice_get formats number) of.formats
 
   known_pools : AreKnownPools layout t.formats t.chains (pool_is is_automatic_kind w) (world.is_copying_pool w) (pool_layout w)
       (generations_of w)
   known_pools = record {
     listed = λ number automatic.
-        let m = collected number automatic in (m.format, format_at number (Some m.pool_is) m.there ∙ ap Some m.format_is);
-    format_is = formats_right;
-    moves_is = moves_right;
+        let listed = policy_of_automatic layout pools w are number automatic in (listed.0, there number ∙ listed.1);
+    format_is = λ number format listed. layout_of_policy layout pools w are number format (sym (there number) ∙ listed);
+    moves_is = λ number format listed. moves_of_policy layout pools w are number format (sym (there number) ∙ listed);
     known = λ number copying.
         let m = mover number copying in
         let within = slice_get_within pools number m.0 m.1 in

@@ -1,5 +1,5 @@
 -- Two rows of checks that come to the same: what they came to, and things that are looked up by names and in lists.
-use Rattle.std.proofs.Common.{◌≡◌, ◌∙◌, ℕ, refl, sym, ap, subst, List, map, Option, Some, None, Ok, Err, IsSome}
+use Rattle.std.proofs.Common.{◌≡◌, ◌∙◌, ◌<◌, ℕ, zero, suc, refl, sym, ap, subst, List, [], ◌∷◌, length, map, Option, Some, None, Ok, Err, IsSome, arith}
 use Rattle.std.proofs.lemmas.Bool.{false≢true}
 use Rattle.std.proofs.lemmas.Option.{none-some, same_Some, slice_get-map}
 use Rattle.std.specs.Prelude.{option_map, slice_get}
@@ -134,3 +134,9 @@ entry_same f numbers ours models index x y k =
       there = e.1;
       value = e.0;
     }))
+
+-- what stands at a place that is within a list
+pub something : {A : Type 0} (xs : List A) (n : ℕ) → n < length xs → (x : A) × (slice_get xs n ≡ Some x)
+something [] n less = absurd (omega (arith, less))
+something (x ∷ xs) zero less = (x, refl)
+something (x ∷ xs) (suc n) less = something xs n (omega (arith, less))

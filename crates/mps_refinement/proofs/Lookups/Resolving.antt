@@ -1,67 +1,59 @@
--- Where a block is now that was registered by its address, and what `definalize` comes to by that: a registration has the address that
--- its object has now or had at the flip.
-use Rattle.std.proofs.Common.{◌≡◌, ◌∙◌, ℕ, zero, suc, ◌-◌, ◌<◌, ◌%◌, Bool, true, false, refl, sym, ap, ap₂, subst, List, [], ◌∷◌, map, Some, inl, inr, arith}
-use Rattle.std.proofs.lemmas.Bool.{and_parts, cases_Bool, cases_eq, eqb-true, or_cases, false≢true}
-use Rattle.std.proofs.lemmas.List.{get_or-drop}
+-- Where a block is now that was registered by its address, and what `definalize` comes to by that. A registration has the address that
+-- its object has now or had at the flip, and `find` can be asked of it.
+use Rattle.std.proofs.Common.{◌≡◌, ◌∙◌, ◌⊎◌, ℕ, zero, suc, ◌+◌, ◌-◌, ◌<◌, ◌%◌, Bool, true, false, refl, sym, ap, ap₂, subst, List, [], ◌∷◌, length, map, Option, Some, None, inl, inr, arith}
+use Rattle.std.proofs.lemmas.Bool.{and_parts, cases_Bool, cases_eq, cases_lt, eqb-true, or_cases, false≢true}
+use Rattle.std.proofs.lemmas.List.{get_or-drop, length-drop}
 use Rattle.std.proofs.lemmas.Option.{none-some, same_Some}
-use Rattle.std.specs.Prelude.{◌==◌, drop, option_map, slice_get, slice_index, ◌≡◌, ℕ, ◌+◌, true, false, Some, List, [], ◌∷◌}
+use Rattle.std.specs.Prelude.{◌==◌, drop, if◌then◌else◌, option_map, slice_get, slice_index}
 use Rattle.std.specs.List.{list_all}
 use Rattle.std.specs.Option.{option_map_or}
 use Rattle.mps_base.specs.Address.{Address, Id, address_of_word, word_of}
 use Rattle.mps_base.specs.Segment.{Segment, segment_over}
-use Rattle.mps_abstract.specs.Colours.{is_white}
-use Rattle.mps_format.specs.Blocks.{BeginsForwarded}
-use Rattle.mps_format.specs.Layout.{Layout}
-use Rattle.mps_trace_laws.specs.Image.Image.{MeansAt, IsForwardedObject}
-use Rattle.mps_trace_laws.specs.Image.Memory.{Lies, pool_layout, pool_over_word}
-use Rattle.mps_trace_laws.proofs.Image.Shaped.{are_shaped_objects}
-use Rattle.mps_laws.proofs.Sound.SoundGraph.{All}
-use Rattle.mps_model.specs.Checked.{head_of_body, Checked, ◌>>=◌, required}
-use Rattle.mps_model.specs.Graph.{Object, contains, entry_at, is_automatic}
-use Rattle.mps_model.specs.World as world
-use Rattle.mps_model.specs.World.{World, is_live, object_is}
-use Rattle.mps_model.specs.WellFormed.{is_live_automatic}
-use Rattle.mps_heap_spec.specs.State.{HeapState}
-use Rattle.mps_format.specs.Pools.{format_of_pool}
-use Rattle.mps_format.specs.declared.pool.Pool.{Pool}
-use Rattle.mps_format.specs.declared.pool.Pool.TheVariants as pool
-use Rattle.mps_refinement.specs.StandsFor.{AreParts, AreRegistered, CollectorState, IsInTime, IsPool, Past, address_of_id, rests, runs}
-use Rattle.mps_refinement.proofs.Lookups.Found.{some_there}
-use Rattle.mps_refinement.proofs.Parts.Registered.{means_by}
-use Rattle.mps_refinement.proofs.Worlds.Known.{IsKnown, read_where_kept}
-use Rattle.mps_refinement.proofs.Lookups.ManualBlocks.{passes_there}
+use Rattle.mps_base.specs.declared.address.Addr.{Addr}
 use Rattle.mps_base.specs.declared.names.Slot.{Slot}
 use Rattle.mps_base.specs.declared.refusal.Refusal.TheVariants as refusal
+use Rattle.mps_abstract.specs.Colours.{is_white}
+use Rattle.mps_abstract.proofs.Lists.{contains_here, contains_later}
+use Rattle.mps_abstract.proofs.RightObjects.{pool_kind}
+use Rattle.mps_amc.specs.Moving.{IsForwarded}
+use Rattle.mps_format.specs.Blocks.{BeginsForwarded}
+use Rattle.mps_format.specs.Layout.{Layout}
+use Rattle.mps_format.specs.Pools.{policy_of_pool}
+use Rattle.mps_format.specs.declared.pool.Policy.{Policy}
+use Rattle.mps_laws.proofs.Sound.SoundGraph.{All}
+use Rattle.mps_model.specs.Checked.{head_of_body, Checked, ◌>>=◌, required}
+use Rattle.mps_model.specs.Graph.{HeadCell, Object, contains, entry_at, is_automatic, size_of}
+use Rattle.mps_model.specs.World as world
+use Rattle.mps_model.specs.World.{World, is_automatic_kind, is_live, object_is, pool_is}
+use Rattle.mps_model.specs.WellFormed.{is_live_automatic, is_right_object}
+use Rattle.mps_seg.specs.Collecting.{is_condemned_at, is_kept_at}
+use Rattle.mps_trace.specs.Finding.{CanFind, FindsIn, FindsTo, has_moved, in_pool, lies, passes}
 use Rattle.mps_trace.specs.State.{position_of}
+use Rattle.mps_trace_laws.specs.Image.Image.{AreShaped, IsForwardedObject, MeansAt}
+use Rattle.mps_trace_laws.specs.Image.Memory.{Lies, pool_layout, pool_over_word}
+use Rattle.mps_trace_laws.proofs.Image.Shaped.{all_at, are_shaped_objects}
 use Rattle.mps_heap_spec.specs.Coming.{Outcome, done}
 use Rattle.mps_heap_spec.specs.Finalizing.{without_registered}
 use Rattle.mps_heap_spec.specs.Finding.{object_in}
-use Rattle.mps_seg.specs.Collecting.{is_condemned_at}
-
--- the format of the blocks of the segment over an address
-pub record HasFormat {F : Type 0} (h : HeapState F) (at : Address) (format : F) : Type 0 where
-  pub segment : Segment
-  pub over : segment_over h.segs.segments at ≡ Some segment
-  pub pool : Pool F
-  pub kept : slice_get h.pools segment.pool ≡ Some pool
-  pub of : format_of_pool pool ≡ Some format
+use Rattle.mps_heap_spec.specs.State.{HeapState}
+use Rattle.mps_refinement.specs.StandsFor.{AreParts, AreRegistered, CollectorState, IsInTime, Past, Time, address_of_id, rests, runs, setting_at}
+use Rattle.mps_refinement.proofs.Lookups.Found.{some_there}
+use Rattle.mps_refinement.proofs.Lookups.ManualBlocks.{passes_there}
+use Rattle.mps_refinement.proofs.Lookups.Policies.{layout_of_policy, moves_of_policy, policy_of_automatic}
+use Rattle.mps_refinement.proofs.Parts.Registered.{means_by}
+use Rattle.mps_refinement.proofs.Worlds.Known.{IsKnown, read_where_kept}
 
 module _ {F : Type 0} (layout : F → Layout) where
-  -- a block that was at an address is there now, unless its segment is condemned and a forwarded block begins there: then it is where
-  -- that leads
-  pub data ResolvesTo (h : HeapState F) (at : Address) : Address → Type 0 where
-    spared : is_condemned_at h.segs at ≡ false → ResolvesTo h at at
-    has_moved : (format : F) (size : ℕ) → HasFormat h at format → is_condemned_at h.segs at ≡ true
-        → BeginsForwarded (layout format) (drop (word_of at) h.segs.words) size → ResolvesTo h at
-        (slice_index h.segs.words (word_of at + 1))
-    is_there : (format : F) → HasFormat h at format
-        → ((size : ℕ) → BeginsForwarded (layout format) (drop (word_of at) h.segs.words) size → ⊥) → ResolvesTo h at at
+  -- where a block is now that was at an address, as `find` answers it: one that is white is there still
+  pub record ResolvesTo (h : HeapState F) (at to : Address) : Type 0 where
+    pub found : Option Addr
+    pub finds : FindsTo layout (map policy_of_pool h.pools) h.segs (record { 0 = at }) found
+    pub is : to ≡ option_map_or (λ (a : Addr). a.0) found at
 
   -- so for each of some addresses
-  abbrev pub AreResolved : HeapState F → (before now : List Address) → Type 0
-  AreResolved h [] [] = Unit {0}
-  AreResolved h (at ∷ ats) (to ∷ tos) = ResolvesTo h at to × AreResolved h ats tos
-  AreResolved h _ _ = ⊥
+  pub record AreResolved (h : HeapState F) (before now : List Address) : Type 0 where
+    pub long : length now ≡ length before
+    pub each : (n : ℕ) (at to : Address) → slice_get before n ≡ Some at → slice_get now n ≡ Some to → ResolvesTo h at to
 
   -- what `definalize` comes to if the registered objects are at these addresses now
   abbrev pub unregistered_by : (now : List Address) → HeapState F → Slot → Checked (Outcome F (Unit {0}))
@@ -73,122 +65,229 @@ module _ {F : Type 0} (layout : F → Layout) where
 first_word : (words : List ℕ) (n : ℕ) → slice_index (drop n words) 0 ≡ slice_index words n
 first_word words n = get_or-drop n words 0 0 ∙ ap (slice_index words) (omega arith)
 
+-- a block that hasn't moved is there, whether it is kept or not
+there_still : (at : Addr) (kept : Bool) → option_map_or (λ (a : Addr). a.0) (if kept then Some at else None) at.0 ≡ at.0
+there_still at true = refl
+there_still at false = refl
+
+-- the segment over an address, where its pool is known
+over_of_pool : (o : Option Segment) (pool : ℕ) → option_map (λ (t : Segment). t.pool) o ≡ Some pool
+    → (t : Segment) × (o ≡ Some t) × (t.pool ≡ pool)
+over_of_pool None pool is = absurd (none-some pool is)
+over_of_pool (Some t) pool is = (t, refl, same_Some t.pool pool is)
+
 module _ {F : Type 0} (layout : F → Layout) (past : Past) (h : HeapState F) (w : World) (parts : AreParts layout past h w)
     (knows : IsKnown past.time w) where
-  -- the format over an address is that of the pool that is held there
-  format_is : (at : Address) (format : F) (n : ℕ) → address_of_word (word_of at) ≡ at → HasFormat h at format
-      → pool_over_word h.segs (word_of at) ≡ Some n → layout format ≡ pool_layout w n
-  format_is at format n aligned has over =
-      let same : has.segment.pool ≡ n =
-      same_Some has.segment.pool n (sym (ap (λ o. option_map (λ (t : Segment). t.pool) o)
-      (ap (segment_over h.segs.segments) aligned ∙ has.over)) ∙ over) in
-      let q = parts.pools.each n has.pool (ap (slice_get h.pools) (sym same) ∙ has.kept) in
-      of_pool has.pool q.0 q.2 has.of ∙ sym (ap (λ o. w.formats (option_map_or (λ (p : world.Pool). p.format) o 0)) q.1)
+  abbrev policies : List (Option (Policy F))
+  policies = map policy_of_pool h.pools
+
+  abbrev at_flip : List (Option Address)
+  at_flip = past.time.at_flip
+
+  shaped : AreShaped w.graph.objects (pool_layout w)
+  shaped = are_shaped_objects w parts.lawful knows.formed.objects
+
+  -- an object of a pool that doesn't move its blocks is where it was at the flip
+  still_there : (id : Id) (from to : Address) → world.is_copying_object w id ≡ false → entry_at at_flip id ≡ Some from
+      → entry_at w.addresses id ≡ Some to → from ≡ to
+  still_there id from to stays was now = of_time knows.now
     where
-      of_pool : (p : Pool F) (q : world.Pool) → IsPool layout w.formats p q → format_of_pool p ≡ Some format
-          → layout format ≡ w.formats q.format
-      of_pool (pool.Automatic kind other) q is e = ap layout (sym (same_Some other format e)) ∙ sym is.1
-      of_pool (pool.OneSize words) q is e = absurd (none-some format e)
-      of_pool pool.AnySize q is e = absurd (none-some format e)
+      of_time : IsInTime past.time knows.collector w → from ≡ to
+      of_time (rests rest) = absurd (none-some from (sym (ap (λ (u : Time). entry_at u.at_flip id) rest.time) ∙ was))
+      of_time (runs x r may) = r.flip.still id from to stays was now
 
-  -- if an address means a live automatic object that is read, it resolves to the address that the object has now
-  pub resolved_means : (id : Id) (at to : Address) → is_live_automatic w id ≡ true → past.time.is_read id ≡ true
-      → MeansAt w.addresses past.time.at_flip at id → ResolvesTo layout h at to → to ≡ address_of_id w.addresses id
-  resolved_means id at to passes read means resolves = of_means means
-    where
-      both_tests : (is_live w id ≡ true) × (object_is is_automatic w id ≡ true)
-      both_tests = and_parts (is_live w id) (object_is is_automatic w id) passes
+  -- ---- an address that means a live automatic object that is read
 
-      now : (a : Address) × (entry_at w.addresses id ≡ Some a)
-      now = some_there (entry_at w.addresses id) both_tests.0
+  module _ (id : Id) (at : Address) (passing : is_live_automatic w id ≡ true) (read : past.time.is_read id ≡ true)
+      (means : MeansAt w.addresses past.time.at_flip at id) where
+    both_tests : (is_live w id ≡ true) × (object_is is_automatic w id ≡ true)
+    both_tests = and_parts (is_live w id) (object_is is_automatic w id) passing
 
-      object : (o : Object) × (slice_get w.graph.objects id ≡ Some o) × (is_automatic o ≡ true)
-      object = passes_there is_automatic (slice_get w.graph.objects id) both_tests.1
+    now : (a : Address) × (entry_at w.addresses id ≡ Some a)
+    now = some_there (entry_at w.addresses id) both_tests.0
 
-      address_is : address_of_id w.addresses id ≡ now.0
-      address_is = ap (λ o. option_map_or (λ a. a) o 0) now.1
+    object : (o : Object) × (slice_get w.graph.objects id ≡ Some o) × (is_automatic o ≡ true)
+    object = passes_there is_automatic (slice_get w.graph.objects id) both_tests.1
 
-      aligned_now : now.0 % 8 ≡ 0
-      aligned_now = (parts.image.placed.address id now.0 now.1).aligned
+    positive : 0 < size_of object.0
+    positive = parts.image.placed.positive id now.0 object.0 now.1 object.1
 
-      whole_now : address_of_word (word_of now.0) ≡ now.0
-      whole_now = let a = aligned_now in omega (arith, a)
+    aligned_now : now.0 % 8 ≡ 0
+    aligned_now = (parts.image.placed.address id now.0 now.1).aligned
 
-      -- at its address of now a block begins, and no forwarded one
-      first : Lies w.graph.objects w.addresses id 0 object.0 (word_of now.0)
-      first = record {
-        at = now.0;
-        address = now.1;
-        object = object.1;
-        within = parts.image.placed.positive id now.0 object.0 now.1 object.1;
-        is = omega arith;
-      }
+    aligned : at % 8 ≡ 0
+    aligned = elim means [
+      | inl here ↦ (parts.image.placed.address id at here).aligned
+      | inr old ↦ (parts.image.placed.address_at_flip id at old).aligned
+    ]
 
-      head_is : slice_index h.segs.words (word_of now.0) ≡ head_of_body object.0.body
-      head_is =
-          parts.image.words.cells id 0 object.0 (word_of now.0) Rattle.mps_model.specs.Graph.HeadCell read first
-          ((are_shaped_objects w parts.lawful knows.formed.objects).first id object.0 object.1 object.2)
-
-      not_forwarded : (format : F) (size : ℕ) → HasFormat h now.0 format
-          → BeginsForwarded (layout format) (drop (word_of now.0) h.segs.words) size → ⊥
-      not_forwarded format size has begins =
-          let shaped = are_shaped_objects w parts.lawful knows.formed.objects in
-          let f = format_is now.0 format object.0.pool whole_now has (parts.image.placed.home id 0 object.0 (word_of now.0) first) in
-          (shaped.lawful object.0.pool).disjoint.valid_or_forwarded (head_of_body object.0.body) size
-          (shaped.valid id object.0 object.1 object.2) begins.in_range
-          (sym head_is ∙ sym (first_word h.segs.words (word_of now.0)) ∙ begins.head ∙ ap (λ (l : Layout). l.forwarded_head size) f)
-
-      of_now : {here there : Address} → ResolvesTo layout h here there → here ≡ now.0 → there ≡ now.0
-      of_now (spared not) e = e
-      of_now {here} (has_moved format size has condemned begins) e =
-          absurd (not_forwarded format size (subst (λ a. HasFormat h a format) e has)
-          (subst (λ a. BeginsForwarded (layout format) (drop (word_of a) h.segs.words) size) e begins))
-      of_now (is_there format has none) e = e
-
-      of_old : IsForwardedObject (Rattle.mps_refinement.specs.StandsFor.setting_at past.time h.segs w) h.segs.words w.addresses object.0 at
-          now.0 → address_of_word (word_of at) ≡ at → {there : Address} → ResolvesTo layout h at there → there ≡ now.0
-      of_old forwarded whole (spared calm) =
-          absurd (false≢true (sym calm ∙ ap (Rattle.mps_seg.specs.Collecting.is_condemned_at h.segs) (sym whole)
-          ∙ ap (λ (n : ℕ). Rattle.mps_trace_laws.specs.Image.Memory.is_condemned_word h.segs n) (omega arith) ∙ forwarded.condemned 0
-          (positive_now)))
-        where
-          positive_now : 0 < Rattle.mps_model.specs.Graph.size_of object.0
-          positive_now = parts.image.placed.positive id now.0 object.0 now.1 object.1
-      of_old forwarded whole (has_moved format size has condemned begins) = forwarded.leads
-      of_old forwarded whole (is_there format has none) =
-          absurd (none (Rattle.mps_model.specs.Graph.size_of object.0)
-          (subst (λ (l : Layout). BeginsForwarded l (drop (word_of at) h.segs.words) (Rattle.mps_model.specs.Graph.size_of object.0))
-          (sym (format_is at format object.0.pool whole has
-          (ap (pool_over_word h.segs) (omega arith) ∙ forwarded.home 0 (parts.image.placed.positive id now.0 object.0 now.1 object.1))))
-          forwarded.begins))
-
-      of_means : MeansAt w.addresses past.time.at_flip at id → to ≡ address_of_id w.addresses id
-      of_means (inl here) = of_now resolves (same_Some at now.0 (sym here ∙ now.1)) ∙ sym address_is
-      of_means (inr old) =
-          elim (cases_eq at now.0) [
-            | inl same ↦ of_now resolves same ∙ sym address_is
-            | inr apart ↦
-                of_old (parts.image.words.forwarded id at now.0 object.0 old now.1 apart object.1)
-                (let a = (parts.image.placed.address_at_flip id at old).aligned in omega (arith, a)) resolves ∙ sym address_is
+    -- the object is there, or a forwarded block leads to where it is
+    there_or_moved : (at ≡ now.0)
+        ⊎ (IsForwardedObject (setting_at past.time h.segs w) h.segs.words w.addresses object.0 at now.0 × (entry_at at_flip id ≡ Some at))
+    there_or_moved = elim (cases_eq at now.0) [
+      | inl same ↦ inl same
+      | inr apart ↦
+          elim means [
+            | inl here ↦ absurd (apart (same_Some at now.0 (sym here ∙ now.1)))
+            | inr old ↦ inr (parts.image.words.forwarded id at now.0 object.0 old now.1 apart object.1, old)
           ]
+    ]
 
-  -- all registrations resolve to the addresses of now
+    -- at its address of now a block begins, and no forwarded one
+    first : Lies w.graph.objects w.addresses id 0 object.0 (word_of now.0)
+    first = record { at = now.0; address = now.1; object = object.1; within = positive; is = omega arith }
+
+    head_is : slice_index h.segs.words (word_of now.0) ≡ head_of_body object.0.body
+    head_is = parts.image.words.cells id 0 object.0 (word_of now.0) HeadCell read first (shaped.first id object.0 object.1 object.2)
+
+    not_forwarded : at ≡ now.0 → (size : ℕ) → BeginsForwarded (pool_layout w object.0.pool) (drop (word_of at) h.segs.words) size → ⊥
+    not_forwarded same size begins =
+        (shaped.lawful object.0.pool).disjoint.valid_or_forwarded (head_of_body object.0.body) size
+        (shaped.valid id object.0 object.1 object.2) begins.in_range
+        (sym head_is ∙ ap (λ a. slice_index h.segs.words (word_of a)) (sym same) ∙ sym (first_word h.segs.words (word_of at)) ∙ begins.head)
+
+    -- the segment over it is of the object's pool
+    home : pool_over_word h.segs (word_of at) ≡ Some object.0.pool
+    home = elim there_or_moved [
+      | inl same ↦
+          ap (λ (a : Address). pool_over_word h.segs (word_of a)) same ∙ parts.image.placed.home id 0 object.0 (word_of now.0) first
+      | inr old ↦ ap (pool_over_word h.segs) (omega arith) ∙ old.0.home 0 positive
+    ]
+
+    its_segment : (t : Segment) × (segment_over h.segs.segments at ≡ Some t) × (t.pool ≡ object.0.pool)
+    its_segment =
+        let whole : address_of_word (word_of at) ≡ at = (let a = aligned in omega (arith, a)) in
+        over_of_pool (segment_over h.segs.segments at) object.0.pool
+        (ap (λ a. option_map (λ (t : Segment). t.pool) (segment_over h.segs.segments a)) (sym whole) ∙ home)
+
+    listed_there : (t : Segment) (policy : Policy F) → segment_over h.segs.segments at ≡ Some t
+        → slice_get policies t.pool ≡ Some (Some policy) → slice_get policies object.0.pool ≡ Some (Some policy)
+    listed_there t policy over listed =
+        let same = same_Some t its_segment.0 (sym over ∙ its_segment.1) in
+        ap (slice_get policies) (sym its_segment.2 ∙ sym (ap (λ (s : Segment). s.pool) same)) ∙ listed
+
+    -- ---- what `find` answers
+
+    module _ (policy : Policy F) (listed : slice_get policies object.0.pool ≡ Some (Some policy)) where
+      layout_is : layout policy.format ≡ pool_layout w object.0.pool
+      layout_is = layout_of_policy layout h.pools w parts.pools object.0.pool policy listed
+
+      moves_is : policy.moves ≡ world.is_copying_pool w object.0.pool
+      moves_is = moves_of_policy layout h.pools w parts.pools object.0.pool policy listed
+
+      none_forwarded_now : at ≡ now.0 → (size : ℕ) → BeginsForwarded (layout policy.format) (drop (word_of at) h.segs.words) size → ⊥
+      none_forwarded_now same size begins =
+          not_forwarded same size (subst (λ l. BeginsForwarded l (drop (word_of at) h.segs.words) size) layout_is begins)
+
+      -- what hasn't moved is there
+      unmoved : (policy.moves ≡ true → (size : ℕ) → BeginsForwarded (layout policy.format) (drop (word_of at) h.segs.words) size → ⊥)
+          → at ≡ now.0
+      unmoved none = elim there_or_moved [
+        | inl same ↦ same
+        | inr old ↦
+            elim (cases_Bool policy.moves) [
+              | inl moves ↦
+                  absurd (none moves (size_of object.0)
+                  (subst (λ l. BeginsForwarded l (drop (word_of at) h.segs.words) (size_of object.0)) (sym layout_is) old.0.begins))
+              | inr stays ↦
+                  still_there id at now.0
+                  (ap (λ o. option_map_or (λ (p : Object). world.is_copying_pool w p.pool) o false) object.1 ∙ sym moves_is ∙ stays)
+                  old.1 now.1
+            ]
+      ]
+
+      leads : {to : Address} → IsForwarded (layout policy.format) h.segs.words at to → to ≡ now.0
+      leads forwarded = elim there_or_moved [
+        | inl same ↦ absurd (none_forwarded_now same forwarded.size forwarded.begins)
+        | inr old ↦ forwarded.leads ∙ old.0.leads
+      ]
+
+      found_in : {found : Option Addr} → FindsIn (layout policy.format) policy.moves h.segs (record { 0 = at }) found
+          → option_map_or (λ (a : Addr). a.0) found at ≡ now.0
+      found_in (has_moved to moves forwarded) = leads forwarded
+      found_in (lies none is) =
+          ap (λ o. option_map_or (λ (a : Addr). a.0) o at) is ∙ there_still (record { 0 = at }) (is_kept_at h.segs at) ∙ unmoved none
+
+    found_there : {found : Option Addr} → FindsTo layout policies h.segs (record { 0 = at }) found
+        → option_map_or (λ (a : Addr). a.0) found at ≡ now.0
+    found_there (passes calm) = elim there_or_moved [
+      | inl same ↦ same
+      | inr old ↦
+          let whole : address_of_word (word_of at + 0) ≡ at = (let a = aligned in omega (arith, a)) in
+          absurd (false≢true (sym calm ∙ ap (is_condemned_at h.segs) (sym whole) ∙ old.0.condemned 0 positive))
+    ]
+    found_there (in_pool t policy condemned over listed finds) = found_in policy (listed_there t policy over listed) finds
+
+    -- it resolves to the address that the object has now
+    pub resolved_means : {to : Address} → ResolvesTo layout h at to → to ≡ address_of_id w.addresses id
+    resolved_means resolves =
+        resolves.is ∙ found_there resolves.finds ∙ sym (ap (λ o. option_map_or (λ (a : Address). a) o 0) now.1)
+
+    -- and `find` can be asked of it
+    pub means_can_be_found : CanFind layout policies h.segs (record { 0 = at })
+    means_can_be_found =
+        let automatic : pool_is is_automatic_kind w object.0.pool ≡ true =
+        pool_kind w object.0 (all_at (is_right_object w) w.graph.objects id object.0 knows.formed.objects object.1) ∙ object.2 in
+        let policy = policy_of_automatic layout h.pools w parts.pools object.0.pool automatic in
+        record {
+          aligned = aligned;
+          in_arena = elim there_or_moved [
+            | inl same ↦
+                let within = parts.image.placed.within id 0 object.0 (word_of now.0) first in
+                let long = parts.image.words.long in
+                omega (arith, within, long, same)
+            | inr old ↦
+                let whole = old.0.begins.whole in
+                let long = length-drop (word_of at) h.segs.words in
+                let some = positive in
+                omega (arith, whole, long, some)
+          ];
+          condemned = λ is. record {
+            segment = its_segment.0;
+            over = its_segment.1;
+            format = policy.0;
+            listed = ap (slice_get policies) its_segment.2 ∙ policy.1;
+            leads = λ moves to forwarded.
+                let same = leads policy.0 policy.1 forwarded in let a = aligned_now in omega (arith, same, a);
+          };
+        }
+
+  -- ---- all registrations
+
+  -- they resolve to the addresses of now
   pub all_resolved : (next before : ℕ) (ats tos : List Address) (ids : List Id)
       → ((id : Id) → contains ids id ≡ true → past.time.is_read id ≡ true)
       → All (is_live_automatic w) ids → AreRegistered w.addresses past.time.at_flip next before ats ids → AreResolved layout h ats tos
       → tos ≡ map (address_of_id w.addresses) ids
   all_resolved next before [] [] [] read all are to = refl
   all_resolved next before [] [] (id ∷ ids) read all are to = absurd are
-  all_resolved next before [] (t ∷ tos) ids read all are to = absurd to
-  all_resolved next before (a ∷ ats) [] ids read all are to = absurd to
+  all_resolved next before [] (t ∷ tos) ids read all are to = let long = to.long in absurd (omega (arith, long))
+  all_resolved next before (a ∷ ats) [] ids read all are to = let long = to.long in absurd (omega (arith, long))
   all_resolved next before (a ∷ ats) (t ∷ tos) [] read all are to = absurd are
   all_resolved next before (a ∷ ats) (t ∷ tos) (id ∷ ids) read all are to =
       let parts = and_parts (is_live_automatic w id) (list_all (is_live_automatic w) ids) all in
       ap₂ (λ (b : Address) bs. b ∷ bs)
-      (resolved_means id a t parts.0 (read id (Rattle.mps_abstract.proofs.Lists.contains_here id ids))
-      (means_by w.addresses past.time.at_flip next before a id are.0) to.0)
-      (all_resolved (next - 1) (before - 1) ats tos ids (λ n there. read n (Rattle.mps_abstract.proofs.Lists.contains_later id ids n there))
-      parts.1 are.1 to.1)
+      (resolved_means id a parts.0 (read id (contains_here id ids)) (means_by w.addresses at_flip next before a id are.0)
+      (to.each 0 a t refl refl))
+      (all_resolved (next - 1) (before - 1) ats tos ids (λ n there. read n (contains_later id ids n there)) parts.1 are.1 (record {
+        long = let long = to.long in omega (arith, long);
+        each = λ n b u e f. to.each (suc n) b u e f;
+      }))
+
+  -- and `find` can be asked of each of them
+  pub all_can_be_found : (next before : ℕ) (ats : List Address) (ids : List Id)
+      → ((id : Id) → contains ids id ≡ true → past.time.is_read id ≡ true)
+      → All (is_live_automatic w) ids → AreRegistered w.addresses past.time.at_flip next before ats ids → (n : ℕ) (at : Address)
+      → slice_get ats n ≡ Some at → CanFind layout policies h.segs (record { 0 = at })
+  all_can_be_found next before [] ids read all are n at there = absurd (none-some at there)
+  all_can_be_found next before (a ∷ ats) [] read all are n at there = absurd are
+  all_can_be_found next before (a ∷ ats) (id ∷ ids) read all are zero at there =
+      let parts = and_parts (is_live_automatic w id) (list_all (is_live_automatic w) ids) all in
+      subst (λ (b : Address). CanFind layout policies h.segs (record { 0 = b })) (same_Some a at there)
+      (means_can_be_found id a parts.0 (read id (contains_here id ids)) (means_by w.addresses at_flip next before a id are.0))
+  all_can_be_found next before (a ∷ ats) (id ∷ ids) read all are (suc n) at there =
+      let parts = and_parts (is_live_automatic w id) (list_all (is_live_automatic w) ids) all in
+      all_can_be_found (next - 1) (before - 1) ats ids (λ m later. read m (contains_later id ids m later)) parts.1 are.1 n at there
 
 -- an id of a list stands somewhere in it
 position_there : (ids : List Id) (id : Id) → contains ids id ≡ true → (position : ℕ) × (slice_get ids position ≡ Some id)
@@ -200,9 +299,9 @@ position_there (n ∷ ns) id h =
     ]
 
 -- what is registered is read, at any time
-pub registered_read : (t : Rattle.mps_refinement.specs.StandsFor.Time) (s : CollectorState) (w : World)
+pub registered_read : (t : Time) (s : CollectorState) (w : World)
     → IsInTime t s w → (id : Id) → contains w.graph.registered id ≡ true → t.is_read id ≡ true
-registered_read t s w (rests rest) id there = ap (λ (u : Rattle.mps_refinement.specs.StandsFor.Time). u.is_read id) rest.time
+registered_read t s w (rests rest) id there = ap (λ (u : Time). u.is_read id) rest.time
 registered_read t s w (runs x r may) id there =
     elim (cases_Bool t.is_reclaiming) [
       | inr tracing ↦ ap (λ (f : Id → Bool). f id) (r.tracing tracing).read
@@ -218,7 +317,7 @@ registered_read t s w (runs x r may) id there =
         → x.next ≡ x.running.registered_before → is_white x.running.condemned x.colours id ≡ false
     of_position p examined =
         r.invariant.examined.examined p.0 id p.1
-        (elim (Rattle.std.proofs.lemmas.Bool.cases_lt p.0 x.next) [
+        (elim (cases_lt p.0 x.next) [
           | inl before ↦ inl before
           | inr past ↦ inr (let e = examined in omega (arith, past, e))
         ])
