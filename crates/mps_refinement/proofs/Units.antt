@@ -9,6 +9,7 @@ pub mod Ended
 pub mod Steps
 pub mod Polls
 pub mod Parks
+pub mod LessRoom
 pub mod Collects
 pub mod Accesses
 pub mod PolledReserves

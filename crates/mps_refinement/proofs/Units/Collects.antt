@@ -1,6 +1,7 @@
 -- A `collect` over a running collection: what runs is finished first, and a collection of everything follows. It can be done, it is right,
 -- and its trail keeps its room.
-use Rattle.std.proofs.Common.{◌≡◌, ◌∙◌, ℕ, suc, ◌≤◌, refl, sym, ap, subst, [], ◌++◌}
+use Rattle.std.proofs.Common.{◌≡◌, ◌∙◌, ℕ, suc, ◌-◌, ◌*◌, ◌≤◌, refl, sym, ap, subst, List, [], ◌++◌, Option, arith}
+use Rattle.mps_base.specs.Address.{Address}
 use Rattle.mps_base.specs.Trail.{Moves}
 use Rattle.mps_buffer.specs.Points.{WereMadeBefore}
 use Rattle.mps_format.specs.Layout.{Layout}
@@ -13,7 +14,7 @@ use Rattle.mps_trace.specs.Collect.{most_moves}
 use Rattle.mps_trace.specs.Pools.{trace_of}
 use Rattle.mps_trace.specs.PoolsCollecting.{IsTraceOf}
 use Rattle.mps_trace.specs.State.{FinalsState}
-use Rattle.mps_trace.specs.Trace.{Traced, traced}
+use Rattle.mps_trace.specs.Trace.{TraceState, Traced, traced}
 use Rattle.mps_trace.specs.Unit.{EndsWithin}
 use Rattle.mps_abstract.specs.Collecting.{Collecting}
 use Rattle.mps_abstract.proofs.WholeCollections.WholeEnds.{a_whole_collection}
@@ -30,6 +31,7 @@ use Rattle.mps_refinement.proofs.Collect.HeapCollects.{a_finished_heap_can_colle
 use Rattle.mps_refinement.proofs.Collect.PushedMoves.{none_pushed}
 use Rattle.mps_refinement.proofs.Collect.RoomKept.{units_keep_room}
 use Rattle.mps_refinement.proofs.Units.Ended as ended
+use Rattle.mps_refinement.proofs.Units.LessRoom.{ends_with_less, traced_with_less, with_less}
 use Rattle.mps_refinement.proofs.Units.Steps.{moves_alone}
 use Rattle.mps_refinement.proofs.Units.ToUnits.{stands_for_units}
 
@@ -42,6 +44,12 @@ module _ {F : Type 0} (layout : F → Layout) (past : Past) (h : HeapState F) (x
     (traced (trace_of h.pools h.tails) h.segs m) h.finals r.run most z f) where
   abbrev w : World
   w = x.world
+
+  abbrev t : TraceState F
+  t = trace_of h.pools h.tails
+
+  abbrev at_flip : List (Option Address)
+  at_flip = past.time.at_flip
 
   abbrev ok : Answer
   ok = Replied reply.Ok
@@ -75,13 +83,36 @@ module _ {F : Type 0} (layout : F → Layout) (past : Past) (h : HeapState F) (x
   -- the units to the end keep the room of the trail
   pub finish_keeps_room : KeepsRoom m z.moves
   finish_keeps_room =
-      units_keep_room layout (trace_of h.pools h.tails) past.time.at_flip m (traced (trace_of h.pools h.tails) h.segs m) z h.finals f r.run
-      x most (scans_are_done layout (trace_of h.pools h.tails).formats (trace_of h.pools h.tails).chains past.time.at_flip)
+      units_keep_room layout t at_flip m (traced t h.segs m) z h.finals f r.run x most (scans_are_done layout t.formats t.chains at_flip)
       (stands_for_units layout past h x parts reach r of marked m room) (none_pushed m) ends
 
-  -- with the tables of marks and the trail that are left
+  -- they take no more than a collection may take: they could be done with this room alone
+  abbrev more : ℕ
+  more = m.spare - most_moves h.segs.grains
+
+  less_kept : KeepsRoom (with_less more m) (with_less more z.moves)
+  less_kept =
+      units_keep_room layout t at_flip (with_less more m) (traced_with_less more (traced t h.segs m)) (traced_with_less more z) h.finals f
+      r.run x most (scans_are_done layout t.formats t.chains at_flip)
+      (stands_for_units layout past h x parts reach r of marked (with_less more m) (omega (arith, room))) (none_pushed (with_less more m))
+      (ends_with_less more layout t.formats t.chains ends)
+
+  pub more_is_left : more ≤ z.moves.spare
+  more_is_left = let whole = finish_keeps_room in let part = less_kept in omega (arith, whole, part, room)
+
+  same_grains : z.segs.grains ≡ h.segs.grains
+  same_grains =
+      over.segments.same_grains
+      ∙ ap (λ (u : World). u.grains) (ended.left layout past h x parts reach r of marked m room most z f ends).but_collected.world
+      ∙ sym parts.grains
+
+  -- with the tables of marks that are left, and room for both collections
   module _ (marked_then : IsMarked z.segs.grains z.segs.marks z.segs.condemned z.segs.summaries)
-      (room_then : most_moves z.segs.grains ≤ z.moves.spare) where
+      (both_fit : 2 * most_moves h.segs.grains ≤ m.spare) where
+    room_then : most_moves z.segs.grains ≤ z.moves.spare
+    room_then =
+        subst (λ (n : ℕ). most_moves n ≤ z.moves.spare) (sym same_grains) (let left = more_is_left in omega (arith, left, both_fit))
+
     pub can_collect_then : CanCollectAll layout at_rest z.moves
     can_collect_then = a_finished_heap_can_collect layout at_rest z.moves w over.moves v finished marked_then room_then
 
