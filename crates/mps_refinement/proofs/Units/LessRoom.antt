@@ -112,7 +112,11 @@ module _ (n : ℕ) where
             format = s.format;
             listed = s.listed;
             before = traced_with_less s.before;
-            all = record { from = s.all.from; run = cells_alike (layout s.format.format) _ (at_word one.word) s.all.run; done = s.all.done };
+            all = record {
+              from = s.all.from;
+              run = cells_alike (layout s.format.format) _ (at_word one.word) s.all.run;
+              done = s.all.done;
+            };
             black = ap traced_with_less s.black;
           };
         }
