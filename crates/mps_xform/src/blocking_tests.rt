@@ -1,9 +1,10 @@
-// Which words of areas keep a transform from being applied, in 2,000 random steps beside plain lists.
+// Which words of areas keep a transform from being applied, and what it makes of slots, in 2,000 random steps beside plain lists.
 #![tactic(auto)]
 
 ghost use Rattle.std.specs.Prelude.{◌≡◌, ◌<◌, true};
 ghost use Rattle.mps_xform.specs.State.{is_live, no_transforms};
 
+use crate::slots_tests::slots_alike;
 use crate::{AddRefusal, Pair, Transforms};
 use mps_base::{Addr, Rank, Trail};
 use mps_root::{Roots, Stored};
@@ -115,7 +116,7 @@ fn agree(
     let pair = Pair {
         transform,
         old: Addr(address(grain, distance)),
-        new: Addr(0x3000),
+        new: Addr(address(distance, inside)),
         inside: inside < 128,
     };
     if !added_alike(transforms, plain, pair)? {
@@ -123,7 +124,10 @@ fn agree(
     }
     let words = [address(bytes[4], bytes[5]), address(bytes[6], bytes[7])];
     let blocked = is_blocked_by(alloc, transforms, transform, segs, words)?;
-    Ok(blocked == plain_blocked(plain, transform, words))
+    if blocked != plain_blocked(plain, transform, words) {
+        return Ok(false);
+    }
+    slots_alike(alloc, transforms, transform, plain, words)
 }
 
 // Makes a transform with a pair that is never asked for, and another for 2,000 steps. Whether each has the same answer in the plain list.

@@ -16,8 +16,8 @@ apply_slots-requires c =
       others = λ other apart. made.tables.others other apart ∙ ap (λ (r : RootsState). kept r.tables other) c.requires;
     } in
     let after : IsAlone key second =
-    alone_still key first second (Some (slice_set (items_of first.tables key) 0 8192)) alone
+    alone_still key first second (Some (slice_set (items_of first.tables key) 0 c.args.first)) alone
     (ap (λ (r : RootsState). r.order) c.set_slot.ensures) (ap (λ (r : RootsState). r.tables) c.set_slot.ensures) in
     alone_is_listed key third
-    (alone_still key second third (Some (slice_set (items_of second.tables key) 1 12288)) after
+    (alone_still key second third (Some (slice_set (items_of second.tables key) 1 c.args.second)) after
     (ap (λ (r : RootsState). r.order) c.set_slot-2.ensures) (ap (λ (r : RootsState). r.tables) c.set_slot-2.ensures))
