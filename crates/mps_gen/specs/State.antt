@@ -1,6 +1,6 @@
 -- What a caller sees of the chains, and the results of their calls.
-use Rattle.std.specs.Prelude.{ℕ, ◌≡◌, Option, Some, None, List, [], ◌∷◌, length, slice_get, refl}
-use Rattle.std.specs.Option.{option_map, option_and_then}
+use Rattle.std.specs.Prelude.{ℕ, ◌≡◌, ◌==◌, Bool, true, false, Option, Some, None, List, [], ◌∷◌, length, slice_get, refl}
+use Rattle.std.specs.Option.{option_map, option_map_or, option_and_then}
 use Rattle.mps_base.specs.Generation.{Load, Due, due_generation, target_generation}
 
 -- the most chains, the most generations of one, and the most pools
@@ -26,6 +26,10 @@ no_chains = record { chains = []; of_pool = [] }
 abbrev pub chain_of : ChainsState → (pool : ℕ) → Option ℕ
 chain_of c pool = option_and_then (λ chain. chain) (slice_get c.of_pool pool)
 
+-- whether a pool is on a chain
+abbrev pub is_on_chain : ChainsState → (chain pool : ℕ) → Bool
+is_on_chain c chain pool = option_map_or (λ on. on == chain) (chain_of c pool) false
+
 -- how many generations the chain of a pool has, if it is on one
 abbrev pub generations_of : ChainsState → (pool : ℕ) → Option ℕ
 generations_of c pool = option_map length (option_and_then (slice_get c.chains) (chain_of c pool))
@@ -49,6 +53,18 @@ survivors_go_to_the_second = refl
 
 pub without_a_chain_they_stay : target_generation (generations_of example 1) 3 ≡ 0
 without_a_chain_they_stay = refl
+
+pub a_pool_is_on_its_chain : is_on_chain example 0 0 ≡ true
+a_pool_is_on_its_chain = refl
+
+pub and_on_no_other : is_on_chain example 1 0 ≡ false
+and_on_no_other = refl
+
+pub a_pool_on_no_chain_is_on_none : is_on_chain example 0 1 ≡ false
+a_pool_on_no_chain_is_on_none = refl
+
+pub a_pool_that_is_not_made_is_on_none : is_on_chain example 0 2 ≡ false
+a_pool_that_is_not_made_is_on_none = refl
 
 pub none_is_over : due_in example ((4 ∷ 8 ∷ []) ∷ (2 ∷ 9 ∷ []) ∷ []) ≡ None
 none_is_over = refl

@@ -5,7 +5,7 @@ ghost use Rattle.std.specs.Prelude.{◌≡◌, ◌<◌, ◌≤◌, ◌++◌, ◌
 ghost use Rattle.std.specs.Option.{option_map, ForSome};
 ghost use Rattle.mps_base.specs.Generation as spec;
 ghost use Rattle.mps_base.specs.Generation.{target_generation};
-ghost use Rattle.mps_gen.specs.State.{ChainsState, no_chains, max_chains, max_generations, max_pools, generations_of, chain_of, due_in, loads};
+ghost use Rattle.mps_gen.specs.State.{ChainsState, no_chains, max_chains, max_generations, max_pools, generations_of, chain_of, is_on_chain, due_in, loads};
 ghost use Rattle.mps_gen.specs.Due.{in_numbers};
 
 use arrayvec::ArrayVec;
@@ -98,6 +98,13 @@ impl Chains {
         ensures { result ≡ chain_of self.now pool }
     {
         self.of_pool[pool as usize]
+    }
+
+    /// Whether a pool is on a chain. One that isn't made yet is on none.
+    pub fn is_on(&self, chain: u32, pool: u32) -> bool
+        ensures { result ≡ is_on_chain self.now chain pool }
+    {
+        self.of_pool.get(pool as usize) == Some(&Some(chain))
     }
 
     /// How many generations the chain of a pool has, if it is on one.
