@@ -4,3 +4,4 @@ pub mod Flipped
 pub mod Flipping
 pub mod FlipBegins
 pub mod FewUnits
+pub mod Remembered

@@ -1,6 +1,7 @@
 pub mod WholeLaws
 pub mod ClientLaws
 pub mod FlipLaws
+pub mod Remembered
 pub mod Colours
 pub mod Collecting
 pub mod Fixing

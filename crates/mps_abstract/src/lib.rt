@@ -12,7 +12,7 @@ ghost use Rattle.mps_abstract.specs.Staying.{AKeptObjectStays, AKeptObjectStaysA
 ghost use Rattle.mps_abstract.specs.Laws.{ReachableIsKept, AUnitKeepsRunning, UnitsRunOut, ABarrierKeepsRunning};
 
 pub use clients::clients_keep_running;
-pub use flips::{a_flip_begins_running, a_flip_leaves_few_units};
+pub use flips::{a_flip_begins_running, a_flip_leaves_few_units, summaries_remember};
 pub use whole::a_whole_collection_is_exact;
 
 /// Once nothing but weak objects is grey, whatever is reachable from the client, or from what the collection is known to

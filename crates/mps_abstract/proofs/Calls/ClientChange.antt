@@ -59,7 +59,7 @@ pub record IsChange (x : Collecting) (w : World) : Type 0 where
 -- ---- small facts
 
 -- an object that passes a test is there
-there_is : (test : Object → Bool) (objects : List Object) (id : Id) → option_map_or test (slice_get objects id) false ≡ true
+pub there_is : (test : Object → Bool) (objects : List Object) (id : Id) → option_map_or test (slice_get objects id) false ≡ true
     → id < length objects
 there_is test objects id h = of_option (slice_get objects id) refl h
   where

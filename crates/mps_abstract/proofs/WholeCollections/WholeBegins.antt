@@ -35,7 +35,7 @@ use Rattle.mps_model.specs.Accessing.{address_or_null}
 
 -- ---- segments that pass
 
-among_passing : (p : Segment → Bool) (s : Segment) (ss : List Segment) → IsAmong s ss → p s ≡ true → IsAmong s (filter p ss)
+pub among_passing : (p : Segment → Bool) (s : Segment) (ss : List Segment) → IsAmong s ss → p s ≡ true → IsAmong s (filter p ss)
 among_passing p s [] h e = absurd h
 among_passing p s (t ∷ ts) h e =
     elim (p t) as (λ b. p t ≡ b → IsAmong s (if b then t ∷ filter p ts else filter p ts)) [
