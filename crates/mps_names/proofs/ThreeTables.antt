@@ -1,9 +1,10 @@
 -- One of the three tables is written, or none.
 use Rattle.std.proofs.Common.{◌≡◌, ◌∙◌, ◌≤◌, ℕ, refl, sym, ap, List, ◌++◌, Option, Some, None, is_some, arith}
 use Rattle.std.proofs.lemmas.Map.Made.{lookup-map_values}
-use Rattle.std.specs.Prelude.{option_map}
+use Rattle.std.specs.Prelude.{option_map, option_and_then}
 use Rattle.mps_base.specs.declared.names.Name.{Name}
 use Rattle.mps_base.specs.Name.{same_name}
+use Rattle.mps_names.specs.State.{as_label}
 use Rattle.mps_names.specs.declared.names.Thing.{Thing}
 use Rattle.mps_names.specs.Inside.{AreTables, ChangesAt, NumbersState, cache, found_in, label, of_kind, state_of_tables, transform}
 use Rattle.mps_names.proofs.Joined.{first_apart, first_changed, found_first, found_second, free_in_first, free_in_second, second_apart, second_changed}
@@ -78,6 +79,17 @@ module _ (l c t : NumbersState) (are : AreTables l c t) (name : Name) where
     else_found o no_cache is =
         past_labels ∙ found_second cached transformed name (kind_found cache c.entries name None no_cache)
         ∙ kind_found transform t.entries name o is
+
+  -- the label that has a name is found among the labels alone
+  pub label_is : option_and_then as_label (found_in all name) ≡ found_in l.entries name
+  label_is = by (found_in l.entries name) (found_in c.entries name) (found_in t.entries name) refl refl refl
+    where
+      by : (o p q : Option ℕ) → found_in l.entries name ≡ o → found_in c.entries name ≡ p → found_in t.entries name ≡ q
+          → option_and_then as_label (found_in all name) ≡ found_in l.entries name
+      by (Some n) p q is its other = ap (option_and_then as_label) (label_found n is) ∙ sym is
+      by None (Some n) q none is other = ap (option_and_then as_label) (cache_found none n is) ∙ sym none
+      by None None None none no_cache is = ap (option_and_then as_label) (else_found none None no_cache is) ∙ sym none
+      by None None (Some n) none no_cache is = ap (option_and_then as_label) (else_found none (Some n) no_cache is) ∙ sym none
 
   -- ---- a free name is free in each
 

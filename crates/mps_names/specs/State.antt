@@ -27,6 +27,11 @@ thing_in entries name = lookup (same_name name) entries
 abbrev pub thing_named : NamesState → Name → Option Thing
 thing_named n name = thing_in n.entries name
 
+-- the number of a label
+abbrev pub as_label : Thing → Option ℕ
+as_label (thing.Label number) = Some number
+as_label _ = None
+
 -- the same names represent the same things
 abbrev pub IsSameMap : NamesState → NamesState → Type 0
 IsSameMap old new = (name : Name) → thing_named new name ≡ thing_named old name
@@ -106,6 +111,12 @@ b_is_a_table = refl
 
 pub c_is_nothing : thing_in example (letter 99) ≡ None
 c_is_nothing = refl
+
+pub a_label_has_its_number : as_label (thing.Label 3) ≡ Some 3
+a_label_has_its_number = refl
+
+pub a_cache_is_no_label : as_label (thing.Cache 3) ≡ None
+a_cache_is_no_label = refl
 
 -- two transforms have names, and the map has room for three more
 abbrev two_transforms : NamesState

@@ -1,8 +1,8 @@
 // The map from names to things.
 #![tactic(auto)]
 
-ghost use Rattle.std.specs.Prelude.{◌≡◌, ◌<◌, nat_lt, [], None, Some, IfErr, IfOk, OnOk, IsSome};
-ghost use Rattle.mps_names.specs.State.{NamesState, thing_named, IsSameMap, Updates, no_counts, has_own_room, own_room, room_for};
+ghost use Rattle.std.specs.Prelude.{◌≡◌, ◌<◌, nat_lt, [], None, Some, option_and_then, IfErr, IfOk, OnOk, IsSome};
+ghost use Rattle.mps_names.specs.State.{NamesState, thing_named, as_label, IsSameMap, Updates, no_counts, has_own_room, own_room, room_for};
 
 use crate::key::Key;
 use crate::tables::Tables;
@@ -93,6 +93,13 @@ impl Names {
             Some(thing) => Some(*thing),
             None => self.tables.get(name),
         }
+    }
+
+    /// The number of the label that has a name. Other things aren't searched.
+    pub fn label(&self, name: Name) -> Option<u32>
+        ensures { result ≡ option_and_then as_label (thing_named self.now name) }
+    {
+        self.tables.label(name)
     }
 
     /// Refuses `NameTaken` if a name represents something.

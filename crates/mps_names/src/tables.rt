@@ -1,8 +1,8 @@
 // The names of things that take no memory: labels, caches and transforms.
 #![tactic(auto)]
 
-ghost use Rattle.std.specs.Prelude.{◌≡◌, ◌<◌, nat_lt, [], None, Some, true, IfOk};
-ghost use Rattle.mps_names.specs.State.{thing_in, no_counts, has_own_room, own_room, counts_with, counts_without};
+ghost use Rattle.std.specs.Prelude.{◌≡◌, ◌<◌, nat_lt, [], None, Some, true, option_and_then, IfOk};
+ghost use Rattle.mps_names.specs.State.{thing_in, as_label, no_counts, has_own_room, own_room, counts_with, counts_without};
 ghost use Rattle.mps_names.specs.Inside.{TablesState, ChangesAt};
 
 use crate::names::Thing;
@@ -63,6 +63,13 @@ impl Tables {
             return None;
         };
         Some(Thing::Transform(number))
+    }
+
+    /// The number of the label that has a name.
+    pub(crate) fn label(&self, name: Name) -> Option<u32>
+        ensures { result ≡ option_and_then as_label (thing_in self.now.entries name) }
+    {
+        self.labels.get(name)
     }
 
     /// How many labels have names.
