@@ -11,7 +11,7 @@ ghost use Rattle.mps_base.specs.Run.{Run};
 ghost use Rattle.mps_seg.specs.Segs.{CanCover, moves_after};
 ghost use Rattle.mps_buffer.specs.declared.point.Point.{Point};
 ghost use Rattle.mps_buffer.specs.declared.point.Held.{Held};
-ghost use Rattle.mps_buffer.specs.Points.{no_points, point_at, with_point, placement_at, buffer_after, AreApart, with_place, with_reservation, with_block, after_close, after_open, after_all_end, AreReserved, points_after_flip, after_end_at, IsReserved, IsReservedAt, new_point, IsMade, AllTaken, WereMadeBefore};
+ghost use Rattle.mps_buffer.specs.Points.{no_points, point_at, with_point, placement_at, buffer_after, AreApart, with_place, with_reservation, with_block, after_close, after_open, after_all_end, AreReserved, points_after_flip, after_end_at, IsReserved, IsReservedAt, new_point, IsMade, AllTaken, WereMadeBefore, is_place};
 ghost use Rattle.mps_seg.specs.Buffer.{IsAtHand};
 ghost use Rattle.mps_buffer.specs.Tokens.{HasOpen, IsClosedAt};
 
@@ -91,6 +91,15 @@ impl OpenPoints {
         ensures { self.new ≡ with_point self.old key None }
     {
         self.points.drop_point(key);
+    }
+
+    /// Whether a reservation of `words` words fits in the buffer of a point, or in a gap, so that it takes no new segment.
+    pub fn fits(&self, segs: &Segs, key: u32, words: u32) -> bool
+        requires nonzero { 0 < words }
+        requires there { (p : Point) × IsClosedAt self.now key p }
+        ensures { (p : Point) → point_at self.now key ≡ Some p → result ≡ is_place (placement_at p segs.now words) }
+    {
+        self.points.fits(segs, key, words)
     }
 
     /// Reserves `words` words at a point that has no open reservation, for a block with this head, and returns where they lie. They are

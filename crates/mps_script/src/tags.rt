@@ -6,7 +6,7 @@ ghost use Rattle.mps_line_words.specs.Name.{slot_of};
 ghost use Rattle.mps_line_words.specs.Reading.{single, pair, onto};
 ghost use Rattle.mps_script.specs.Form.{tag_number};
 
-use mps_line_words::{WrittenSlot, next_decimal, next_slot, number_within, only_word};
+use mps_line_words::{WrittenSlot, decimal, next_decimal, next_slot};
 
 /// The greatest tag of a reference.
 const MAX_TAG: u64 = 7;
@@ -16,7 +16,8 @@ const MAX_TAG: u64 = 7;
 fn tag(arguments: &[u8]) -> Option<u64>
     ensures { result ≡ single tag_number (words arguments.now) }
 {
-    number_within(0, MAX_TAG, only_word(arguments)?)
+    let tag = decimal(arguments)?;
+    if tag <= MAX_TAG { Some(tag) } else { None }
 }
 
 /// A decimal number and a tag.

@@ -5,6 +5,7 @@ ghost use Rattle.std.specs.Prelude.{◌≡◌, ℕ, true, false, ◌+◌, ◌*�
 ghost use Rattle.mps_base.specs.Address.{words_of_grain, word_of, grain_of, address_of_grain};
 ghost use Rattle.mps_base.specs.Segment.{Segment, segment_over};
 ghost use Rattle.mps_base.specs.Run.{runs_within};
+ghost use Rattle.mps_base.specs.Zones.{zones_meet};
 ghost use Rattle.mps_bits.specs.Table.{bit};
 ghost use Rattle.mps_marks.specs.Marks.{grey_of};
 ghost use Rattle.mps_seg.specs.Segs.{base_address, segment_from};
@@ -237,6 +238,14 @@ impl Segs {
         ensures { result.0 ≡ summary_at self.now base.0 }
     {
         ZoneSet(self.summaries[base.grain()])
+    }
+
+    /// Whether references in the segment at `base` may lead to one of these zones.
+    pub fn may_lead_to(&self, base: Addr, zones: ZoneSet) -> bool
+        requires { (s : Segment) × Contains self.now.segments s × (s.base ≡ base.0) }
+        ensures { result ≡ zones_meet (summary_at self.now base.0) zones.0 }
+    {
+        self.summaries[base.grain()] & zones.0 != 0
     }
 
     /// Sets the summary of the segment at `base`, as a scan of all its blocks may do that found the zones of all its references.
