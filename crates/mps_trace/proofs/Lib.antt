@@ -10,6 +10,8 @@ pub mod Keeping
 pub mod Known
 pub mod Nailing
 pub mod Ordered
+pub mod Remembering
+pub mod Registrations
 pub mod Rooted
 pub mod Scanned
 pub mod Units

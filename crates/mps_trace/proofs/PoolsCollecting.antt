@@ -21,22 +21,23 @@ use Rattle.mps_trace.proofs.PoolsSound.{is_trace}
 
 -- the pools are seen in two ways
 module _ {F : Type 0} (layout : F → Layout) (seen value : PoolsState F) (is : seen ≡ value) (t : TraceState F)
-    (sound : IsSoundTrace seen.pools t) (points : PointsState) (roots : RootsState) (finals : FinalsState) (s : SegsState) (m : Moves)
-    (most : ℕ) where
+    (sound : IsSoundTrace seen.pools t) where
   known : IsTraceOf value.pools t
   known = let P : PoolsState F → Type 0 = λ v. IsTraceOf v.pools t in subst P is (is_trace seen.pools t sound)
 
-  pub can_trace : CanCollectPools layout value.pools points roots finals s m most → CanCollect layout t points roots finals s m most
-  can_trace can = can t known
-
-  pub are_collected : (roots' : RootsState) (finals' : FinalsState) (t' : TraceState F) (s' : SegsState) (m' : Moves)
-      → Collects layout t.formats t.chains points roots finals (traced t s m) most roots' finals' (traced t' s' m')
-      → ArePoolsCollected layout value.pools points roots finals s m most roots' finals' s' m'
-  are_collected roots' finals' t' s' m' collects = record { before = t; after = t'; of_pools = known; collects = collects }
-
   -- the zones of the segments of automatic pools are flipped
-  pub are_flipped : (epochs epochs' : EpochsState) → epochs' ≡ ld.epochs_after_flip epochs (zones_of (moving_of t.formats s.segments))
+  pub are_flipped : (s : SegsState) (epochs epochs' : EpochsState)
+      → epochs' ≡ ld.epochs_after_flip epochs (zones_of (moving_of t.formats s.segments))
       → epochs' ≡ ld.epochs_after_flip epochs (zones_of (moving_of (map policy_of_pool value.pools) s.segments))
-  are_flipped epochs epochs' is =
+  are_flipped s epochs epochs' is =
       is ∙ ap (λ (formats : List (Option (Policy F))). ld.epochs_after_flip epochs (zones_of
       (moving_of formats s.segments))) known.formats
+
+  module _ (points : PointsState) (roots : RootsState) (finals : FinalsState) (s : SegsState) (m : Moves) (most : ℕ) where
+    pub can_trace : CanCollectPools layout value.pools points roots finals s m most → CanCollect layout t points roots finals s m most
+    can_trace can = can t known
+
+    pub are_collected : (roots' : RootsState) (finals' : FinalsState) (t' : TraceState F) (s' : SegsState) (m' : Moves)
+        → Collects layout t.formats t.chains points roots finals (traced t s m) most roots' finals' (traced t' s' m')
+        → ArePoolsCollected layout value.pools points roots finals s m most roots' finals' s' m'
+    are_collected roots' finals' t' s' m' collects = record { before = t; after = t'; of_pools = known; collects = collects }

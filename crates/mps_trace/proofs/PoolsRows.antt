@@ -20,7 +20,9 @@ use Rattle.mps_trace.specs.Scan as scan
 use Rattle.mps_trace.specs.Splat as splat
 use Rattle.mps_trace.specs.Roots as roots
 use Rattle.mps_trace.specs.Unit as units
+use Rattle.mps_trace.specs.Begin.{Begins, EndsAtOnce}
 use Rattle.mps_trace.specs.Collect.{Collects, at_once, in_units}
+use Rattle.mps_trace.specs.declared.condemn.Condemn.{Condemn}
 use Rattle.mps_trace.specs.declared.running.Band.{Band}
 use Rattle.mps_trace.specs.declared.running.Band.TheVariants.{Exact, Final, Weak, Reclaim}
 use Rattle.mps_trace.specs.declared.running.Running.{Running}
@@ -122,13 +124,28 @@ module _ {F : Type 0} (layout : F → Layout) (formats : List (Option (Policy F)
   in_units_to units.begins = refl
   in_units_to (units.goes_on count before one) = in_unit one ∙ in_units_to before
 
+  -- ---- how a collection begins
+
+  begun_so : {what : Condemn} {points : PointsState} {r r' : RootsState} {f f' : FinalsState} {x z : Traced} {run : Running}
+      → Begins layout formats chains what points r f x r' f' z run → rows_of z.amc ≡ rows_of x.amc
+  begun_so {x = x} begins = in_messages begins.messages ∙ in_tables begins.slots ∙ emptied x.amc.tails
+
+  over_so : {what : Condemn} {points : PointsState} {r r' : RootsState} {f f' : FinalsState} {x z : Traced}
+      → EndsAtOnce formats chains what points r f x r' f' z → rows_of z.amc ≡ rows_of x.amc
+  over_so {x = x} ends = ap (λ (w : Traced). rows_of w.amc) ends.over ∙ emptied x.amc.tails
+
+  pub after_begin : (what : Condemn) (points : PointsState) (r r' : RootsState) (f f' : FinalsState) (x z : Traced) (begun : Option Running)
+      → IfSome begun (λ run. Begins layout formats chains what points r f x r' f' z run)
+      → IfNone begun (EndsAtOnce formats chains what points r f x r' f' z) → rows_of z.amc ≡ rows_of x.amc
+  after_begin what points r r' f f' x z (Some run) begins ends = begun_so begins
+  after_begin what points r r' f f' x z None begins ends = over_so ends
+
   -- ---- a whole collection
 
   pub collected : {points : PointsState} {r r' : RootsState} {f f' : FinalsState} {x z : Traced} {most : ℕ}
       → Collects layout formats chains points r f x most r' f' z → rows_of z.amc ≡ rows_of x.amc
-  collected {x = x} (at_once ends) = ap (λ (w : Traced). rows_of w.amc) ends.over ∙ emptied x.amc.tails
-  collected {x = x} (in_units run begins ends) =
-      in_last ends.last ∙ in_units_to ends.units ∙ in_messages begins.messages ∙ in_tables begins.slots ∙ emptied x.amc.tails
+  collected (at_once ends) = over_so ends
+  collected (in_units run begins ends) = in_last ends.last ∙ in_units_to ends.units ∙ begun_so begins
 
   -- ---- what a running collection does
 

@@ -1,22 +1,24 @@
 -- What a flip condemns and drops, and the blocks that area words nail.
-use Rattle.std.specs.Prelude.{◌≡◌, ℕ, ◌+◌, ◌&&◌, ◌||◌, ◌==◌, Bool, true, false, is_some, option_map, if◌then◌else◌, Option, Some, None, List, [], ◌∷◌, filter, get_or, map, refl}
+use Rattle.std.specs.Prelude.{◌≡◌, ℕ, ◌+◌, ◌&&◌, ◌||◌, ◌==◌, nat_le, not, Bool, true, false, is_some, option_map, if◌then◌else◌, Option, Some, None, List, [], ◌∷◌, filter, get_or, map, refl}
 use Rattle.std.specs.Option.{option_map_or}
 use Rattle.mps_base.specs.Address.{Address, Word, word_of, address_of_word}
 use Rattle.mps_base.specs.Segment.{Segment, grains_of_segment, segment_over}
 use Rattle.mps_base.specs.Trail.{with_move}
-use Rattle.mps_base.specs.Zones.{zones_of_runs}
+use Rattle.mps_base.specs.Zones.{zones_of_runs, zones_meet}
 use Rattle.mps_base.specs.declared.moves.Move.TheVariants.{Flip}
 use Rattle.mps_base.specs.declared.names.Rank.TheVariants.{Exact}
 use Rattle.mps_amc.specs.Amc as amc
 use Rattle.mps_amc.specs.Moving.{nailed}
 use Rattle.mps_buffer.specs.Points.{PointsState, after_all_end}
 use Rattle.mps_seg.specs.Extents.{run_over}
-use Rattle.mps_gen.specs.State.{max_chains}
+use Rattle.mps_gen.specs.State.{ChainsState, is_on_chain, max_chains}
 use Rattle.mps_root.specs.declared.roots.Stored.{Stored}
 use Rattle.mps_seg.specs.BitsTable.{bit}
 use Rattle.mps_seg.specs.Segs.{SegsState, new_segments}
-use Rattle.mps_seg.specs.Collecting.{condemning, is_condemned_at}
+use Rattle.mps_seg.specs.Collecting.{condemning, greying_all, is_condemned_at, summary_at}
 use Rattle.mps_trace.specs.Trace.{Traced}
+use Rattle.mps_trace.specs.declared.condemn.Condemn.{Condemn}
+use Rattle.mps_trace.specs.declared.condemn.Condemn.TheVariants.{Everything, Generations}
 use Rattle.mps_format.specs.declared.pool.Policy.{Policy}
 
 -- ---- what is condemned
@@ -33,6 +35,24 @@ moves_blocks {F = F} formats pool = option_map_or (λ (p : Policy F). p.moves) (
 abbrev pub automatic_of : {F : Type 0} → (formats : List (Option (Policy F))) → List Segment → List Segment
 automatic_of formats ts = filter (λ t. is_automatic formats t.pool) ts
 
+-- whether a flip condemns the segments of a pool in a generation
+abbrev pub condemns : {F : Type 0} → (formats : List (Option (Policy F))) → ChainsState → Condemn → (pool generation : ℕ) → Bool
+condemns formats chains Everything pool generation = is_automatic formats pool
+condemns formats chains (Generations chain oldest) pool generation = is_on_chain chains chain pool && nat_le generation oldest
+
+-- the segments that a flip condemns
+abbrev pub condemned_of : {F : Type 0} → (formats : List (Option (Policy F))) → ChainsState → Condemn → List Segment → List Segment
+condemned_of formats chains what ts = filter (λ t. condemns formats chains what t.pool t.generation) ts
+
+-- the numbers of a flip in the log
+abbrev pub chain_of : Condemn → ℕ
+chain_of Everything = max_chains
+chain_of (Generations chain oldest) = chain
+
+abbrev pub oldest_of : Condemn → ℕ
+oldest_of Everything = 0
+oldest_of (Generations chain oldest) = oldest
+
 -- those of pools whose blocks move
 abbrev pub moving_of : {F : Type 0} → (formats : List (Option (Policy F))) → List Segment → List Segment
 moving_of formats ts = filter (λ t. moves_blocks formats t.pool) ts
@@ -46,20 +66,45 @@ condemning_all (t ∷ ts) s = condemning_all ts (condemning s t.base)
 abbrev pub zones_of : List Segment → ℕ
 zones_of ts = zones_of_runs (map grains_of_segment ts)
 
--- each segment of an automatic pool is condemned
-abbrev pub all_condemned : {F : Type 0} → (formats : List (Option (Policy F))) → SegsState → SegsState
-all_condemned formats s = condemning_all (automatic_of formats s.segments) s
+-- the zones of what may move: of all grains of the condemned segments whose blocks do
+abbrev pub zones_at_flip : {F : Type 0} → (formats : List (Option (Policy F))) → ChainsState → Condemn → List Segment → ℕ
+zones_at_flip formats chains what ts = zones_of (moving_of formats (condemned_of formats chains what ts))
+
+-- each segment that a flip condemns is condemned
+abbrev pub all_condemned : {F : Type 0} → (formats : List (Option (Policy F))) → ChainsState → Condemn → SegsState → SegsState
+all_condemned formats chains what s = condemning_all (condemned_of formats chains what s.segments) s
 
 -- ---- a flip
 
--- what a full flip leaves: reservations are ended, tails are empty, what is condemned is so, and the flip is logged with the zones of
+-- what a flip leaves: reservations are ended, tails are empty, what is condemned is so, and the flip is logged with the zones of
 -- the condemned segments whose blocks move
-abbrev pub at_flip : {F : Type 0} → (formats : List (Option (Policy F))) → PointsState → Traced → Traced
-at_flip formats points x = record {
+abbrev pub at_flip : {F : Type 0} → (formats : List (Option (Policy F))) → ChainsState → Condemn → PointsState → Traced → Traced
+at_flip formats chains what points x = record {
   amc = amc.tails_after_flip x.amc;
-  segs = all_condemned formats (after_all_end points.flips points.points x.segs);
-  moves = with_move x.moves (Flip (record { 0 = zones_of (moving_of formats x.segs.segments) }) max_chains 0);
+  segs = all_condemned formats chains what (after_all_end points.flips points.points x.segs);
+  moves = with_move x.moves (Flip (record { 0 = zones_at_flip formats chains what x.segs.segments }) (chain_of what) (oldest_of what));
 }
+
+-- ---- what isn't condemned
+
+-- whether a segment that a flip doesn't condemn may refer to what it does: it is of an automatic pool, and its summary has one of the
+-- zones of the flip
+abbrev pub may_refer : {F : Type 0} → (formats : List (Option (Policy F))) → ChainsState → Condemn → (zones : ℕ) → SegsState → Segment
+    → Bool
+may_refer formats chains what zones s t =
+    is_automatic formats t.pool && (not (condemns formats chains what t.pool t.generation) && zones_meet (summary_at s t.base) zones)
+
+-- the segments whose blocks are still to be scanned, though they aren't condemned. A full flip leaves none
+abbrev pub remembered_of : {F : Type 0} → (formats : List (Option (Policy F))) → ChainsState → Condemn → SegsState → List Segment
+remembered_of formats chains Everything s = []
+remembered_of formats chains (Generations chain oldest) s =
+    filter (may_refer formats chains (Generations chain oldest) (zones_at_flip formats chains (Generations chain oldest) s.segments) s)
+    s.segments
+
+-- all blocks of these segments are grey
+abbrev pub greying_each : List Segment → SegsState → SegsState
+greying_each [] s = s
+greying_each (t ∷ ts) s = greying_each ts (greying_all s t)
 
 -- ---- area words
 
@@ -102,6 +147,36 @@ only_automatic_pools_are_collected = refl
 
 pub only_one_of_them_moves : moving_of formats one_of_each ≡ segment_of_pool 0x3000 1 ∷ []
 only_one_of_them_moves = refl
+
+-- pool 1 is on chain 0
+abbrev one_on_a_chain : ChainsState
+one_on_a_chain = record { chains = (4 ∷ 8 ∷ []) ∷ []; of_pool = None ∷ Some 0 ∷ None ∷ [] }
+
+-- a segment of pool 1 in each of two generations, and one of pool 2
+abbrev three_segments : SegsState
+three_segments = record (new_segments 7 7) {
+  segments = segment_of_pool 0x1000 1 ∷ record (segment_of_pool 0x3000 1) { generation = 1 } ∷ segment_of_pool 0x5000 2 ∷ [];
+  summaries = 0 ∷ 0 ∷ 0 ∷ 2 ∷ 0 ∷ 8 ∷ 0 ∷ 0 ∷ [];
+}
+
+pub everything_is_both_generations :
+    condemned_of formats one_on_a_chain Everything three_segments.segments ≡ three_segments.segments
+everything_is_both_generations = refl
+
+pub the_youngest_generation_alone : condemned_of formats one_on_a_chain (Generations 0 0) three_segments.segments
+    ≡ segment_of_pool 0x1000 1 ∷ []
+the_youngest_generation_alone = refl
+
+pub no_segment_of_another_chain : condemned_of formats one_on_a_chain (Generations 1 0) three_segments.segments ≡ []
+no_segment_of_another_chain = refl
+
+-- its zones are 1 and 2. The summary of the second segment has zone 1, that of the third zone 3 alone
+pub the_second_may_refer_to_it : remembered_of formats one_on_a_chain (Generations 0 0) three_segments
+    ≡ record (segment_of_pool 0x3000 1) { generation = 1 } ∷ []
+the_second_may_refer_to_it = refl
+
+pub nothing_is_left_by_a_full_flip : remembered_of formats one_on_a_chain Everything three_segments ≡ []
+nothing_is_left_by_a_full_flip = refl
 
 pub a_zone_for_each_grain : zones_of (segment_of_pool 0x3000 1 ∷ []) ≡ 8 + 16
 a_zone_for_each_grain = refl

@@ -8,6 +8,7 @@ pub mod Pools
 pub mod PoolsCollecting
 pub mod PoolsInside
 pub mod Reclaim
+pub mod Registration
 pub mod Roots
 pub mod Scan
 pub mod Splat

@@ -12,11 +12,11 @@ ghost use Rattle.mps_ld.specs.State as ld;
 ghost use Rattle.mps_seg.specs.Collecting.{collected};
 ghost use Rattle.mps_trace.specs.Trace.{traced};
 ghost use Rattle.mps_trace.specs.Condemned.{AreInOrder};
-ghost use Rattle.mps_trace.specs.Flip.{moving_of, zones_of};
-ghost use Rattle.mps_trace.specs.Begin.{nailed_by_areas, nailed_at_flip, Begins, EndsAtOnce, CanFixRoots};
+ghost use Rattle.mps_trace.specs.Flip.{zones_at_flip};
+ghost use Rattle.mps_trace.specs.Begin.{nailed_by_areas, marked_at_flip, Begins, EndsAtOnce, CanFixRoots};
 
-use crate::Trace;
 use crate::running::{Band, Running};
+use crate::{Condemn, Trace};
 use mps_base::{Addr, Move, Trail};
 use mps_buffer::OpenPoints;
 use mps_final::Finals;
@@ -26,8 +26,9 @@ use mps_root::Roots;
 use mps_seg::Segs;
 
 impl<F: Format> Trace<F> {
-    /// Begins a full collection: the flip, then the blocks that area words pin are nailed, and slots and messages are fixed.
-    /// None if nothing is condemned: the collection has ended.
+    /// Begins a collection of what is to be condemned: the flip, then the blocks that area words pin are nailed, those that aren't
+    /// condemned and may refer to what is become grey, and slots and messages are fixed. None if nothing is condemned: the
+    /// collection has ended.
     pub fn begin(
         &mut self,
         segs: &mut Segs,
@@ -36,6 +37,7 @@ impl<F: Format> Trace<F> {
         points: &mut OpenPoints,
         finals: &mut Finals,
         epochs: &mut Epochs,
+        what: Condemn,
     ) -> Option<Running>
         requires ordered { AreInOrder segs.old }
         requires blocks { IsAscending 0 (words_of_grain * (segs.old.grains + 1)) segs.old.blocks }
@@ -44,22 +46,24 @@ impl<F: Format> Trace<F> {
         requires reserved { AreReserved points.old.flips points.old.points segs.old }
         requires fits { 1 < trail.old.spare }
         requires can { CanFixRoots F.layout self.old roots.old finals.old
-            (nailed_at_flip self.old.formats points.old roots.old (traced self.old segs.old trail.old)) }
-        ensures begun { IfSome result (λ run. Begins F.layout self.old.formats self.old.chains points.old roots.old finals.old
+            (marked_at_flip self.old.formats self.old.chains what points.old roots.old (traced self.old segs.old trail.old)) }
+        ensures begun { IfSome result (λ run. Begins F.layout self.old.formats self.old.chains what points.old roots.old finals.old
             (traced self.old segs.old trail.old) roots.new finals.new (traced self.new segs.new trail.new) run) }
-        ensures ended { IfNone result (EndsAtOnce self.old.formats points.old roots.old finals.old
+        ensures ended { IfNone result (EndsAtOnce self.old.formats self.old.chains what points.old roots.old finals.old
             (traced self.old segs.old trail.old) roots.new finals.new (traced self.new segs.new trail.new)) }
         ensures unchanged { self.new ≡ record self.old { amc = self.new.amc } }
         ensures points { points.new ≡ buffer.points_after_flip points.old }
-        ensures epochs { epochs.new ≡ ld.epochs_after_flip epochs.old (zones_of (moving_of self.old.formats segs.old.segments)) }
+        ensures epochs { epochs.new
+            ≡ ld.epochs_after_flip epochs.old (zones_at_flip self.old.formats self.old.chains what segs.old.segments) }
     {
-        let condemned = self.flip(segs, trail, points, epochs);
-        if condemned == 0 {
+        let condemned = self.flip(segs, trail, points, epochs, what);
+        if condemned.segments == 0 {
             end(segs, trail);
             return None;
         }
         let registered_before = finals.registered();
         self.nail_areas(segs, roots);
+        self.remember(segs, what, condemned.zones);
         self.fix_slots(segs, trail, roots);
         self.fix_messages(segs, trail, finals);
         Some(Running {

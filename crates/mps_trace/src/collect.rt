@@ -8,7 +8,7 @@ ghost use Rattle.mps_trace.specs.Collect.{CanCollect, Collects};
 ghost use Rattle.mps_trace.specs.Flip.{moving_of, zones_of};
 ghost use Rattle.mps_trace.specs.Trace.{traced};
 
-use crate::Trace;
+use crate::{Condemn, Trace};
 use mps_base::Trail;
 use mps_buffer::OpenPoints;
 use mps_final::Finals;
@@ -38,7 +38,15 @@ impl<F: Format> Trace<F> {
         ensures points { points.new ≡ buffer.points_after_flip points.old }
         ensures epochs { epochs.new ≡ ld.epochs_after_flip epochs.old (zones_of (moving_of self.old.formats segs.old.segments)) }
     {
-        let Some(running) = self.begin(segs, trail, roots, points, finals, epochs) else {
+        let Some(running) = self.begin(
+            segs,
+            trail,
+            roots,
+            points,
+            finals,
+            epochs,
+            Condemn::Everything,
+        ) else {
             return;
         };
         let None = self.finish(segs, trail, finals, running, most) else {

@@ -6,15 +6,18 @@ mod access;
 mod begin;
 mod collect;
 mod collection;
+mod condemn;
 mod examining;
 mod finding;
 mod flip;
 mod pools;
+mod registration;
 mod roots;
 mod running;
 mod splatting;
 mod trace;
 
+pub use condemn::Condemn;
 pub use pools::{Pools, most_moves, most_units};
 pub use running::{Band, Running};
 pub use trace::Trace;

@@ -9,15 +9,18 @@ ghost use Rattle.mps_gen.specs.State.{max_pools};
 ghost use Rattle.mps_ld.specs.State as ld;
 ghost use Rattle.mps_format.specs.Pools.{policy_of_pool};
 ghost use Rattle.mps_trace.specs.Access.{CanAccess, AccessesTo};
+ghost use Rattle.mps_trace.specs.Begin.{Begins, CanBegin, EndsAtOnce};
 ghost use Rattle.mps_trace.specs.Collect.{most_moves, most_units};
 ghost use Rattle.mps_trace.specs.Flip.{moving_of, zones_of};
 ghost use Rattle.mps_trace.specs.PoolsCollecting.{CanCollectPools, ArePoolsCollected, IsTraceOf};
 ghost use Rattle.mps_trace.specs.Pools.{none_made, trace_of, with_one_more};
+ghost use Rattle.mps_trace.specs.Registration.{AreFindable, FindsRegistration};
 ghost use Rattle.mps_trace.specs.Trace.{traced};
+ghost use Rattle.mps_trace.specs.declared.condemn.Condemn.TheVariants.{Everything};
 ghost use Rattle.mps_trace.specs.Unit.{CanUnit, AreUnitsReady, UnitTo, LastUnitTo, UnitsTo, EndsWithin};
 
-use crate::Trace;
 use crate::running::{Band, Running};
+use crate::{Condemn, Trace};
 use mps_base::{Addr, Trail, WORDS_OF_GRAIN};
 use mps_buffer::OpenPoints;
 use mps_final::Finals;
@@ -100,6 +103,43 @@ impl<F: Format> Pools<F> {
         Ok(())
     }
 
+    /// Begins a collection of everything: the flip alone, and no unit. None if nothing is condemned: the collection has ended.
+    pub fn begin(
+        &mut self,
+        segs: &mut Segs,
+        trail: &mut Trail,
+        roots: &mut Roots,
+        points: &mut OpenPoints,
+        finals: &mut Finals,
+        epochs: &mut Epochs,
+    ) -> Option<Running>
+        requires few_flips { points.old.flips < 2 ^ 63 }
+        requires few_epochs { epochs.old.count < 2 ^ 63 }
+        requires can { CanBegin F.layout (trace_of self.old.pools self.old.tails) points.old roots.old finals.old segs.old trail.old }
+        ensures begun { IfSome result (λ run. Begins F.layout (trace_of self.old.pools self.old.tails).formats
+            (trace_of self.old.pools self.old.tails).chains Everything points.old roots.old finals.old
+            (traced (trace_of self.old.pools self.old.tails) segs.old trail.old) roots.new finals.new
+            (traced (trace_of self.new.pools self.new.tails) segs.new trail.new) run) }
+        ensures ended { IfNone result (EndsAtOnce (trace_of self.old.pools self.old.tails).formats
+            (trace_of self.old.pools self.old.tails).chains Everything points.old roots.old finals.old
+            (traced (trace_of self.old.pools self.old.tails) segs.old trail.old) roots.new finals.new
+            (traced (trace_of self.new.pools self.new.tails) segs.new trail.new)) }
+        ensures unchanged { self.new ≡ record self.old { tails = self.new.tails } }
+        ensures points { points.new ≡ buffer.points_after_flip points.old }
+        ensures epochs { epochs.new
+            ≡ ld.epochs_after_flip epochs.old (zones_of (moving_of (map policy_of_pool self.old.pools) segs.old.segments)) }
+    {
+        self.trace.begin(
+            segs,
+            trail,
+            roots,
+            points,
+            finals,
+            epochs,
+            Condemn::Everything,
+        )
+    }
+
     /// Collects everything, from the flip to the end, within `most` units.
     pub fn collect(
         &mut self,
@@ -173,6 +213,15 @@ impl<F: Format> Pools<F> {
         self.trace.finish(segs, trail, finals, running, most)
     }
 
+    /// The position of the first registration of the block that lies at an address now; None if it has none.
+    pub fn registration_of(&self, segs: &Segs, finals: &mut Finals, at: Addr) -> Option<usize>
+        requires { AreFindable F.layout (map policy_of_pool self.now.pools) segs.now finals.old.registered }
+        ensures unchanged { finals.new ≡ finals.old }
+        ensures found { FindsRegistration F.layout (map policy_of_pool self.now.pools) segs.now finals.old.registered at.0 result }
+    {
+        self.trace.registration_of(segs, finals, at)
+    }
+
     /// The read barrier of a running collection for a block at `at`, before a reference in it is read.
     pub fn access(&mut self, segs: &mut Segs, trail: &mut Trail, band: Band, at: Addr)
         requires { (t : Segment) → segment_over segs.old.segments at.0 ≡ Some t
@@ -189,12 +238,12 @@ impl<F: Format> Pools<F> {
     }
 }
 
-/// The most moves of a full collection in an arena of these grains.
+/// The most moves of a full collection in an arena of these grains: two for each word.
 pub fn most_moves(grains: u32) -> u32
     requires at_most { grains ≤ max_grains }
     ensures value { result ≡ most_moves grains }
 {
-    2 * (WORDS_OF_GRAIN as u32 * (grains + 1)) + grains + 4
+    2 * (WORDS_OF_GRAIN as u32 * grains)
 }
 
 /// The most units of a full collection in an arena of these grains, with n registrations.

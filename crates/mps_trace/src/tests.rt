@@ -3,7 +3,7 @@ ghost use Rattle.std.specs.Prelude.{◌≡◌, ◌<◌, ◌^◌};
 ghost use Rattle.mps_buffer.specs.Tokens.{NoneIsOpen};
 ghost use Rattle.mps_seg.specs.Segs.{new_segments};
 
-use crate::{Band, Pools, Running, Trace};
+use crate::{Band, Condemn, Pools, Running, Trace};
 use mps_base::{Addr, Move, Trail, ZoneSet};
 use mps_buffer::OpenPoints;
 use mps_final::Finals;
@@ -30,7 +30,15 @@ fn begin_with(
     let mut finals = Finals::new(alloc)?;
     let mut epochs = Epochs::new();
     let mut trace: Trace<Front> = Trace::new(alloc);
-    Ok(trace.begin(segs, trail, &mut roots, points, &mut finals, &mut epochs))
+    Ok(trace.begin(
+        segs,
+        trail,
+        &mut roots,
+        points,
+        &mut finals,
+        &mut epochs,
+        Condemn::Everything,
+    ))
 }
 
 #[test]

@@ -9,6 +9,7 @@ ghost use Rattle.mps_format.specs.declared.pool.Policy.{Policy};
 ghost use Rattle.mps_gen.specs.State.{max_pools};
 ghost use Rattle.mps_amc.specs.Amc.{tails_after_flip};
 ghost use Rattle.mps_amc.specs.Moving.{nailed};
+ghost use Rattle.mps_gen.specs.State.{is_on_chain};
 ghost use Rattle.mps_trace.specs.Flip.{is_automatic, moves_blocks};
 ghost use Rattle.mps_trace.specs.Finding.{CanFind, FindsTo};
 ghost use Rattle.mps_trace.specs.Trace.{traced, KeepsTo, FixesTo, CanKeep, CanFix, no_pools, with_pool};
@@ -84,6 +85,13 @@ impl<F: Format> Trace<F> {
         ensures { result ≡ is_automatic self.now.formats pool }
     {
         (pool as usize) < self.formats.len() && self.formats[pool as usize].is_some()
+    }
+
+    /// Whether a pool is on a chain.
+    pub(crate) fn is_on(&self, chain: u32, pool: u32) -> bool
+        ensures { result ≡ is_on_chain self.now.chains chain pool }
+    {
+        self.chains.is_on(chain, pool)
     }
 
     /// Whether a collection moves the blocks of a pool.

@@ -21,6 +21,5 @@ returns-clause-collected g c =
 
 pub returns-clause-epochs : goal.returns-clause-epochs
 returns-clause-epochs g c =
-    are_flipped g.F.Format.layout _ c.args.self.now c.self.view_is c.self.inside.trace c.self.invariant c.args.points.now
-    c.args.roots.now c.args.finals.now c.args.segs.now c.args.trail.now c.args.most c.args.epochs.now c.collect.new.epochs
-    c.collect.ensures.epochs
+    are_flipped g.F.Format.layout _ c.args.self.now c.self.view_is c.self.inside.trace c.self.invariant c.args.segs.now
+    c.args.epochs.now c.collect.new.epochs c.collect.ensures.epochs
