@@ -1,4 +1,4 @@
--- The begin of a full collection: the flip of the model.
+-- The begin of a collection: the flip of the model.
 pub mod UnitsFew
 pub mod HeldSegments
 pub mod NothingAtHand
@@ -8,6 +8,7 @@ pub mod MovesAtFlip
 pub mod FlippedSegments
 pub mod FlippedImage
 pub mod FlipStands
+pub mod RootsHeld
 pub mod RootsReady
 pub mod FinalsThen
 pub mod Acted

@@ -4,3 +4,4 @@ pub mod Marks
 pub mod Pinned
 pub mod Modelled
 pub mod Flipped
+pub mod Remembered

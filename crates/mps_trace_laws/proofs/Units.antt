@@ -1,4 +1,5 @@
 -- The units of a collection: those of the abstract collector.
+pub mod CallsLeave
 pub mod Counting
 pub mod TwoLists
 pub mod Finals

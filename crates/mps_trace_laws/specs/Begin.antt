@@ -1,4 +1,5 @@
--- The begin of a full collection: the flip of the model.
+-- The begin of a collection: the flip of the model.
 pub mod MovesOfObjects
 pub mod Before
+pub mod Condemning
 pub mod Begun

@@ -3,3 +3,4 @@ pub mod Finals
 pub mod Standing
 pub mod Examining
 pub mod Laws
+pub mod Left

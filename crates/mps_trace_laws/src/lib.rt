@@ -12,6 +12,7 @@ ghost use Rattle.mps_trace_laws.specs.Begin.MovesOfObjects.{RoomIsEnough};
 ghost use Rattle.mps_trace_laws.specs.Splats.Laws.{ASplatScanIsAScan};
 ghost use Rattle.mps_trace_laws.specs.Steps.Laws.{UnitsInWordsAreUnits, UnitsToTheEndAreUnits, UnitsInWordsRunOut, UnitsCanBeDone};
 ghost use Rattle.mps_trace_laws.specs.Units.Examining.{ExaminationsAreUnits, PostsAreUnits};
+ghost use Rattle.mps_trace_laws.specs.Units.Left.{AFlipLeavesThese, NoCallLeavesMore, UnitsGoOnBelow};
 
 /// What is found at an address that means an object is where it lies now, and nothing is found exactly if it is white.
 pub fn an_object_is_found<F>()
@@ -42,7 +43,8 @@ pub fn a_reclaim_is_a_unit()
     ensures { AReclaimIsAUnit }
 {}
 
-/// A collection that begins is the act of the model's flip, and the state stands for the abstract collector before its first unit.
+/// A collection that begins, of everything or of the generations of a chain, is the act of the model's flip, and the state stands for
+/// the abstract collector before its first unit.
 pub fn a_collection_begins<F>()
     ensures { ACollectionBegins F }
 {}
@@ -75,4 +77,13 @@ pub fn a_step_is_units<F>()
     ensures ended { UnitsToTheEndAreUnits F }
     ensures fewer { UnitsInWordsRunOut F }
     ensures ready { UnitsCanBeDone F }
+{}
+
+/// The units that are left only become fewer. Right after a flip there is at most one for each object that it condemned or remembers, for
+/// each registration and for each condemned segment. No call of a client raises them, and a collection goes on after n units only if more
+/// than n were left.
+pub fn units_only_run_out()
+    ensures flip { AFlipLeavesThese }
+    ensures calls { NoCallLeavesMore }
+    ensures below { UnitsGoOnBelow }
 {}

@@ -15,19 +15,21 @@ use Rattle.mps_format.specs.Layout.{Layout}
 use Rattle.mps_trace.specs.GenState.{ChainsState}
 use Rattle.mps_root.specs.State.{RootsState}
 use Rattle.mps_seg.specs.Segs.{SegsState}
-use Rattle.mps_model.specs.Effect.{Everything, condemned_by}
+use Rattle.mps_seg.specs.Collecting.{summary_at}
+use Rattle.mps_model.specs.Effect.{condemned_by}
 use Rattle.mps_model.specs.Flip.{flip_of, is_nothing}
 use Rattle.mps_model.specs.Graph.{Graph, entry_at, for_object, is_weak_object}
 use Rattle.mps_model.specs.World.{World, Pool, area_words, is_automatic_kind, is_copying_kind, is_copying_pool, generations_of, pool_is}
 use Rattle.mps_abstract.specs.Colours.{is_black}
 use Rattle.mps_abstract.specs.Collecting.{Collecting, is_reclaiming_band}
-use Rattle.mps_abstract.specs.FlipLaws.{collecting_after_flip, FixesHeld}
-use Rattle.mps_abstract.proofs.WholeCollections.WholeBegins.{begun_running}
+use Rattle.mps_abstract.specs.FlipLaws.{AreRemembered, FixesHeld}
+use Rattle.mps_abstract.proofs.FlipActs.FlipBegins.{flip_done}
+use Rattle.mps_abstract.proofs.FlipActs.Remembered.{remembered_is_enough}
 use Rattle.mps_abstract.proofs.WholeCollections.WholePaths.{fixed_same}
 use Rattle.mps_trace_laws.specs.Image.Image.{CellSet, black_cells}
 use Rattle.mps_trace_laws.specs.Image.Memory.{pool_layout, live_reservation}
-use Rattle.mps_trace.specs.Begin.{Begins, nailed_at_flip}
-use Rattle.mps_trace.specs.Flip.{automatic_of}
+use Rattle.mps_trace.specs.Begin.{Begins, marked_at_flip}
+use Rattle.mps_trace.specs.Flip.{condemned_of}
 use Rattle.mps_trace.specs.Trace.{TraceState, Traced, traced}
 use Rattle.mps_trace.specs.declared.running.Running.{Running as RunningState}
 use Rattle.mps_trace_laws.specs.Fix.Steps.{IsSameGraph}
@@ -40,7 +42,12 @@ use Rattle.mps_trace_laws.specs.Roots.Beginning.{AreRootsFixed}
 use Rattle.mps_trace_laws.specs.Roots.Housed.{AreRootsHoused}
 use Rattle.mps_trace_laws.proofs.Roots.Beginning.{roots_are_steps, what_is_held_is_fixed}
 use Rattle.mps_trace_laws.proofs.Roots.Housed.{roots_keep_housed}
-use Rattle.mps_trace_laws.specs.Flip.Condemned.{AreFormatsOf, AreMovesOf}
+use Rattle.mps_trace_laws.specs.Flip.Condemned.{AreMovesOf, CondemnsAlike, condemnation}
+use Rattle.mps_trace.specs.declared.condemn.Condemn.{Condemn}
+use Rattle.mps_trace_laws.specs.Begin.Condemning.{MayCondemn, collecting_at_flip, remembered_in}
+use Rattle.mps_trace_laws.specs.Roots.Rows.{AreHeldAtFlip}
+use Rattle.mps_trace_laws.specs.Roots.Tables.{AreTablesHeld}
+use Rattle.mps_trace_laws.proofs.Begin.RootsHeld.{tables_as, messages_as}
 use Rattle.mps_trace_laws.proofs.Flip.Condemned.{flip_is_the_models}
 use Rattle.mps_trace_laws.proofs.Flip.Reservations.{no_reservation_is_live}
 use Rattle.mps_trace_laws.specs.Units.Finals.{address_of_id, AreDue}
@@ -56,13 +63,13 @@ has_some : {A : Type 0} (xs : List A) → 0 < length xs → is_nothing xs ≡ fa
 has_some [] some = absurd (omega (arith, some))
 has_some (x ∷ xs) some = refl
 
--- where segments of automatic pools are condemned in words, the model's flip condemns some
-pub something_condemned : {F : Type 0} (formats : List (Option (Policy F))) (ts : List Segment) (w : World) → ts ≡ w.segments
-    → AreFormatsOf formats (pool_is is_automatic_kind w) → AreMovesOf formats (is_copying_pool w)
-    → 0 < length (automatic_of formats ts) → is_nothing (condemned_by w Everything) ≡ false
-something_condemned formats ts w same known moves some =
-    subst (λ (us : List Segment). is_nothing us ≡ false) (flip_is_the_models formats ts w same known moves).segments
-    (has_some (automatic_of formats ts) some)
+-- where segments are condemned in words, the model's flip condemns some
+pub something_condemned : {F : Type 0} (formats : List (Option (Policy F))) (chains : ChainsState) (what : Condemn) (ts : List Segment)
+    (w : World) → ts ≡ w.segments → CondemnsAlike formats chains what w → AreMovesOf formats (is_copying_pool w)
+    → 0 < length (condemned_of formats chains what ts) → is_nothing (condemned_by w (condemnation what)) ≡ false
+something_condemned formats chains what ts w same alike moves some =
+    subst (λ (us : List Segment). is_nothing us ≡ false) (flip_is_the_models formats chains what ts w same alike moves).segments
+    (has_some (condemned_of formats chains what ts) some)
 
 -- ---- what fixes leave
 
@@ -87,30 +94,40 @@ moving_still layout formats of w w' same pools moving = record {
 
 module _ {F : Type 0} (flip_stands : AFlipStands F) (layout : F → Layout) (t : TraceState F) (s : SegsState)
     (m : Moves) (points : PointsState) (roots roots' : RootsState) (finals finals' : FinalsState) (w : World)
-    (rows : List (List (Option Id))) (z : Traced) (run : RunningState) (before : StandsBefore layout t s m points w)
+    (rows : List (List (Option Id))) (z : Traced) (run : RunningState) (what : Condemn) (before : StandsBefore layout t s m points w)
+    (may : MayCondemn t s w what)
     (words : AreWordsShown (words_of_areas roots.areas) (area_words w)) (held : AreRootsHeld w roots finals rows)
-    (begins : Begins layout t.formats t.chains points roots finals (traced t s m) roots' finals' z run) where
+    (begins : Begins layout t.formats t.chains what points roots finals (traced t s m) roots' finals' z run) where
   abbrev y : Collecting
-  y = collecting_after_flip w Everything []
+  y = collecting_at_flip s w what
 
   abbrev x : Traced
-  x = nailed_at_flip t.formats points roots (traced t s m)
+  x = marked_at_flip t.formats t.chains what points roots (traced t s m)
 
   abbrev done : CellSet
   done = black_cells y.running.condemned y.colours
 
-  some : is_nothing (condemned_by w Everything) ≡ false
+  some : is_nothing (condemned_by w (condemnation what)) ≡ false
   some =
-      something_condemned t.formats s.segments w before.segments.segments.same_segments before.pools.formats before.pools.moves
+      something_condemned t.formats t.chains what s.segments w before.segments.segments.same_segments may.alike before.pools.moves
       begins.some
 
-  flip : IsFlipStanding layout t m w x
-  flip = flip_stands layout t s m points roots w before words some
+  flip : IsFlipStanding layout t s m w what x
+  flip = flip_stands layout t s m points roots w what before may words some
+
+  tables : AreTablesHeld w.addresses y roots rows
+  tables = tables_as s w what roots finals rows held
+
+  held_messages : AreHeldAtFlip w.addresses y finals.messages (map Some w.graph.messages)
+  held_messages = messages_as s w what roots finals rows held
+
+  told : AreRemembered y (remembered_in s w what)
+  told = remembered_is_enough w (condemnation what) (summary_at s) before.objects.rest may.refers
 
   all : AreRootsFixed layout t.formats t.chains w.addresses done x z y roots roots' finals' rows w.graph.messages
   all =
       roots_are_steps layout t.formats t.chains w.addresses done x begins.before z y rows w.graph.messages roots roots' finals finals'
-      flip.moving.shaped flip.traces held.tables held.messages begins.slots begins.messages
+      flip.moving.shaped flip.traces tables held_messages begins.slots begins.messages
 
   abbrev fixed : AreFixed layout t.formats t.chains w.addresses done x z y
       (flat_map (λ row. row) rows ++ map Some w.graph.messages)
@@ -123,7 +140,7 @@ module _ {F : Type 0} (flip_stands : AFlipStands F) (layout : F → Layout) (t :
   kept : AreRootsHoused z after
   kept =
       roots_keep_housed layout t.formats t.chains w.addresses done x begins.before z y rows w.graph.messages roots roots' finals finals'
-      flip.traces flip.housed flip.moving.strong_moving flip.ranked held.tables held.messages begins.slots begins.messages all
+      flip.traces flip.housed flip.moving.strong_moving flip.ranked tables held_messages begins.slots begins.messages all
 
   fixes : FixesHeld w y fixed.moves after
   fixes =
@@ -173,7 +190,9 @@ module _ {F : Type 0} (flip_stands : AFlipStands F) (layout : F → Layout) (t :
 
   stands : UnitStands layout t.formats t.chains w.addresses z finals' run after
   stands = record {
-    running = begun_running w fixed.moves after before.objects.rest some fixes;
+    running =
+        (flip_done w (condemnation what) (remembered_in s w what) fixed.moves after
+        before.objects.rest may.numbered some told fixes).running;
     same_band = ap (λ (r : RunningState). band_of r.band) begins.run_is ∙ sym far.band;
     next = ap (λ (r : RunningState). r.next) begins.run_is ∙ sym nothing_examined;
     before =
@@ -199,17 +218,17 @@ module _ {F : Type 0} (flip_stands : AFlipStands F) (layout : F → Layout) (t :
     });
   }
 
-  pub act_done : IsActDone layout t m w rows roots roots' finals' z run
+  pub act_done : IsActDone layout t s m w what rows roots roots' finals' z run
   act_done = record {
     first = fixed.moves;
     after = after;
     fixes = fixes;
     stands = stands;
-    trail = fixed.trail ∙ ap (λ ms. ms ++ fixed.moves) flip.trail ∙ append_assoc m.moves (flip_of w Everything ∷ []) fixed.moves;
+    trail = fixed.trail ∙ ap (λ ms. ms ++ fixed.moves) flip.trail ∙ append_assoc m.moves (flip_of w (condemnation what) ∷ []) fixed.moves;
     slots = all.slots;
     messages = all.messages;
   }
 
 pub a_collection_begins : {F : Type 0} → AFlipStands F → ACollectionBegins F
-a_collection_begins flip_stands layout t s m points roots roots' finals finals' w rows z run before words held begins =
-    act_done flip_stands layout t s m points roots roots' finals finals' w rows z run before words held begins
+a_collection_begins flip_stands layout t s m points roots roots' finals finals' w rows z run what before may words held begins =
+    act_done flip_stands layout t s m points roots roots' finals finals' w rows z run what before may words held begins

@@ -1,11 +1,11 @@
--- Right after a flip of everything the state in words stands for the abstract collector.
-use Rattle.std.proofs.Common.{◌≡◌, ◌∙◌, ℕ, ◌+◌, ◌≤◌, Bool, false, List, [], ◌∷◌, ◌++◌, length, map, sym, ap, subst, append-nil, arith}
+-- Right after a flip the state in words stands for the abstract collector.
+use Rattle.std.proofs.Common.{◌≡◌, ◌∙◌, ℕ, ◌+◌, ◌≤◌, Bool, false, List, [], ◌∷◌, ◌++◌, length, map, Contains, Option, sym, ap, subst, append-nil, arith}
 use Rattle.std.proofs.lemmas.Option.{same_Some}
 use Rattle.std.proofs.lemmas.List.{length-map}
 use Rattle.std.proofs.lemmas.List.Sums.{count_by-le-length, length-filter}
 use Rattle.std.specs.Prelude.{◌||◌, filter, nat_le, option_map}
 use Rattle.std.specs.List.{AllByRecursion}
-use Rattle.mps_base.specs.Address.{Id, address_of_grain, address_of_word, grain_of, max_grains}
+use Rattle.mps_base.specs.Address.{address_of_grain, address_of_word, grain_of, max_grains}
 use Rattle.mps_base.specs.Run.{Run, IsAscending, in_order}
 use Rattle.mps_base.specs.Segment.{Segment, grains_of_segment, segment_over}
 use Rattle.mps_base.specs.Trail.{Moves}
@@ -14,14 +14,21 @@ use Rattle.mps_format.specs.Layout.{Layout}
 use Rattle.mps_buffer.specs.Points.{PointsState}
 use Rattle.mps_root.specs.State.{RootsState}
 use Rattle.mps_seg.specs.Segs.{SegsState}
-use Rattle.mps_trace.specs.Begin.{nailed_at_flip}
+use Rattle.mps_seg.specs.Collecting.{summary_at}
+use Rattle.mps_format.specs.declared.pool.Policy.{Policy}
+use Rattle.mps_trace.specs.Begin.{marked_at_flip, nailed_by_areas}
+use Rattle.mps_trace.specs.Flip.{may_refer, remembered_of, zones_at_flip}
+use Rattle.mps_trace.specs.GenState.{ChainsState}
+use Rattle.mps_trace.specs.declared.condemn.Condemn.{Condemn}
+use Rattle.mps_trace.specs.declared.condemn.Condemn.TheVariants.{Everything, Generations}
 use Rattle.mps_trace.specs.Trace.{TraceState, Traced, traced}
-use Rattle.mps_model.specs.Effect.{Everything, doomed, is_condemned_by, without_buffer}
+use Rattle.mps_model.specs.Effect.{doomed, is_condemned_by, without_buffer}
 use Rattle.mps_model.specs.World.{World, area_words, extents_of, is_copying_pool}
-use Rattle.mps_abstract.specs.Colours.{Colours}
 use Rattle.mps_abstract.specs.Collecting.{Collecting}
-use Rattle.mps_abstract.specs.FlipLaws.{collecting_after_flip}
-use Rattle.mps_trace_laws.specs.Image.Image.{ImageStands, Stands, black_cells}
+use Rattle.mps_abstract.specs.FlipLaws.{AreRemembered}
+use Rattle.mps_abstract.proofs.FlipActs.Remembered.{remembered_is_enough}
+use Rattle.mps_abstract.proofs.HeldSegments.{among_filtered}
+use Rattle.mps_trace_laws.specs.Image.Image.{ImageStands, black_cells}
 use Rattle.mps_trace_laws.specs.Image.Memory.{Setting, is_condemned_word, memory_in, words_of_arena}
 use Rattle.mps_trace_laws.specs.Fix.Tracing.{AreSegmentsOf, AreHeld, HasTables, AreCondemnedAt, AreCoveredInOrder, StateStands, setting_of}
 use Rattle.mps_trace_laws.specs.Fix.Room.{moves_left}
@@ -30,13 +37,19 @@ use Rattle.mps_trace_laws.specs.Flip.Reservations.{AreNoneLive}
 use Rattle.mps_trace_laws.proofs.Flip.Reservations.{no_reservation_is_live}
 use Rattle.mps_trace_laws.specs.Units.Standing.{AreObjectsKnown}
 use Rattle.mps_trace_laws.specs.Nails.Flipped.{setting_flipped_in}
-use Rattle.mps_trace_laws.specs.Nails.Nailed.{AreWordsShown, AreMarkedTo, is_moving_word, nails, pinned_colours, words_of_areas}
-use Rattle.mps_trace_laws.proofs.Nails.Marks.{areas_marked}
+use Rattle.mps_trace_laws.specs.Nails.Nailed.{AreWordsShown, AreMarkedTo, is_moving_word, nails, words_of_areas}
+use Rattle.mps_trace_laws.proofs.Fix.Hands.{contains_among}
+use Rattle.mps_trace_laws.proofs.Fix.NewTail.{among_contains}
+use Rattle.mps_trace_laws.proofs.Nails.Remembered.{AreGreyToo, begins_in, each_ranked}
+use Rattle.mps_trace_laws.proofs.Units.Entering.{held_in_order}
+use Rattle.mps_trace_laws.specs.Flip.Condemned.{condemnation}
 use Rattle.mps_trace_laws.specs.Begin.Before.{StandsBefore}
+use Rattle.mps_trace_laws.specs.Begin.Condemning.{MayCondemn, collecting_at_flip, remembered_in}
+use Rattle.mps_trace_laws.proofs.Begin.CondemnedIds.{kind_is}
 use Rattle.mps_trace_laws.specs.Begin.Begun.{AFlipStands, IsFlipStanding}
 use Rattle.mps_trace_laws.proofs.Begin.MovesAtFlip.{moves_at_flip}
-use Rattle.mps_trace_laws.proofs.Begin.FlippedImage.{resting, kind_is, image_pinned}
-use Rattle.mps_trace_laws.proofs.Begin.FlippedSegments.{segments_flipped, bit_is, is_held, models, moved, condemns, ranked, unmarked, whole}
+use Rattle.mps_trace_laws.proofs.Begin.FlippedImage.{resting, image_marked, marked, now}
+use Rattle.mps_trace_laws.proofs.Begin.FlippedSegments.{segments_flipped, bit_is, is_held, models, moved, condemns, ranked, whole}
 use Rattle.mps_trace_laws.proofs.Begin.NothingAtHand.{tails_are_empty, empty_tails_stand}
 use Rattle.mps_trace_laws.proofs.Begin.RankedNails.{ranked_areas}
 
@@ -57,29 +70,53 @@ no_more_pass p ts =
     let most = count_by-le-length p ts in
     omega (arith, bases, passing, most)
 
+-- what is remembered is held
+filtered_held : (p : Segment → Bool) (ts : List Segment) (u : Segment) → Contains (filter p ts) u → Contains ts u
+filtered_held p ts u there = among_contains ts u (among_filtered p u ts (contains_among (filter p ts) u there)).0
+
+remembered_held : {F : Type 0} (formats : List (Option (Policy F))) (chains : ChainsState) (what : Condemn) (s : SegsState) (u : Segment)
+    → Contains (remembered_of formats chains what s) u → Contains s.segments u
+remembered_held formats chains Everything s u (k, within, is) = absurd (omega (arith, within))
+remembered_held formats chains (Generations chain oldest) s u there =
+    filtered_held (may_refer formats chains (Generations chain oldest) (zones_at_flip formats chains (Generations chain oldest)
+    s.segments) s)
+    s.segments u there
+
 module _ {F : Type 0} (layout : F → Layout) (t : TraceState F) (s : SegsState) (m : Moves) (points : PointsState) (roots : RootsState)
-    (w : World) (b : StandsBefore layout t s m points w) (shown : AreWordsShown (words_of_areas roots.areas) (area_words w)) where
+    (w : World) (what : Condemn) (b : StandsBefore layout t s m points w) (may : MayCondemn t s w what)
+    (shown : AreWordsShown (words_of_areas roots.areas) (area_words w)) where
   abbrev y : Collecting
-  y = collecting_after_flip w Everything []
+  y = collecting_at_flip s w what
 
   abbrev g : SegsState
-  g = segments_flipped layout t s m points w b
+  g = segments_flipped layout t s m points w what b may
 
   abbrev z : Traced
-  z = nailed_at_flip t.formats points roots (traced t s m)
+  z = marked_at_flip t.formats t.chains what points roots (traced t s m)
 
-  -- ---- words of areas change marks alone
+  -- ---- nails and what is remembered change marks alone
 
-  now : AreMarkedTo g z.segs
+  abbrev after_nails : SegsState
+  after_nails = nailed_by_areas t.formats roots.areas g
+
+  abbrev these : List Segment
+  these = remembered_of t.formats t.chains what s
+
+  nailed : AreMarkedTo g after_nails
       (λ n. nails g.blocks (is_condemned_word g) (is_moving_word t.formats g) (words_of_areas roots.areas) n || false)
-  now =
-      areas_marked t.formats g roots.areas (λ n. false) (whole layout t s m points w b) (unmarked layout t s m points w b)
+  nailed = now layout t s m points w what b may roots.areas shown
+
+  grey : AreGreyToo after_nails z.segs (begins_in after_nails.blocks these)
+  grey = marked layout t s m points w what b may roots.areas shown
+
+  same : z.segs ≡ record g { marks = z.segs.marks }
+  same = grey.same ∙ ap (λ (x : SegsState). record x { marks = z.segs.marks }) nailed.same
 
   same_grains : z.segs.grains ≡ s.grains
-  same_grains = ap (λ (x : SegsState). x.grains) now.same ∙ (moved layout t s m points w b).grains
+  same_grains = ap (λ (x : SegsState). x.grains) same ∙ (moved layout t s m points w what b may).grains
 
   same_segments : z.segs.segments ≡ s.segments
-  same_segments = ap (λ (x : SegsState). x.segments) now.same ∙ (condemns layout t s m points w b).segments
+  same_segments = ap (λ (x : SegsState). x.segments) same ∙ (condemns layout t s m points w what b may).segments
 
   none_live : AreNoneLive y.world.graph.points y.world.point_memories
   none_live = no_reservation_is_live w.graph.points w.point_memories
@@ -95,24 +132,21 @@ module _ {F : Type 0} (layout : F → Layout) (t : TraceState F) (s : SegsState)
 
   abbrev setting_after : Setting
   setting_after =
-      setting_flipped_in (resting layout t s m points w b) g w.addresses (map doomed w.graph.points) (map without_buffer w.point_memories)
+      setting_flipped_in (resting layout t s m points w what b may) g w.addresses
+      (map doomed w.graph.points) (map without_buffer w.point_memories)
       y.running.condemned
 
   setting_is : setting_of z.segs w.addresses y ≡ setting_after
   setting_is =
-      ap (λ (x : SegsState). setting_of x w.addresses y) now.same
-      ∙ ap (λ (n : ℕ). with_segments n g.segments) (moved layout t s m points w b).grains
-      ∙ ap (λ (ts : List Segment). with_segments s.grains ts) (condemns layout t s m points w b).segments
-
-  colours_are : y.colours ≡ pinned_colours y.running.pinned
-  colours_are = ap (λ (ids : List Id). let k : Colours = record { kept = y.running.pinned; grey = ids } in k) (append-nil y.running.pinned)
+      ap (λ (x : SegsState). setting_of x w.addresses y) same
+      ∙ ap (λ (n : ℕ). with_segments n g.segments) (moved layout t s m points w what b may).grains
+      ∙ ap (λ (ts : List Segment). with_segments s.grains ts) (condemns layout t s m points w what b may).segments
 
   image : ImageStands (setting_of z.segs w.addresses y) (memory_in z.segs) w.addresses y.colours
       (black_cells y.running.condemned y.colours)
   image =
-      subst (λ (x : Setting). Stands x (memory_in z.segs) w.addresses y.colours) (sym setting_is)
-      (subst (λ (k : Colours). Stands setting_after (memory_in z.segs) w.addresses k) (sym colours_are)
-      (image_pinned layout t s m points w b roots.areas shown))
+      subst (λ (x : Setting). ImageStands x (memory_in z.segs) w.addresses y.colours (black_cells y.running.condemned y.colours))
+      (sym setting_is) (image_marked layout t s m points w what b may roots.areas shown)
 
   -- ---- segments
 
@@ -120,13 +154,13 @@ module _ {F : Type 0} (layout : F → Layout) (t : TraceState F) (s : SegsState)
   segments_are = record {
     same_grains = same_grains ∙ b.segments.segments.same_grains;
     same_limit =
-        ap (λ (x : SegsState). x.limit) now.same ∙ (moved layout t s m points w b).limit ∙ b.segments.segments.same_limit;
+        ap (λ (x : SegsState). x.limit) same ∙ (moved layout t s m points w what b may).limit ∙ b.segments.segments.same_limit;
     same_segments = same_segments ∙ b.segments.segments.same_segments;
   }
 
   tables : HasTables z.segs
   tables =
-      let sizes = now.whole.sizes in
+      let sizes = grey.whole.sizes in
       record { kept = sizes.kept_size; exact = sizes.exact_size; weak = sizes.weak_size; condemned = sizes.condemned_size }
 
   -- blocks alone are covered
@@ -136,12 +170,12 @@ module _ {F : Type 0} (layout : F → Layout) (t : TraceState F) (s : SegsState)
       subst (IsAscending 0 (words_of_arena z.segs.grains))
       (sym (image.runs.covered ∙ ap (λ (rs : List Run). in_order (extents ++ rs)) none_live.extents ∙ ap in_order (append-nil extents)
       ∙ sym image.runs.blocks))
-      now.whole.order
+      grey.whole.order
 
   condemned : AreCondemnedAt z.segs y.running.condemned_segments
   condemned =
-      subst (λ (x : SegsState). AreCondemnedAt x y.running.condemned_segments) (sym now.same)
-      (record { is_bit = bit_is layout t s m points w b; is_held = is_held layout t s m points w b })
+      subst (λ (x : SegsState). AreCondemnedAt x y.running.condemned_segments) (sym same)
+      (record { is_bit = bit_is layout t s m points w what b may; is_held = is_held layout t s m points w what b may })
 
   -- ---- all of it
 
@@ -161,11 +195,14 @@ module _ {F : Type 0} (layout : F → Layout) (t : TraceState F) (s : SegsState)
     hands = empty_tails_stand (setting_of z.segs w.addresses y) z.segs.segments w.addresses;
   }
 
+  told : AreRemembered y (remembered_in s w what)
+  told = remembered_is_enough w (condemnation what) (summary_at s) b.objects.rest may.refers
+
   room : moves_left y + 2 ≤ z.moves.spare
   room =
-      let objects = moves_at_flip w b.objects.rest in
+      let objects = moves_at_flip w (condemnation what) (remembered_in s w what) told in
       let listed = count_by-le-length (nat_le 0) y.running.condemned_segments in
-      let held = no_more_pass (is_condemned_by y.world Everything) w.segments in
+      let held = no_more_pass (is_condemned_by y.world (condemnation what)) w.segments in
       let before = b.room in
       omega (arith, objects, listed, held, before)
 
@@ -177,16 +214,20 @@ module _ {F : Type 0} (layout : F → Layout) (t : TraceState F) (s : SegsState)
     none_dependent = b.objects.none_dependent;
   }
 
-  pub standing : IsFlipStanding layout t m w z
+  pub standing : IsFlipStanding layout t s m w what z
   standing = record {
     traces = record { state = state; room = room };
     housed = subst (λ (ts : List Segment). AreHoused w.graph.objects ts w.addresses) (sym same_segments)
         b.segments.housed;
-    ranked = ranked_areas t.formats roots.areas g (ranked layout t s m points w b);
+    ranked =
+        each_ranked s.segments (held_in_order s b.segments.held) these after_nails
+        (ap (λ (x : SegsState). x.segments) nailed.same ∙ (condemns layout t s m points w what b may).segments)
+        (remembered_held t.formats t.chains what s)
+        (ranked_areas t.formats roots.areas g (ranked layout t s m points w what b may));
     moving = moving;
     unreserved = λ u there is copying point l r n lies. absurd (none_live.not_live point r lies.reserved);
-    trail = ap (λ (move : Move). m.moves ++ move ∷ []) (models layout t s m points w b).move;
+    trail = ap (λ (move : Move). m.moves ++ move ∷ []) (models layout t s m points w what b may).move;
   }
 
 pub flip_stands : {F : Type 0} → AFlipStands F
-flip_stands layout t s m points roots w b shown some = standing layout t s m points roots w b shown
+flip_stands layout t s m points roots w what b may shown some = standing layout t s m points roots w what b may shown

@@ -1,5 +1,5 @@
--- The segments right after a flip of everything.
-use Rattle.std.proofs.Common.{◌≡◌, ◌∙◌, ℕ, ◌+◌, ◌*◌, false, List, [], length, Contains, sym, ap, subst}
+-- The segments right after a flip.
+use Rattle.std.proofs.Common.{◌≡◌, ◌∙◌, ℕ, ◌+◌, ◌*◌, false, List, length, Contains, sym, ap, subst}
 use Rattle.std.proofs.lemmas.Bool.{false≢true, or_left, or_right}
 use Rattle.std.specs.Prelude.{◌||◌, IsTrue}
 use Rattle.mps_base.specs.Address.{Address, grain_of, words_of_grain}
@@ -13,13 +13,12 @@ use Rattle.mps_buffer.specs.Points.{PointsState}
 use Rattle.mps_seg.specs.Segs.{SegsState}
 use Rattle.mps_trace.specs.Flip as flip
 use Rattle.mps_trace.specs.Trace.{TraceState, traced}
-use Rattle.mps_model.specs.Effect.{Everything}
+use Rattle.mps_trace.specs.declared.condemn.Condemn.{Condemn}
 use Rattle.mps_model.specs.Graph.{contains}
 use Rattle.mps_model.specs.World.{World}
 use Rattle.mps_abstract.specs.Collecting.{Collecting}
-use Rattle.mps_abstract.specs.FlipLaws.{collecting_after_flip}
 use Rattle.mps_trace_laws.specs.Image.Memory.{words_of_arena}
-use Rattle.mps_trace_laws.specs.Flip.Condemned.{IsFlipOfEverything, AreCondemnedToo, bases_of}
+use Rattle.mps_trace_laws.specs.Flip.Condemned.{IsFlipOf, AreCondemnedToo, bases_of}
 use Rattle.mps_trace_laws.specs.Flip.CondemnedWords.{AreWordsCondemned}
 use Rattle.mps_trace_laws.specs.Flip.Reservations.{IsNothingMoved}
 use Rattle.mps_trace_laws.proofs.Flip.Condemned.{flip_is_the_models, flip_condemns}
@@ -27,38 +26,45 @@ use Rattle.mps_trace_laws.proofs.Flip.CondemnedWords.{flip_condemns_words}
 use Rattle.mps_trace_laws.proofs.Flip.Reservations.{flip_moves_nothing}
 use Rattle.mps_trace_laws.specs.Nails.Nailed.{AreTablesWhole, AreMarkedAt}
 use Rattle.mps_trace_laws.specs.Begin.Before.{StandsBefore}
+use Rattle.mps_trace_laws.specs.Begin.Condemning.{MayCondemn, collecting_at_flip}
 use Rattle.mps_trace_laws.proofs.Begin.HeldSegments.{begin_in_table, ready_to_condemn}
 use Rattle.mps_trace_laws.specs.Fix.Ranks.{AreMarksRanked}
 
 module _ {F : Type 0} (layout : F → Layout) (t : TraceState F) (s : SegsState) (m : Moves) (points : PointsState) (w : World)
-    (b : StandsBefore layout t s m points w) where
+    (what : Condemn) (b : StandsBefore layout t s m points w) (may : MayCondemn t s w what) where
   abbrev pub segments_flipped : SegsState
-  segments_flipped = (flip.at_flip t.formats points (traced t s m)).segs
+  segments_flipped = (flip.at_flip t.formats t.chains what points (traced t s m)).segs
 
   abbrev g : SegsState
   g = segments_flipped
 
   abbrev y : Collecting
-  y = collecting_after_flip w Everything []
+  y = collecting_at_flip s w what
 
   none_condemned : (u : Segment) → Contains s.segments u → bit s.condemned (grain_of u.base) ≡ false
   none_condemned u there = b.segments.not_condemned (grain_of u.base)
 
   pub moved : IsNothingMoved s g
-  moved = flip_moves_nothing t.formats points (traced t s m)
+  moved = flip_moves_nothing t.formats t.chains what points (traced t s m)
 
-  pub models : IsFlipOfEverything (flip.automatic_of t.formats s.segments) (flip.moving_of t.formats s.segments) w
-  models = flip_is_the_models t.formats s.segments w b.segments.segments.same_segments b.pools.formats b.pools.moves
+  -- the segments that are condemned
+  abbrev these : List Segment
+  these = flip.condemned_of t.formats t.chains what s.segments
 
-  pub condemns : AreCondemnedToo s g (bases_of (flip.automatic_of t.formats s.segments))
-  condemns = flip_condemns t.formats points (traced t s m) (begin_in_table s b.segments.held b.segments.tables)
+  pub models : IsFlipOf what these (flip.moving_of t.formats these) w
+  models = flip_is_the_models t.formats t.chains what s.segments w b.segments.segments.same_segments may.alike b.pools.moves
 
-  pub condemns_words : AreWordsCondemned t.formats s g
-  condemns_words = flip_condemns_words t.formats points (traced t s m) (ready_to_condemn s b.segments.held b.segments.tables none_condemned)
+  pub condemns : AreCondemnedToo s g (bases_of these)
+  condemns = flip_condemns t.formats t.chains what points (traced t s m) (begin_in_table s b.segments.held b.segments.tables)
+
+  pub condemns_words : AreWordsCondemned (λ u. flip.condemns t.formats t.chains what u.pool u.generation) s g
+  condemns_words =
+      flip_condemns_words t.formats t.chains what points (traced t s m)
+      (ready_to_condemn s b.segments.held b.segments.tables none_condemned)
 
   -- ---- which are condemned
 
-  bases : bases_of (flip.automatic_of t.formats s.segments) ≡ y.running.condemned_segments
+  bases : bases_of these ≡ y.running.condemned_segments
   bases = models.bases
 
   pub bit_is : (u : Segment) → Contains g.segments u

@@ -16,7 +16,7 @@ use Rattle.mps_format.specs.Layout.{Layout}
 use Rattle.mps_root.specs.State.{RootsState}
 use Rattle.mps_seg.specs.Segs.{SegsState}
 use Rattle.mps_seg.specs.Collecting.{collected}
-use Rattle.mps_model.specs.Effect.{Everything, condemned_by, condemned_zones, doomed, without_buffer, after_flip, world_after_moves}
+use Rattle.mps_model.specs.Effect.{condemned_by, condemned_zones, doomed, without_buffer, after_flip, world_after_moves}
 use Rattle.mps_model.specs.Flip.{flip_act, flip_of, is_nothing}
 use Rattle.mps_model.specs.Graph.{Object, Point}
 use Rattle.mps_model.specs.World.{World, PointMemory}
@@ -28,11 +28,13 @@ use Rattle.mps_trace_laws.specs.Image.Memory.{Setting, memory_in, pool_layout, s
 use Rattle.mps_trace_laws.proofs.Image.Placed.{placed_unreserved}
 use Rattle.mps_trace_laws.proofs.Image.Reserved.{image_reserved}
 use Rattle.mps_trace.specs.Begin.{EndsAtOnce}
-use Rattle.mps_trace.specs.Flip.{at_flip, automatic_of, moving_of, condemning_all}
+use Rattle.mps_trace.specs.Flip.{at_flip, condemned_of, moving_of, condemning_all}
+use Rattle.mps_trace.specs.declared.condemn.Condemn.{Condemn}
 use Rattle.mps_trace.specs.Trace.{TraceState, Traced, traced}
 use Rattle.mps_trace.proofs.Ending.{segments_stay}
 use Rattle.mps_trace_laws.proofs.Reclaim.Ending.{image_at_rest}
-use Rattle.mps_trace_laws.specs.Flip.Condemned.{IsFlipOfEverything}
+use Rattle.mps_trace_laws.specs.Begin.Condemning.{MayCondemn}
+use Rattle.mps_trace_laws.specs.Flip.Condemned.{IsFlipOf, condemnation}
 use Rattle.mps_trace_laws.specs.Flip.Reservations.{AreNoneLive}
 use Rattle.mps_trace_laws.proofs.Flip.Condemned.{flip_is_the_models}
 use Rattle.mps_trace_laws.proofs.Flip.OpenEnded.{flip_leaves_runs}
@@ -113,29 +115,34 @@ no_entries [] none = refl
 no_entries (x ∷ xs) none = absurd (omega (arith, none))
 
 module _ {F : Type 0} (layout : F → Layout) (t : TraceState F) (s : SegsState) (m : Moves) (points : PointsState)
-    (roots roots' : RootsState) (finals finals' : FinalsState) (w : World) (z : Traced) (before : StandsBefore layout t s m points w)
-    (ends : EndsAtOnce t.formats points roots finals (traced t s m) roots' finals' z) where
+    (roots roots' : RootsState) (finals finals' : FinalsState) (w : World) (z : Traced) (what : Condemn)
+    (before : StandsBefore layout t s m points w)
+    (may : MayCondemn t s w what) (ends : EndsAtOnce t.formats t.chains what points roots finals (traced t s m) roots' finals' z) where
   abbrev after : SegsState
   after = after_all_end points.flips points.points s
 
-  the_models : IsFlipOfEverything (automatic_of t.formats s.segments) (moving_of t.formats s.segments) w
+  -- the segments that are condemned
+  abbrev these : List Segment
+  these = condemned_of t.formats t.chains what s.segments
+
+  the_models : IsFlipOf what these (moving_of t.formats these) w
   the_models =
-      flip_is_the_models t.formats s.segments w before.segments.segments.same_segments before.pools.formats before.pools.moves
+      flip_is_the_models t.formats t.chains what s.segments w before.segments.segments.same_segments may.alike before.pools.moves
 
-  none_automatic : automatic_of t.formats s.segments ≡ []
-  none_automatic = no_entries (automatic_of t.formats s.segments) ends.none
+  none_condemned : these ≡ []
+  none_condemned = no_entries these ends.none
 
-  nothing : is_nothing (condemned_by w Everything) ≡ true
-  nothing = ap (λ (ts : List Segment). is_nothing ts) (sym the_models.segments ∙ none_automatic)
+  nothing : is_nothing (condemned_by w (condemnation what)) ≡ true
+  nothing = ap (λ (ts : List Segment). is_nothing ts) (sym the_models.segments ∙ none_condemned)
 
-  over : IsFlipEnded w Everything
-  over = flip_ended w Everything before.objects.rest refl nothing
+  over : IsFlipEnded w (condemnation what)
+  over = flip_ended w (condemnation what) before.objects.rest may.numbered nothing
 
   -- the segments after the flip
-  flipped_are : (at_flip t.formats points (traced t s m)).segs ≡ with_covered s after.covered after.reservations
+  flipped_are : (at_flip t.formats t.chains what points (traced t s m)).segs ≡ with_covered s after.covered after.reservations
   flipped_are =
       ap (λ (ts : List Segment). condemning_all ts after)
-      (ap (λ (ts : List Segment). automatic_of t.formats ts) (segments_stay points.flips points.points s) ∙ none_automatic)
+      (ap (λ (ts : List Segment). condemned_of t.formats t.chains what ts) (segments_stay points.flips points.points s) ∙ none_condemned)
       ∙ reservations_alone points.flips after.covered after.reservations points.points s
 
   -- and after the end
@@ -152,7 +159,7 @@ module _ {F : Type 0} (layout : F → Layout) (t : TraceState F) (s : SegsState)
   left : RunsStand setting_then (memory_in (with_covered s after.covered after.reservations)) w.addresses
   left =
       let runs =
-      flip_leaves_runs t.formats points (traced t s m) setting w.addresses [] (λ n. false) (words_of_arena s.grains)
+      flip_leaves_runs t.formats t.chains what points (traced t s m) setting w.addresses [] (λ n. false) (words_of_arena s.grains)
       before.segments.image.runs before.segments.covered before.reservations
       in
       subst (λ (g : SegsState). RunsStand setting_then (memory_in g) w.addresses) flipped_are
@@ -160,28 +167,28 @@ module _ {F : Type 0} (layout : F → Layout) (t : TraceState F) (s : SegsState)
 
   -- the world then
   abbrev last : World
-  last = record (after_flip w (condemned_zones w Everything) Everything) { collection = None }
+  last = record (after_flip w (condemned_zones w (condemnation what)) (condemnation what)) { collection = None }
 
-  leads : world_after_moves w (flip_act w Everything) ≡ last
+  leads : world_after_moves w (flip_act w (condemnation what)) ≡ last
   leads = ap (λ ms. world_after_moves w ms) over.act
 
-  stands : StandsAtRest z.segs (world_after_moves w (flip_act w Everything))
+  stands : StandsAtRest z.segs (world_after_moves w (flip_act w (condemnation what)))
   stands =
-      subst (λ (g : SegsState). StandsAtRest g (world_after_moves w (flip_act w Everything))) (sym segments_are)
+      subst (λ (g : SegsState). StandsAtRest g (world_after_moves w (flip_act w (condemnation what)))) (sym segments_are)
       (subst (λ (v : World). StandsAtRest (collected (with_covered s after.covered after.reservations)) v) (sym leads)
       (rest_again s w.graph.objects w.graph.points w.point_memories (pool_layout w) w.addresses after.covered after.reservations
       before.segments.image left))
 
-  trail : z.moves.moves ≡ m.moves ++ flip_act w Everything
+  trail : z.moves.moves ≡ m.moves ++ flip_act w (condemnation what)
   trail =
       ap (λ (x : Traced). x.moves.moves) ends.over
       ∙ ap (λ (move : Move). (m.moves ++ move ∷ []) ++ End ∷ []) the_models.move
-      ∙ append_assoc m.moves (flip_of w Everything ∷ []) (End ∷ [])
+      ∙ append_assoc m.moves (flip_of w (condemnation what) ∷ []) (End ∷ [])
       ∙ ap (λ ms. m.moves ++ ms) (sym over.act)
 
-  pub is_over : IsOverAtOnce m w z
+  pub is_over : IsOverAtOnce m w what z
   is_over = record { nothing = nothing; stands = stands; trail = trail }
 
 pub a_collection_of_nothing_ends : {F : Type 0} → ACollectionOfNothingEnds F
-a_collection_of_nothing_ends layout t s m points roots roots' finals finals' w z before ends =
-    is_over layout t s m points roots roots' finals finals' w z before ends
+a_collection_of_nothing_ends layout t s m points roots roots' finals finals' w z what before may ends =
+    is_over layout t s m points roots roots' finals finals' w z what before may ends

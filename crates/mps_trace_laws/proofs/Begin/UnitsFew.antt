@@ -1,4 +1,4 @@
--- A collection of everything has no more units than there are live objects, registrations and segments: what its flip fixes makes no
+-- A collection has no more units than there are live objects, registrations and segments: what its flip fixes makes no
 -- object, registers none, and condemns no segment.
 use Rattle.std.proofs.Common.{◌≡◌, ◌∙◌, ℕ, suc, ◌+◌, true, false, refl, ap, List, [], ◌∷◌, length, Option, Some, None, is_some, subst, arith}
 use Rattle.std.proofs.lemmas.List.{length-map}
@@ -12,7 +12,7 @@ use Rattle.mps_model.specs.Accessing.{address_or_null}
 use Rattle.mps_model.specs.Graph.{entry_at}
 use Rattle.mps_model.specs.Collection.{Collection}
 use Rattle.mps_model.specs.World.{World, id_at, is_at, is_copying_pool, is_live, live_ids, numbers_of, first_id, with_tail}
-use Rattle.mps_model.specs.Effect.{Everything, after_segment, after_moved, condemned_by, holding, is_condemned_by, where_one, with_collection, placing, world_after_moves}
+use Rattle.mps_model.specs.Effect.{after_segment, after_moved, condemned_by, holding, is_condemned_by, where_one, with_collection, placing, world_after_moves}
 use Rattle.mps_abstract.specs.Colours.{is_to_scan}
 use Rattle.mps_abstract.specs.Collecting.{Collecting}
 use Rattle.mps_abstract.specs.Fixing.{Fixes, fixes_no_more, passes, keeps, Keeps, marks, moves_to_place, moves_to_segment, stays, new_segment}
@@ -43,7 +43,7 @@ found_there at first (Some other ∷ addresses) n e =
     ] e
 
 module _ (w : World) where
-  found_is_live : (at : Address) (id : Id) → id_at w at ≡ Some id → is_live w id ≡ true
+  pub found_is_live : (at : Address) (id : Id) → id_at w at ≡ Some id → is_live w id ≡ true
   found_is_live at id e = of_there (found_there at 0 w.addresses id e)
     where
       of_there : IsThereFrom w.addresses 0 id → is_live w id ≡ true
@@ -127,14 +127,14 @@ fixes_as_far {x = x} (keeps {id = id} white kept fixes) =
 -- ---- units
 
 pub units_are_few : UnitsAreFew
-units_are_few w first y fixes =
+units_are_few w what others first y fixes =
     let far = fixes_as_far fixes in
     let objects = count_by-le-length (is_to_scan y.running.condemned y.colours) (live_ids y.world) in
     let live : length (live_ids y.world) ≡ length (live_ids w) = ap (λ (ns : List Id). length ns) far.big.live in
     let segments = count_by-le-length (nat_le y.cursor) y.running.condemned_segments in
-    let condemned : length y.running.condemned_segments ≡ count_by (is_condemned_by w Everything) w.segments =
-    ap (λ (bs : List Address). length bs) far.big.segments ∙ length-map (condemned_by w Everything) (λ (t : Segment). t.base)
-    ∙ length-filter (is_condemned_by w Everything) w.segments in
-    let held = count_by-le-length (is_condemned_by w Everything) w.segments in
+    let condemned : length y.running.condemned_segments ≡ count_by (is_condemned_by w what) w.segments =
+    ap (λ (bs : List Address). length bs) far.big.segments ∙ length-map (condemned_by w what) (λ (t : Segment). t.base)
+    ∙ length-filter (is_condemned_by w what) w.segments in
+    let held = count_by-le-length (is_condemned_by w what) w.segments in
     let registered : y.running.registered_before ≡ length w.graph.registered = far.big.registered in
     omega (arith, objects, live, segments, condemned, held, registered)

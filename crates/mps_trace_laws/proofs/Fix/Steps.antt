@@ -1,8 +1,8 @@
 -- A fix of the tracing collector is a step of the abstract collector: each way in which an object is kept.
-use Rattle.std.proofs.Common.{◌≡◌, ◌∙◌, ℕ, ◌+◌, ◌-◌, ◌≤◌, true, false, refl, sym, ap, List, [], ◌∷◌, ◌++◌, Option, Some, subst, arith}
+use Rattle.std.proofs.Common.{◌≡◌, ◌∙◌, ℕ, ◌+◌, ◌-◌, ◌*◌, ◌≤◌, Bool, true, false, refl, sym, ap, ap₂, List, [], ◌∷◌, ◌++◌, Option, Some, subst, arith}
 use Rattle.std.proofs.lemmas.Bool.{cond-true, true≢false}
 use Rattle.std.proofs.lemmas.List.{append-nil, append_assoc}
-use Rattle.std.specs.Prelude.{IsTrue, slice_get}
+use Rattle.std.specs.Prelude.{IsTrue, cond, slice_get}
 use Rattle.mps_base.specs.Address.{Address, Id, Word, address_of_word, address_of_grain}
 use Rattle.mps_base.specs.Placement.{Place, NewSegment}
 use Rattle.mps_base.specs.Segment.{Segment, words_of_segment}
@@ -13,7 +13,7 @@ use Rattle.mps_base.specs.declared.moves.Move.TheVariants as move
 use Rattle.mps_format.specs.Layout.{Layout}
 use Rattle.mps_trace.specs.GenState.{ChainsState}
 use Rattle.mps_model.specs.Graph.{Graph, Object, entry_at}
-use Rattle.mps_model.specs.World.{World, is_copying_pool, is_copying_object, id_at, pool_of, target_generation_for, live_ids, with_tail}
+use Rattle.mps_model.specs.World.{Pool, World, is_copying_pool, is_copying_object, id_at, pool_of, target_generation_for, live_ids, with_tail}
 use Rattle.mps_model.specs.Accessing.{address_or_null}
 use Rattle.mps_model.specs.Placement.{ForMove, placement_of}
 use Rattle.mps_model.specs.LegalMove.{has_no_room}
@@ -30,10 +30,10 @@ use Rattle.mps_trace_laws.proofs.Image.Entries.{entry_at-set_same}
 use Rattle.mps_trace_laws.proofs.Image.Marked.{kept_not_white}
 use Rattle.mps_trace.specs.Trace.{Traced}
 use Rattle.mps_trace_laws.specs.Fix.Tracing.{StateStands, TracingStands, setting_of}
-use Rattle.mps_trace_laws.specs.Fix.Room.{moves_left, splats_left}
+use Rattle.mps_trace_laws.specs.Fix.Room.{moves_left, moving_left, splats_left}
 use Rattle.mps_trace_laws.specs.Fix.Steps.{IsSameGraph, IsFixStep}
 use Rattle.mps_trace_laws.proofs.Fix.Objects.{different, lives, address_is}
-use Rattle.mps_trace_laws.proofs.Fix.Room.{fewer_white, same_live_moved}
+use Rattle.mps_trace_laws.proofs.Fix.Room.{fewer_moving, fewer_white, same_live_moved}
 use Rattle.mps_trace_laws.proofs.Fix.SplatsLeft.{splats_kept}
 use Rattle.mps_format.specs.declared.pool.Policy.{Policy}
 
@@ -75,19 +75,24 @@ module _ {F : Type 0} (layout : F → Layout) (formats : List (Option (Policy F)
     same_live : live_ids v ≡ live_ids y.world
 
   module _ (white : is_white_in y t ≡ true) where
-    -- where at most two moves were taken there is room as before, and for a post
-    room_after : (v : World) (spare : ℕ) → live_ids v ≡ live_ids y.world → v.graph ≡ y.world.graph → x.moves.spare ≤ spare + 2
-        → moves_left (kept_in y t v) + 3 ≤ spare
-    room_after v spare same graph few =
-        let fewer = fewer_white y.running.condemned y.colours t (live_ids y.world) (live_ids v) same
-        (live_is_listed y.world t (lives y.world t now o object there)) white in
+    -- where at most two moves were taken, and none unless its pool moves its blocks, there is room as before, and for a post
+    room_after : (v : World) (spare : ℕ) → live_ids v ≡ live_ids y.world → IsSameGraph y.world v
+        → x.moves.spare ≤ spare + 2 * cond (is_copying_object y.world t) 1 0 → moves_left (kept_in y t v) + 3 ≤ spare
+    room_after v spare same leaves few =
+        let listed = live_is_listed y.world t (lives y.world t now o object there) in
+        let fewer = fewer_white y.running.condemned y.colours t (live_ids y.world) (live_ids v) same listed white in
+        let moving =
+        fewer_moving (is_copying_object y.world) y.running.condemned y.colours t (live_ids y.world) (live_ids v) same listed white in
+        let as_many =
+        ap₂ (λ (g : Graph) (ps : List Pool). moving_left (is_copying_object (record y.world { graph = g; pools = ps })) y.running.condemned
+        (keeping y.colours t) (live_ids v)) leaves.graph leaves.pools in
         let no_more = splats_kept y.world.graph.objects y.running.condemned y.colours t (live_ids y.world) white in
         let alike =
-        ap (λ (g : Graph). splats_left g.objects y.running.condemned (keeping y.colours t) (live_ids v)) graph
+        ap (λ (g : Graph). splats_left g.objects y.running.condemned (keeping y.colours t) (live_ids v)) leaves.graph
         ∙ ap (splats_left y.world.graph.objects y.running.condemned (keeping y.colours t)) same
         in
         let room = stands.room in
-        omega (arith, fewer, no_more, alike, room, few)
+        omega (arith, fewer, moving, as_many, no_more, alike, room, few)
 
     -- it is marked, in a pool that doesn't move its blocks
     pub mark_step : (z : Traced) → is_copying_object y.world t ≡ false → z.moves ≡ x.moves
@@ -110,22 +115,25 @@ module _ {F : Type 0} (layout : F → Layout) (formats : List (Option (Policy F)
         enough : moves_left (kept_by y t [] y.running) + 3 ≤ z.moves.spare
         enough =
             let spare = ap (λ (m : Moves). m.spare) moves in
-            room_after y.world z.moves.spare refl refl (omega (arith, spare))
+            room_after y.world z.moves.spare refl (record { graph = refl; pools = refl; formats = refl }) (omega (arith, spare))
 
     -- where an object was kept by moves that lead to a world for which the state stands
     kept_step : (z : Traced) (answer : Address) (ms : List Move) (v : World) → world_after_moves y.world ms ≡ v
         → Keeps y.world y.running t ms (placing t y.running) → KeptStands z answer v → z.moves.moves ≡ x.moves.moves ++ ms
-        → x.moves.spare ≤ z.moves.spare + 2 → IsFixStep layout formats of at_flip done x z y t answer
-    kept_step z answer ms v leads keep is trail few =
+        → is_copying_object y.world t ≡ true → x.moves.spare ≤ z.moves.spare + 2
+        → IsFixStep layout formats of at_flip done x z y t answer
+    kept_step z answer ms v leads keep is trail copying few =
         let w' = world_after_moves y.world ms in
         let k : KeptStands z answer w' = subst (KeptStands z answer) (sym leads) is in
+        let two = ap (λ (b : Bool). let n : ℕ = cond b 1 0 in n) copying in
+        let enough = room_after w' z.moves.spare k.same_live k.same (omega (arith, two, few)) in
         record {
           moves = ms;
           after = kept_in y t w';
           fixes = λ ids rest last later. keeps white keep later;
-          stands = record { state = k.state; room = omega (arith, room_after w' z.moves.spare k.same_live k.same.graph few) };
+          stands = record { state = k.state; room = omega (arith, enough) };
           trail = trail;
-          room_to_post = λ was_white. room_after w' z.moves.spare k.same_live k.same.graph few;
+          room_to_post = λ was_white. enough;
           there = k.there_now;
           not_white = kept_not_white y.running.condemned y.colours t;
           step = k.step;
@@ -152,7 +160,7 @@ module _ {F : Type 0} (layout : F → Layout) (formats : List (Option (Policy F)
           same_live = refl;
         })
         (ap (λ (m : Moves). m.moves) moves ∙ ap (λ a. x.moves.moves ++ move.Stay (at_address a) ∷ []) from)
-        (let spare : z.moves.spare ≡ x.moves.spare - 1 = ap (λ (m : Moves). m.spare) moves in omega (arith, spare))
+        copying (let spare : z.moves.spare ≡ x.moves.spare - 1 = ap (λ (m : Moves). m.spare) moves in omega (arith, spare))
 
     -- it moves to words at hand
     pub move_step : (z : Traced) (copying : is_copying_object y.world t ≡ true) (word : Word)
@@ -175,7 +183,7 @@ module _ {F : Type 0} (layout : F → Layout) (formats : List (Option (Policy F)
           same_live = same_live_moved y.world v t now to there refl;
         })
         (ap (λ (m : Moves). m.moves) moves ∙ ap (λ a. x.moves.moves ++ move.Moved (at_address a) (at_address to) ∷ []) from)
-        (let spare : z.moves.spare ≡ x.moves.spare - 1 = ap (λ (m : Moves). m.spare) moves in omega (arith, spare))
+        copying (let spare : z.moves.spare ≡ x.moves.spare - 1 = ap (λ (m : Moves). m.spare) moves in omega (arith, spare))
 
     module _ (pool generation grain grains : ℕ) (pool_is : pool_of y.world t ≡ pool)
         (target : target_generation_for y.world t ≡ generation) (copies : IsTrue (is_copying_pool y.world pool)) where
@@ -224,4 +232,4 @@ module _ {F : Type 0} (layout : F → Layout) (formats : List (Option (Policy F)
           ∙ ap (λ a. x.moves.moves ++ move.Seg (at_address to) grains pool generation ∷ move.Moved (at_address a) (at_address to) ∷ []) from
           ∙ ap (λ p. x.moves.moves ++ move.Seg (at_address to) grains p generation ∷ moved_to y.world t to ∷ []) (sym pool_is)
           ∙ ap (λ g. x.moves.moves ++ move.Seg (at_address to) grains (pool_of y.world t) g ∷ moved_to y.world t to ∷ []) (sym target))
-          (let spare : z.moves.spare ≡ x.moves.spare - 1 - 1 = ap (λ (m : Moves). m.spare) moves in omega (arith, spare))
+          copying (let spare : z.moves.spare ≡ x.moves.spare - 1 - 1 = ap (λ (m : Moves). m.spare) moves in omega (arith, spare))

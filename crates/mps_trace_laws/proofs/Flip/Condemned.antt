@@ -1,9 +1,8 @@
--- The bits of condemned segments after a flip, and the model's flip of everything.
+-- The bits of condemned segments after a flip, and the model's flip.
 use Rattle.std.proofs.Common.{◌≡◌, ◌∙◌, ℕ, suc, ◌==◌, ◌<◌, Bool, true, false, refl, sym, ap, subst, List, [], ◌∷◌, length, Option, Some, None, Contains, inl, inr, arith}
 use Rattle.std.proofs.lemmas.Bool.{false≢true, cases_Bool, or_right, eqb-true, eqb-false, cond-true, cond-false}
 use Rattle.std.proofs.lemmas.List.{get_or-set_same, get_or-set_other, length-set}
 use Rattle.std.specs.Prelude.{◌||◌, ◌≢◌, filter, if◌then◌else◌, slice_set}
-use Rattle.std.specs.Option.{option_map_or}
 use Rattle.mps_base.specs.Address.{Address, Grain, address_of_grain, grain_of}
 use Rattle.mps_base.specs.Segment.{Segment}
 use Rattle.mps_base.specs.declared.moves.Move.{Move}
@@ -13,56 +12,60 @@ use Rattle.mps_buffer.specs.declared.point.Held.{Held}
 use Rattle.mps_buffer.specs.declared.point.Point.{Point}
 use Rattle.mps_buffer.specs.Points.{after_end, after_end_at, after_all_end, without_reservation, PointsState}
 use Rattle.mps_abstract.proofs.Lists.{contains_cases}
-use Rattle.mps_trace.specs.GenState.{max_chains}
+use Rattle.mps_trace.specs.GenState.{ChainsState}
 use Rattle.mps_model.specs.Graph.{contains}
-use Rattle.mps_model.specs.World.{World, Pool, PoolKind, Collected, OneSize, AnySize, Frames, is_automatic_kind, is_copying_kind, is_copying_pool, pool_at, pool_is}
-use Rattle.mps_model.specs.Effect.{Everything, condemned_by}
+use Rattle.mps_model.specs.World.{World, is_copying_pool}
+use Rattle.mps_model.specs.Effect.{condemned_by, condemned_zones, is_condemned_by}
+use Rattle.mps_model.specs.Effect as model
 use Rattle.mps_seg.specs.Segs.{SegsState}
 use Rattle.mps_seg.specs.Collecting.{condemning}
-use Rattle.mps_trace.specs.Flip.{is_automatic, moves_blocks, automatic_of, moving_of, condemning_all, zones_of, at_flip}
+use Rattle.mps_trace.specs.Flip.{moves_blocks, condemns, condemned_of, moving_of, condemning_all, zones_of, at_flip, chain_of, oldest_of}
+use Rattle.mps_trace.specs.declared.condemn.Condemn.{Condemn}
+use Rattle.mps_trace.specs.declared.condemn.Condemn.TheVariants.{Everything, Generations}
 use Rattle.mps_trace.proofs.Ending.{segments_stay}
-use Rattle.mps_trace_laws.specs.Flip.Condemned.{bases_of, AreCondemnedToo, BeginInTable, AreFormatsOf, AreMovesOf, IsFlipOfEverything}
-use Rattle.mps_trace_laws.proofs.Flip.Filtered.{filter_same, filter_within}
+use Rattle.mps_trace_laws.specs.Flip.Condemned.{bases_of, condemnation, AreCondemnedToo, BeginInTable, AreMovesOf, CondemnsAlike, IsFlipOf}
+use Rattle.mps_trace_laws.proofs.Flip.Filtered.{filter_same}
 use Rattle.mps_trace.specs.Trace.{Traced}
 use Rattle.mps_format.specs.declared.pool.Policy.{Policy}
 
 -- ---- the model's flip
 
--- a pool that copies is automatic
-copying_is_automatic : (o : Option Pool) → option_map_or (λ (p : Pool). is_copying_kind p.kind) o false ≡ true
-    → option_map_or (λ (p : Pool). is_automatic_kind p.kind) o false ≡ true
-copying_is_automatic None copies = absurd (false≢true copies)
-copying_is_automatic (Some p) copies = of_kind p.kind copies
-  where
-    of_kind : (k : PoolKind) → is_copying_kind k ≡ true → is_automatic_kind k ≡ true
-    of_kind (Collected which) copies = refl
-    of_kind (OneSize words) copies = absurd (false≢true copies)
-    of_kind AnySize copies = absurd (false≢true copies)
-    of_kind Frames copies = absurd (false≢true copies)
+-- the numbers of a flip are the model's
+chain_is : (what : Condemn) → chain_of what ≡ model.chain_of (condemnation what)
+chain_is Everything = refl
+chain_is (Generations chain oldest) = refl
 
--- if segments are those of a world, and formats and what moves are those of its pools
+oldest_is : (what : Condemn) → oldest_of what ≡ model.oldest_of (condemnation what)
+oldest_is Everything = refl
+oldest_is (Generations chain oldest) = refl
+
+-- if segments are those of a world, and what is condemned and what moves are as in it
 pub flip_is_the_models : {F : Type 0}
-    → (formats : List (Option (Policy F))) (ts : List Segment) (w : World) → ts ≡ w.segments → AreFormatsOf formats
-    (pool_is is_automatic_kind w)
-    → AreMovesOf formats (is_copying_pool w) → IsFlipOfEverything (automatic_of formats ts) (moving_of formats ts) w
-flip_is_the_models formats ts w same known moves =
-    let automatic : Segment → Bool = λ t. pool_is is_automatic_kind w t.pool in
+    → (formats : List (Option (Policy F))) (chains : ChainsState) (what : Condemn) (ts : List Segment) (w : World) → ts ≡ w.segments
+    → CondemnsAlike formats chains what w → AreMovesOf formats (is_copying_pool w)
+    → IsFlipOf what (condemned_of formats chains what ts) (moving_of formats (condemned_of formats chains what ts)) w
+flip_is_the_models formats chains what ts w same alike moves =
     let copies : Segment → Bool = λ t. is_copying_pool w t.pool in
-    let segments : automatic_of formats ts ≡ condemned_by w Everything =
-    filter_same (λ (t : Segment). is_automatic formats t.pool) automatic ts (λ t. known t.pool)
-    ∙ ap (λ (xs : List Segment). filter automatic xs) same
+    let condemned : Segment → Bool = is_condemned_by w (condemnation what) in
+    let segments : condemned_of formats chains what ts ≡ condemned_by w (condemnation what) =
+    filter_same (λ (t : Segment). condemns formats chains what t.pool t.generation) condemned ts alike
+    ∙ ap (λ (xs : List Segment). filter condemned xs) same
     in
-    let moving : moving_of formats ts ≡ filter copies (condemned_by w Everything) =
-    filter_same (λ (t : Segment). moves_blocks formats t.pool) copies ts (λ t. moves t.pool)
-    ∙ ap (λ (xs : List Segment). filter copies xs) same
-    ∙ sym (filter_within automatic copies w.segments (λ t. copying_is_automatic (pool_at w t.pool)))
+    let moving : moving_of formats (condemned_of formats chains what ts) ≡ filter copies (condemned_by w (condemnation what)) =
+    filter_same (λ (t : Segment). moves_blocks formats t.pool) copies (condemned_of formats chains what ts) (λ t. moves t.pool)
+    ∙ ap (λ (xs : List Segment). filter copies xs) segments
     in
     let zones = ap (λ (xs : List Segment). zones_of xs) moving in
     record {
       segments = segments;
       bases = ap (λ (xs : List Segment). bases_of xs) segments;
       zones = zones;
-      move = ap (λ (z : ℕ). let m : Move = Flip (record { 0 = z }) max_chains 0 in m) zones;
+      move =
+          ap (λ (z : ℕ). let m : Move = Flip (record { 0 = z }) (chain_of what) (oldest_of what) in m) zones
+          ∙ ap (λ (n : ℕ). let m : Move =
+          Flip (record { 0 = condemned_zones w (condemnation what) }) n (oldest_of what) in m) (chain_is what)
+          ∙ ap (λ (n : ℕ). let m : Move =
+          Flip (record { 0 = condemned_zones w (condemnation what) }) (model.chain_of (condemnation what)) n in m) (oldest_is what);
     }
 
 -- ---- bits
@@ -166,35 +169,37 @@ or_none true c is = refl
 or_none false c is = is
 
 pub flip_condemns : {F : Type 0}
-    → (formats : List (Option (Policy F))) (points : PointsState) (x : Traced) → BeginInTable x.segs.segments (length x.segs.condemned)
-    → AreCondemnedToo x.segs (at_flip formats points x).segs (bases_of (automatic_of formats x.segs.segments))
-flip_condemns formats points x begin =
-    let p : Segment → Bool = λ (t : Segment). is_automatic formats t.pool in
+    → (formats : List (Option (Policy F))) (chains : ChainsState) (what : Condemn) (points : PointsState) (x : Traced)
+    → BeginInTable x.segs.segments (length x.segs.condemned)
+    → AreCondemnedToo x.segs (at_flip formats chains what points x).segs (bases_of (condemned_of formats chains what x.segs.segments))
+flip_condemns formats chains what points x begin =
+    let p : Segment → Bool = λ (t : Segment). condemns formats chains what t.pool t.generation in
     let e : SegsState = after_all_end points.flips points.points x.segs in
-    let after : SegsState = condemning_all (automatic_of formats e.segments) e in
+    let after : SegsState = condemning_all (condemned_of formats chains what e.segments) e in
     let ended_same : e.segments ≡ x.segs.segments = segments_stay points.flips points.points x.segs in
     let bits_same : e.condemned ≡ x.segs.condemned = condemned_stay points.flips points.points x.segs in
-    let segments : after.segments ≡ x.segs.segments = segments_after (automatic_of formats e.segments) e ∙ ended_same in
+    let segments : after.segments ≡ x.segs.segments = segments_after (condemned_of formats chains what e.segments) e ∙ ended_same in
     let before : (t : Segment) → Contains after.segments t → Contains x.segs.segments t =
     λ t there. subst (λ (ts : List Segment). Contains ts t) segments there
     in
     let bits : (t : Segment) → Contains after.segments t → bit after.condemned (grain_of t.base)
-    ≡ (contains (bases_of (automatic_of formats x.segs.segments)) t.base || bit x.segs.condemned (grain_of t.base)) =
+    ≡ (contains (bases_of (condemned_of formats chains what x.segs.segments)) t.base || bit x.segs.condemned (grain_of t.base)) =
     λ t there.
-    ap (λ (ts : List Segment). bit (condemning_all (automatic_of formats ts) e).condemned (grain_of t.base)) ended_same
+    ap (λ (ts : List Segment). bit (condemning_all (condemned_of formats chains what ts) e).condemned (grain_of t.base)) ended_same
     ∙ bit_after p t.base (begin.aligned t (before t there)) x.segs.segments e begin.aligned
     (subst (λ (bs : List Bool). grain_of t.base < length bs) (sym bits_same) (begin.within t (before t there)))
-    ∙ ap (λ (bs : List Bool). contains (bases_of (automatic_of formats x.segs.segments)) t.base || bit bs (grain_of t.base)) bits_same
+    ∙ ap (λ (bs : List Bool). contains (bases_of (condemned_of formats chains what x.segs.segments)) t.base || bit bs (grain_of t.base))
+    bits_same
     in
     record {
       segments = segments;
-      entries = entries_after (automatic_of formats e.segments) e ∙ ap (λ (bs : List Bool). length bs) bits_same;
+      entries = entries_after (condemned_of formats chains what e.segments) e ∙ ap (λ (bs : List Bool). length bs) bits_same;
       bits = bits;
       held = λ base listed.
           subst (λ (ts : List Segment). (t : Segment) × Contains ts t × (t.base ≡ base)) (sym segments)
           (held_of p base x.segs.segments listed);
       exactly = λ none t there.
           bits t there
-          ∙ or_none (contains (bases_of (automatic_of formats x.segs.segments)) t.base) (bit x.segs.condemned (grain_of t.base))
+          ∙ or_none (contains (bases_of (condemned_of formats chains what x.segs.segments)) t.base) (bit x.segs.condemned (grain_of t.base))
           (none t (before t there));
     }

@@ -1,18 +1,18 @@
--- After a flip a word is condemned exactly where the pool of its segment is automatic.
-use Rattle.std.proofs.Common.{◌≡◌, ◌∙◌, ℕ, zero, suc, ◌+◌, ◌≤◌, Bool, true, false, refl, sym, ap, subst, List, [], ◌∷◌, Option, Some, None, Contains, inl, inr, arith}
+-- After a flip a word is condemned exactly where its segment is.
+use Rattle.std.proofs.Common.{◌≡◌, ◌∙◌, zero, suc, ◌+◌, ◌≤◌, Bool, true, false, refl, sym, ap, subst, List, [], ◌∷◌, Option, Contains, inl, inr, arith}
 use Rattle.std.proofs.lemmas.Bool.{false≢true, cases_Bool}
-use Rattle.std.proofs.lemmas.Option.{same_Some}
 use Rattle.std.specs.Prelude.{filter, if◌then◌else◌, option_map}
-use Rattle.mps_base.specs.Address.{Address, Word, address_of_word, grain_of}
+use Rattle.mps_base.specs.Address.{Address, address_of_word, grain_of}
 use Rattle.mps_base.specs.Segment.{Segment, segment_over}
 use Rattle.mps_amc.proofs.Found.{over_is_there}
 use Rattle.mps_abstract.proofs.Lists.{contains_here, contains_later, contains_cases}
 use Rattle.mps_model.specs.Graph.{contains}
-use Rattle.mps_trace_laws.specs.Image.Memory.{is_condemned_word, pool_over_word}
 use Rattle.mps_seg.specs.Segs.{SegsState}
 use Rattle.mps_seg.specs.Collecting.{bit_of}
 use Rattle.mps_trace.specs.Condemned.{AreAscending}
-use Rattle.mps_trace.specs.Flip.{is_automatic, automatic_of, at_flip}
+use Rattle.mps_trace.specs.Flip.{condemns, condemned_of, at_flip}
+use Rattle.mps_trace.specs.GenState.{ChainsState}
+use Rattle.mps_trace.specs.declared.condemn.Condemn.{Condemn}
 use Rattle.mps_trace_laws.specs.Flip.Condemned.{bases_of, AreCondemnedToo}
 use Rattle.mps_trace_laws.proofs.Flip.Condemned.{flip_condemns}
 use Rattle.mps_buffer.specs.Points.{PointsState}
@@ -90,31 +90,24 @@ module _ (p : Segment → Bool) where
 
 -- ---- words
 
-pool_of_found : (o : Option Segment) (pool : ℕ) → option_map (λ (t : Segment). t.pool) o ≡ Some pool
-    → (t : Segment) × (o ≡ Some t) × (t.pool ≡ pool)
-pool_of_found None pool h = absurd cc
-pool_of_found (Some t) pool h = (t, refl, same_Some t.pool pool h)
-
 pub flip_condemns_words : {F : Type 0}
-    → (formats : List (Option (Policy F))) (points : PointsState) (x : Traced) → AreReadyToCondemn x.segs
-    → AreWordsCondemned formats x.segs (at_flip formats points x).segs
-flip_condemns_words formats points x ready =
+    → (formats : List (Option (Policy F))) (chains : ChainsState) (what : Condemn) (points : PointsState) (x : Traced)
+    → AreReadyToCondemn x.segs
+    → AreWordsCondemned (λ t. condemns formats chains what t.pool t.generation) x.segs (at_flip formats chains what points x).segs
+flip_condemns_words formats chains what points x ready =
     let s : SegsState = x.segs in
-    let after : SegsState = (at_flip formats points x).segs in
-    let c : AreCondemnedToo s after (bases_of (automatic_of formats s.segments)) = flip_condemns formats points x ready.begin in
-    let words : (n : Word) (pool : ℕ) → pool_over_word s n ≡ Some pool → is_condemned_word after n ≡ is_automatic formats pool =
-    λ n pool over.
-    let f = pool_of_found (segment_over s.segments (address_of_word n)) pool over in
-    let there : Contains s.segments f.0 = over_is_there s.segments (address_of_word n) f.0 f.1 in
-    ap (λ (ts : List Segment). bit_of after.condemned (option_map (λ (t : Segment). grain_of t.base)
-    (segment_over ts (address_of_word n)))) c.segments
-    ∙ ap (λ (o : Option Segment). bit_of after.condemned (option_map (λ (t : Segment). grain_of t.base) o)) f.1
-    ∙ c.exactly ready.none f.0 (subst (λ (ts : List Segment). Contains ts f.0) (sym c.segments) there)
-    ∙ is_listed (λ (t : Segment). is_automatic formats t.pool) s.segments f.0 ready.ascending there
-    ∙ ap (λ (number : ℕ). is_automatic formats number) f.2
+    let after : SegsState = (at_flip formats chains what points x).segs in
+    let p : Segment → Bool = λ t. condemns formats chains what t.pool t.generation in
+    let c : AreCondemnedToo s after (bases_of (condemned_of formats chains what s.segments)) =
+    flip_condemns formats chains what points x ready.begin
     in
     record {
-      words = words;
+      words = λ n t over.
+          let there : Contains s.segments t = over_is_there s.segments (address_of_word n) t over in
+          ap (λ (ts : List Segment). bit_of after.condemned (option_map (λ (u : Segment). grain_of u.base)
+          (segment_over ts (address_of_word n)))) c.segments
+          ∙ ap (λ (o : Option Segment). bit_of after.condemned (option_map (λ (u : Segment). grain_of u.base) o)) over
+          ∙ c.exactly ready.none t (subst (λ (ts : List Segment). Contains ts t) (sym c.segments) there)
+          ∙ is_listed p s.segments t ready.ascending there;
       pools = λ n. ap (λ (ts : List Segment). option_map (λ (t : Segment). t.pool) (segment_over ts (address_of_word n))) c.segments;
-      objects = λ objects addresses home id k o n lies. words n o.pool (home id k o n lies);
     }

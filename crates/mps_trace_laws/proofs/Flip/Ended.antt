@@ -9,7 +9,9 @@ use Rattle.mps_buffer.specs.Points.{run_of_held, without_reservation, after_end_
 use Rattle.mps_trace_laws.proofs.Image.InOrder.{in_order-without}
 use Rattle.mps_seg.specs.Segs.{SegsState}
 use Rattle.mps_seg.specs.Collecting.{condemning}
-use Rattle.mps_trace.specs.Flip.{automatic_of, condemning_all, at_flip}
+use Rattle.mps_trace.specs.GenState.{ChainsState}
+use Rattle.mps_trace.specs.declared.condemn.Condemn.{Condemn}
+use Rattle.mps_trace.specs.Flip.{condemned_of, condemning_all, at_flip}
 use Rattle.mps_trace_laws.specs.Flip.Ended.{open_run_at, open_runs, BeginApart, AreCovered}
 use Rattle.mps_trace.specs.Trace.{Traced}
 use Rattle.mps_format.specs.declared.pool.Policy.{Policy}
@@ -63,10 +65,10 @@ condemned_covered (t ∷ ts) s blocks c =
     (record { blocks = c.blocks; reservations = c.reservations; covered = c.covered })
 
 pub flip_ends_reservations : {F : Type 0}
-    → (formats : List (Option (Policy F))) (points : PointsState) (x : Traced) (blocks : List Run)
+    → (formats : List (Option (Policy F))) (chains : ChainsState) (what : Condemn) (points : PointsState) (x : Traced) (blocks : List Run)
     → AreCovered x.segs blocks (open_runs points.flips points.points) → BeginApart blocks (open_runs points.flips points.points)
-    → AreCovered (at_flip formats points x).segs blocks []
-flip_ends_reservations formats points x blocks c apart =
+    → AreCovered (at_flip formats chains what points x).segs blocks []
+flip_ends_reservations formats chains what points x blocks c apart =
     let e : SegsState = after_all_end points.flips points.points x.segs in
-    condemned_covered (automatic_of formats e.segments) e blocks
+    condemned_covered (condemned_of formats chains what e.segments) e blocks
     (reservations_ended points.flips points.points x.segs blocks c apart)

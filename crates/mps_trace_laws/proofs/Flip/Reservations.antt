@@ -1,22 +1,18 @@
 -- Doomed reservations aren't live, and a flip changes no word, block or mark.
-use Rattle.std.proofs.Common.{◌≡◌, ◌∙◌, ℕ, zero, suc, ◌==◌, Bool, true, refl, sym, ap, List, [], ◌∷◌, map, Option, Some, None, inl, inr}
-use Rattle.std.proofs.lemmas.Bool.{cases_Bool, cond-true, cond-false}
-use Rattle.std.specs.Prelude.{◌++◌, if◌then◌else◌, option_map, option_and_then, slice_set}
-use Rattle.mps_base.specs.Address.{grain_of}
+use Rattle.std.proofs.Common.{◌≡◌, ◌∙◌, ℕ, zero, suc, true, refl, sym, ap, List, [], ◌∷◌, map, Option, Some, None}
+use Rattle.std.specs.Prelude.{◌++◌, if◌then◌else◌, option_map, option_and_then}
 use Rattle.mps_base.specs.Run.{Run}
-use Rattle.mps_base.specs.Segment.{Segment}
-use Rattle.mps_buffer.specs.declared.point.Held.{Held}
-use Rattle.mps_buffer.specs.declared.point.Point as buffer
-use Rattle.mps_buffer.specs.Points.{after_end, after_end_at, after_all_end, without_reservation, PointsState}
+use Rattle.mps_buffer.specs.Points.{PointsState}
 use Rattle.mps_trace_laws.specs.Image.Memory.{live_reservation}
 use Rattle.mps_model.specs.Graph.{Point, Reservation, entry_at, is_live_reservation}
 use Rattle.mps_model.specs.World.{PointMemory, extent_of_reservation, reserved_extents}
 use Rattle.mps_model.specs.Effect.{doomed, without_buffer}
-use Rattle.mps_seg.specs.Segs.{SegsState}
-use Rattle.mps_seg.specs.Collecting.{condemning}
-use Rattle.mps_trace.specs.Flip.{automatic_of, condemning_all, at_flip}
+use Rattle.mps_trace.specs.GenState.{ChainsState}
+use Rattle.mps_trace.specs.declared.condemn.Condemn.{Condemn}
+use Rattle.mps_trace.specs.Flip.{at_flip}
 use Rattle.mps_trace_laws.specs.Flip.Reservations.{IsNothingMoved, AreNoneLive}
 use Rattle.mps_trace.specs.Trace.{Traced}
+use Rattle.mps_trace.proofs.Remembering.{flip_leaves}
 use Rattle.mps_format.specs.declared.pool.Policy.{Policy}
 
 -- ---- doomed reservations
@@ -62,47 +58,15 @@ no_reservation_is_live points memories = record {
 
 -- ---- what stays
 
--- what depends on neither reservations nor condemned segments is the same after a flip
-module _ {X : Type 0} (of : SegsState → X)
-    (ends : (s : SegsState) (covered reservations : List Run) → of (record s { covered = covered; reservations = reservations }) ≡ of s)
-    (condemns : (s : SegsState) (condemned : List Bool) → of (record s { condemned = condemned }) ≡ of s)
-  where
-    one_stays : (flips : ℕ) (o : Option Held) (s : SegsState) → of (after_end flips o s) ≡ of s
-    one_stays flips None s = refl
-    one_stays flips (Some h) s =
-        let same : Bool = h.flips == flips in
-        elim (cases_Bool same) [
-          | inl is ↦ ap of (cond-true same (without_reservation s h) s is)
-              ∙ ends s (without_reservation s h).covered (without_reservation s h).reservations
-          | inr is ↦ ap of (cond-false same (without_reservation s h) s is)
-        ]
-
-    point_stays : (flips : ℕ) (o : Option buffer.Point) (s : SegsState) → of (after_end_at flips o s) ≡ of s
-    point_stays flips None s = refl
-    point_stays flips (Some p) s = one_stays flips p.reservation s
-
-    ended_stays : (flips : ℕ) (ps : List (Option buffer.Point)) (s : SegsState) → of (after_all_end flips ps s) ≡ of s
-    ended_stays flips [] s = refl
-    ended_stays flips (p ∷ ps) s = ended_stays flips ps (after_end_at flips p s) ∙ point_stays flips p s
-
-    condemned_stays : (ts : List Segment) (s : SegsState) → of (condemning_all ts s) ≡ of s
-    condemned_stays [] s = refl
-    condemned_stays (t ∷ ts) s = condemned_stays ts (condemning s t.base) ∙ condemns s (slice_set s.condemned (grain_of t.base) true)
-
-    both_stay : (flips : ℕ) (ps : List (Option buffer.Point)) (ts : List Segment) (s : SegsState)
-        → of (condemning_all ts (after_all_end flips ps s)) ≡ of s
-    both_stay flips ps ts s = condemned_stays ts (after_all_end flips ps s) ∙ ended_stays flips ps s
-
 pub flip_moves_nothing : {F : Type 0}
-    → (formats : List (Option (Policy F))) (points : PointsState) (x : Traced) → IsNothingMoved x.segs (at_flip formats points x).segs
-flip_moves_nothing formats points x =
-    let e : SegsState = after_all_end points.flips points.points x.segs in
-    let ts : List Segment = automatic_of formats e.segments in
+    → (formats : List (Option (Policy F))) (chains : ChainsState) (what : Condemn) (points : PointsState) (x : Traced)
+    → IsNothingMoved x.segs (at_flip formats chains what points x).segs
+flip_moves_nothing formats chains what points x =
     record {
-      words = both_stay (λ s. s.words) (λ s c r. refl) (λ s c. refl) points.flips points.points ts x.segs;
-      blocks = both_stay (λ s. s.blocks) (λ s c r. refl) (λ s c. refl) points.flips points.points ts x.segs;
-      marks = both_stay (λ s. s.marks) (λ s c r. refl) (λ s c. refl) points.flips points.points ts x.segs;
-      grains = both_stay (λ s. s.grains) (λ s c r. refl) (λ s c. refl) points.flips points.points ts x.segs;
-      limit = both_stay (λ s. s.limit) (λ s c r. refl) (λ s c. refl) points.flips points.points ts x.segs;
-      summaries = both_stay (λ s. s.summaries) (λ s c r. refl) (λ s c. refl) points.flips points.points ts x.segs;
+      words = flip_leaves (λ s. s.words) (λ s c r. refl) (λ s c. refl) formats chains what points x;
+      blocks = flip_leaves (λ s. s.blocks) (λ s c r. refl) (λ s c. refl) formats chains what points x;
+      marks = flip_leaves (λ s. s.marks) (λ s c r. refl) (λ s c. refl) formats chains what points x;
+      grains = flip_leaves (λ s. s.grains) (λ s c r. refl) (λ s c. refl) formats chains what points x;
+      limit = flip_leaves (λ s. s.limit) (λ s c r. refl) (λ s c. refl) formats chains what points x;
+      summaries = flip_leaves (λ s. s.summaries) (λ s c r. refl) (λ s c. refl) formats chains what points x;
     }

@@ -15,9 +15,9 @@ use Rattle.mps_trace.specs.Flip.{moves_blocks}
 use Rattle.mps_format.specs.declared.pool.Policy.{Policy}
 use Rattle.mps_model.specs.Graph.{Object, contains, entry_at, size_of}
 use Rattle.mps_model.specs.World.{is_word_in}
-use Rattle.mps_abstract.specs.Colours.{Colours, is_white, is_black}
+use Rattle.mps_abstract.specs.Colours.{Colours, is_white}
 use Rattle.mps_trace_laws.specs.Image.Memory.{Setting, Memory, BlockBegins, memory_in, is_condemned_word, pool_over_word}
-use Rattle.mps_trace_laws.specs.Image.Image.{LieApart, WordsStand, FixedCellsStand, MarksStand, RunsStand, Stands, black_cells, no_colours}
+use Rattle.mps_trace_laws.specs.Image.Image.{CellSet, LieApart, WordsStand, FixedCellsStand, ImageStands, MarksStand, RunsStand, no_colours}
 use Rattle.mps_trace_laws.proofs.Image.Marked.{begins_apart, begins_there}
 use Rattle.mps_trace_laws.specs.Nails.Nailed.{IsBlockWithWord, AreTablesWhole, AreMarkedAt, ArePinned, begins_at, is_moving_word, pins_block, nails, pinned_colours, words_of_areas}
 use Rattle.mps_trace_laws.proofs.Nails.OneWord.{block_over}
@@ -207,21 +207,12 @@ module _ (condemned pinned : List Id) where
       both_ways (is_white condemned no_colours id) h
       (with_true (contains condemned id) (and_parts (contains condemned id) (not (contains pinned id)) white).0))
 
-  black_of : (c p : Bool) → (not (c && not p) && not p) ≡ true → (not (c && true) && true) ≡ true
-  black_of true true e = absurd cc
-  black_of true false e = absurd cc
-  black_of false true e = refl
-  black_of false false e = refl
-
-  black_before : (id : Id) → is_black condemned (pinned_colours pinned) id ≡ true → is_black condemned no_colours id ≡ true
-  black_before id black = black_of (contains condemned id) (contains pinned id) black
-
-fixed_still : (s : Setting) (words : List ℕ) (addresses : List (Option Address)) (pinned : List Id)
-    → FixedCellsStand s words addresses no_colours (black_cells s.condemned no_colours)
-    → FixedCellsStand s words addresses (pinned_colours pinned) (black_cells s.condemned (pinned_colours pinned))
-fixed_still s words addresses pinned fixed = record {
-  cells = λ id i o n c black lies cell.
-      let f = fixed.cells id i o n c (black_before s.condemned pinned id black) lies cell in
+fixed_still : (s : Setting) (words : List ℕ) (addresses : List (Option Address)) (pinned : List Id) (done done' : CellSet)
+    → ((id i : ℕ) → done' id i ≡ true → done id i ≡ true) → FixedCellsStand s words addresses no_colours done
+    → FixedCellsStand s words addresses (pinned_colours pinned) done'
+fixed_still s words addresses pinned done done' fewer fixed = record {
+  cells = λ id i o n c is lies cell.
+      let f = fixed.cells id i o n c (fewer id i is) lies cell in
       record { holds = f.holds; not_white = λ t e. still_not_white s.condemned pinned t (f.not_white t e) };
   reserved = λ point i r n c lies cell.
       let f = fixed.reserved point i r n c lies cell in
@@ -242,12 +233,13 @@ nails_alike blocks c d e f words n same moving =
     without_false false = refl
 
 pub pinned_image : {F : Type 0} (formats : List (Option (Policy F))) (s : Setting) (g : SegsState) (addresses : List (Option Address))
-    (areas : List (Option (List Stored))) (pinned : List Id) → Stands s (memory_in g) addresses no_colours → AreTablesWhole g
+    (areas : List (Option (List Stored))) (pinned : List Id) (done done' : CellSet)
+    → ((id i : ℕ) → done' id i ≡ true → done id i ≡ true) → ImageStands s (memory_in g) addresses no_colours done → AreTablesWhole g
     → AreMarkedAt g (λ n. false) → ((n : Word) → s.is_condemned_over n ≡ is_condemned_word g n)
     → ((n : Word) → s.pool_over n ≡ pool_over_word g n)
     → ArePinned s.objects addresses (moves_blocks formats) s.condemned pinned (words_of_areas areas)
-    → Stands s (memory_in (nailed_by_areas formats areas g)) addresses (pinned_colours pinned)
-pinned_image formats s g addresses areas pinned st whole none same pools pins =
+    → ImageStands s (memory_in (nailed_by_areas formats areas g)) addresses (pinned_colours pinned) done'
+pinned_image formats s g addresses areas pinned done done' fewer st whole none same pools pins =
     let g' = nailed_by_areas formats areas g in
     let words = words_of_areas areas in
     let moves = moves_blocks formats in
@@ -264,12 +256,12 @@ pinned_image formats s g addresses areas pinned st whole none same pools pins =
   where
     rebuilt : (x : SegsState) → x ≡ record g { marks = x.marks }
         → MarksStand s (memory_in x).kept (memory_in x).grey addresses (pinned_colours pinned)
-        → Stands s (memory_in x) addresses (pinned_colours pinned)
+        → ImageStands s (memory_in x) addresses (pinned_colours pinned) done'
     rebuilt x e ms = let k = pinned_colours pinned in record {
       placed = st.placed;
       words = subst (λ (ws : List ℕ). WordsStand s ws addresses) (sym (ap (λ (y : SegsState). y.words) e)) st.words;
-      fixed = subst (λ (ws : List ℕ). FixedCellsStand s ws addresses k (black_cells s.condemned k))
-          (sym (ap (λ (y : SegsState). y.words) e)) (fixed_still s g.words addresses pinned st.fixed);
+      fixed = subst (λ (ws : List ℕ). FixedCellsStand s ws addresses k done')
+          (sym (ap (λ (y : SegsState). y.words) e)) (fixed_still s g.words addresses pinned done done' fewer st.fixed);
       marks = ms;
       runs = record {
         blocks = ap (λ (y : SegsState). y.blocks) e ∙ st.runs.blocks;

@@ -1,6 +1,6 @@
 -- The scan of a grey weak object is a sequence of splats, after which there is room for the moves that are left.
-use Rattle.std.proofs.Common.{◌≡◌, ◌∙◌, ℕ, ◌+◌, ◌-◌, ◌<◌, ◌≤◌, true, refl, sym, ap, subst, List, [], ◌++◌, map, Option, Some, arith}
-use Rattle.std.specs.Prelude.{if◌then◌else◌, is_some, option_map, slice_get}
+use Rattle.std.proofs.Common.{◌≡◌, ◌∙◌, ℕ, ◌+◌, ◌-◌, ◌<◌, ◌≤◌, Bool, true, false, refl, sym, ap, subst, List, [], ◌++◌, map, Option, Some, arith}
+use Rattle.std.specs.Prelude.{◌&&◌, if◌then◌else◌, is_some, option_map, slice_get}
 use Rattle.std.specs.Option.{option_map_or}
 use Rattle.mps_base.specs.Address.{Address, Id}
 use Rattle.mps_base.specs.declared.address.Addr.{Addr}
@@ -13,14 +13,15 @@ use Rattle.mps_model.specs.Collection.{Collection}
 use Rattle.mps_model.specs.Flip.{at_address}
 use Rattle.mps_model.specs.Graph.{Object, is_weak_object, size_of}
 use Rattle.mps_model.specs.Units.{splats_of}
-use Rattle.mps_model.specs.World.{World, live_ids}
-use Rattle.mps_abstract.specs.Colours.{Colours, blackened, is_grey, is_to_scan}
+use Rattle.mps_model.specs.World.{World, is_copying_pool, live_ids}
+use Rattle.mps_abstract.specs.Colours.{Colours, blackened, is_grey, is_to_scan, is_white}
 use Rattle.mps_abstract.specs.Collecting.{Band, Collecting}
 use Rattle.mps_abstract.specs.Units.{Splats, collecting_after_scan, splats_by}
 use Rattle.mps_abstract.proofs.Addresses.{live_is_listed}
+use Rattle.mps_abstract.proofs.Lists.{count_by-le}
 use Rattle.mps_trace_laws.specs.Image.Image.{AreShaped, black_cells}
 use Rattle.mps_trace_laws.specs.Image.Memory.{pool_layout}
-use Rattle.mps_trace_laws.specs.Fix.Room.{moves_left, splats_at, splats_left, weak_cells}
+use Rattle.mps_trace_laws.specs.Fix.Room.{moves_left, moving_left, splats_at, splats_left, weak_cells}
 use Rattle.mps_trace_laws.specs.Fix.Scanning.{IsToBeScanned}
 use Rattle.mps_trace_laws.specs.Fix.Tracing.{StateStands, TracingStands}
 use Rattle.mps_trace_laws.specs.Splats.Laws.{IsSplatScan}
@@ -54,6 +55,16 @@ splats_alike os ps condemned k live same = sum_by-no_more (splats_at ps condemne
         (said_alike (λ v. if v.is_weak then v.size - 1 else 0) 0 os ps id same)
         in
         omega (arith, e)
+
+-- as many white ones are in pools that move their blocks
+moving_alike : (is_copying : ℕ → Bool) (os ps : List Object) (condemned : List Id) (k : Colours) (live : List Id)
+    → map outline_of ps ≡ map outline_of os
+    → moving_left (λ id. option_map_or (λ o. is_copying o.pool) (slice_get ps id) false) condemned k live
+    ≤ moving_left (λ id. option_map_or (λ o. is_copying o.pool) (slice_get os id) false) condemned k live
+moving_alike is_copying os ps condemned k live same =
+    count_by-le (λ id. is_white condemned k id && option_map_or (λ o. is_copying o.pool) (slice_get ps id) false)
+    (λ id. is_white condemned k id && option_map_or (λ o. is_copying o.pool) (slice_get os id) false) live
+    (λ id is. sym (ap (λ b. is_white condemned k id && b) (said_alike (λ v. is_copying v.pool) false os ps id same)) ∙ is)
 
 -- cells of a weak object
 cells_if_weak : (o : Object) → is_weak_object o ≡ true → weak_cells o ≡ size_of o - 1
@@ -142,9 +153,13 @@ module _ {F : Type 0} (layout : F → Layout) (formats : List (Option (Policy F)
         splats_alike y.world.graph.objects scan.after.world.graph.objects y.running.condemned (blackened y.colours id) (live_ids y.world)
         but.outlines
         in
+        let moving =
+        moving_alike (is_copying_pool y.world) y.world.graph.objects scan.after.world.graph.objects y.running.condemned
+        (blackened y.colours id) (live_ids y.world) but.outlines
+        in
         let few = scan.few in
         let spare = scan.spare in
-        omega (arith, before, less, alike, few, spare)
+        omega (arith, before, less, alike, moving, few, spare)
 
     pub weak_scan : IsWeakScan layout formats of at_flip x z y id
     weak_scan = record {

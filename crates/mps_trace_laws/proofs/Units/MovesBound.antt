@@ -9,7 +9,7 @@ use Rattle.mps_base.specs.Segment.{Segment}
 use Rattle.mps_model.specs.Graph.{contains, is_automatic, without_first}
 use Rattle.mps_model.specs.Units.{is_ascending}
 use Rattle.mps_model.specs.LegalMove.{ForOne}
-use Rattle.mps_model.specs.World.{is_automatic_kind, live_ids, object_is, pool_is, segment_at}
+use Rattle.mps_model.specs.World.{is_automatic_kind, is_copying_pool, live_ids, object_is, pool_is, segment_at}
 use Rattle.mps_abstract.specs.Colours.{is_grey, is_to_scan, is_white}
 use Rattle.mps_abstract.specs.Collecting.{Collecting, Running, segments_left, units_left}
 use Rattle.mps_abstract.proofs.GivingBack.{contains-without_other}
@@ -106,10 +106,11 @@ module _ (y : Collecting) (run : Running y) where
     | inr grey ↦ run.grey.grey_automatic id grey
   ]
 
-  pub moves_are_bounded : moves_left y ≤ moves_of y.world.graph.objects y.world.addresses + length y.world.segments
+  pub moves_are_bounded : moves_left y
+      ≤ moves_of (is_copying_pool y.world) y.world.graph.objects y.world.addresses + length y.world.segments
   moves_are_bounded =
       let live =
-      moves_of_live y.world.graph.objects y.world.addresses y.running.condemned y.colours to_scan_automatic
+      moves_of_live (is_copying_pool y.world) y.world.graph.objects y.world.addresses y.running.condemned y.colours to_scan_automatic
       in
       let segments = segments_few in
       omega (arith, live, segments)

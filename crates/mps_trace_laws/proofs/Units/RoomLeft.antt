@@ -1,7 +1,7 @@
 -- A reclaim leaves room for the moves that are left.
 use Rattle.std.proofs.Common.{◌≡◌, ◌∙◌, ◌+◌, ◌≤◌, refl, sym, ap, subst, List, [], ◌∷◌, Some, length, arith}
 use Rattle.std.proofs.lemmas.Option.{same_Some}
-use Rattle.std.specs.Prelude.{is_some, count_by}
+use Rattle.std.specs.Prelude.{◌&&◌, is_some, count_by}
 use Rattle.mps_base.specs.Address.{Address}
 use Rattle.mps_base.specs.Run.{Run}
 use Rattle.mps_base.specs.Segment.{Segment, segment_over}
@@ -10,12 +10,12 @@ use Rattle.mps_base.specs.declared.address.Addr.{Addr}
 use Rattle.mps_base.specs.declared.moves.Move.TheVariants.{Free}
 use Rattle.mps_seg.specs.Segs.{SegsState, at_word}
 use Rattle.mps_seg.specs.Reclaiming.{lost_of, moves_freed, IsSwept, is_given, is_used}
-use Rattle.mps_model.specs.World.{World, live_ids, numbers_of}
+use Rattle.mps_model.specs.World.{World, is_copying_object, live_ids, numbers_of}
 use Rattle.mps_abstract.specs.Colours.{is_white}
 use Rattle.mps_abstract.specs.Collecting.{Collecting, Running}
 use Rattle.mps_abstract.specs.Units.{IsReclaimedNext}
-use Rattle.mps_abstract.proofs.Reclaimed.{frees, final_world, final_state, live_before, segments_fewer}
-use Rattle.mps_trace_laws.specs.Fix.Room.{white_left, splats_at, splats_left, moves_left}
+use Rattle.mps_abstract.proofs.Reclaimed.{count_by-fewer, frees, final_world, final_state, live_before, segments_fewer}
+use Rattle.mps_trace_laws.specs.Fix.Room.{moving_left, white_left, splats_at, splats_left, moves_left}
 use Rattle.mps_trace_laws.specs.Reclaim.Freed.{addresses_of, addresses_without}
 use Rattle.mps_trace_laws.proofs.Fix.SplatsLeft.{sum_by-fewer}
 use Rattle.mps_trace_laws.proofs.Reclaim.Without.{frees_lead}
@@ -70,18 +70,26 @@ module _ (y : Collecting) (run : Running y) (t : Segment) (lost : List Run) (nex
       let each = one_address_each lost in
       omega (arith, less, same, each)
 
+  -- and no more are white that move
+  moving_no_more : moving_left (is_copying_object y.world) y.running.condemned y.colours (live_ids (final_world y run t freed next))
+      ≤ moving_left (is_copying_object y.world) y.running.condemned y.colours (live_ids y.world)
+  moving_no_more =
+      count_by-fewer (λ id. is_white y.running.condemned y.colours id && is_copying_object y.world id) 0
+      (frees y run t freed next).addresses y.world.addresses (live_before y run t freed next)
+
   splats_no_more : splats_left y.world.graph.objects y.running.condemned y.colours (live_ids (final_world y run t freed next))
       ≤ splats_left y.world.graph.objects y.running.condemned y.colours (live_ids y.world)
   splats_no_more =
       sum_by-fewer (splats_at y.world.graph.objects y.running.condemned y.colours) 0 (frees y run t freed next).addresses y.world.addresses
       (live_before y run t freed next)
 
-  pub moves_left_after : moves_left (final_state y run t freed next) + length lost + length lost + 1 ≤ moves_left y
+  pub moves_left_after : moves_left (final_state y run t freed next) + length lost + 1 ≤ moves_left y
   moves_left_after =
       let white = white_fewer in
+      let moving = moving_no_more in
       let splats = splats_no_more in
       let segments = segments_fewer y run t freed next in
-      omega (arith, white, splats, segments)
+      omega (arith, white, moving, splats, segments)
 
   pub lost_within : length lost ≤ moves_left y
   lost_within = let left = moves_left_after in omega (arith, left)

@@ -64,4 +64,4 @@ pub record StandsBefore {F : Type 0} (layout : F → Layout) (t : TraceState F) 
   pub segments : AreSegmentsAtRest s w
   pub pools : ArePoolsKnown layout t w
   pub reservations : s.reservations ≡ in_order (open_runs points.flips points.points)
-  pub room : moves_of w.graph.objects w.addresses + length w.segments + 4 ≤ m.spare
+  pub room : moves_of (is_copying_pool w) w.graph.objects w.addresses + length w.segments + 4 ≤ m.spare

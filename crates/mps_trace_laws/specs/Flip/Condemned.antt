@@ -1,18 +1,21 @@
--- What a full flip condemns, in words and in the model.
+-- What a flip condemns, in words and in the model.
 use Rattle.std.specs.Prelude.{◌≡◌, ℕ, ◌<◌, Bool, true, false, ◌||◌, IsTrue, Option, Some, None, List, [], ◌∷◌, map, length, Contains, refl}
-use Rattle.std.proofs.Common.{arith, lit<}
+use Rattle.std.proofs.Common.{◌∙◌, arith, lit<}
 use Rattle.mps_base.specs.Address.{Address, address_of_grain, grain_of}
 use Rattle.mps_base.specs.Segment.{Segment}
 use Rattle.mps_base.specs.declared.moves.Move.TheVariants.{Flip}
 use Rattle.mps_base.specs.declared.names.Rank.TheVariants.{Exact}
 use Rattle.mps_extents.specs.Table.{bit}
-use Rattle.mps_trace.specs.GenState.{max_chains}
+use Rattle.mps_trace.specs.GenState.{ChainsState, no_chains}
 use Rattle.mps_model.specs.Graph.{contains}
 use Rattle.mps_model.specs.World.{World}
-use Rattle.mps_model.specs.Effect.{Everything, condemned_by, condemned_zones, collection_at_flip, world_flipped}
+use Rattle.mps_model.specs.Effect.{Condemnation, condemned_by, condemned_zones, collection_at_flip, is_condemned_by, world_flipped}
+use Rattle.mps_model.specs.Effect as model
 use Rattle.mps_model.specs.Flip.{flip_of}
 use Rattle.mps_seg.specs.Segs.{SegsState}
-use Rattle.mps_trace.specs.Flip.{is_automatic, moves_blocks, automatic_of, zones_of}
+use Rattle.mps_trace.specs.Flip.{is_automatic, moves_blocks, automatic_of, chain_of, condemns, oldest_of, zones_of}
+use Rattle.mps_trace.specs.declared.condemn.Condemn.{Condemn}
+use Rattle.mps_trace.specs.declared.condemn.Condemn.TheVariants.{Everything, Generations}
 use Rattle.mps_format.specs.declared.pool.Policy.{Policy}
 
 -- a collector has the format of a pool exactly if the pool is automatic
@@ -27,15 +30,26 @@ AreMovesOf formats is_copying = (pool : ℕ) → moves_blocks formats pool ≡ i
 abbrev pub bases_of : List Segment → List Address
 bases_of ts = map (λ (t : Segment). t.base) ts
 
+-- what a flip condemns, as the model has it
+abbrev pub condemnation : Condemn → Condemnation
+condemnation Everything = model.Everything
+condemnation (Generations chain oldest) = model.Generations chain oldest
+
+-- a flip condemns a segment exactly if the model's does
+abbrev pub CondemnsAlike : {F : Type 0} → (formats : List (Option (Policy F))) → ChainsState → Condemn → World → Type 0
+CondemnsAlike formats chains what w =
+    (t : Segment) → condemns formats chains what t.pool t.generation ≡ is_condemned_by w (condemnation what) t
+
 -- ---- the model's flip
 
--- a flip that condemns these segments, of which these move blocks, is the model's full flip
-pub record IsFlipOfEverything (condemned moving : List Segment) (w : World) : Type 0 where
-  pub segments : condemned ≡ condemned_by w Everything
+-- a flip that condemns these segments, of which these move blocks, is a flip of the model
+pub record IsFlipOf (what : Condemn) (condemned moving : List Segment) (w : World) : Type 0 where
+  pub segments : condemned ≡ condemned_by w (condemnation what)
   -- in the model's order
-  pub bases : bases_of condemned ≡ (collection_at_flip (world_flipped w (zones_of moving)) Everything).condemned_segments
-  pub zones : zones_of moving ≡ condemned_zones w Everything
-  pub move : Flip (record { 0 = zones_of moving }) max_chains 0 ≡ flip_of w Everything
+  pub bases : bases_of condemned
+      ≡ (collection_at_flip (world_flipped w (zones_of moving)) (condemnation what)).condemned_segments
+  pub zones : zones_of moving ≡ condemned_zones w (condemnation what)
+  pub move : Flip (record { 0 = zones_of moving }) (chain_of what) (oldest_of what) ≡ flip_of w (condemnation what)
 
 -- ---- the segments after a flip
 
@@ -71,6 +85,13 @@ an_automatic_pool_without_a_format known = let e : false ≡ true = known 0 in a
 
 pub a_pool_that_moves_blocks : AreMovesOf known_formats (λ pool. false) → ⊥
 a_pool_that_moves_blocks moves = let e : true ≡ false = moves 1 in absurd cc
+
+pub a_generation_is_not_everything : (w : World) → CondemnsAlike known_formats no_chains (Generations 0 0) w
+    → is_condemned_by w model.Everything (segment_at 0x1000 1) ≡ true
+    → is_condemned_by w (model.Generations 0 0) (segment_at 0x1000 1) ≡ true → ⊥
+a_generation_is_not_everything w alike all young =
+    let e : false ≡ is_condemned_by w (model.Generations 0 0) (segment_at 0x1000 1) = alike (segment_at 0x1000 1) in
+    let f : false ≡ true = e ∙ young in absurd cc
 
 pub the_base_of_a_condemned_segment : bases_of (automatic_of known_formats (segment_at 0x1000 0 ∷ segment_at 0x3000 1 ∷ [])) ≡ 0x3000 ∷ []
 the_base_of_a_condemned_segment = refl

@@ -16,11 +16,10 @@ abbrev pub setting_flipped_in : Setting → SegsState → List (Option Address) 
 setting_flipped_in s g addresses points memories condemned = setting_flipped s addresses points memories condemned (is_condemned_word g)
 
 -- from an arena with this memory in which no collection ran, a flip that condemned these objects has led to these segments: the words
--- and the pools over them are as they were, no reservation is live, an object is condemned exactly if its segment is, what is live and
--- isn't condemned
--- refers to nothing condemned, and nothing is marked yet
+-- and the pools over them are as they were, no reservation is live, an object is condemned exactly if its segment is, what is live and is
+-- neither condemned nor remembered refers to nothing condemned, and nothing is marked yet
 pub record IsFlipped (s : Setting) (m : Memory) (g : SegsState) (addresses : List (Option Address)) (points : List (Option Point))
-    (memories : List PointMemory) (condemned : List Id) : Type 0 where
+    (memories : List PointMemory) (condemned remembered : List Id) : Type 0 where
   pub at_rest : s.at_flip ≡ []
   pub all_read : AreAllRead s
   pub words : g.words ≡ m.words
@@ -31,7 +30,8 @@ pub record IsFlipped (s : Setting) (m : Memory) (g : SegsState) (addresses : Lis
       → is_condemned_word g n ≡ is_condemned_word g (word_of at)
   pub condemned_there : (id : Id) (at : Address) → entry_at addresses id ≡ Some at
       → contains condemned id ≡ is_condemned_word g (word_of at)
-  pub outside : (id i : ℕ) (o : Object) (n : Word) (c : Cell) (t : Id) → contains condemned id ≡ false → Lies s.objects addresses id i o n
-      → slice_get (all_cells o.body) i ≡ Some c → target_of_cell c ≡ Some t → contains condemned t ≡ false
+  pub outside : (id i : ℕ) (o : Object) (n : Word) (c : Cell) (t : Id) → contains condemned id ≡ false → contains remembered id ≡ false
+      → Lies s.objects addresses id i o n → slice_get (all_cells o.body) i ≡ Some c → target_of_cell c ≡ Some t
+      → contains condemned t ≡ false
   pub tables : AreTablesWhole g
   pub unmarked : AreMarkedAt g (λ n. false)

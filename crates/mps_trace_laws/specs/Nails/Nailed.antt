@@ -97,6 +97,10 @@ AreWordsShown words shown = (n : ℕ) → contains (map (λ (w : Stored). w.word
 abbrev pub pinned_colours : (pinned : List Id) → Colours
 pinned_colours pinned = record { kept = pinned; grey = pinned }
 
+-- and so are these, which aren't condemned
+abbrev pub colours_at_flip : (pinned remembered : List Id) → Colours
+colours_at_flip pinned remembered = record { kept = pinned; grey = pinned ++ remembered }
+
 -- ---- vectors: blocks of two words and of three
 
 abbrev blocks : List Run
