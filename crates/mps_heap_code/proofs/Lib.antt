@@ -1,8 +1,3 @@
-pub mod Collecting
-pub mod Committing
-pub mod Dropping
-mod Labelling
-mod Lending
-pub mod Inside
-pub mod Making
-pub mod Ready
+pub mod Collected
+pub mod CountedUnits
+pub mod Unregistering

@@ -1,3 +1,1 @@
-pub mod Lending
-pub mod Made
-pub mod Placed
+pub mod Ticks

@@ -1,6 +1,7 @@
-//! The heap at rest: what a client's calls find and change, and a full collection, from its flip to its end.
+//! The calls of a heap that collect and finalize objects, that have a collection in progress do units, and those on the arena.
 #![tactic(auto)]
 
-mod state;
-
-pub use state::State;
+pub mod arena;
+pub mod collecting;
+pub mod finalizing;
+pub mod steps;

@@ -9,7 +9,7 @@ use Rattle.mps_buffer.specs.Points.{point_at}
 use Rattle.mps_format.specs.Layout.{Layout}
 use Rattle.mps_trace.specs.LdState.{LdState}
 use Rattle.mps_model.specs.Checked.{Checked, ◌>>=◌, ◌>>◌, required, refuse_when}
-use Rattle.mps_names.specs.State.{thing_named}
+use Rattle.mps_names.specs.State.{as_label, thing_named}
 use Rattle.mps_names.specs.declared.names.Thing.{Thing}
 use Rattle.mps_names.specs.declared.names.Thing.TheVariants as thing
 use Rattle.mps_root.specs.State.{kept}
@@ -46,10 +46,6 @@ as_point _ = None
 abbrev pub as_dependency : Thing → Option ℕ
 as_dependency (thing.Dependency number) = Some number
 as_dependency _ = None
-
-abbrev pub as_label : Thing → Option ℕ
-as_label (thing.Label number) = Some number
-as_label _ = None
 
 -- what is kept under a key, if there is something
 abbrev pub under : {A : Type 0} → (key : ℕ) → Option A → Checked (Kept A)

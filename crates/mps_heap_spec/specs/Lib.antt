@@ -1,6 +1,7 @@
 pub mod State
 pub mod Finding
 pub mod Objects
+pub mod Getting
 pub mod Areas
 pub mod Allocating
 pub mod Manual
@@ -11,6 +12,8 @@ pub mod Depending
 pub mod Arena
 pub mod Coming
 pub mod Collecting
+pub mod Units
+pub mod Polling
 pub use Rattle.mps_names.specs.State as NamesState
 pub use Rattle.mps_model.specs.Checked
 pub use Rattle.mps_model.specs.Tagging

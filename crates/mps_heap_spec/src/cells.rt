@@ -51,6 +51,7 @@ pub fn with_target<F: Format>(format: &F, word: u64, to: u64) -> u64
 }
 
 /// The tag of a reference word.
+#[inline(always)]
 pub fn tag_of(word: u64) -> u8
     ensures { result ≡ word % tag_count }
 {
@@ -58,6 +59,7 @@ pub fn tag_of(word: u64) -> u8
 }
 
 /// The reference word that leads to what another does, and has this tag.
+#[inline(always)]
 pub fn with_tag<F: Format>(format: &F, word: u64, tag: u8) -> u64
     requires { tag < tag_count }
     ensures { result ≡ retagged (F.layout format.now) word tag }
@@ -105,6 +107,7 @@ pub fn number_cell_at<F: Format>(segs: &Segs, b: &Block<F>, k: u64) -> Result<Ce
 }
 
 /// Cell `k` of a block, if it is a reference.
+#[inline(always)]
 pub fn reference_cell_at<F: Format>(segs: &Segs, b: &Block<F>, k: u64) -> Result<CellFound, Refusal>
     requires { IsTrue ((F.layout b.now.format).is_valid b.now.head) }
     ensures { result ≡ reference_cell_at F.layout segs.now.words b.now k }

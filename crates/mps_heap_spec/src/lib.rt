@@ -8,8 +8,9 @@ mod cells;
 mod checks;
 mod found;
 mod items;
+mod registrations;
 
-pub use arena::ArenaState;
+pub use arena::{ArenaState, Progress};
 pub use blocks::{
     begins_block, block_over, is_block_over, is_of_pool, pool_of_segment, takes_head,
 };
@@ -17,3 +18,4 @@ pub use cells::{number_cell_at, reference_cell_at, tag_of, with_tag, with_target
 pub use checks::{may_have_point, refuse_at_limit, reservation_of};
 pub use found::{Block, CellFound, Committed, Entry, Kept, Reserving};
 pub use items::{item, under};
+pub use registrations::running_without;

@@ -1,0 +1,5 @@
+//! The calls of a heap on slots and objects, and on the words of areas.
+#![tactic(auto)]
+
+pub mod areas;
+pub mod objects;

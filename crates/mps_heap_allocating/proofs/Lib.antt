@@ -1,0 +1,4 @@
+pub mod Committing
+pub mod Inside
+pub mod Polling
+pub mod Ready

@@ -1,0 +1,4 @@
+//! The calls of a heap by which a client allocates objects.
+#![tactic(auto)]
+
+pub mod allocating;

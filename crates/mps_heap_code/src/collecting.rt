@@ -1,0 +1,71 @@
+// A full collection, whole or begun alone.
+ghost use Rattle.std.specs.Prelude.{◌≡◌, ◌^◌, ◌<◌, ◌≤◌, IsTrue, None};
+ghost use Rattle.mps_heap_spec.specs.Collecting.{can_collect, CanCollectAll, CanStart, IsCollected, Starts};
+ghost use Rattle.mps_trace.specs.Collect.{most_moves};
+
+use mps_base::{Refusal, Trail};
+use mps_format::Format;
+use mps_heap_spec::ArenaState;
+use mps_heap_state::State;
+use mps_trace::most_units;
+
+/// The most flips that a heap counts.
+const MAX_FLIPS: u64 = 1 << 63;
+
+/// Whether everything can be collected: one flip more can be counted.
+pub fn can_collect<F: Format>(state: &State<F>) -> bool
+    ensures { result ≡ can_collect state.now }
+{
+    state.points.flips() < MAX_FLIPS
+}
+
+/// How many moves a full collection makes at most: the room that its trail needs.
+pub fn most_moves<F: Format>(state: &State<F>) -> u32
+    ensures value { result ≡ most_moves state.now.segs.grains }
+    ensures at_most { result ≤ 2 ^ 21 }
+{
+    mps_trace::most_moves(state.segs.grains())
+}
+
+/// Collects everything, from the flip to the end, and parks the arena.
+pub fn collect<F: Format>(state: &mut State<F>, trail: &mut Trail)
+    requires built { IsTrue (can_collect state.old) }
+    requires few_epochs { state.old.epochs.count < 2 ^ 63 }
+    requires can { CanCollectAll F.layout state.old trail.old }
+    ensures collected { IsCollected F.layout state.old trail.old state.new trail.new }
+{
+    state.finals.registrations_are_few();
+    let most = most_units(state.segs.grains(), state.finals.registered() as u32);
+    state.pools.collect(
+        &mut state.segs,
+        trail,
+        &mut state.roots,
+        &mut state.points,
+        &mut state.finals,
+        &mut state.epochs,
+        most,
+    );
+    state.arena = ArenaState::Parked;
+}
+
+/// Begins a collection of everything: the flip alone, and no unit. The arena is unclamped then. Refuses `Running` if a collection runs.
+pub fn start<F: Format>(state: &mut State<F>, trail: &mut Trail) -> Result<(), Refusal>
+    requires few_flips { IsTrue (can_collect state.old) }
+    requires few_epochs { state.old.epochs.count < 2 ^ 63 }
+    requires can { state.old.running ≡ None → CanStart F.layout state.old trail.old }
+    ensures { Starts F.layout state.old trail.old result state.new trail.new }
+{
+    if state.running.is_some() {
+        return Err(Refusal::Running);
+    }
+    state.running = state.pools.begin(
+        &mut state.segs,
+        trail,
+        &mut state.roots,
+        &mut state.points,
+        &mut state.finals,
+        &mut state.epochs,
+    );
+    state.arena = ArenaState::Unclamped;
+    Ok(())
+}

@@ -1,0 +1,11 @@
+use Rattle.std.proofs.lemmas.Result.{err_from_is_err_and}
+use Rattle.mps_heap_making.proofs.Outcomes.{is_refused, is_made}
+use Rattle.mps_heap_making.proofs.making.table.Goals as goal
+
+pub returns-in_err-check_root : goal.returns-in_err-check_root
+returns-in_err-check_root g c =
+    let p = err_from_is_err_and c.from_residual.result c.from_residual.ensures.1 in
+    rw (p.1, p.2) (is_refused c.in_err-check_root.ensures.value)
+
+pub returns : goal.returns
+returns g c = is_made c.make_table.result c.make_table.new.state c.in_ok-check_root.ensures.value c.make_table.ensures

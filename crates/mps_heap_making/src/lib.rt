@@ -1,0 +1,4 @@
+//! The calls of a heap that make and drop things.
+#![tactic(auto)]
+
+pub mod making;

@@ -1,0 +1,43 @@
+// Units of the collection that runs, as calls have it do some.
+ghost use Rattle.std.specs.Prelude.{◌≡◌};
+ghost use Rattle.mps_buffer.specs.Points.{WereMadeBefore};
+ghost use Rattle.mps_heap_spec.specs.Units.{CanDoUnits, HasDoneUnits, IsWhole, units_to_end};
+
+use crate::State;
+use mps_base::Trail;
+use mps_format::Format;
+use mps_trace::most_units;
+
+/// Does nothing: a caller knows that its tables of marks have their sizes, that each pool has a tail, and that no reservation remembers a
+/// flip that is still to come.
+pub fn is_whole<F: Format>(state: &State<F>)
+    ensures whole { IsWhole state.now }
+    ensures made_before { WereMadeBefore state.now.points.flips state.now.points }
+{
+    state.segs.tables_are_whole();
+    state.pools.tails_are_listed();
+    state.points.reservations_are_past();
+}
+
+/// Does n units of the collection that runs, or fewer if it ends in them.
+pub fn do_units<F: Format>(state: &mut State<F>, trail: &mut Trail, n: u64)
+    requires { CanDoUnits F.layout state.old trail.old n }
+    ensures { HasDoneUnits F.layout state.old trail.old n state.new trail.new }
+{
+    let Some(running) = state.running else {
+        return;
+    };
+    state.running = state
+        .pools
+        .finish(&mut state.segs, trail, &mut state.finals, running, n);
+}
+
+/// Ends the collection that runs: does the most units that it can have.
+pub fn end_collection<F: Format>(state: &mut State<F>, trail: &mut Trail)
+    requires { CanDoUnits F.layout state.old trail.old (units_to_end state.old) }
+    ensures { HasDoneUnits F.layout state.old trail.old (units_to_end state.old) state.new trail.new }
+{
+    state.finals.registrations_are_few();
+    let most = most_units(state.segs.grains(), state.finals.registered() as u32);
+    do_units(state, trail, most);
+}
