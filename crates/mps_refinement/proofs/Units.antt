@@ -12,6 +12,9 @@ pub mod Parks
 pub mod LessRoom
 pub mod Collects
 pub mod Accesses
-pub mod PolledReserves
 pub mod Ready
 pub mod Gets
+pub mod GetCalls
+pub mod Outcomes
+pub mod Starts
+pub mod PolledReserves

@@ -13,6 +13,7 @@ pub mod AtHand
 pub mod OwnGap
 pub mod Reserved
 pub mod Ready
+pub mod RunningNow
 pub mod PlacesByMoves
 pub mod CellsByMoves
 pub mod PlacedOnce

@@ -201,8 +201,9 @@ pub record AreNamed {F : Type 0} (past : Past) (h : HeapState F) (names : List g
 
 -- ---- the arena
 
--- it has no more grains than an arena may have, and open reservations lie in it, at words, also those that a flip ended
+-- it has grains, and no more than an arena may have, and open reservations lie in it, at words, also those that a flip ended
 pub record IsArena (grains : ℕ) (points : PointsState) : Type 0 where
+  pub nonzero : 0 < grains
   pub at_most : grains ≤ max_grains
   pub within : (key : ℕ) (p : Point) (held : Held) → point_at points key ≡ Some p → p.reservation ≡ Some held
       → word_of held.at.0 + held.words ≤ words_of_arena grains
@@ -333,14 +334,10 @@ pub record Runs (t : Time) (s : CollectorState) (w : World) (x : Collecting) : T
   pub condemned : AreCondemnedIn s.segs.condemned w.segments x.running.condemned_segments
   pub flip : AreOfFlip t.at_flip w
 
--- that a collection may run between two calls: no call leaves one running yet, so nothing is of this type
-abbrev pub MayRunBetweenCalls : Type 0
-MayRunBetweenCalls = ⊥
-
 -- at a time no collection runs, or one does
 pub data IsInTime (t : Time) (s : CollectorState) (w : World) : Type 0 where
   rests : Rests t s w → IsInTime t s w
-  runs : (x : Collecting) → Runs t s w x → MayRunBetweenCalls → IsInTime t s w
+  runs : (x : Collecting) → Runs t s w x → IsInTime t s w
 
 -- a legal history reaches a world, in which the arena is made by the first command alone
 pub record IsReached (w : World) : Type 0 where

@@ -231,7 +231,7 @@ module _ {F : Type 0} (layout : F → Layout) (h : HeapState F) where
         at_rest : (b : Bool) → b ≡ false → act_poked w found id word AsBlock (not b) ≡ as_held id (not b)
         at_rest true h = absurd (true≢false h)
         at_rest false h = refl
-    poked_as t s (runs y r may) id white e =
+    poked_as t s (runs y r) id white e =
         ap (λ p. act_poked w found id word p (not white))
         (ap (poked_in w id) (ap (λ (v : World). v.collection) (sym r.world) ∙ r.invariant.runs))
         ∙ poked_running y r.invariant id white

@@ -25,10 +25,9 @@ use Rattle.mps_heap_spec.specs.declared.arena.ArenaState.TheVariants as arena
 use Rattle.mps_refinement.proofs.Worlds.CollectorKept.{all_kept}
 use Rattle.mps_refinement.specs.Answering.{answer_to, says_number, says_ok}
 use Rattle.mps_refinement.specs.RightStep.{IsRight, IsRightIn, step_of}
-use Rattle.mps_refinement.specs.StandsFor.{AreParts, Past, state_of, collector_of}
+use Rattle.mps_refinement.specs.StandsFor.{AreParts, Past, Rests, StandsFor, state_of, collector_of}
 use Rattle.mps_refinement.proofs.Parts.PartsMade.{arena_changed}
 use Rattle.mps_refinement.proofs.Worlds.Steps.{HasParts, Leads, answer_is_right, quiet_is_right, resting_is_right}
-use Rattle.mps_refinement.proofs.Parts.Resting.{at_rest}
 use Rattle.mps_refinement.proofs.Worlds.RunningActs.{is_plain}
 use Rattle.mps_refinement.specs.QuietCalls.{never_moves}
 use Rattle.mps_refinement.proofs.Parts.BlockParts.{unpaired}
@@ -102,11 +101,11 @@ module _ {F : Type 0} (layout : F → Layout) (h : HeapState F) where
   release_is_right after is = state_is_right call.Release arena.Unclamped after refl refl (λ w. refl) is
 
   -- if no collection runs there is nothing to finish
-  pub park_is_right : (after : HeapState F) → after ≡ with_arena h arena.Parked → IsRight layout h call.Park [] (Replied reply.Ok) after
-  park_is_right after is w line st =
-      subst (λ s. IsRightIn layout w (step_of line call.Park [] (Replied reply.Ok)) s) (sym is)
-      (resting_is_right layout w line call.Park (Replied reply.Ok) refl refl refl st.reached
+  pub resting_park_is_right : (w : World) (st : StandsFor layout h w) → Rests st.past.time (collector_of h) w → (line : ℕ)
+      → IsRightIn layout w (step_of line call.Park [] (Replied reply.Ok)) (with_arena h arena.Parked)
+  resting_park_is_right w st rest line =
+      resting_is_right layout w line call.Park (Replied reply.Ok) refl refl refl st.reached
       (Err refusal.NotRegistered) st.past.time (collector_of h) (done (with_state w (state_of arena.Parked))) (with_arena h arena.Parked)
-      (at_rest st.time) (all_kept h)
+      rest (all_kept h)
       (ap (λ pairs. done (with_state w (world.Parked pairs))) (ap world.pairs_in st.parts.state ∙ unpaired h.arena)) refl
-      (state_has layout h w st.past st.parts arena.Parked))
+      (state_has layout h w st.past st.parts arena.Parked)

@@ -76,4 +76,4 @@ pub kept_in_time : {F : Type 0} (t : Time) (h : HeapState F) (w : World) → IsI
     → (is_some h.running ≡ true) ⊎ (is_white_at h.segs at ≡ false)
 kept_in_time t h w (rests rest) at =
     inr (ap (λ b. b && not (bit h.segs.marks.kept (word_of at))) (none_over h.segs rest.not_condemned (first_grain_over h.segs at)))
-kept_in_time t h w (runs x r may) at = inl (ap is_some r.running)
+kept_in_time t h w (runs x r) at = inl (ap is_some r.running)

@@ -51,7 +51,7 @@ module _ {F : Type 0} (layout : F → Layout) (h : HeapState F) (at : Address) w
   -- no collection runs in the world if the heap has none
   rests_there : h.running ≡ None → (t : Time) (w : World) → IsInTime t (collector_of h) w → Rests t (collector_of h) w
   rests_there none t w (rests rest) = rest
-  rests_there none t w (runs x r may) = absurd (none-some r.run (sym none ∙ r.running))
+  rests_there none t w (runs x r) = absurd (none-some r.run (sym none ∙ r.running))
 
   begun_reads : (words : ℕ) → BlockBegins h at words → (w : World) (past : Past) → AreParts layout past h w → IsKnown past.time w
       → Rests past.time (collector_of h) w
@@ -116,7 +116,7 @@ module _ {F : Type 0} (layout : F → Layout) (h : HeapState F) (at : Address) w
   -- and while a collection runs
   running_refuses : is_some h.running ≡ true → (t : Time) (w : World) → IsInTime t (collector_of h) w → act_dump w at ≡ Err refusal.Running
   running_refuses some t w (rests rest) = absurd (true≢false (sym some ∙ ap is_some rest.not_running))
-  running_refuses some t w (runs x r may) =
+  running_refuses some t w (runs x r) =
       ap (λ b. refuse_when b refusal.Running >> dumped w (id_at w at))
       (ap is_some (ap (λ (v : World). v.collection) (sym r.world) ∙ r.invariant.runs))
 

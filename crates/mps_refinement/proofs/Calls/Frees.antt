@@ -125,7 +125,7 @@ module _ {F : Type 0} (layout : F → Layout) (h : HeapState F) (trail : Moves) 
       where
         of_time : (x : Time) → IsInTime x (collector_of h) w → contains c.condemned_segments t.base ≡ false
         of_time x (rests rest) = absurd (none-some c (sym rest.none ∙ e))
-        of_time x (runs y r may) =
+        of_time x (runs y r) =
             subst (λ (d : model_collection.Collection). contains d.condemned_segments t.base ≡ false)
             (same_Some y.running c (sym r.invariant.runs ∙ ap (λ (v : World). v.collection) r.world ∙ e))
             (of_bool (cases_Bool (contains y.running.condemned_segments t.base)))

@@ -24,10 +24,10 @@ use Rattle.mps_model.specs.Making as making
 use Rattle.mps_model.specs.Making.{most_labels, refuse_at_limit}
 use Rattle.mps_model.specs.Reply.{act}
 use Rattle.mps_model.specs.World.{World}
-use Rattle.mps_names.specs.State.{thing_named}
+use Rattle.mps_names.specs.State.{as_label, thing_named}
 use Rattle.mps_names.specs.declared.names.Thing.{Thing}
 use Rattle.mps_names.specs.declared.names.Thing.TheVariants as thing
-use Rattle.mps_heap_spec.specs.Finding.{as_label, label_named}
+use Rattle.mps_heap_spec.specs.Finding.{label_named}
 use Rattle.mps_heap_spec.specs.Labelling.{Interned, IsInterning, MakesLabel, NotInterned, check_label, labelled}
 use Rattle.mps_heap_spec.specs.Making.{refuse_taken}
 use Rattle.mps_heap_spec.specs.State.{HeapState}

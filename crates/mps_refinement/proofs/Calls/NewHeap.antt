@@ -1,5 +1,5 @@
 -- A new heap stands for the world that `arena` leaves in the empty one, whatever the formats, where all are lawful.
-use Rattle.std.proofs.Common.{◌+◌, ◌*◌, ◌≤◌, ◌≡◌, ◌∙◌, ℕ, refl, sym, ap, List, [], ◌∷◌, Option, None, inl, inr, replicate, get_or, arith}
+use Rattle.std.proofs.Common.{◌+◌, ◌*◌, ◌<◌, ◌≤◌, ◌≡◌, ◌∙◌, ℕ, refl, sym, ap, List, [], ◌∷◌, Option, None, inl, inr, replicate, get_or, arith}
 use Rattle.std.proofs.lemmas.Bool.{cases_lt}
 use Rattle.std.proofs.lemmas.List.{get_or-replicate, get_or_past, length-replicate}
 use Rattle.std.proofs.lemmas.Option.{none-some}
@@ -46,7 +46,7 @@ none_numbered none = record {
 }
 
 module _ {F : Type 0} (layout : F → Layout) (formats : ℕ → Layout) (lawful : (number : ℕ) → IsLawful (formats number))
-    (grains limit : ℕ) (at_most : grains ≤ max_grains) (names : NamesState) (none : NoNames names) where
+    (grains limit : ℕ) (nonzero : 0 < grains) (at_most : grains ≤ max_grains) (names : NamesState) (none : NoNames names) where
   abbrev world_then : World
   world_then = new_world formats grains limit
 
@@ -64,6 +64,7 @@ module _ {F : Type 0} (layout : F → Layout) (formats : ℕ → Layout) (lawful
     segments = refl;
     image = new_arena_stands grains limit (pool_layout world_then);
     arena = record {
+      nonzero = nonzero;
       at_most = at_most;
       within = λ key p held is. absurd (none-some p (sym (no_point key) ∙ is));
       aligned = λ key p held is. absurd (none-some p (sym (no_point key) ∙ is));

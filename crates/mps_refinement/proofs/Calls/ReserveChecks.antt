@@ -1,13 +1,9 @@
 -- The checks of a `reserve` of a heap at rest, against the model's.
-use Rattle.mps_heap_spec.specs.declared.arena.ArenaState.{ArenaState}
-use Rattle.mps_heap_spec.specs.declared.arena.ArenaState.TheVariants as arena
-use Rattle.mps_model.specs.Policy.{is_place}
 use Rattle.std.proofs.Common.{◌≡◌, ◌∙◌, ℕ, ◌-◌, ◌≤◌, Bool, true, false, refl, sym, ap, subst, List, ◌∷◌, length, Option, Some, None, Ok, Err, arith}
 use Rattle.std.specs.Prelude.{not, ◌&&◌, is_some, slice_get, IsTrue}
 use Rattle.mps_base.specs.declared.names.Name.{Name}
 use Rattle.mps_base.specs.declared.refusal.Refusal.TheVariants as refusal
 use Rattle.mps_buffer.specs.declared.point.Point.{Point}
-use Rattle.mps_buffer.specs.Points.{placement_at}
 use Rattle.mps_format.specs.Layout.{Layout, IsLawful}
 use Rattle.mps_trace_laws.proofs.Image.Shaped.{new_length}
 use Rattle.mps_laws.proofs.Same as same
@@ -30,16 +26,6 @@ use Rattle.mps_refinement.specs.StandsFor.{AreParts, Past}
 use Rattle.mps_refinement.proofs.Calls.MakingPoints.{held_alike}
 use Rattle.mps_refinement.proofs.Lookups.Lookups.{IsPointFound, point_same}
 use Rattle.mps_refinement.proofs.Lookups.PointPools.{IsAutomatic, pool_of}
-
--- whether a `reserve` whose checks came to this polls: the arena is unclamped, and nothing that is held has a place for the block
-abbrev pub is_unclamped : ArenaState → Bool
-is_unclamped arena.Unclamped = true
-is_unclamped arena.Clamped = false
-is_unclamped arena.Parked = false
-
-abbrev pub polls_for : {F : Type 0} (layout : F → Layout) → HeapState F → Checked Reserving → Bool
-polls_for layout h (Ok r) = is_unclamped h.arena && not (is_place (placement_at r.point.value h.segs r.words))
-polls_for layout h (Err why) = false
 
 -- as many cells as the head says
 cells_long : (f : Layout) → IsLawful f → (head : ℕ) → IsTrue (f.is_valid head) → f.size head ≡ length (new_cells f head)

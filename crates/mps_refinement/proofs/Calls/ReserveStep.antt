@@ -251,8 +251,8 @@ module _ (w : World) (laid : HasLayout (w.grains + 1) w) (name : Name) (head : �
           not_condemned = keeps.not_condemned rest.not_condemned;
           not_kept = keeps.not_kept rest.not_condemned rest.not_kept;
         }))
-    reserved_rightly layout line before after reach (runs y r may) has sound keeps formats =
-        own_step_is_right layout t (collector_of before) w v y r may line c refl ms answer after result refl reach (own_step y r.world)
+    reserved_rightly layout line before after reach (runs y r) has sound keeps formats =
+        own_step_is_right layout t (collector_of before) w v y r line c refl ms answer after result refl reach (own_step y r.world)
         (ap (λ o. (world_from o result).formats) moved_so ∙ formats ∙ polled.formats)
         (subst (λ o. HasParts layout t after (world_from o result)) (sym moved_so) has)
         (subst (λ o. IsRunKept (Err refusal.NotRegistered) t (collector_of before) (collector_of after) v (world_from o result) y)

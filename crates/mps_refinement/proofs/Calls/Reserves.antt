@@ -1,14 +1,12 @@
--- When a `reserve` polls. One whose poll makes no moves is right: at rest, if it has a place in what is held, and in a clamped arena.
-use Rattle.mps_refinement.proofs.Parts.Resting.{at_rest}
-use Rattle.mps_refinement.proofs.Worlds.Known.{known_now}
-use Rattle.mps_refinement.specs.RightStep.{IsRight}
-use Rattle.std.proofs.Common.{◌≡◌, ◌∙◌, ◌⊎◌, ℕ, Bool, true, false, refl, sym, ap, subst, List, [], length, Some, None, inl, inr}
+-- When a `reserve` polls, and that its poll makes no moves at rest, if it has a place in what is held, and in a clamped arena.
+use Rattle.std.proofs.Common.{◌≡◌, ◌∙◌, ℕ, Bool, true, false, refl, sym, ap, subst, List, [], length, Some, None}
 use Rattle.std.specs.Prelude.{MatchBool, ◌&&◌, not, if◌then◌else◌}
 use Rattle.std.specs.Option.{option_map_or}
-use Rattle.mps_base.specs.Trail.{Moves}
 use Rattle.mps_base.specs.declared.moves.Move.{Move}
 use Rattle.mps_base.specs.declared.names.Name.{Name}
+use Rattle.mps_base.specs.Placement.{Placement, Place, NewSegment, OverLimit, NoFreeRun}
 use Rattle.mps_buffer.specs.Points.{placement_at}
+use Rattle.mps_buffer.specs.Points as points
 use Rattle.mps_format.specs.Layout.{Layout}
 use Rattle.mps_laws.proofs.Same.{Same, fits}
 use Rattle.mps_laws.proofs.Same as same
@@ -19,43 +17,32 @@ use Rattle.mps_model.specs.Graph.{new_cells}
 use Rattle.mps_model.specs.History.{IsPoll}
 use Rattle.mps_model.specs.Placement.{ForReserve, placement_of}
 use Rattle.mps_model.specs.World.{World, PointMemory, is_running}
-use Rattle.mps_heap_spec.specs.Allocating.{check_reserve, after_reserve}
+use Rattle.mps_heap_spec.specs.Allocating.{check_reserve}
 use Rattle.mps_heap_spec.specs.declared.arena.ArenaState.{ArenaState}
 use Rattle.mps_heap_spec.specs.declared.arena.ArenaState.TheVariants as arena
 use Rattle.mps_model.specs.Policy.{is_place, polls, units_of_poll}
 use Rattle.mps_model.specs.World as world
-use Rattle.mps_heap_spec.specs.Coming.{ComesMoving, answer_moved, state_moved, trail_moved}
 use Rattle.mps_heap_spec.specs.declared.found.Reserving.{Reserving}
+use Rattle.mps_heap_spec.specs.Polling.{is_unclamped, polls_for}
 use Rattle.mps_heap_spec.specs.State.{HeapState}
-use Rattle.mps_refinement.specs.Answering.{answer_to, says_ok}
-use Rattle.mps_refinement.specs.RightStep.{IsRightIn, step_of}
-use Rattle.mps_refinement.specs.StandsFor.{AreParts, IsInTime, IsReached, Past, state_of, collector_of}
+use Rattle.mps_refinement.specs.StandsFor.{AreParts, Past, state_of}
 use Rattle.mps_refinement.proofs.Worlds.Known.{IsKnown}
 use Rattle.mps_refinement.proofs.Worlds.Placing.{reserve_agrees}
-use Rattle.mps_refinement.proofs.Calls.ReserveChecks.{is_unclamped, polls_for, IsReserving, reserve_checked}
+use Rattle.mps_refinement.proofs.Calls.ReserveChecks.{IsReserving, reserve_checked}
 use Rattle.mps_refinement.proofs.Calls.ReserveStep.{Polls}
 use Rattle.mps_refinement.proofs.Calls.Reserving as resting
-use Rattle.mps_refinement.proofs.Calls.RightReserve.{reserve_runs_on}
 
 abbrev no_moves : List Move
 no_moves = []
 
--- what came of the outcome is right if the outcome is
-pub came_so : {F : Type 0} (layout : F → Layout) (h : HeapState F) (trail : Moves) (w : World) (line : ℕ) (name : Name) (head : ℕ)
-    (result : Checked (Unit {0})) (after : HeapState F) (trail_after : Moves)
-    → ComesMoving h trail (after_reserve layout h trail name head) result after trail_after
-    → IsRightIn layout w (step_of line (call.Reserve name head) (trail_moved trail (after_reserve layout h trail name head)).moves
-    (answer_to says_ok (answer_moved (after_reserve layout h trail name head)))) (state_moved h (after_reserve layout h trail name head))
-    → IsRightIn layout w (step_of line (call.Reserve name head) trail_after.moves (answer_to says_ok result)) after
-came_so layout h trail w line name head result after trail_after comes right =
-    subst (λ s. IsRightIn layout w (step_of line (call.Reserve name head) trail_after.moves (answer_to says_ok result)) s) (sym comes.state)
-    (subst (λ r. IsRightIn layout w (step_of line (call.Reserve name head) trail_after.moves (answer_to says_ok r))
-    (state_moved h (after_reserve layout h trail name head))) (sym comes.answer)
-    (subst (λ (t : Moves). IsRightIn layout w (step_of line (call.Reserve name head) t.moves
-    (answer_to says_ok (answer_moved (after_reserve layout h trail name head))))
-    (state_moved h (after_reserve layout h trail name head))) (sym comes.moves) right))
-
 -- ---- when it polls
+
+-- a placement lies in what is held in both
+place_alike : (q : Placement) → points.is_place q ≡ is_place q
+place_alike (Place word) = refl
+place_alike (NewSegment grain grains) = refl
+place_alike (OverLimit committed need limit) = refl
+place_alike (NoFreeRun need longest) = refl
 
 module _ {F : Type 0} (layout : F → Layout) (past : Past) (h : HeapState F) (w : World) (parts : AreParts layout past h w)
     (knows : IsKnown past.time w) (name : Name) (head : ℕ) where
@@ -76,14 +63,15 @@ module _ {F : Type 0} (layout : F → Layout) (past : Past) (h : HeapState F) (w
       ∙ ap (λ (r : model.Reserving). placement_of w (ForReserve r.point.number (length r.cells))) (sym is.is)
 
   polls_so : (y : Checked Reserving) (z : Checked model.Reserving) → Same (IsReserving layout past h w parts knows.graph name head) y z
-      → polls_for layout h y ≡ Rattle.mps_model.specs.Policy.polls_for w z
+      → polls_for h y ≡ Rattle.mps_model.specs.Policy.polls_for w z
   polls_so y z (fits {a} {b} is) =
-      ap (λ u. u && not (is_place (placement_at a.point.value h.segs a.words))) (same_state h.arena (sym parts.state))
+      ap (λ u. u && not (points.is_place (placement_at a.point.value h.segs a.words))) (same_state h.arena (sym parts.state))
+      ∙ ap (λ b. world.is_unclamped w && not b) (place_alike (placement_at a.point.value h.segs a.words))
       ∙ ap (λ q. world.is_unclamped w && not (is_place q)) (placed_so a b is)
   polls_so y z same.refused = refl
 
   -- a heap polls exactly if the model does
-  pub polls_alike : polls_for layout h (check_reserve layout h name head) ≡ polls w (call.Reserve name head)
+  pub polls_alike : polls_for h (check_reserve layout h name head) ≡ polls w (call.Reserve name head)
   polls_alike =
       polls_so (check_reserve layout h name head) (model.check_reserve w name head)
       (reserve_checked layout past h w parts knows.graph name head)
@@ -121,28 +109,3 @@ no_poll_at_rest v name head rest unchained = record {
   grains = refl;
   formats = refl;
 }
-
--- so a `reserve` whose poll makes no moves is right at any time
-pub unpolled_is_right : {F : Type 0} (layout : F → Layout) (past : Past) (h : HeapState F) (w : World) → IsReached w
-    → AreParts layout past h w → IsKnown past.time w → IsInTime past.time (collector_of h) w → (trail : Moves) → trail.moves ≡ []
-    → (line : ℕ) (name : Name) (head : ℕ)
-    → (w.collection ≡ None) ⊎ (polls_for layout h (check_reserve layout h name head) ≡ false)
-    → (result : Checked (Unit {0})) (after : HeapState F) (trail_after : Moves)
-    → ComesMoving h trail (after_reserve layout h trail name head) result after trail_after
-    → IsRightIn layout w (step_of line (call.Reserve name head) trail_after.moves (answer_to says_ok result)) after
-unpolled_is_right layout past h w reach parts knows time trail none line name head unpolled result after trail_after comes =
-    came_so layout h trail w line name head result after trail_after comes
-    (reserve_runs_on layout past h w knows.laid reach name head [] w (polled unpolled) parts knows time trail none line)
-  where
-    polled : (w.collection ≡ None) ⊎ (polls_for layout h (check_reserve layout h name head) ≡ false) → Polls w name head [] w
-    polled (inl rest) = no_poll_at_rest w name head rest parts.chains
-    polled (inr clamped) = no_poll w name head (sym (polls_alike layout past h w parts knows name head) ∙ clamped)
-
--- `reserve` is right, if the trail has no moves before it
-pub reserve_is_right : {F : Type 0} (layout : F → Layout) (h : HeapState F) (trail : Moves) (name : Name) (head : ℕ)
-    (result : Checked (Unit {0})) (after : HeapState F) (trail_after : Moves) → trail.moves ≡ []
-    → ComesMoving h trail (after_reserve layout h trail name head) result after trail_after
-    → IsRight layout h (call.Reserve name head) trail_after.moves (answer_to says_ok result) after
-reserve_is_right layout h trail name head result after trail_after none comes w line st =
-    unpolled_is_right layout st.past h w st.reached st.parts (known_now st) st.time trail none line name head
-    (inl (at_rest st.time).none) result after trail_after comes

@@ -198,7 +198,7 @@ module _ {F : Type 0} (layout : F → Layout) (past : Past) (h : HeapState F) (w
             (Rattle.mps_laws.proofs.Positions.Occupancy.condemned_in v.collection) t.base ≡ false
             → IsInTime past.time (collector_of h) v → bit h.segs.condemned (grain_of t.base) ≡ false
         of_time t held spared (rests rest) = rest.not_condemned (grain_of t.base)
-        of_time t held spared (runs y r may) =
+        of_time t held spared (runs y r) =
             r.condemned t (segment_there t v.segments held)
             ∙ ap (λ o. contains (Rattle.mps_laws.proofs.Positions.Occupancy.condemned_in o) t.base)
             (sym r.invariant.runs ∙ ap (λ (o : World). o.collection) r.world) ∙ spared

@@ -29,7 +29,9 @@ module _ {F : Type 0} (layout : F → Layout) (past : Past) (h : HeapState F) (w
   -- whatever words are at hand for its pools
   pub stands_before : (t : TraceState F) → IsTraceOf h.pools t → StandsBefore layout t h.segs m h.points w
   stands_before t of =
-      let few = moves_are_few layout past h w parts known.formed known.laid (blocks_in_order layout past h w parts known.laid) in
+      let few =
+      moves_are_few layout past h w parts known.formed known.laid (blocks_in_order layout past h w parts known.laid) known.graph
+      in
       record {
         objects = objects_at_rest layout past h w parts past.time known rest.none;
         segments = segments_at_rest layout past h w parts known.laid rest marked;

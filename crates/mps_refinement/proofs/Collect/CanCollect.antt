@@ -1,5 +1,5 @@
--- A heap that stands for a world, and can collect everything, does so in the room that is asked for.
-use Rattle.std.proofs.Common.{ℕ, ◌+◌, ◌<◌, List, length, Option, inl, inr, arith}
+-- A heap that stands for a world can begin a collection of everything, and do it whole, in the room that is asked for.
+use Rattle.std.proofs.Common.{ℕ, ◌+◌, ◌<◌, List, [], length, Option, inl, inr, arith}
 use Rattle.std.proofs.lemmas.Bool.{cases_Bool}
 use Rattle.mps_base.specs.Address.{Address}
 use Rattle.mps_base.specs.Trail.{Moves}
@@ -13,8 +13,8 @@ use Rattle.mps_model.specs.World.{World, live_ids}
 use Rattle.mps_heap_spec.specs.Collecting.{CanCollectAll}
 use Rattle.mps_trace.specs.PoolsCollecting.{IsTraceOf}
 use Rattle.mps_heap_spec.specs.State.{HeapState}
-use Rattle.mps_trace.specs.Begin.{nailed_at_flip, Begins, CanFixRoots}
-use Rattle.mps_trace.specs.Collect.{CanCollect, CanEnd, most_units}
+use Rattle.mps_trace.specs.Begin.{marked_at_flip, Begins, CanBegin, CanFixRoots}
+use Rattle.mps_trace.specs.Collect.{CanEnd, most_units}
 use Rattle.mps_trace.specs.Trace.{TraceState, Traced, traced}
 use Rattle.mps_trace.specs.declared.running.Running.{Running}
 use Rattle.mps_trace_laws.proofs.Reclaim.Room.{segments_are_in_order}
@@ -26,62 +26,75 @@ use Rattle.mps_trace_laws.specs.Begin.Before.{StandsBefore}
 use Rattle.mps_trace_laws.specs.Begin.Begun.{IsActDone, ACollectionBegins, RootsCanBeFixed, UnitsAreFew}
 use Rattle.mps_buffer.specs.Points.{AreReserved}
 use Rattle.mps_refinement.proofs.Collect.CollectRight.{IsBefore}
+use Rattle.mps_trace_laws.specs.Begin.Condemning.{MayCondemn}
+use Rattle.mps_trace_laws.proofs.Begin.CondemnedIds.{everything_may}
+use Rattle.mps_trace.specs.declared.condemn.Condemn.TheVariants as condemn
 use Rattle.mps_refinement.proofs.Collect.NullRoots.{null_roots_can_be_fixed}
 use Rattle.mps_format.specs.declared.pool.Policy.{Policy}
 
-module _ {F : Type 0} (layout : F → Layout) (begins : ACollectionBegins F) (can_fix : RootsCanBeFixed F) (few : UnitsAreFew)
-    (scans : (formats : List (Option (Policy F))) (of : ChainsState) (at_flip : List (Option Address))
-    → AreScansDone layout formats of at_flip)
-    (h : HeapState F) (m : Moves) (w : World) (reserved : AreReserved h.points.flips h.points.points h.segs)
-    (k : IsBefore layout h m w)
-    (below : length (live_ids w) + length w.graph.registered + length w.segments
-    < most_units h.segs.grains (length h.finals.registered)) where
-  -- how many units it has at most
-  abbrev most : ℕ
-  most = most_units h.segs.grains (length h.finals.registered)
+module _ {F : Type 0} (layout : F → Layout) (can_fix : RootsCanBeFixed F) (h : HeapState F) (m : Moves) (w : World)
+    (reserved : AreReserved h.points.flips h.points.points h.segs) (k : IsBefore layout h m w) where
+  -- ---- it can begin one
 
   module _ (t : TraceState F) (of : IsTraceOf h.pools t) where
     before : StandsBefore layout t h.segs m h.points w
     before = k.stands t of
 
-    roots_ready : CanFixRoots layout t h.roots h.finals (nailed_at_flip t.formats h.points h.roots (traced t h.segs m))
+    may : MayCondemn t h.segs w condemn.Everything
+    may = everything_may layout t h.segs m h.points w before
+
+    abbrev flipped : Traced
+    flipped = marked_at_flip t.formats t.chains condemn.Everything h.points h.roots (traced t h.segs m)
+
+    roots_ready : CanFixRoots layout t h.roots h.finals flipped
     roots_ready = elim (cases_Bool (is_nothing (condemned_by w Everything))) [
       | inl nothing ↦
-          null_roots_can_be_fixed layout t h.roots h.finals (nailed_at_flip t.formats h.points h.roots (traced t h.segs m)) w k.rows
-          before.objects.rest nothing k.roots
-      | inr some ↦ can_fix layout t h.segs m h.points h.roots h.finals w k.rows before k.areas k.roots some
+          null_roots_can_be_fixed layout t h.roots h.finals flipped w k.rows before.objects.rest nothing k.roots
+      | inr some ↦ can_fix layout t h.segs m h.points h.roots h.finals w k.rows condemn.Everything before may k.areas k.roots some
     ]
 
-    can_end : (roots' : RootsState) (finals' : FinalsState) (z : Traced) (run : Running)
-        → Begins layout t.formats t.chains h.points h.roots h.finals (traced t h.segs m) roots' finals' z run
-        → CanEnd layout t.formats t.chains z finals' run most
-    can_end roots' finals' z run begun =
-        let act : IsActDone layout t m w k.rows h.roots roots' finals' z run =
-        begins layout t h.segs m h.points h.roots roots' h.finals finals' w k.rows z run before k.areas k.roots begun
-        in
-        let those = scans t.formats t.chains w.addresses in
-        record {
-          ready =
-              units_are_ready layout (record { formats = t.formats; amc = z.amc; chains = t.chains }) z.segs z.moves w.addresses finals'
-              run act.after most those act.stands;
-          ends = λ last finals'' run' units.
-              let less =
-              units_run_out layout t.formats t.chains w.addresses z last finals' finals'' run run' act.after most
-              those act.stands units
-              in
-              let left = few w act.first act.after act.fixes in
-              omega (arith, less, left, below);
-        }
-
-    can_collect_one : CanCollect layout t h.points h.roots h.finals h.segs m most
-    can_collect_one = record {
+    pub can_begin : CanBegin layout t h.points h.roots h.finals h.segs m
+    can_begin = record {
       ordered = segments_are_in_order h.segs (held_in_order h.segs before.segments.held);
       blocks = before.segments.whole.order;
       reserved = reserved;
       fits = let there = before.room in omega (arith, there);
       roots_ready = roots_ready;
-      units_ready = can_end;
     }
 
-  pub can_collect_all : CanCollectAll layout h m
-  can_collect_all = λ t of. can_collect_one t of
+  -- ---- and end it
+
+  module _ (begins : ACollectionBegins F) (few : UnitsAreFew)
+      (scans : (formats : List (Option (Policy F))) (of : ChainsState) (at_flip : List (Option Address))
+      → AreScansDone layout formats of at_flip)
+      (below : length (live_ids w) + length w.graph.registered + length w.segments
+      < most_units h.segs.grains (length h.finals.registered)) where
+    -- how many units it has at most
+    abbrev most : ℕ
+    most = most_units h.segs.grains (length h.finals.registered)
+
+    module _ (t : TraceState F) (of : IsTraceOf h.pools t) where
+      can_end : (roots' : RootsState) (finals' : FinalsState) (z : Traced) (run : Running)
+          → Begins layout t.formats t.chains condemn.Everything h.points h.roots h.finals (traced t h.segs m) roots' finals' z run
+          → CanEnd layout t.formats t.chains z finals' run most
+      can_end roots' finals' z run begun =
+          let act : IsActDone layout t h.segs m w condemn.Everything k.rows h.roots roots' finals' z run =
+          begins layout t h.segs m h.points h.roots roots' h.finals finals' w k.rows z run condemn.Everything (before t of) (may t of)
+          k.areas k.roots begun
+          in
+          let those = scans t.formats t.chains w.addresses in
+          record {
+            ready =
+                units_are_ready layout (record { formats = t.formats; amc = z.amc; chains = t.chains }) z.segs z.moves w.addresses finals'
+                run act.after most those act.stands;
+            ends = λ last finals'' run' units.
+                let less =
+                units_run_out layout t.formats t.chains w.addresses z last finals' finals'' run run' act.after most
+                those act.stands units
+                in
+                let left = few w Everything [] act.first act.after act.fixes in
+                omega (arith, less, left, below);
+          }
+
+    pub can_collect_all : CanCollectAll layout h m
+    can_collect_all = λ t of. record { begins = can_begin t of; units_ready = can_end t of }

@@ -2,7 +2,7 @@
 use Rattle.mps_model.specs.History.{world_after, with_client_remembered}
 use Rattle.mps_model.proofs.AtRest.{with_client_remembered-none}
 use Rattle.std.proofs.Common.{◌≡◌, ◌∙◌, ℕ, Bool, true, false, refl, sym, ap, subst, List, [], ◌∷◌, ◌++◌, length, Option, Some, None, is_some, inl, inr, arith}
-use Rattle.std.proofs.lemmas.Bool.{false≢true, true≢false}
+use Rattle.std.proofs.lemmas.Bool.{false≢true, or_right, true≢false}
 use Rattle.std.proofs.lemmas.Option.{same_Some, slice_get_within}
 use Rattle.std.specs.Prelude.{◌==◌, ◌||◌, slice_get, option_and_then}
 use Rattle.std.specs.List.{flat_map, list_all}
@@ -16,16 +16,15 @@ use Rattle.mps_model.specs.declared.reply.Reply.TheVariants as reply
 use Rattle.mps_model.specs.Answer.{Replied}
 use Rattle.mps_model.specs.Checked.{done}
 use Rattle.mps_model.specs.Graph.{contains, ids_in_blocks, ids_of_client, targets}
-use Rattle.mps_model.specs.Collection.{Collection}
 use Rattle.mps_model.specs.World as world
-use Rattle.mps_model.specs.World.{World, Pool, is_live, live_ids}
+use Rattle.mps_model.specs.World.{World, Pool, ids_in_pairs, is_live, is_running, live_ids}
+use Rattle.mps_model.specs.WellFormed.{IsWellFormed}
 use Rattle.mps_model.specs.Effect.{Everything, condemned_by, is_on_chain, world_after_moves}
 use Rattle.mps_model.specs.Flip.{flip_act, is_nothing}
 use Rattle.mps_model.specs.History.{HeldAreLive}
 use Rattle.mps_model.proofs.Cutting.{world_after_moves-append}
 use Rattle.mps_model.proofs.Reaching.{list_all-contains}
 use Rattle.mps_laws.proofs.Sound.HeldIds.{all-append}
-use Rattle.mps_laws.proofs.QuietSteps.{IsSound}
 use Rattle.mps_heap_spec.specs.State.{HeapState}
 use Rattle.mps_format.specs.declared.pool.Pool as ours
 use Rattle.mps_format.specs.declared.pool.Pool.TheVariants as pool
@@ -41,18 +40,19 @@ use Rattle.mps_abstract.proofs.Rows.{last_units_done}
 use Rattle.mps_abstract.proofs.WholeCollections.WholeBegins.{nothing_remembered, begun_running}
 use Rattle.mps_abstract.proofs.WholeCollections.WholeEnds.{a_whole_collection}
 use Rattle.mps_refinement.specs.RightStep.{IsRightIn, step_of}
-use Rattle.mps_refinement.specs.StandsFor.{AreParts, ArePools, IsPool, IsReached, Past, Rests, Time, time_at_rest, collector_of}
+use Rattle.mps_refinement.specs.StandsFor.{AreParts, ArePools, IsPool, IsReached, Past, Time, time_at_rest}
+use Rattle.mps_refinement.proofs.Parts.Registered.{registered_at_the_end}
 use Rattle.mps_refinement.proofs.Worlds.Known.{IsKnown}
 use Rattle.mps_refinement.proofs.Worlds.Reached.{reached_well_formed, reached_next}
 use Rattle.mps_refinement.proofs.Worlds.RestingActs.{resting_sound}
 use Rattle.mps_refinement.proofs.Worlds.RestingSteps.{IsMoving, moving_step}
-use Rattle.mps_refinement.proofs.Worlds.Steps.{HasParts, moved_to_rest}
+use Rattle.mps_refinement.proofs.Worlds.Steps.{moved_to_rest}
 use Rattle.mps_refinement.specs.Collect.Leaving.{IsCollected, AreInPlace}
 use Rattle.mps_refinement.specs.Collect.Standing.{IsCollectedHeap, world_collected}
 use Rattle.mps_refinement.proofs.Lookups.Found.{something}
 use Rattle.mps_refinement.proofs.Collect.Finished.{HasFinished, IsFinished}
 use Rattle.mps_refinement.proofs.Collect.Leavings.{a_collection_moves_objects}
-use Rattle.mps_refinement.proofs.Collect.CollectedParts as parts_of
+use Rattle.mps_refinement.proofs.Collect.CollectedParts.{blocks_are_manual, flipped_parts}
 
 -- ---- lists
 
@@ -123,58 +123,34 @@ module _ {F : Type 0} (layout : F → Layout) where
         → is_live (world_after_moves w ms) id ≡ true
     pub referred_live : AllReferredLive (world_after_moves w ms).graph (is_live (world_after_moves w ms))
 
-  module _ (past : Past) (h after : HeapState F) (w : World) (parts : AreParts layout past h w) (known : IsKnown past.time w)
-      (timed : past.time ≡ time_at_rest) (made : WereMadeBefore (length w.flips) h.points) (acted : Collecting) (ms : List Move)
-      (c : IsCollection w acted ms) where
-    abbrev v : World
-    v = parts_of.v layout past h after w parts timed known.formed made acted c.leaves.but_collected.objects
-        c.leaves.but_collected.registered c.leaves.but_collected.messages c.leaves.but_collected.dependents
-        c.leaves.but_collected.unpaired c.leaves.but_collected.addresses
-        c.leaves.but_collected.segments c.leaves.but_collected.tails
-
-    none_runs : c.leaves.but_collected.collection ≡ None
-    none_runs = sym (ap (λ (u : World). u.collection) c.leaves.but_collected.world) ∙ c.leaves.ended
-
-    world_is : world_collected w ms ≡ v
-    world_is =
-        ap (λ (u : World). record u { state = world.Parked [] }) c.leaves.but_collected.world
-        ∙ ap (λ (o : Option Collection). record v { collection = o }) none_runs
-
-    places_then : AreInPlace w acted v
-    places_then = subst (λ u. AreInPlace w acted u) world_is (record {
-      manual = c.places.manual;
-      pinned = c.places.pinned;
-      holds = c.places.holds;
-      held = c.places.held;
-      held_live = c.places.held_live;
-    })
-
-    held_then : (id : Id) → contains (ids_of_client v.graph) id ≡ true → is_live v id ≡ true
-    held_then = subst (λ (u : World). (id : Id) → contains (ids_of_client u.graph) id ≡ true → is_live u id ≡ true) world_is c.held_live
-
-    referred_then : AllReferredLive v.graph (is_live v)
-    referred_then = subst (λ (u : World). AllReferredLive u.graph (is_live u)) world_is c.referred_live
-
-    module _ (heap : IsCollectedHeap past w h after acted.world.addresses (world_collected w ms)) where
-      heap_then : IsCollectedHeap past w h after acted.world.addresses v
-      heap_then = subst (λ u. IsCollectedHeap past w h after acted.world.addresses u) world_is heap
-
-      live_then : HeldAreLive v
-      live_then = record {
-        client = list_all-members (is_live v) (ids_of_client v.graph) held_then;
+  -- what is held in the world after it is live, in an arena whose transforms have no pairs
+  pub live_after : (w : World) (acted : Collecting) (ms : List Move) → IsWellFormed w → HeldAreLive w → IsCollection w acted ms
+      → (state : world.ArenaState) → ids_in_pairs state ≡ [] → HeldAreLive (record (world_after_moves w ms) { state = state })
+  live_after w acted ms formed live c state unpaired =
+      let v : World = record (world_after_moves w ms) { state = state } in
+      record {
+        client = list_all-members (is_live v) (ids_of_client v.graph) c.held_live;
         blocks = list_all-members (is_live v) (ids_in_blocks v.graph) (λ id there.
-            ap is_some (places_then.manual id (parts_of.places_same layout past h after w parts timed known.formed
-            made acted c.leaves.but_collected.objects c.leaves.but_collected.registered c.leaves.but_collected.messages
-            c.leaves.but_collected.dependents c.leaves.but_collected.unpaired
-            c.leaves.but_collected.addresses c.leaves.but_collected.segments c.leaves.but_collected.tails heap_then
-            places_then id there))
-            ∙ list_all-contains (is_live w) (ids_in_blocks w.graph) id known.live.blocks there);
-        referred = all_flat (is_live v) (targets v.graph) (live_ids v) (λ id listed.
+            let was = subst (λ (u : World). contains (ids_in_blocks u.graph) id ≡ true) c.leaves.but_collected.world there in
+            ap is_some (c.places.manual id (blocks_are_manual w formed id was))
+            ∙ list_all-contains (is_live w) (ids_in_blocks w.graph) id live.blocks was);
+        referred = or_right (is_running v) (list_all (is_live v) (flat_map (targets v.graph) (live_ids v)))
+            (all_flat (is_live v) (targets v.graph) (live_ids v) (λ id listed.
             list_all-members (is_live v) (targets v.graph id) (λ target refers.
-            referred_then id target (listed_is_live v id listed) refers));
-        transforms = refl;
+            c.referred_live id target (listed_is_live v id listed) refers)));
+        transforms = or_right (is_running v) (list_all (is_live v) (ids_in_pairs state)) (ap (list_all (is_live v)) unpaired);
       }
 
+  module _ (past : Past) (h after : HeapState F) (w : World) (parts : AreParts layout past h w) (known : IsKnown past.time w)
+      (made : WereMadeBefore (length w.flips) h.points) (acted : Collecting) (ms : List Move)
+      (c : IsCollection w acted ms) where
+    abbrev v : World
+    v = world_collected w ms
+
+    none_runs : v.collection ≡ None
+    none_runs = c.leaves.ended
+
+    module _ (heap : IsCollectedHeap past w h after acted.world.addresses v) where
       -- after the moves that finish what ran before
       module _ (from : World) (earlier : List Move) (finished : IsFinished from earlier w) (line : ℕ) where
         abbrev both : List Move
@@ -192,42 +168,47 @@ module _ {F : Type 0} (layout : F → Layout) where
           answers = refl;
           marked = tt;
           supported = refl;
-          sound = subst IsSound (sym world_is) (resting_sound v refl live_then);
+          sound = resting_sound v none_runs (live_after w acted ms known.formed known.live c (world.Parked []) refl);
         }
 
         formats_then : v.formats ≡ from.formats
-        formats_then = finished.formats
+        formats_then = ap (λ (u : World). u.formats) c.leaves.but_collected.world ∙ finished.formats
 
         -- the world after it is reached, so what is registered is live
         reached_then : IsReached v
         reached_then =
-            let step = moving_step from line call.Collect both (Replied reply.Ok) (done (world_collected w ms)) moves in
+            let step = moving_step from line call.Collect both (Replied reply.Ok) (done v) moves in
             let same : world_after from (step_of line call.Collect both (Replied reply.Ok)) ≡ v =
-            step.world ∙ (ap with_client_remembered world_is ∙ with_client_remembered-none v refl) in
+            step.world ∙ with_client_remembered-none v none_runs in
             subst IsReached same
             (reached_next from (step_of line call.Collect both (Replied reply.Ok)) finished.reached step.legal
             (ap (λ (u : World). u.formats) same ∙ formats_then) refl)
 
         pub collection_is_right : h.running ≡ None → IsRightIn layout from (step_of line call.Collect both (Replied reply.Ok)) after
         collection_is_right none_running =
-            moved_to_rest layout past.time from line call.Collect both (Replied reply.Ok) after (done (world_collected w ms)) refl
-            (ap (λ (u : World). u.formats) world_is ∙ formats_then) finished.reached moves
-            (subst (λ u. HasParts layout past.time after u) (sym world_is) (record {
-              past = past;
+            moved_to_rest layout time_at_rest from line call.Collect both (Replied reply.Ok) after (done v) refl formats_then
+            finished.reached moves
+            (record {
+              past = record past { time = time_at_rest };
               timed = refl;
-              parts = parts_of.collected_parts layout past h after w parts timed known.formed made acted
-                  c.leaves.but_collected.objects c.leaves.but_collected.registered c.leaves.but_collected.messages
-                  c.leaves.but_collected.dependents c.leaves.but_collected.unpaired
-                  c.leaves.but_collected.addresses c.leaves.but_collected.segments c.leaves.but_collected.tails heap_then places_then
-                  (reached_well_formed v reached_then).registered;
-            }))
-            (subst (λ u. Rests past.time (collector_of after) u) (sym world_is) (record {
-              none = refl;
-              time = timed;
-              not_running = heap_then.running ∙ none_running;
-              not_condemned = heap_then.not_condemned;
-              not_kept = heap_then.not_kept;
-            }))
+              parts = flipped_parts layout past h after w parts known.formed made acted (world_after_moves w ms) c.leaves.but_collected
+                  (world.Parked []) time_at_rest heap.flipped (record {
+                    manual = c.places.manual;
+                    pinned = c.places.pinned;
+                    holds = c.places.holds;
+                    held = c.places.held;
+                    held_live = c.places.held_live;
+                  }) heap.image
+                  (registered_at_the_end v after.finals heap.finals (reached_well_formed v reached_then).registered)
+                  heap.finals.waiting;
+            })
+            (record {
+              none = none_runs;
+              time = refl;
+              not_running = heap.running ∙ none_running;
+              not_condemned = heap.not_condemned;
+              not_kept = heap.not_kept;
+            })
 
   -- ---- where something is condemned
 
@@ -257,12 +238,12 @@ module _ {F : Type 0} (layout : F → Layout) where
       → IsRightIn layout from (step_of line call.Collect (earlier ++ (flip_act w Everything ++ later)) (Replied reply.Ok)) after
   collect_is_right h after from earlier w line first later y count st made some fixed ends heap =
       let rest = may_begin st.past h w st.parts st.past.time st.known st.rest.none in
-      collection_is_right st.past h after w st.parts st.known st.rest.time made y (flip_act w Everything ++ later)
+      collection_is_right st.past h after w st.parts st.known made y (flip_act w Everything ++ later)
       (ends_collection w first later y count rest some fixed ends) heap from earlier st.finished line st.rest.not_running
 
   -- ---- where nothing is condemned
 
-  nothing_collection : (w : World) → IsAtRest w → is_nothing (condemned_by w Everything) ≡ true
+  pub nothing_collection : (w : World) → IsAtRest w → is_nothing (condemned_by w Everything) ≡ true
       → IsCollection w (collecting_after_flip w Everything []) (flip_act w Everything)
   nothing_collection w rest nothing =
       let ended = flip_ended w Everything rest refl nothing in
@@ -287,7 +268,7 @@ module _ {F : Type 0} (layout : F → Layout) where
       → IsCollectedHeap st.past w h after w.addresses (world_collected w (flip_act w Everything))
       → IsRightIn layout from (step_of line call.Collect (earlier ++ flip_act w Everything) (Replied reply.Ok)) after
   collect_of_nothing_is_right h after from earlier w line st made nothing heap =
-      collection_is_right st.past h after w st.parts st.known st.rest.time made (collecting_after_flip w Everything [])
+      collection_is_right st.past h after w st.parts st.known made (collecting_after_flip w Everything [])
       (flip_act w Everything)
       (nothing_collection w (may_begin st.past h w st.parts st.past.time st.known st.rest.none) nothing) heap from earlier st.finished
       line st.rest.not_running

@@ -1,8 +1,7 @@
 -- A `collect` of a heap that has finished what ran before is right, and keeps the room of its trail.
-use Rattle.std.proofs.Common.{◌≡◌, ◌∙◌, ℕ, suc, ◌<◌, false, refl, sym, ap, subst, List, [], ◌∷◌, ◌++◌, length, Option, IsSome, arith}
+use Rattle.std.proofs.Common.{◌≡◌, ◌∙◌, ℕ, suc, false, refl, sym, ap, subst, List, [], ◌++◌, length, Option, IsSome, arith}
 use Rattle.std.proofs.lemmas.List.{append_assoc}
 use Rattle.mps_base.specs.Address.{Address, Id}
-use Rattle.mps_base.specs.Segment.{Segment}
 use Rattle.mps_base.specs.Trail.{Moves}
 use Rattle.mps_base.specs.declared.moves.Move.{Move}
 use Rattle.mps_buffer.specs.Points.{WereMadeBefore}
@@ -14,18 +13,18 @@ use Rattle.mps_model.specs.Effect.{Everything, condemned_by, condemned_zones, wo
 use Rattle.mps_model.specs.Flip.{flip_act, is_nothing}
 use Rattle.mps_model.specs.World.{World, area_words}
 use Rattle.mps_model.proofs.Cutting.{world_after_moves-append}
-use Rattle.mps_root.specs.State.{kept, RootsState}
+use Rattle.mps_root.specs.State.{kept}
 use Rattle.mps_heap_spec.specs.Collecting.{IsCollected}
 use Rattle.mps_trace.specs.PoolsCollecting.{IsTraceOf}
 use Rattle.mps_heap_spec.specs.State.{HeapState}
 use Rattle.mps_abstract.specs.Collecting.{Collecting}
 use Rattle.mps_abstract.specs.FlipLaws.{IsAtRest, IsFlipDone}
-use Rattle.mps_abstract.proofs.FlipActs.FlipBegins.{flip_done, flip_ended}
+use Rattle.mps_abstract.proofs.FlipActs.FlipBegins.{flip_done}
 use Rattle.mps_abstract.proofs.WholeCollections.WholeBegins.{nothing_remembered}
 use Rattle.mps_trace_laws.specs.Image.AtRest.{StandsAtRest}
-use Rattle.mps_trace.specs.Begin.{Begins, EndsAtOnce, nailed_at_flip}
+use Rattle.mps_trace.specs.Begin.{Begins, EndsAtOnce, marked_at_flip}
 use Rattle.mps_trace.specs.Collect.{at_once, in_units, most_units}
-use Rattle.mps_trace.specs.Flip.{at_flip, automatic_of}
+use Rattle.mps_trace.specs.Flip.{at_flip}
 use Rattle.mps_trace.specs.Trace.{TraceState, Traced, traced}
 use Rattle.mps_trace.specs.Unit.{EndsWithin}
 use Rattle.mps_trace.specs.declared.running.Running.{Running}
@@ -33,21 +32,21 @@ use Rattle.mps_trace_laws.specs.Nails.Nailed.{AreWordsShown, words_of_areas}
 use Rattle.mps_trace_laws.specs.Units.Laws.{HasSegmentsOf, HasFinalsOf, AreScansDone, AreLastTracedUnitsDone}
 use Rattle.mps_trace_laws.proofs.Units.Rows.{the_end_is_done}
 use Rattle.mps_trace_laws.specs.Begin.Before.{StandsBefore}
+use Rattle.mps_trace_laws.specs.Begin.Condemning.{MayCondemn}
+use Rattle.mps_trace_laws.proofs.Begin.CondemnedIds.{everything_may}
+use Rattle.mps_trace.specs.declared.condemn.Condemn.TheVariants as condemn
 use Rattle.mps_trace_laws.specs.Begin.Begun.{AreRootsHeld, IsActDone, ACollectionBegins, ACollectionOfNothingEnds, IsOverAtOnce}
-use Rattle.mps_refinement.proofs.Parts.Resting.{registered_at_rest}
 use Rattle.mps_refinement.specs.RightMoving.{KeepsRoom}
 use Rattle.mps_refinement.specs.RightStep.{IsRightIn, step_of}
-use Rattle.mps_refinement.specs.StandsFor.{AreSlots}
-use Rattle.mps_refinement.specs.Numbering.{AreNumbered}
 use Rattle.mps_abstract.specs.Leaving.{IsButCollected}
 use Rattle.mps_refinement.proofs.Collect.ActedRoots.{IsInOrder, tables_acted}
 use Rattle.mps_refinement.proofs.Collect.CollectIsRight.{collect_is_right, collect_of_nothing_is_right}
-use Rattle.mps_refinement.proofs.Collect.CollectedHeaps.{IsLeft, collected_heap, same_condemned}
-use Rattle.mps_refinement.proofs.Collect.CollectedSegments.{none_condemned, none_kept, segments_at_once}
+use Rattle.mps_refinement.proofs.Collect.CollectedHeaps.{IsLeft, collected_heap, left_at_once, something_condemned}
+use Rattle.mps_refinement.proofs.Collect.CollectedSegments.{none_condemned, none_kept}
 use Rattle.mps_refinement.proofs.Collect.Finished.{HasFinished}
 use Rattle.mps_refinement.proofs.Collect.Leavings.{a_collection_moves_objects}
 use Rattle.mps_refinement.proofs.Collect.RoomKept.{begin_pushes, units_keep_room, at_once_keeps_room}
-use Rattle.mps_refinement.proofs.Collect.RootsAfter.{roots_stay, tables_after, AreRootsAfter}
+use Rattle.mps_refinement.proofs.Collect.RootsAfter.{tables_after}
 use Rattle.mps_trace.specs.GenState.{ChainsState}
 use Rattle.mps_trace.specs.State.{FinalsState}
 use Rattle.mps_format.specs.declared.pool.Policy.{Policy}
@@ -91,16 +90,21 @@ module _ {F : Type 0} (layout : F → Layout) (begins : ACollectionBegins F) (no
     before : StandsBefore layout t h.segs m h.points w
     before = known.stands t collected.of_pools
 
+    may : MayCondemn t h.segs w condemn.Everything
+    may = everything_may layout t h.segs m h.points w before
+
     made_then : WereMadeBefore (length w.flips) h.points
     made_then = subst (λ n. WereMadeBefore n h.points) st.parts.point_flips made
 
     -- ---- where something is condemned
 
     module _ (b : Traced) (f : FinalsState) (run : Running)
-        (begun : Begins layout t.formats t.chains h.points h.roots h.finals x h'.roots f b run)
+        (begun : Begins layout t.formats t.chains condemn.Everything h.points h.roots h.finals x h'.roots f b run)
         (ends : EndsWithin layout t.formats t.chains b f run most z h'.finals) where
-      act : IsActDone layout t m w known.rows h.roots h'.roots f b run
-      act = begins layout t h.segs m h.points h.roots h'.roots h.finals f w known.rows b run before known.areas known.roots begun
+      act : IsActDone layout t h.segs m w condemn.Everything known.rows h.roots h'.roots f b run
+      act =
+          begins layout t h.segs m h.points h.roots h'.roots h.finals f w known.rows b run condemn.Everything before may known.areas
+          known.roots begun
 
       abbrev y : Collecting
       y = act.after
@@ -110,13 +114,8 @@ module _ {F : Type 0} (layout : F → Layout) (begins : ACollectionBegins F) (no
           the_end_is_done layout t.formats t.chains w.addresses b z f h'.finals run y most
           (scans t.formats t.chains w.addresses) act.stands ends
 
-      some_of : (ts : List Segment) → 0 < length ts → is_nothing ts ≡ false
-      some_of [] none = absurd (omega (arith, none))
-      some_of (s ∷ ts) some = refl
-
       some : is_nothing (condemned_by w Everything) ≡ false
-      some = subst (λ ts. is_nothing ts ≡ false) (same_condemned layout st.past h w st.parts m h' m' collected before)
-          (some_of (automatic_of t.formats h.segs.segments) begun.some)
+      some = something_condemned layout st.past h w st.parts m t before begun.some
 
       abbrev u : World
       u = world_after_moves w (flip_act w Everything ++ last.moves)
@@ -138,7 +137,7 @@ module _ {F : Type 0} (layout : F → Layout) (begins : ACollectionBegins F) (no
       left : IsLeft st.past w h h' y.world.addresses u
       left =
           let tables =
-          tables_after layout t.formats t.chains h.roots (nailed_at_flip t.formats h.points h.roots x)
+          tables_after layout t.formats t.chains h.roots (marked_at_flip t.formats t.chains condemn.Everything h.points h.roots x)
           (length h.roots.order) h'.roots begun.before begun.slots
           in
           record {
@@ -170,35 +169,16 @@ module _ {F : Type 0} (layout : F → Layout) (begins : ACollectionBegins F) (no
 
     -- ---- where nothing is condemned
 
-    module _ (ends : EndsAtOnce t.formats h.points h.roots h.finals x h'.roots h'.finals z) where
-      over : IsOverAtOnce m w z
-      over = nothing_ends layout t h.segs m h.points h.roots h'.roots h.finals h'.finals w z before ends
+    module _ (ends : EndsAtOnce t.formats t.chains condemn.Everything h.points h.roots h.finals x h'.roots h'.finals z) where
+      over : IsOverAtOnce m w condemn.Everything z
+      over =
+          nothing_ends layout t h.segs m h.points h.roots h'.roots h.finals h'.finals w z condemn.Everything before may ends
 
       abbrev v : World
       v = world_after_moves w (flip_act w Everything)
 
       moved_at_once : IsButCollected (world_flipped w (condemned_zones w Everything)) v
       moved_at_once = (a_collection_moves_objects.2 w before.objects.rest over.nothing).but_collected
-
-      left_at_once : IsLeft st.past w h h' w.addresses v
-      left_at_once = record {
-        segments = segments_at_once t.formats h.points x z w before.segments.segments before.objects.rest over.nothing ends.over;
-        image = over.stands;
-        not_condemned = none_condemned (at_flip t.formats h.points x) z ends.over;
-        not_kept = none_kept (at_flip t.formats h.points x) z ends.over;
-        tables =
-            subst (λ (roots : RootsState). AreNumbered (AreSlots w.addresses) st.past.table_number (kept roots.tables) w.graph.tables)
-            (sym ends.roots_are) st.parts.tables;
-        roots = subst (AreRootsAfter h.roots) (sym ends.roots_are) (roots_stay h.roots);
-        finals =
-            subst (λ (f : FinalsState). HasFinalsOf f v) (sym ends.finals_are)
-            (subst (λ ms. HasFinalsOf h.finals (world_after_moves w ms))
-            (sym (flip_ended w Everything before.objects.rest refl over.nothing).act)
-            (record {
-              registrations = registered_at_rest layout st.past h w st.parts st.rest.time;
-              waiting = st.parts.messages;
-            }));
-      }
 
       pub right_at_once : IsRightThere layout from earlier m m' h'
       right_at_once = record {
@@ -207,7 +187,8 @@ module _ {F : Type 0} (layout : F → Layout) (begins : ACollectionBegins F) (no
         right = λ line.
             collect_of_nothing_is_right layout h h' from earlier w line st made_then
             over.nothing
-            (collected_heap layout st.past h w st.parts m h' m' collected before w.addresses v moved_at_once left_at_once);
+            (collected_heap layout st.past h w st.parts m h' m' collected before w.addresses v moved_at_once
+            (left_at_once layout st.past h w st.parts st.rest.time m t before h' collected.after m' ends over));
         room =
             at_once_keeps_room layout t h.points h.roots h'.roots h.finals h'.finals x z ends
             (let room = before.room in omega (arith, room));

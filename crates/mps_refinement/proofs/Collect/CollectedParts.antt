@@ -1,11 +1,9 @@
--- The parts of a heap after a collection of everything stand for the world after it.
-use Rattle.mps_refinement.proofs.Parts.Registered.{all_now, live_at}
-use Rattle.std.proofs.Common.{◌≡◌, ◌∙◌, ℕ, ◌+◌, ◌≤◌, ◌<◌, true, false, refl, sym, ap, subst, List, [], length, map, Option, Some, None, IsSome, is_some}
+-- The parts of a heap after a flip of everything, and what follows of its collection in the same call, stand for the world after them.
+use Rattle.std.proofs.Common.{◌≡◌, ◌∙◌, ℕ, ◌+◌, ◌≤◌, ◌<◌, true, false, refl, sym, ap, subst, length, map, Option, Some, None, IsSome, is_some}
 use Rattle.std.proofs.lemmas.Bool.{false≢true}
-use Rattle.std.specs.Prelude.{Bool, option_map, not, IsTrue}
+use Rattle.std.specs.Prelude.{Bool, option_map, not}
 use Rattle.std.specs.Option.{option_map_or}
-use Rattle.mps_base.specs.Address.{Id, Address, max_grains, word_of}
-use Rattle.mps_base.specs.Segment.{Segment}
+use Rattle.mps_base.specs.Address.{Id, max_grains, word_of}
 use Rattle.mps_buffer.specs.Points.{PointsState, WereMadeBefore, point_at, without_free_words}
 use Rattle.mps_buffer.proofs.MadeBefore.{point_at-flipped, was_point}
 use Rattle.mps_buffer.specs.declared.point.Point.{Point}
@@ -17,7 +15,7 @@ use Rattle.mps_model.specs.Graph.{ids_in_caches, ids_in_places, Object, contains
 use Rattle.mps_model.specs.World as world
 use Rattle.mps_model.specs.World.{World, object_is}
 use Rattle.std.specs.List.{list_all}
-use Rattle.mps_model.specs.WellFormed.{IsWellFormed, is_live_automatic}
+use Rattle.mps_model.specs.WellFormed.{IsWellFormed}
 use Rattle.mps_model.specs.Effect.{Everything, condemned_zones, world_flipped}
 use Rattle.mps_model.proofs.Reaching.{list_all-contains}
 use Rattle.mps_root.specs.State.{kept}
@@ -26,39 +24,70 @@ use Rattle.mps_abstract.specs.Collecting.{Collecting}
 use Rattle.mps_names.specs.State.{NamesState, thing_named}
 use Rattle.mps_heap_spec.specs.State.{HeapState}
 use Rattle.mps_format.specs.Pools.{size_of_pool}
-use Rattle.mps_refinement.specs.StandsFor.{AreParts, AreRegisteredAt, ArePools, IsPoint, Past, StandsAt, state_of, time_at_rest, address_of_id}
+use Rattle.mps_refinement.specs.StandsFor.{AreParts, AreRegisteredAt, ArePools, IsPoint, Past, StandsAt, Time, address_of_id}
 use Rattle.mps_refinement.specs.Numbering.{AreNumbered}
-use Rattle.mps_refinement.proofs.Parts.Named.{ThingsStay, named_alike}
+use Rattle.mps_refinement.proofs.Parts.Named.{ThingsStay, named_alike, named_at}
 use Rattle.mps_refinement.proofs.Parts.Numbering.{kept_alike}
 use Rattle.mps_refinement.proofs.Parts.Ordering.{ordered_alike}
+use Rattle.mps_abstract.specs.Leaving.{IsButCollected}
 use Rattle.mps_refinement.specs.Collect.Leaving.{AreInPlace}
-use Rattle.mps_refinement.specs.Collect.Standing.{IsCollectedHeap}
+use Rattle.mps_refinement.specs.Collect.Standing.{IsFlippedHeap}
 use Rattle.mps_refinement.proofs.Collect.SameAddresses.{same_places, tables_same, areas_same}
 use Rattle.mps_refinement.proofs.Collect.FlippedPoints.{points_counted, points_flipped, one_flip_more}
 
+-- what is in tables of blocks is manual
+pub blocks_are_manual : (w : World) → IsWellFormed w → (id : Id) → contains (ids_in_blocks w.graph) id ≡ true
+    → object_is is_automatic w id ≡ false
+blocks_are_manual w formed id there =
+    manual_is (object_at w.graph id)
+    (list_all-contains (object_is (λ o. not (is_automatic o)) w) (ids_in_blocks w.graph) id formed.blocks there)
+  where
+    not_true : (b : Bool) → not b ≡ true → b ≡ false
+    not_true true e = absurd (false≢true e)
+    not_true false e = refl
+
+    manual_is : (o : Option Object)
+        → option_map_or (λ o. not (is_automatic o)) o false ≡ true
+        → option_map_or is_automatic o false ≡ false
+    manual_is None e = refl
+    manual_is (Some o) e = not_true (is_automatic o) e
+
 module _ {F : Type 0} (layout : F → Layout) (past : Past) (h after : HeapState F) (w : World) (parts : AreParts layout past h w)
-    (timed : past.time ≡ time_at_rest) (formed : IsWellFormed w) (made : WereMadeBefore (length w.flips) h.points)
-    (acted : Collecting) (objects : List Object) (registered messages : List Id) (dependents : List (Id × Id))
-    (unpaired : w.graph.dependents ≡ [] → dependents ≡ [])
-    (addresses : List (Option Address)) (segments : List Segment) (tails : List world.Tail) where
-  -- the world after it
-  abbrev pub v : World
+    (formed : IsWellFormed w) (made : WereMadeBefore (length w.flips) h.points) (acted : Collecting) (u : World)
+    (left : IsButCollected (world_flipped w (condemned_zones w Everything)) u) (state : world.ArenaState) where
+  -- the world after it, with the arena in another state
+  abbrev pub there : World
+  there = record u { state = state }
+
+  abbrev v : World
   v = record (world_flipped w (condemned_zones w Everything)) {
     graph =
         record (world_flipped w (condemned_zones w Everything)).graph {
-          objects = objects;
-          registered = registered;
-          messages = messages;
-          dependents = dependents;
+          objects = left.objects;
+          registered = left.registered;
+          messages = left.messages;
+          dependents = left.dependents;
         };
-    addresses = addresses;
-    segments = segments;
-    tails = tails;
-    state = world.Parked [];
-    collection = None;
+    addresses = left.addresses;
+    segments = left.segments;
+    tails = left.tails;
+    state = state;
+    collection = left.collection;
   }
 
-  module _ (heap : IsCollectedHeap past w h after acted.world.addresses v) (places : AreInPlace w acted v) where
+  same : there ≡ v
+  same = ap (λ (x : World). record x { state = state }) left.world
+
+  module _ (t : Time) (flipped : IsFlippedHeap past w h after acted.world.addresses there) (in_place : AreInPlace w acted there)
+      (image : StandsAt t after.segs there)
+      (registered : AreRegisteredAt t there.addresses after.finals.registered there.graph.registered)
+      (messages : after.finals.messages ≡ map (address_of_id there.addresses) there.graph.messages) where
+    heap : IsFlippedHeap past w h after acted.world.addresses v
+    heap = subst (IsFlippedHeap past w h after acted.world.addresses) same flipped
+
+    places : AreInPlace w acted v
+    places = subst (AreInPlace w acted) same in_place
+
     points_stay : (key : ℕ) → IsSome (point_at h.points key) → IsSome (point_at after.points key)
     points_stay key there = of_point (point_at h.points key) refl there
       where
@@ -77,21 +106,6 @@ module _ {F : Type 0} (layout : F → Layout) (past : Past) (h after : HeapState
       dependencies = λ n less. subst (λ ds. n < length ds) (sym heap.dependencies) less;
     }
 
-    -- places of tables of blocks hold manual blocks
-    pub places_same : (id : Id) → contains (ids_in_blocks w.graph) id ≡ true → object_is is_automatic w id ≡ false
-    places_same id there = manual_is (object_at w.graph id)
-        (list_all-contains (object_is (λ o. not (is_automatic o)) w) (ids_in_blocks w.graph) id formed.blocks there)
-      where
-        not_true : (b : Bool) → not b ≡ true → b ≡ false
-        not_true true e = absurd (false≢true e)
-        not_true false e = refl
-
-        manual_is : (o : Option Object)
-            → option_map_or (λ o. not (is_automatic o)) o false ≡ true
-            → option_map_or is_automatic o false ≡ false
-        manual_is None e = refl
-        manual_is (Some o) e = not_true (is_automatic o) e
-
     points_now : AreNumbered (IsPoint (length v.flips) (world.is_copying_pool v) v.point_memories) past.point_number (point_at after.points)
         v.graph.points
     points_now = subst (λ n. AreNumbered (IsPoint n (world.is_copying_pool v) v.point_memories) past.point_number (point_at after.points)
@@ -101,13 +115,18 @@ module _ {F : Type 0} (layout : F → Layout) (past : Past) (h after : HeapState
         (points_flipped (length w.flips) (world.is_copying_pool w) w.point_memories past.point_number h.points w.graph.points made
         parts.points))
 
-    pub collected_parts : IsTrue (list_all (is_live_automatic v) registered) → AreParts layout past after v
-    collected_parts lives = record {
+    -- at this time
+    abbrev then : Past
+    then = record past { time = t }
+
+    parts_then : AreParts layout then after v
+    parts_then = record {
       grains = heap.grains ∙ parts.grains;
       limit = heap.limit ∙ parts.limit;
       segments = heap.segments;
-      image = subst (λ t. StandsAt t after.segs v) (sym timed) heap.image;
+      image = subst (StandsAt t after.segs) same image;
       arena = record {
+        nonzero = subst (λ n. 0 < n) (sym heap.grains) parts.arena.nonzero;
         at_most = subst (λ n. n ≤ max_grains) (sym heap.grains) parts.arena.at_most;
         within = λ key p held is reserved.
             let was = was_point h.points key p (sym (ap (λ s. point_at s key) heap.points) ∙ is) in
@@ -117,21 +136,20 @@ module _ {F : Type 0} (layout : F → Layout) (past : Past) (h after : HeapState
             let was = was_point h.points key p (sym (ap (λ s. point_at s key) heap.points) ∙ is) in
             parts.arena.aligned key was.0 held was.1 (ap (λ (q : Point). q.reservation) was.2 ∙ reserved);
       };
-      tables = tables_same acted.world.addresses addresses past.table_number (kept after.roots.tables) w.graph.tables
+      tables = tables_same acted.world.addresses left.addresses past.table_number (kept after.roots.tables) w.graph.tables
           (λ id there. places.held id (contains_left (ids_in_slots w.graph) w.graph.messages id there)) heap.tables;
       ordered = ordered_alike parts.ordered after.roots.order heap.order heap.tables_there;
-      areas = areas_same w.addresses addresses past.area_number (kept after.roots.areas) w.graph.areas (λ id there. places.holds id there)
-          (kept_alike parts.areas (λ key. ap (λ rows. kept rows key) heap.areas));
-      blocks = heap.blocks ∙ (parts.blocks ∙ same_places w.addresses addresses w.graph.blocks
-          (λ id there. places.manual id (places_same id (contains_left (ids_in_places w.graph) (ids_in_caches w.graph) id there))));
+      areas = areas_same w.addresses left.addresses past.area_number (kept after.roots.areas) w.graph.areas
+          (λ id there. places.holds id there) (kept_alike parts.areas (λ key. ap (λ rows. kept rows key) heap.areas));
+      blocks = heap.blocks ∙ (parts.blocks ∙ same_places w.addresses left.addresses w.graph.blocks
+          (λ id there. places.manual id (blocks_are_manual w formed id
+          (contains_left (ids_in_places w.graph) (ids_in_caches w.graph) id there))));
       roots_counted = heap.live_roots ∙ parts.roots_counted;
       slots_counted = heap.live_slots ∙ parts.slots_counted;
       points = points_now;
       points_counted = heap.live_points ∙ (parts.points_counted ∙ sym (points_counted w.graph.points));
-      registered = subst (λ ats. AreRegisteredAt past.time addresses ats registered) (sym heap.finals.registrations)
-          (subst (λ t. AreRegisteredAt t addresses (map (address_of_id addresses) registered) registered) (sym timed)
-          (all_now addresses [] (is_live_automatic v) (λ id is. live_at v id is) registered lives));
-      messages = heap.finals.waiting;
+      registered = subst (λ (x : World). AreRegisteredAt t x.addresses after.finals.registered x.graph.registered) same registered;
+      messages = messages ∙ ap (λ (x : World). map (address_of_id x.addresses) x.graph.messages) same;
       flips = subst (λ e. AreFlips e v.flips) (sym heap.epochs) (flips_after h.epochs w.flips (condemned_zones w Everything) parts.flips);
       point_flips = ap (λ (s : PointsState). s.flips) heap.points
           ∙ (ap (λ n. n + 1) parts.point_flips ∙ sym (one_flip_more w.flips (condemned_zones w Everything)));
@@ -140,8 +158,13 @@ module _ {F : Type 0} (layout : F → Layout) (past : Past) (h after : HeapState
       pools = subst (λ ps. ArePools layout w.formats ps w.pools) (sym heap.pools) parts.pools;
       sizes = heap.sizes ∙ (parts.sizes ∙ ap (map size_of_pool) (sym heap.pools));
       chains = parts.chains;
-      dependents = unpaired parts.dependents;
-      names = named_alike h after past w.graph.names w.graph.labels parts.names (λ name. ap (λ ns. thing_named ns name) heap.names)
-          (ap (λ (ns : NamesState). ns.counts) heap.names) stay;
-      state = ap state_of (sym heap.parked);
+      dependents = left.unpaired parts.dependents;
+      names =
+          named_at past t after w.graph.names w.graph.labels
+          (named_alike h after past w.graph.names w.graph.labels parts.names (λ name. ap (λ ns. thing_named ns name) heap.names)
+          (ap (λ (ns : NamesState). ns.counts) heap.names) stay);
+      state = heap.state;
     }
+
+    pub flipped_parts : AreParts layout then after there
+    flipped_parts = subst (AreParts layout then after) (sym same) parts_then

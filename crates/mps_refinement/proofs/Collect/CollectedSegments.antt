@@ -16,7 +16,9 @@ use Rattle.mps_trace.specs.Flip.{automatic_of, at_flip, condemning_all}
 use Rattle.mps_trace.specs.Trace.{Traced}
 use Rattle.mps_trace.specs.Unit.{traced_after_end}
 use Rattle.mps_trace.proofs.Ending.{segments_stay}
+use Rattle.mps_trace.specs.GenState.{ChainsState}
 use Rattle.mps_trace_laws.proofs.Flip.Reservations.{flip_moves_nothing}
+use Rattle.mps_trace.specs.declared.condemn.Condemn.TheVariants as condemn
 use Rattle.mps_trace_laws.specs.Units.Laws.{HasSegmentsOf}
 use Rattle.mps_abstract.specs.Leaving.{IsButCollected}
 use Rattle.mps_format.specs.declared.pool.Policy.{Policy}
@@ -44,13 +46,15 @@ condemning_stays : (ts : List Segment) (s : SegsState) → (condemning_all ts s)
 condemning_stays [] s = refl
 condemning_stays (t ∷ ts) s = condemning_stays ts (condemning s t.base)
 
-pub segments_at_once : {F : Type 0} (formats : List (Option (Policy F))) (points : PointsState) (x z : Traced) (w : World)
-    → HasSegmentsOf x.segs w → IsAtRest w → is_nothing (condemned_by w Everything) ≡ true → z ≡ traced_after_end (at_flip formats points x)
+pub segments_at_once : {F : Type 0} (formats : List (Option (Policy F))) (chains : ChainsState) (points : PointsState) (x z : Traced)
+    (w : World)
+    → HasSegmentsOf x.segs w → IsAtRest w → is_nothing (condemned_by w Everything) ≡ true
+    → z ≡ traced_after_end (at_flip formats chains condemn.Everything points x)
     → HasSegmentsOf z.segs (world_after_moves w (flip_act w Everything))
-segments_at_once formats points x z w has rest nothing over =
-    let same = flip_moves_nothing formats points x in
+segments_at_once formats chains points x z w has rest nothing over =
+    let same = flip_moves_nothing formats chains condemn.Everything points x in
     let e : SegsState = after_all_end points.flips points.points x.segs in
-    let segments : (at_flip formats points x).segs.segments ≡ x.segs.segments =
+    let segments : (at_flip formats chains condemn.Everything points x).segs.segments ≡ x.segs.segments =
     condemning_stays (automatic_of formats e.segments) e ∙ segments_stay points.flips points.points x.segs
     in
     subst (λ ms. HasSegmentsOf z.segs (world_after_moves w ms)) (sym (flip_ended w Everything rest refl nothing).act) (record {

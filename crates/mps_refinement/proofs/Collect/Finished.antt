@@ -9,7 +9,6 @@ use Rattle.mps_abstract.specs.WholeLaws.{IsCollectDone, IsWholeDone}
 use Rattle.mps_abstract.proofs.WholeCollections.WholeEnds.{a_whole_collection}
 use Rattle.mps_heap_spec.specs.State.{HeapState}
 use Rattle.mps_refinement.specs.StandsFor.{AreParts, IsReached, Past, Rests, StandsFor, collector_of}
-use Rattle.mps_refinement.proofs.Parts.Resting.{at_rest}
 use Rattle.mps_refinement.proofs.Worlds.Known.{IsKnown, known_now}
 
 -- these moves lead from a world that a history reaches to this one, and a collection of everything after them is a `collect`
@@ -29,18 +28,17 @@ pub record HasFinished {F : Type 0} (layout : F → Layout) (h : HeapState F) (f
     pub finished : IsFinished from earlier w
 
 -- a heap at rest has nothing to finish
-pub none_to_finish : {F : Type 0} {layout : F → Layout} {h : HeapState F} {w : World} → StandsFor layout h w → HasFinished layout h w [] w
-none_to_finish {w = w} st =
-    let now = at_rest st.time in
-    record {
-      past = st.past;
-      parts = st.parts;
-      rest = now;
-      known = known_now st;
-      finished = record {
-        reached = st.reached;
-        leads = refl;
-        formats = refl;
-        collected = λ full whole. a_whole_collection.2 w full now.none whole;
-      };
-    }
+pub none_to_finish : {F : Type 0} {layout : F → Layout} {h : HeapState F} {w : World} → (st : StandsFor layout h w)
+    → Rests st.past.time (collector_of h) w → HasFinished layout h w [] w
+none_to_finish {w = w} st rest = record {
+  past = st.past;
+  parts = st.parts;
+  rest = rest;
+  known = known_now st;
+  finished = record {
+    reached = st.reached;
+    leads = refl;
+    formats = refl;
+    collected = λ full whole. a_whole_collection.2 w full rest.none whole;
+  };
+}

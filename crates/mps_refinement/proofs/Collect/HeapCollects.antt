@@ -1,7 +1,7 @@
 -- The call `collect` of a heap that stands for a world: it can be done, it is right, and its trail keeps its room.
 use Rattle.mps_refinement.proofs.Parts.Resting.{registered_at_rest}
-use Rattle.std.proofs.Common.{◌∙◌, ◌+◌, ◌<◌, ◌≤◌, sym, ap, subst, List, [], length}
-use Rattle.std.proofs.lemmas.List.{append_cancel_left, length-map}
+use Rattle.std.proofs.Common.{◌∙◌, ◌+◌, ◌<◌, ◌≤◌, ap, List, length}
+use Rattle.std.proofs.lemmas.List.{length-map}
 use Rattle.mps_base.specs.Trail.{Moves}
 use Rattle.mps_format.specs.Layout.{Layout}
 use Rattle.mps_model.specs.World.{World, live_ids}
@@ -13,22 +13,17 @@ use Rattle.mps_trace_laws.proofs.Begin.OverAtOnce.{a_collection_of_nothing_ends}
 use Rattle.mps_trace_laws.proofs.Begin.RootsReady.{roots_can_be_fixed}
 use Rattle.mps_trace_laws.proofs.Begin.UnitsFew.{units_are_few}
 use Rattle.mps_heap_spec.specs.State.{HeapState}
-use Rattle.mps_refinement.specs.StandsFor.{StandsFor, address_of_id}
-use Rattle.mps_refinement.specs.Collect.Collecting.{MayCollect, ACollectIsRight}
+use Rattle.mps_refinement.specs.StandsFor.{address_of_id}
 use Rattle.mps_refinement.proofs.Collect.BeforeAFlip.{is_before}
 use Rattle.mps_refinement.proofs.Collect.CanCollect.{can_collect_all}
 use Rattle.mps_refinement.proofs.Collect.LiveIsFew.{units_are_below}
 use Rattle.mps_refinement.proofs.Parts.LaidSegments.{blocks_in_order}
 use Rattle.mps_refinement.proofs.Worlds.Ready.{all_reserved}
 use Rattle.mps_refinement.proofs.Collect.CollectRight.{IsBefore, IsRightThere, right_there}
-use Rattle.mps_refinement.proofs.Collect.Finished.{HasFinished, none_to_finish}
-use Rattle.mps_refinement.specs.RightStep.{IsRightIn, step_of}
+use Rattle.mps_refinement.proofs.Collect.Finished.{HasFinished}
 use Rattle.mps_heap_spec.specs.Collecting.{CanCollectAll, IsCollected}
 use Rattle.mps_base.specs.declared.moves.Move.{Move}
 use Rattle.mps_buffer.specs.Points.{WereMadeBefore}
-use Rattle.mps_model.specs.Answer.{Replied}
-use Rattle.mps_model.specs.declared.call.Call.TheVariants as call
-use Rattle.mps_model.specs.declared.reply.Reply.TheVariants as reply
 use Rattle.mps_seg.specs.Table.{IsMarked}
 
 -- ---- once what ran before is finished
@@ -52,8 +47,8 @@ module _ {F : Type 0} (layout : F → Layout) (h : HeapState F) (m : Moves) (fro
   -- it can collect, whatever the tails of its pools are
   pub a_finished_heap_can_collect : CanCollectAll layout h m
   a_finished_heap_can_collect =
-      can_collect_all layout (a_collection_begins flip_stands) (roots_can_be_fixed flip_stands) units_are_few (scans_are_done layout) h m
-      w (all_reserved layout st.past h w st.parts) before units_few
+      can_collect_all layout (roots_can_be_fixed flip_stands) h m w (all_reserved layout st.past h w st.parts) before
+      (a_collection_begins flip_stands) units_are_few (scans_are_done layout) units_few
 
   -- and then the moves of both are a `collect`
   pub a_finished_heap_collects : (h' : HeapState F) (m' : Moves) → WereMadeBefore h.points.flips h.points → IsCollected layout h m h' m'
@@ -61,28 +56,3 @@ module _ {F : Type 0} (layout : F → Layout) (h : HeapState F) (m : Moves) (fro
   a_finished_heap_collects h' m' made collected =
       right_there layout (a_collection_begins flip_stands) a_collection_of_nothing_ends (scans_are_done layout) h m h' m' collected made
       from earlier w st before
-
--- ---- a heap at rest
-
-pub a_heap_can_collect : {F : Type 0}
-    → (layout : F → Layout) (h : HeapState F) (m : Moves) → MayCollect layout h m → CanCollectAll layout h m
-a_heap_can_collect layout h m may =
-    a_finished_heap_can_collect layout h m may.world [] may.world (none_to_finish may.stands) may.marked may.room
-
--- it makes the same moves, whatever the world is
-pub a_collect_is_right : {F : Type 0} → ACollectIsRight F
-a_collect_is_right layout h m h' m' may made collected =
-    let of_world = λ (v : World) (stands : StandsFor layout h v).
-    a_finished_heap_collects layout h m v [] v (none_to_finish stands) may.marked may.room h' m' made collected in
-    let here = of_world may.world may.stands in
-    record {
-      right = record {
-        moves = here.moves;
-        appended = here.appended;
-        right = λ v line stands.
-            let there = of_world v stands in
-            subst (λ ms. IsRightIn layout v (step_of line call.Collect ms (Replied reply.Ok)) h')
-            (append_cancel_left m.moves there.moves here.moves (sym there.appended ∙ here.appended)) (there.right line);
-      };
-      room = here.room;
-    }

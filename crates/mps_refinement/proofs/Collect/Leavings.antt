@@ -68,16 +68,64 @@ module _ (w : World) (first : List Move) (y : Collecting) (rest : IsAtRest w) (s
     world = refl;
   }
 
+  -- after the act of the flip
+  pub acted_moves : IsButCollected (world_flipped w (condemned_zones w Everything)) y.world
+  acted_moves = moved_on from_flip flip_moves
+
   pub whole_collected : (count : ℕ) (later : List Move) → Ends y count later
       → IsCollected w (world_after_moves w (flip_act w Everything ++ later))
   whole_collected count later ends =
       let at_end = ends_move running ends in
       subst (λ v. IsCollected w v) (sym (all_lead later)) (record {
-        but_collected = moved_on (moved_on from_flip flip_moves) at_end.but_collected;
+        but_collected = moved_on acted_moves at_end.but_collected;
         ended = at_end.ended;
       })
 
-  -- ---- what stays
+  -- ---- what stays over the act
+
+  not_condemned : (n : Id) → object_is is_automatic w n ≡ false → is_condemned begins.running n ≡ false
+  not_condemned n manual = elim (cases_Bool (is_condemned begins.running n)) [
+    | inl is ↦ absurd (false≢true (sym manual
+        ∙ (flipped_running w Everything [] rest some (nothing_remembered w rest)).condemned.objects n is))
+    | inr isnt ↦ isnt
+  ]
+
+  -- an object in which an area word lies is pinned, as everything is condemned
+  is_pinned : (n : Id) → contains (ids_of_area_words w) n ≡ true → contains begins.running.pinned n ≡ true
+  is_pinned n h =
+      let word = contains-filter (has_area_word w) (live_automatic_ids w) n h in
+      contains_filtered (has_area_word begins.world) begins.running.condemned n word.1 (everything w rest n word.0)
+
+  -- manual blocks and pinned ones aren't white, and what an area word holds is pinned, or wasn't condemned
+  manual_black : (n : Id) → object_is is_automatic w n ≡ false → is_white_in begins n ≡ false
+  manual_black n h = not_white_outside begins.running.condemned begins.colours n (not_condemned n h)
+
+  pinned_black : (n : Id) → contains (ids_of_area_words w) n ≡ true → is_white_in begins n ≡ false
+  pinned_black n h = not_white_if_kept begins.running.condemned begins.colours n (is_pinned n h)
+
+  hold_black : (n : Id) → contains (ids_in_holds w.graph) n ≡ true → is_white_in begins n ≡ false
+  hold_black n h = elim (cases_Bool (is_condemned begins.running n)) [
+    | inl is ↦ not_white_if_kept begins.running.condemned begins.colours n (contains_filtered (has_area_word w) begins.running.condemned n
+        (holds_show w w.graph.areas n rest.well_formed.words h) is)
+    | inr isnt ↦ not_white_outside begins.running.condemned begins.colours n isnt
+  ]
+
+  held_lives : (n : Id) → contains (ids_in_slots w.graph ++ w.graph.messages) n ≡ true → is_live y.world n ≡ true
+  held_lives n h =
+      let begun_whole = whole_begun w first y rest some fixed in
+      begun_whole.roots.live n (contains_left (ids_of_client begins.world.graph)
+      (ids_of_area_words begins.world ++ begun_whole.posted) n (client_of_fixed begins.world.graph n h))
+
+  pub in_place_acted : AreInPlace w y y.world
+  in_place_acted = record {
+    manual = λ n h. flip_stays.in_place n (manual_black n h);
+    pinned = λ n h. flip_stays.in_place n (pinned_black n h);
+    holds = λ n h. flip_stays.in_place n (hold_black n h);
+    held = λ n h. refl;
+    held_live = held_lives;
+  }
+
+  -- ---- what stays to the end
 
   module _ (count : ℕ) (later : List Move) (ends : Ends y count later) where
     since_act : (n : Id) → is_white_in y n ≡ false
@@ -88,43 +136,16 @@ module _ (w : World) (first : List Move) (y : Collecting) (rest : IsAtRest w) (s
         → address_of (world_after_moves w (flip_act w Everything ++ later)) n ≡ address_of w n
     since_flip n h = since_act n (flip_stays.not_white n h) ∙ flip_stays.in_place n h
 
-    not_condemned : (n : Id) → object_is is_automatic w n ≡ false → is_condemned begins.running n ≡ false
-    not_condemned n manual = elim (cases_Bool (is_condemned begins.running n)) [
-      | inl is ↦ absurd (false≢true (sym manual
-          ∙ (flipped_running w Everything [] rest some (nothing_remembered w rest)).condemned.objects n is))
-      | inr isnt ↦ isnt
-    ]
-
     held_black : (n : Id) → contains (ids_in_slots w.graph ++ w.graph.messages) n ≡ true → is_white_in y n ≡ false
     held_black n h =
         let begun_whole = whole_begun w first y rest some fixed in
         begun_whole.roots.kept n (contains_left (ids_of_client begins.world.graph)
         (ids_of_area_words begins.world ++ begun_whole.posted) n (client_of_fixed begins.world.graph n h))
 
-    held_lives : (n : Id) → contains (ids_in_slots w.graph ++ w.graph.messages) n ≡ true → is_live y.world n ≡ true
-    held_lives n h =
-        let begun_whole = whole_begun w first y rest some fixed in
-        begun_whole.roots.live n (contains_left (ids_of_client begins.world.graph)
-        (ids_of_area_words begins.world ++ begun_whole.posted) n (client_of_fixed begins.world.graph n h))
-
-    -- an object in which an area word lies is pinned, as everything is condemned
-    is_pinned : (n : Id) → contains (ids_of_area_words w) n ≡ true → contains begins.running.pinned n ≡ true
-    is_pinned n h =
-        let word = contains-filter (has_area_word w) (live_automatic_ids w) n h in
-        contains_filtered (has_area_word begins.world) begins.running.condemned n word.1 (everything w rest n word.0)
-
-    -- what an area word holds is pinned, or wasn't condemned
-    hold_black : (n : Id) → contains (ids_in_holds w.graph) n ≡ true → is_white_in begins n ≡ false
-    hold_black n h = elim (cases_Bool (is_condemned begins.running n)) [
-      | inl is ↦ not_white_if_kept begins.running.condemned begins.colours n (contains_filtered (has_area_word w) begins.running.condemned n
-          (holds_show w w.graph.areas n rest.well_formed.words h) is)
-      | inr isnt ↦ not_white_outside begins.running.condemned begins.colours n isnt
-    ]
-
     pub in_place : AreInPlace w y (world_after_moves w (flip_act w Everything ++ later))
     in_place = record {
-      manual = λ n h. since_flip n (not_white_outside begins.running.condemned begins.colours n (not_condemned n h));
-      pinned = λ n h. since_flip n (not_white_if_kept begins.running.condemned begins.colours n (is_pinned n h));
+      manual = λ n h. since_flip n (manual_black n h);
+      pinned = λ n h. since_flip n (pinned_black n h);
       holds = λ n h. since_flip n (hold_black n h);
       held = λ n h. since_act n (held_black n h);
       held_live = λ n h. ap is_some (since_act n (held_black n h)) ∙ held_lives n h;

@@ -1,4 +1,4 @@
--- How many moves the steps of a collection append to a trail, and what room they leave in it.
+-- How many moves the steps of a collection and its barriers append to a trail, and what room they leave in it.
 use Rattle.std.proofs.Common.{◌≡◌, ℕ, ◌+◌, ◌<◌, ◌≤◌, refl, sym, subst, List, [], ◌∷◌, length, Option, arith, Some}
 use Rattle.std.proofs.lemmas.List.{length-append}
 use Rattle.std.specs.Prelude.{◌-◌, Result, Ok, Err, slice_index}
@@ -25,13 +25,16 @@ use Rattle.mps_refinement.specs.RightMoving.{KeepsRoom}
 use Rattle.mps_trace.specs.Roots as roots
 use Rattle.mps_trace.specs.Roots.{FixesRoot, FixesSlots, FixesTables, FixesMessages, key_at}
 use Rattle.mps_trace.specs.Scan as scan
-use Rattle.mps_trace.specs.Scan.{FixesCell, ScansTo, ScansOne}
+use Rattle.mps_trace.specs.Scan.{FixesCell, Scanned, ScansTo, ScansOne}
 use Rattle.mps_trace.specs.Trace.{Traced, KeepsTo, FixesTo, moves, marks, finds, keeps, target_of}
 use Rattle.mps_trace.specs.Examine.{registration_of}
 use Rattle.mps_trace.specs.Splat as splat
-use Rattle.mps_trace.specs.Splat.{SplatsCell, SplatsTo, SplatsOne}
+use Rattle.mps_trace.specs.Access.{AccessesTo, ScansIn, SplatsIn, scans_none, scans_one_more, splats_none, splats_one_more}
+use Rattle.mps_trace.specs.Splat.{SplatsCell, Splatted, SplatsTo, SplatsOne}
 use Rattle.mps_trace.specs.Unit as units
 use Rattle.mps_trace.specs.Unit.{UnitTo, UnitsTo}
+use Rattle.mps_trace.specs.declared.running.Band.{Band}
+use Rattle.mps_trace.specs.declared.running.Band.TheVariants as band
 use Rattle.mps_trace.specs.declared.running.Running.{Running}
 use Rattle.mps_format.specs.declared.pool.Policy.{Policy}
 
@@ -131,13 +134,13 @@ module _ {F : Type 0} (layout : F → Layout) (formats : List (Option (Policy F)
   cells_push f head at x _ z (scan.goes_on {y = y} from cell cells first one) =
       pushed_on (cells_push f head at x from y cells) (cell_pushes f at cell y z one)
 
-  scan_pushes : (x z : Traced) → ScansOne layout formats chains x z → IsPushed x.moves z.moves
-  scan_pushes x z one =
-      let s = one.scanned in
+  scanned_pushes : (x : Traced) (at : Addr) (z : Traced) → Scanned layout formats chains x at z → IsPushed x.moves z.moves
+  scanned_pushes x at z s =
       subst (λ (v : Traced). IsPushed x.moves v.moves) (sym s.black)
-      (cells_push (layout s.format.format) (slice_index x.segs.words (word_of (at_word one.word).0))
-      (at_word one.word) x s.all.from s.before
-      s.all.run)
+      (cells_push (layout s.format.format) (slice_index x.segs.words (word_of at.0)) at x s.all.from s.before s.all.run)
+
+  scan_pushes : (x z : Traced) → ScansOne layout formats chains x z → IsPushed x.moves z.moves
+  scan_pushes x z one = scanned_pushes x (at_word one.word) z one.scanned
 
 -- ---- weak blocks
 
@@ -155,12 +158,32 @@ module _ {F : Type 0} (layout : F → Layout) (formats : List (Option (Policy F)
   splats_push f head at x _ z (splat.goes_on {y = y} from cell before first one) =
       pushed_on (splats_push f head at x from y before) (splatted_pushes f at cell y z one)
 
-  splat_pushes : (x z : Traced) → SplatsOne layout formats x z → IsPushed x.moves z.moves
-  splat_pushes x z one =
-      let s = one.splatted in
+  splat_of_pushes : (x : Traced) (at : Addr) (z : Traced) → Splatted layout formats x at z → IsPushed x.moves z.moves
+  splat_of_pushes x at z s =
       subst (λ (v : Traced). IsPushed x.moves v.moves) (sym s.black)
-      (splats_push (layout s.format.format) (slice_index x.segs.words (word_of (at_word one.word).0)) (at_word one.word) x s.all.from
-      s.before s.all.run)
+      (splats_push (layout s.format.format) (slice_index x.segs.words (word_of at.0)) at x s.all.from s.before s.all.run)
+
+  splat_pushes : (x z : Traced) → SplatsOne layout formats x z → IsPushed x.moves z.moves
+  splat_pushes x z one = splat_of_pushes x (at_word one.word) z one.splatted
+
+-- ---- a read barrier
+
+module _ {F : Type 0} (layout : F → Layout) (formats : List (Option (Policy F))) (chains : ChainsState) (t : Segment) (x : Traced) where
+  scans_push : (count : ℕ) (z : Traced) → ScansIn layout formats chains t x count z → IsPushed x.moves z.moves
+  scans_push _ _ scans_none = none_pushed x.moves
+  scans_push _ z (scans_one_more {y = y} count at before lowest one) =
+      pushed_on (scans_push count y before) (scanned_pushes layout formats chains y at z one)
+
+  weak_scans_push : (count : ℕ) (z : Traced) → SplatsIn layout formats t x count z → IsPushed x.moves z.moves
+  weak_scans_push _ _ splats_none = none_pushed x.moves
+  weak_scans_push _ z (splats_one_more {y = y} count at before lowest one) =
+      pushed_on (weak_scans_push count y before) (splat_of_pushes layout formats y at z one)
+
+  pub access_pushes : (b : Band) (z : Traced) → AccessesTo layout formats chains b t x z → IsPushed x.moves z.moves
+  access_pushes band.Exact z access = scans_push access.count z access.scans
+  access_pushes band.Final z access = scans_push access.count z access.scans
+  access_pushes band.Weak z access = weak_scans_push access.count z access.splats
+  access_pushes band.Reclaim z same = subst (λ (v : Traced). IsPushed x.moves v.moves) (sym same) (none_pushed x.moves)
 
 -- ---- a reclaim
 

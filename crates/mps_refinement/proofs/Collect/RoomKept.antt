@@ -10,8 +10,9 @@ use Rattle.mps_trace.specs.GenState.{max_chains}
 use Rattle.mps_root.specs.State.{RootsState}
 use Rattle.mps_refinement.specs.RightMoving.{KeepsRoom}
 use Rattle.mps_abstract.specs.Collecting.{Collecting}
-use Rattle.mps_trace.specs.Begin.{nailed_at_flip, Begins, EndsAtOnce}
-use Rattle.mps_trace.specs.Flip.{moving_of, zones_of}
+use Rattle.mps_trace.specs.Begin.{marked_at_flip, Begins, EndsAtOnce}
+use Rattle.mps_trace.specs.Flip.{automatic_of, moving_of, zones_of}
+use Rattle.mps_trace.specs.declared.condemn.Condemn.TheVariants as condemn
 use Rattle.mps_trace.specs.Trace.{TraceState, Traced}
 use Rattle.mps_trace.specs.Unit.{EndsWithin, HasRoomToEnd}
 use Rattle.mps_trace.specs.declared.running.Running.{Running}
@@ -23,7 +24,7 @@ use Rattle.mps_refinement.proofs.Collect.PushedMoves.{IsPushed, one_pushed, push
 
 module _ {F : Type 0} (layout : F → Layout) (t : TraceState F) where
   -- before each unit there is room for a move
-  has_room : (at_flip : List (Option Address)) (x : Traced) (f : FinalsState) (run : Running) (y : Collecting)
+  pub has_room : (at_flip : List (Option Address)) (x : Traced) (f : FinalsState) (run : Running) (y : Collecting)
       → UnitStands layout t.formats t.chains at_flip x f run y → 0 < x.moves.spare
   has_room at_flip x f run y stands = elim stands.band [
     | tracing st ↦ let room = st.traces.room in omega (arith, room)
@@ -32,11 +33,13 @@ module _ {F : Type 0} (layout : F → Layout) (t : TraceState F) where
 
   -- the begin
   pub begin_pushes : (points : PointsState) (roots roots' : RootsState) (finals finals' : FinalsState) (x z : Traced) (run : Running)
-      → Begins layout t.formats t.chains points roots finals x roots' finals' z run → IsPushed x.moves z.moves
+      → Begins layout t.formats t.chains condemn.Everything points roots finals x roots' finals' z run → IsPushed x.moves z.moves
   begin_pushes points roots roots' finals finals' x z run b =
-      pushed_on (one_pushed x.moves (Flip (record { 0 = zones_of (moving_of t.formats x.segs.segments) }) max_chains 0))
+      pushed_on (one_pushed x.moves (Flip (record { 0 = zones_of (moving_of t.formats (automatic_of t.formats x.segs.segments)) })
+      max_chains 0))
       (pushed_on
-      (tables_push layout t.formats t.chains roots (nailed_at_flip t.formats points roots x) (length roots.order) roots' b.before b.slots)
+      (tables_push layout t.formats t.chains roots (marked_at_flip t.formats t.chains condemn.Everything points roots x)
+      (length roots.order) roots' b.before b.slots)
       (messages_push layout t.formats t.chains finals b.before (length finals.messages) finals' z b.messages))
 
   -- from the begin to the end
@@ -64,8 +67,9 @@ module _ {F : Type 0} (layout : F → Layout) (t : TraceState F) where
 
   -- a collection that is over at once
   pub at_once_keeps_room : (points : PointsState) (roots roots' : RootsState) (finals finals' : FinalsState) (x z : Traced)
-      → EndsAtOnce t.formats points roots finals x roots' finals' z → 2 ≤ x.moves.spare → KeepsRoom x.moves z.moves
+      → EndsAtOnce t.formats t.chains condemn.Everything points roots finals x roots' finals' z
+      → 2 ≤ x.moves.spare → KeepsRoom x.moves z.moves
   at_once_keeps_room points roots roots' finals finals' x z ends room =
-      let flip = Flip (record { 0 = zones_of (moving_of t.formats x.segs.segments) }) max_chains 0 in
+      let flip = Flip (record { 0 = zones_of (moving_of t.formats (automatic_of t.formats x.segs.segments)) }) max_chains 0 in
       subst (λ (v : Traced). KeepsRoom x.moves v.moves) (sym ends.over)
       (pushed_keeps (pushed_on (one_pushed x.moves flip) (one_pushed (with_move x.moves flip) End)) room)

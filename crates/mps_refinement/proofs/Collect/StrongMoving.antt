@@ -31,7 +31,7 @@ not_weak w q (Automatic head cells is_weak) strong right = of_tests is_weak (is_
     of_tests true k e h = absurd (true≢false (sym h ∙ e))
 
 module _ (w : World) (sound : IsSoundGraph w) where
-  strong_object : (id : Id) (o : Object) → object_at w.graph id ≡ Some o → is_copying_pool w o.pool ≡ true → is_weak_object o ≡ false
+  pub strong_object : (id : Id) (o : Object) → object_at w.graph id ≡ Some o → is_copying_pool w o.pool ≡ true → is_weak_object o ≡ false
   strong_object id o e copying = of_pool (slice_get w.pools o.pool) refl (sound.objects id o e)
     where
       of_pool : (x : Option Pool) → slice_get w.pools o.pool ≡ x → option_map_or (λ p. is_right_body w p o.body) x false ≡ true

@@ -1,8 +1,8 @@
--- Where a block is now that was registered by its address, and what `definalize` comes to by that. A registration has the address that
--- its object has now or had at the flip, and `find` can be asked of it.
-use Rattle.std.proofs.Common.{◌≡◌, ◌∙◌, ◌⊎◌, ℕ, zero, suc, ◌+◌, ◌-◌, ◌<◌, ◌%◌, Bool, true, false, refl, sym, ap, ap₂, subst, List, [], ◌∷◌, length, map, Option, Some, None, inl, inr, arith}
-use Rattle.std.proofs.lemmas.Bool.{and_parts, cases_Bool, cases_eq, cases_lt, eqb-true, or_cases, false≢true}
-use Rattle.std.proofs.lemmas.List.{get_or-drop, length-drop}
+-- Where a block is now that was registered by its address: a registration has the address that its object has now or had at the flip. So
+-- `find` can be asked of it, and the first registration that leads to an object is the object's first.
+use Rattle.std.proofs.Common.{◌≡◌, ◌≢◌, ◌∙◌, ◌⊎◌, ℕ, zero, suc, ◌+◌, ◌-◌, ◌<◌, ◌%◌, Bool, true, false, refl, sym, ap, subst, List, [], ◌∷◌, length, map, Option, Some, None, inl, inr, arith}
+use Rattle.std.proofs.lemmas.Bool.{and_parts, cases_Bool, cases_eq, cases_lt, eq-eqb, eqb-true, ne_eqb, or_cases, false≢true}
+use Rattle.std.proofs.lemmas.List.{get_or-drop, length-drop, length-map}
 use Rattle.std.proofs.lemmas.Option.{none-some, same_Some}
 use Rattle.std.specs.Prelude.{◌==◌, drop, if◌then◌else◌, option_map, slice_get, slice_index}
 use Rattle.std.specs.List.{list_all}
@@ -10,8 +10,6 @@ use Rattle.std.specs.Option.{option_map_or}
 use Rattle.mps_base.specs.Address.{Address, Id, address_of_word, word_of}
 use Rattle.mps_base.specs.Segment.{Segment, segment_over}
 use Rattle.mps_base.specs.declared.address.Addr.{Addr}
-use Rattle.mps_base.specs.declared.names.Slot.{Slot}
-use Rattle.mps_base.specs.declared.refusal.Refusal.TheVariants as refusal
 use Rattle.mps_abstract.specs.Colours.{is_white}
 use Rattle.mps_abstract.proofs.Lists.{contains_here, contains_later}
 use Rattle.mps_abstract.proofs.RightObjects.{pool_kind}
@@ -21,46 +19,26 @@ use Rattle.mps_format.specs.Layout.{Layout}
 use Rattle.mps_format.specs.Pools.{policy_of_pool}
 use Rattle.mps_format.specs.declared.pool.Policy.{Policy}
 use Rattle.mps_laws.proofs.Sound.SoundGraph.{All}
-use Rattle.mps_model.specs.Checked.{head_of_body, Checked, ◌>>=◌, required}
+use Rattle.mps_model.specs.Checked.{head_of_body}
 use Rattle.mps_model.specs.Graph.{HeadCell, Object, contains, entry_at, is_automatic, size_of}
 use Rattle.mps_model.specs.World as world
 use Rattle.mps_model.specs.World.{World, is_automatic_kind, is_live, object_is, pool_is}
 use Rattle.mps_model.specs.WellFormed.{is_live_automatic, is_right_object}
 use Rattle.mps_seg.specs.Collecting.{is_condemned_at, is_kept_at}
+use Rattle.mps_seg.specs.Segs.{SegsState}
 use Rattle.mps_trace.specs.Finding.{CanFind, FindsIn, FindsTo, has_moved, in_pool, lies, passes}
+use Rattle.mps_trace.specs.Registration.{FindsRegistration, LeadsTo}
 use Rattle.mps_trace.specs.State.{position_of}
 use Rattle.mps_trace_laws.specs.Image.Image.{AreShaped, IsForwardedObject, MeansAt}
 use Rattle.mps_trace_laws.specs.Image.Memory.{Lies, pool_layout, pool_over_word}
 use Rattle.mps_trace_laws.proofs.Image.Shaped.{all_at, are_shaped_objects}
-use Rattle.mps_heap_spec.specs.Coming.{Outcome, done}
-use Rattle.mps_heap_spec.specs.Finalizing.{without_registered}
-use Rattle.mps_heap_spec.specs.Finding.{object_in}
 use Rattle.mps_heap_spec.specs.State.{HeapState}
 use Rattle.mps_refinement.specs.StandsFor.{AreParts, AreRegistered, CollectorState, IsInTime, Past, Time, address_of_id, rests, runs, setting_at}
 use Rattle.mps_refinement.proofs.Lookups.Found.{some_there}
 use Rattle.mps_refinement.proofs.Lookups.ManualBlocks.{passes_there}
 use Rattle.mps_refinement.proofs.Lookups.Policies.{layout_of_policy, moves_of_policy, policy_of_automatic}
-use Rattle.mps_refinement.proofs.Parts.Registered.{means_by}
+use Rattle.mps_refinement.proofs.Parts.Registered.{as_many, means_by}
 use Rattle.mps_refinement.proofs.Worlds.Known.{IsKnown, read_where_kept}
-
-module _ {F : Type 0} (layout : F → Layout) where
-  -- where a block is now that was at an address, as `find` answers it: one that is white is there still
-  pub record ResolvesTo (h : HeapState F) (at to : Address) : Type 0 where
-    pub found : Option Addr
-    pub finds : FindsTo layout (map policy_of_pool h.pools) h.segs (record { 0 = at }) found
-    pub is : to ≡ option_map_or (λ (a : Addr). a.0) found at
-
-  -- so for each of some addresses
-  pub record AreResolved (h : HeapState F) (before now : List Address) : Type 0 where
-    pub long : length now ≡ length before
-    pub each : (n : ℕ) (at to : Address) → slice_get before n ≡ Some at → slice_get now n ≡ Some to → ResolvesTo h at to
-
-  -- what `definalize` comes to if the registered objects are at these addresses now
-  abbrev pub unregistered_by : (now : List Address) → HeapState F → Slot → Checked (Outcome F (Unit {0}))
-  unregistered_by now h slot = do
-    object ← object_in layout h slot
-    position ← required (position_of now object.at) refusal.NotRegistered
-    done (without_registered h position)
 
 first_word : (words : List ℕ) (n : ℕ) → slice_index (drop n words) 0 ≡ slice_index words n
 first_word words n = get_or-drop n words 0 0 ∙ ap (slice_index words) (omega arith)
@@ -75,6 +53,48 @@ over_of_pool : (o : Option Segment) (pool : ℕ) → option_map (λ (t : Segment
     → (t : Segment) × (o ≡ Some t) × (t.pool ≡ pool)
 over_of_pool None pool is = absurd (none-some pool is)
 over_of_pool (Some t) pool is = (t, refl, same_Some t.pool pool is)
+
+-- ---- a registration that is found, by where all lead
+
+module _ {F : Type 0} (layout : F → Layout) (formats : List (Option (Policy F))) (s : SegsState) where
+  -- wherever one of some addresses leads, that is listed
+  abbrev LeadAll : (ats tos : List Address) → Type 0
+  LeadAll ats tos = (n : ℕ) (from to : Address) → slice_get ats n ≡ Some from → LeadsTo layout formats s from to → slice_get tos n ≡ Some to
+
+  -- the first of them is elsewhere, so the position is that among the rest, and one more
+  one_later : (t at : Address) (tos : List Address) (position : Option ℕ) → t ≢ at → position ≡ position_of tos at
+      → option_map (λ (n : ℕ). n + 1) position ≡ position_of (t ∷ tos) at
+  one_later t at tos position elsewhere is =
+      ap (option_map (λ (n : ℕ). n + 1)) is
+      ∙ sym (ap (λ b. if b then Some 0 else option_map (λ (n : ℕ). n + 1) (position_of tos at)) (ne_eqb t at elsewhere))
+
+  -- the position that is found is that of the address where its block is
+  first_position : (ats tos : List Address) → length tos ≡ length ats → LeadAll ats tos → (at : Address) (position : Option ℕ)
+      → FindsRegistration layout formats s ats at position → position ≡ position_of tos at
+  first_position [] [] long lead at None elsewhere = refl
+  first_position [] [] long lead at (Some position) first = absurd (none-some first.from first.listed)
+  first_position [] (t ∷ tos) long lead at position finds = absurd (omega (arith, long))
+  first_position (a ∷ ats) [] long lead at position finds = absurd (omega (arith, long))
+  first_position (a ∷ ats) (t ∷ tos) long lead at None elsewhere =
+      let here = elsewhere 0 a (omega arith) refl in
+      one_later t at tos None
+      (λ same. here.2 (sym (same_Some t here.0 (lead 0 a here.0 refl here.1)) ∙ same))
+      (first_position ats tos (omega (arith, long)) (λ n from to. lead (suc n) from to) at None
+      (λ n from low is. elsewhere (suc n) from (omega (arith, low)) is))
+  first_position (a ∷ ats) (t ∷ tos) long lead at (Some zero) first =
+      let same = same_Some t at (lead 0 first.from at first.listed first.leads) in
+      sym (ap (λ b. if b then Some 0 else option_map (λ (n : ℕ). n + 1) (position_of tos at)) (eq-eqb t at same))
+  first_position (a ∷ ats) (t ∷ tos) long lead at (Some (suc n)) first =
+      let here = first.earlier 0 a (omega arith) refl in
+      ap Some (let e : suc n ≡ n + 1 = omega arith in e)
+      ∙ one_later t at tos (Some n)
+      (λ same. here.2 (sym (same_Some t here.0 (lead 0 a here.0 refl here.1)) ∙ same))
+      (first_position ats tos (omega (arith, long)) (λ m from to. lead (suc m) from to) at (Some n) (record {
+        from = first.from;
+        listed = first.listed;
+        leads = first.leads;
+        earlier = λ m from low is. first.earlier (suc m) from (omega (arith, low)) is;
+      }))
 
 module _ {F : Type 0} (layout : F → Layout) (past : Past) (h : HeapState F) (w : World) (parts : AreParts layout past h w)
     (knows : IsKnown past.time w) where
@@ -94,7 +114,7 @@ module _ {F : Type 0} (layout : F → Layout) (past : Past) (h : HeapState F) (w
     where
       of_time : IsInTime past.time knows.collector w → from ≡ to
       of_time (rests rest) = absurd (none-some from (sym (ap (λ (u : Time). entry_at u.at_flip id) rest.time) ∙ was))
-      of_time (runs x r may) = r.flip.still id from to stays was now
+      of_time (runs x r) = r.flip.still id from to stays was now
 
   -- ---- an address that means a live automatic object that is read
 
@@ -218,10 +238,9 @@ module _ {F : Type 0} (layout : F → Layout) (past : Past) (h : HeapState F) (w
     ]
     found_there (in_pool t policy condemned over listed finds) = found_in policy (listed_there t policy over listed) finds
 
-    -- it resolves to the address that the object has now
-    pub resolved_means : {to : Address} → ResolvesTo layout h at to → to ≡ address_of_id w.addresses id
-    resolved_means resolves =
-        resolves.is ∙ found_there resolves.finds ∙ sym (ap (λ o. option_map_or (λ (a : Address). a) o 0) now.1)
+    -- it leads to the address that the object has now
+    pub leads_there : {to : Address} → LeadsTo layout policies h.segs at to → to ≡ address_of_id w.addresses id
+    leads_there to = to.is ∙ found_there to.finds ∙ sym (ap (λ o. option_map_or (λ (a : Address). a) o 0) now.1)
 
     -- and `find` can be asked of it
     pub means_can_be_found : CanFind layout policies h.segs (record { 0 = at })
@@ -254,25 +273,29 @@ module _ {F : Type 0} (layout : F → Layout) (past : Past) (h : HeapState F) (w
 
   -- ---- all registrations
 
-  -- they resolve to the addresses of now
-  pub all_resolved : (next before : ℕ) (ats tos : List Address) (ids : List Id)
-      → ((id : Id) → contains ids id ≡ true → past.time.is_read id ≡ true)
-      → All (is_live_automatic w) ids → AreRegistered w.addresses past.time.at_flip next before ats ids → AreResolved layout h ats tos
-      → tos ≡ map (address_of_id w.addresses) ids
-  all_resolved next before [] [] [] read all are to = refl
-  all_resolved next before [] [] (id ∷ ids) read all are to = absurd are
-  all_resolved next before [] (t ∷ tos) ids read all are to = let long = to.long in absurd (omega (arith, long))
-  all_resolved next before (a ∷ ats) [] ids read all are to = let long = to.long in absurd (omega (arith, long))
-  all_resolved next before (a ∷ ats) (t ∷ tos) [] read all are to = absurd are
-  all_resolved next before (a ∷ ats) (t ∷ tos) (id ∷ ids) read all are to =
+  -- they lead to the addresses of now
+  all_lead : (next before : ℕ) (ats : List Address) (ids : List Id) → ((id : Id) → contains ids id ≡ true → past.time.is_read id ≡ true)
+      → All (is_live_automatic w) ids → AreRegistered w.addresses at_flip next before ats ids
+      → LeadAll layout policies h.segs ats (map (address_of_id w.addresses) ids)
+  all_lead next before [] ids read all are n from to there leads = absurd (none-some from there)
+  all_lead next before (a ∷ ats) [] read all are n from to there leads = absurd are
+  all_lead next before (a ∷ ats) (id ∷ ids) read all are zero from to there leads =
       let parts = and_parts (is_live_automatic w id) (list_all (is_live_automatic w) ids) all in
-      ap₂ (λ (b : Address) bs. b ∷ bs)
-      (resolved_means id a parts.0 (read id (contains_here id ids)) (means_by w.addresses at_flip next before a id are.0)
-      (to.each 0 a t refl refl))
-      (all_resolved (next - 1) (before - 1) ats tos ids (λ n there. read n (contains_later id ids n there)) parts.1 are.1 (record {
-        long = let long = to.long in omega (arith, long);
-        each = λ n b u e f. to.each (suc n) b u e f;
-      }))
+      ap Some (sym (leads_there id a parts.0 (read id (contains_here id ids)) (means_by w.addresses at_flip next before a id are.0)
+      (subst (λ (b : Address). LeadsTo layout policies h.segs b to) (sym (same_Some a from there)) leads)))
+  all_lead next before (a ∷ ats) (id ∷ ids) read all are (suc n) from to there leads =
+      let parts = and_parts (is_live_automatic w id) (list_all (is_live_automatic w) ids) all in
+      all_lead (next - 1) (before - 1) ats ids (λ m later. read m (contains_later id ids m later)) parts.1 are.1 n from to there leads
+
+  -- so the position that is found is that of the address
+  pub found_position : (next before : ℕ) (ats : List Address) (ids : List Id)
+      → ((id : Id) → contains ids id ≡ true → past.time.is_read id ≡ true)
+      → All (is_live_automatic w) ids → AreRegistered w.addresses at_flip next before ats ids → (at : Address) (position : Option ℕ)
+      → FindsRegistration layout policies h.segs ats at position → position ≡ position_of (map (address_of_id w.addresses) ids) at
+  found_position next before ats ids read all are at position finds =
+      first_position layout policies h.segs ats (map (address_of_id w.addresses) ids)
+      (length-map ids (address_of_id w.addresses) ∙ sym (as_many w.addresses at_flip next before ats ids are))
+      (all_lead next before ats ids read all are) at position finds
 
   -- and `find` can be asked of each of them
   pub all_can_be_found : (next before : ℕ) (ats : List Address) (ids : List Id)
@@ -302,7 +325,7 @@ position_there (n ∷ ns) id h =
 pub registered_read : (t : Time) (s : CollectorState) (w : World)
     → IsInTime t s w → (id : Id) → contains w.graph.registered id ≡ true → t.is_read id ≡ true
 registered_read t s w (rests rest) id there = ap (λ (u : Time). u.is_read id) rest.time
-registered_read t s w (runs x r may) id there =
+registered_read t s w (runs x r) id there =
     elim (cases_Bool t.is_reclaiming) [
       | inr tracing ↦ ap (λ (f : Id → Bool). f id) (r.tracing tracing).read
       | inl reclaiming ↦

@@ -313,7 +313,7 @@ module _ {F : Type 0} (layout : F → Layout) (past : Past) (h : HeapState F) (w
           of_time : IsInTime past.time (collector_of h) w → bit segs.condemned (grain_of home.segment.base) ≡ false
           of_time (rests rest) =
               noted_clear q h.segs.condemned (grain_of home.segment.base) (rest.not_condemned (grain_of home.segment.base))
-          of_time (runs y r may) =
+          of_time (runs y r) =
               uncondemned y r.invariant segments_now segs.condemned (w.grains + 1) after.ascending
               (λ u there. stays q pool 0 rank.Exact (w.grains + 1) w.segments h.segs.condemned laid.aligned laid.ascending after.aligned
               after.ascending u (subst (λ (v : World). IsAmong u v.segments) r.world there))
@@ -397,6 +397,7 @@ module _ {F : Type 0} (layout : F → Layout) (past : Past) (h : HeapState F) (w
           segments_are = ap (λ ss. segments_after q pool 0 rank.Exact ss) parts.segments;
           image = image_made places laid after;
           arena = record {
+            nonzero = parts.arena.nonzero;
             at_most = parts.arena.at_most;
             within = parts.arena.within;
             aligned = parts.arena.aligned;

@@ -343,6 +343,7 @@ module _ {F : Type 0} (layout : F → Layout) (past : Past) (h : HeapState F) (w
         segments_are = segs_segments t given;
         image = image_after t given v held not_copying refl refl refl laid after;
         arena = record {
+          nonzero = let some = parts.arena.nonzero in let e = segs_grains t given in omega (arith, some, e);
           at_most = let most = parts.arena.at_most in let e = segs_grains t given in omega (arith, most, e);
           within = λ key p held e f.
               let low = parts.arena.within key p held e f in let g = segs_grains t given in omega (arith, low, g);

@@ -1,10 +1,10 @@
 -- The segments of a heap that stands for a world that is laid out, as a collection finds them: each block lies in a segment of its rank,
 -- and each live reservation in one.
-use Rattle.std.proofs.Common.{◌≡◌, ◌∙◌, ℕ, ◌+◌, ◌<◌, ◌≤◌, Bool, true, false, refl, sym, ap, subst, List, map, Some, arith}
+use Rattle.std.proofs.Common.{◌≡◌, ◌∙◌, ℕ, ◌+◌, ◌<◌, ◌≤◌, Bool, true, false, refl, sym, ap, subst, List, [], ◌∷◌, map, Some, Contains, arith}
 use Rattle.std.proofs.lemmas.Option.{slice_get-map}
 use Rattle.std.specs.Prelude.{if◌then◌else◌, option_map, slice_get}
 use Rattle.std.specs.Option.{option_map_or}
-use Rattle.mps_base.specs.Address.{Address, Id, address_of_word}
+use Rattle.mps_base.specs.Address.{Address, Id, address_of_word, words_of_grain}
 use Rattle.mps_base.specs.Run.{Run, Covers, IsAscending, end_of}
 use Rattle.mps_base.specs.Segment.{Segment, grains_of_segment, segment_over, words_of_segment}
 use Rattle.mps_format.specs.Layout.{Layout}
@@ -19,7 +19,8 @@ use Rattle.mps_laws.proofs.Positions.Occupancy.{OfBlock, OfReservation, Shape, o
 use Rattle.mps_laws.proofs.Positions.Segments.{AreAligned, IsAmong, found_segment}
 use Rattle.mps_trace_laws.specs.Fix.Tracing.{AreSegmentsOf, AreHeld, AreCoveredInOrder, AreReservationsHeld, HasTables}
 use Rattle.mps_trace_laws.specs.Fix.Housed.{AreHoused, rank_of_object}
-use Rattle.mps_trace_laws.proofs.Image.BlockRuns.{extents_ascend}
+use Rattle.mps_trace_laws.proofs.Image.BlockRuns.{extents_ascend, run_of_object}
+use Rattle.mps_trace_laws.proofs.Reclaim.SegmentBounds.{positive_in}
 use Rattle.mps_heap_spec.specs.State.{HeapState}
 use Rattle.mps_refinement.specs.StandsFor.{AreParts, Past, setting_at}
 use Rattle.mps_refinement.proofs.Parts.CommittedParts.{segment_there}
@@ -44,6 +45,12 @@ block_rank w id o object =
     of_test : (b : Bool) → rank_where b ≡ (if b then Weak else Exact)
     of_test true = refl
     of_test false = refl
+
+-- runs that begin no lower ascend from there on
+ascending_above : (low above high : ℕ) (rs : List Run) → IsAscending low high rs → above ≤ high
+    → ((r : Run) → Contains rs r → above ≤ r.from) → IsAscending above high rs
+ascending_above low above high [] ascending within each = within
+ascending_above low above high (r ∷ rs) ascending within each = (each r (0, omega arith, refl), ascending.1, ascending.2)
 
 -- the tables of marks have their sizes
 pub has_tables : {F : Type 0} (h : HeapState F) → IsMarked h.segs.grains h.segs.marks h.segs.condemned h.segs.summaries
@@ -98,6 +105,18 @@ module _ {F : Type 0} (layout : F → Layout) (past : Past) (h : HeapState F) (w
         above = above;
         below = omega (arith, below);
       }
+
+  -- and blocks ascend from grain 1 on, as no segment has grain 0
+  pub blocks_in_grains : IsAscending words_of_grain (words_of_arena h.segs.grains) h.segs.blocks
+  blocks_in_grains =
+      ascending_above 0 words_of_grain (words_of_arena h.segs.grains) h.segs.blocks blocks_in_order (omega arith) (λ r there.
+      let x = run_of_object w.graph.objects w.addresses r
+      (subst (λ (rs : List Run). Contains rs r) parts.image.runs.blocks there) in
+      let home = are_housed x.id x.at x.object x.address x.there in
+      let held = are_held in
+      let above = positive_in 1 (h.segs.grains + 1) h.segs.segments home.segment held.ascending home.held in
+      let from = ap (λ (q : Run). q.from) x.is in
+      omega (arith, home.above, above, from))
 
   -- and so does each word of a live reservation
   pub are_reserved : AreReservationsHeld h.segs w.graph.points w.point_memories

@@ -153,6 +153,7 @@ pub resting_points : (grains : ℕ) (s after : PointsState) → IsArena grains s
     → ((key : ℕ) (p : Point) (held : Held) → point_at after key ≡ Some p → p.reservation ≡ Some held → point_at s key ≡ Some p)
     → IsArena grains after
 resting_points grains s after rest was = record {
+  nonzero = rest.nonzero;
   at_most = rest.at_most;
   within = λ key p held there reserved. rest.within key p held (was key p held there reserved) reserved;
   aligned = λ key p held there reserved. rest.aligned key p held (was key p held there reserved) reserved;

@@ -6,13 +6,15 @@ use Rattle.std.specs.Prelude.{◌==◌, option_map, if◌then◌else◌}
 use Rattle.std.specs.List.{list_all, remove}
 use Rattle.std.specs.Option.{option_map_or}
 use Rattle.mps_base.specs.Address.{Address, Id}
+use Rattle.mps_trace.specs.State.{FinalsState}
 use Rattle.mps_trace_laws.specs.Image.Image.{MeansAt}
+use Rattle.mps_trace_laws.specs.Units.Laws.{HasFinalsOf}
 use Rattle.mps_laws.proofs.Sound.SoundGraph.{All}
 use Rattle.mps_model.specs.World.{World, is_live, object_is}
 use Rattle.mps_model.specs.WellFormed.{is_live_automatic}
 use Rattle.mps_model.specs.Graph.{is_automatic, entry_at, position_of_first, with_last, without_first}
 use Rattle.mps_model.specs.Collecting.{without_position}
-use Rattle.mps_refinement.specs.StandsFor.{AreRegistered, address_of_id, addresses_of_first}
+use Rattle.mps_refinement.specs.StandsFor.{AreRegistered, AreRegisteredAt, address_of_id, addresses_of_first, time_at_rest}
 use Rattle.mps_refinement.proofs.Lookups.Found.{mapped_some}
 
 -- ---- which addresses the first of some registrations goes by
@@ -176,3 +178,10 @@ now_alone addresses at_flip [] (id ∷ ids) are = absurd are
 now_alone addresses at_flip (a ∷ ats) [] are = absurd are
 now_alone addresses at_flip (a ∷ ats) (id ∷ ids) are =
     ap₂ (λ (b : Address) bs. b ∷ bs) (sym (ap (λ o. option_map_or (λ at. at) o 0) are.0)) (now_alone addresses at_flip ats ids are.1)
+
+-- once a collection has ended they have the addresses of now
+pub registered_at_the_end : (v : World) (f : FinalsState) → HasFinalsOf f v → list_all (is_live_automatic v) v.graph.registered ≡ true
+    → AreRegisteredAt time_at_rest v.addresses f.registered v.graph.registered
+registered_at_the_end v f finals live =
+    subst (λ ats. AreRegisteredAt time_at_rest v.addresses ats v.graph.registered) (sym finals.registrations)
+    (all_now v.addresses [] (is_live_automatic v) (λ id is. live_at v id is) v.graph.registered live)

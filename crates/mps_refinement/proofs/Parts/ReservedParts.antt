@@ -224,6 +224,7 @@ module _ {F : Type 0} (layout : F → Layout) (past : Past) (h : HeapState F) (w
 
     resting_after : IsArena segs_after.grains (with_point h.points key (Some point_after))
     resting_after = record {
+      nonzero = parts.arena.nonzero;
       at_most = parts.arena.at_most;
       within = λ k x held e reserved.
           elim (own_or_there k x held e reserved) [

@@ -8,13 +8,8 @@ use Rattle.mps_model.specs.World.{World}
 use Rattle.mps_heap_spec.specs.State.{HeapState}
 use Rattle.mps_seg.specs.Segs.{SegsState}
 use Rattle.mps_trace_laws.specs.Image.AtRest.{StandsAtRest}
-use Rattle.mps_refinement.specs.StandsFor.{CollectorState, AreParts, AreRegisteredAt, IsInTime, Past, Rests, StandsAt, Time, address_of_id, rests, runs, time_at_rest}
+use Rattle.mps_refinement.specs.StandsFor.{AreParts, AreRegisteredAt, Past, StandsAt, address_of_id, time_at_rest}
 use Rattle.mps_refinement.proofs.Parts.Registered.{now_alone}
-
--- no call leaves a collection running yet
-pub at_rest : {t : Time} {s : CollectorState} {w : World} → IsInTime t s w → Rests t s w
-at_rest (rests rest) = rest
-at_rest (runs x r may) = absurd may
 
 -- no address lies in a condemned segment
 pub none_over : (s : SegsState) → ((grain : ℕ) → bit s.condemned grain ≡ false) → (o : Option ℕ) → bit_of s.condemned o ≡ false

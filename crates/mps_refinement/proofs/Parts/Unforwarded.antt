@@ -44,7 +44,7 @@ flip_known t s w (rests rest) = record {
   made = let e = ap (λ (u : Time). length u.at_flip) rest.time in omega (Rattle.std.proofs.Common.arith, e);
   still = λ id from to moves was now. absurd (none-some from (sym (ap (λ (u : Time). entry_at u.at_flip id) rest.time) ∙ was));
 }
-flip_known t s w (runs x r may) = r.flip
+flip_known t s w (runs x r) = r.flip
 
 pub still_in : (at_flip : List (Option Address)) (w : World) → AreOfFlip at_flip w → (id : Id) (from to : Address) (o : Object)
     → slice_get w.graph.objects id ≡ Some o → is_copying_pool w o.pool ≡ false → entry_at at_flip id ≡ Some from

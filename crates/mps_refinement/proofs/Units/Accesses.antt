@@ -1,5 +1,6 @@
 -- The read barrier between the calls of a client: what `access` does with a held segment of a heap in which a collection runs is the
--- barrier of the abstract collector, after which the heap stands for the world and the collection runs on as far as it was.
+-- barrier of the abstract collector, after which the heap stands for the world and the collection runs on as far as it was. The trail
+-- keeps its room.
 use Rattle.std.proofs.Common.{◌≡◌, ◌∙◌, ℕ, ◌≤◌, true, false, refl, sym, ap, subst, List, [], ◌++◌, length, Option, Some, Contains, inl, inr, arith}
 use Rattle.std.proofs.lemmas.Bool.{cases_Bool, false≢true}
 use Rattle.std.proofs.lemmas.List.{append-nil}
@@ -35,7 +36,9 @@ use Rattle.mps_trace_laws.proofs.Barrier.Accessed.{a_reclaim_needs_no_barrier, a
 use Rattle.mps_trace_laws.proofs.Image.Laws.{well_formed_is_shaped}
 use Rattle.mps_trace_laws.proofs.Units.Finals.{finals_stay}
 use Rattle.mps_heap_spec.specs.State.{HeapState}
+use Rattle.mps_refinement.specs.RightMoving.{KeepsRoom}
 use Rattle.mps_refinement.specs.StandsFor.{AreParts, AreRegistered, IsReached, Past, Runs, Time, collector_of}
+use Rattle.mps_refinement.proofs.Collect.PushedMoves.{access_pushes, pushed_keeps, told_below}
 use Rattle.mps_refinement.proofs.Units.FromUnits.{collector_after, same_count}
 use Rattle.mps_refinement.proofs.Units.MovedParts.{collected_heap, parts_moved}
 use Rattle.mps_refinement.proofs.Units.Registrations.{registered_so}
@@ -49,6 +52,7 @@ pub record IsAccessed {F : Type 0} (layout : F → Layout) (past : Past) (h : He
   pub after : Collecting
   pub barrier : BarrierDone s x moves after
   pub trail : z.moves.moves ≡ m.moves ++ moves
+  pub room : KeepsRoom m z.moves
   pub time : Time
   pub parts : AreParts layout (record past { time = time }) (collected_heap h (collector_after z r.run) h.finals) after.world
   pub runs : Runs time (collector_after z r.run) after.world after
@@ -109,6 +113,7 @@ module _ {F : Type 0} (layout : F → Layout) (past : Past) (h : HeapState F) (x
           after = x;
           barrier = a_reclaim_needs_no_barrier s x r.invariant (r.reclaiming begun).band;
           trail = sym (append-nil m.moves);
+          room = refl;
           time = past.time;
           parts = subst (λ o. AreParts layout past (record h { running = o }) w) r.running parts;
           runs = subst (λ o. Runs past.time (record { segs = h.segs; tails = h.tails; running = o }) w x) r.running r;
@@ -202,12 +207,20 @@ module _ {F : Type 0} (layout : F → Layout) (past : Past) (h : HeapState F) (x
             };
           }
 
+      room_kept : KeepsRoom m z.moves
+      room_kept =
+          let pushed = access_pushes layout t.formats t.chains s here r.run.band z accessed in
+          let left = b.stands.traces.room in
+          let below = told_below pushed (omega (arith, left)) in
+          pushed_keeps pushed (omega (arith, below))
+
       scanned : IsAccessed layout past h x r m s z
       scanned = record {
         moves = b.moves;
         after = y;
         barrier = b.barrier;
         trail = b.trail;
+        room = room_kept;
         time = time_after;
         parts = parts_after;
         runs = runs_after;

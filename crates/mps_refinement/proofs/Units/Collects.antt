@@ -1,6 +1,7 @@
 -- A `collect` over a running collection: what runs is finished first, and a collection of everything follows. It can be done, it is right,
 -- and its trail keeps its room.
-use Rattle.std.proofs.Common.{◌≡◌, ◌∙◌, ℕ, suc, ◌-◌, ◌*◌, ◌≤◌, refl, sym, ap, subst, List, [], ◌++◌, Option, arith}
+use Rattle.std.proofs.Common.{◌≡◌, ◌∙◌, ℕ, suc, ◌-◌, ◌*◌, ◌≤◌, refl, sym, ap, subst, List, ◌++◌, Option, arith}
+use Rattle.std.proofs.lemmas.List.{append_assoc}
 use Rattle.mps_base.specs.Address.{Address}
 use Rattle.mps_base.specs.Trail.{Moves}
 use Rattle.mps_buffer.specs.Points.{WereMadeBefore}
@@ -22,8 +23,7 @@ use Rattle.mps_trace_laws.specs.Units.Laws.{AreLastTracedUnitsDone}
 use Rattle.mps_trace_laws.proofs.Units.Scanning.{scans_are_done}
 use Rattle.mps_heap_spec.specs.Collecting.{CanCollectAll, IsCollected}
 use Rattle.mps_heap_spec.specs.State.{HeapState}
-use Rattle.mps_refinement.specs.RightMoving.{KeepsRoom}
-use Rattle.mps_refinement.specs.RightStep.{IsRightIn, step_of}
+use Rattle.mps_refinement.specs.RightMoving.{IsRightMovingIn, KeepsRoom}
 use Rattle.mps_refinement.specs.StandsFor.{AreParts, IsReached, Past, Runs, collector_of, time_at_rest}
 use Rattle.mps_refinement.proofs.Collect.CollectRight.{IsRightThere}
 use Rattle.mps_refinement.proofs.Collect.Finished.{HasFinished}
@@ -32,7 +32,6 @@ use Rattle.mps_refinement.proofs.Collect.PushedMoves.{none_pushed}
 use Rattle.mps_refinement.proofs.Collect.RoomKept.{units_keep_room}
 use Rattle.mps_refinement.proofs.Units.Ended as ended
 use Rattle.mps_refinement.proofs.Units.LessRoom.{ends_with_less, traced_with_less, with_less}
-use Rattle.mps_refinement.proofs.Units.Steps.{moves_alone}
 use Rattle.mps_refinement.proofs.Units.ToUnits.{stands_for_units}
 
 module _ {F : Type 0} (layout : F → Layout) (past : Past) (h : HeapState F) (x : Collecting) (parts : AreParts layout past h x.world)
@@ -82,9 +81,7 @@ module _ {F : Type 0} (layout : F → Layout) (past : Past) (h : HeapState F) (x
 
   -- the units to the end keep the room of the trail
   pub finish_keeps_room : KeepsRoom m z.moves
-  finish_keeps_room =
-      units_keep_room layout t at_flip m (traced t h.segs m) z h.finals f r.run x most (scans_are_done layout t.formats t.chains at_flip)
-      (stands_for_units layout past h x parts reach r of marked m room) (none_pushed m) ends
+  finish_keeps_room = ended.keeps_room layout past h x parts reach r of marked m room most z f ends
 
   -- they take no more than a collection may take: they could be done with this room alone
   abbrev more : ℕ
@@ -122,11 +119,13 @@ module _ {F : Type 0} (layout : F → Layout) (past : Past) (h : HeapState F) (x
       there = a_finished_heap_collects layout at_rest z.moves w over.moves v finished marked_then room_then h' m' made collected
 
       -- the moves of both are due of the call, and the heap stands for the world after them
-      pub collecting_is_right : (line : ℕ) → m.moves ≡ [] → IsRightIn layout w (step_of line call.Collect m'.moves ok) h'
-      collecting_is_right line none =
-          let both : m'.moves ≡ over.moves ++ there.moves =
-          there.appended ∙ ap (λ ms. ms ++ there.moves) (moves_alone none over.trail) in
-          subst (λ ms. IsRightIn layout w (step_of line call.Collect ms ok) h') (sym both) (there.right line)
+      pub collecting_is_right : IsRightMovingIn layout w call.Collect m.moves m'.moves ok h'
+      collecting_is_right = record {
+        moves = over.moves ++ there.moves;
+        appended =
+            there.appended ∙ ap (λ ms. ms ++ there.moves) over.trail ∙ append_assoc m.moves over.moves there.moves;
+        right = there.right;
+      }
 
       pub collecting_keeps_room : KeepsRoom m m'
       collecting_keeps_room = there.room ∙ finish_keeps_room

@@ -1,11 +1,10 @@
 -- A running collection that ends within n units: the heap stands for the world at rest.
-use Rattle.std.proofs.Common.{ℕ, suc, ◌≤◌, refl, sym, subst, List, [], Option, None}
+use Rattle.std.proofs.Common.{ℕ, suc, ◌≤◌, refl, List, Option, None}
 use Rattle.mps_base.specs.Address.{Address}
 use Rattle.mps_base.specs.Trail.{Moves}
 use Rattle.mps_format.specs.Layout.{Layout}
 use Rattle.mps_model.specs.Effect.{world_after_moves}
 use Rattle.mps_model.specs.History.{HeldAreLive}
-use Rattle.mps_model.specs.WellFormed.{is_live_automatic}
 use Rattle.mps_model.specs.World.{World}
 use Rattle.mps_seg.specs.Table.{IsMarked}
 use Rattle.mps_trace.specs.Collect.{most_moves}
@@ -24,9 +23,12 @@ use Rattle.mps_trace_laws.specs.Units.Laws.{AreLastTracedUnitsDone}
 use Rattle.mps_trace_laws.proofs.Units.Rows.{the_end_is_done}
 use Rattle.mps_trace_laws.proofs.Units.Scanning.{scans_are_done}
 use Rattle.mps_heap_spec.specs.State.{HeapState}
-use Rattle.mps_refinement.specs.StandsFor.{AreParts, AreRegisteredAt, CollectorState, IsReached, Past, Rests, Runs, collector_of, rests, time_at_rest}
+use Rattle.mps_refinement.specs.StandsFor.{AreParts, CollectorState, IsReached, Past, Rests, Runs, collector_of, rests, time_at_rest}
+use Rattle.mps_refinement.specs.RightMoving.{KeepsRoom}
 use Rattle.mps_refinement.proofs.Collect.CollectedSegments.{none_condemned, none_kept}
-use Rattle.mps_refinement.proofs.Parts.Registered.{all_now, live_at}
+use Rattle.mps_refinement.proofs.Collect.PushedMoves.{none_pushed}
+use Rattle.mps_refinement.proofs.Collect.RoomKept.{units_keep_room}
+use Rattle.mps_refinement.proofs.Parts.Registered.{registered_at_the_end}
 use Rattle.mps_refinement.proofs.Units.MovedParts.{collected_heap, parts_moved}
 use Rattle.mps_refinement.proofs.Units.ToUnits.{stands_for_units}
 use Rattle.mps_refinement.proofs.Worlds.InSteps.{known_after_last_units, live_after_last_units}
@@ -91,12 +93,14 @@ module _ {F : Type 0} (layout : F → Layout) (past : Past) (h : HeapState F) (x
       known_after_last_units time_at_rest (collector_at_rest z) x (suc ends.count) done.moves reach r.invariant done.units
       (rests rests_after)
 
-  registered_after : AreRegisteredAt time_at_rest v.addresses f.registered v.graph.registered
-  registered_after =
-      subst (λ ats. AreRegisteredAt time_at_rest v.addresses ats v.graph.registered) (sym done.finals.registrations)
-      (all_now v.addresses [] (is_live_automatic v) (λ id is. live_at v id is) v.graph.registered knows_after.formed.registered)
-
   pub parts_after : AreParts layout (record past { time = time_at_rest }) heap_after v
   parts_after =
       parts_moved layout past h x parts (reached_well_formed w reach) r.invariant v left.but_collected (ends_stay r.invariant done.units)
-      time_at_rest (collector_at_rest z) f done.segments done.stands registered_after done.finals.waiting
+      time_at_rest (collector_at_rest z) f done.segments done.stands
+      (registered_at_the_end v f done.finals knows_after.formed.registered) done.finals.waiting
+
+  -- and the trail keeps its room
+  pub keeps_room : KeepsRoom m z.moves
+  keeps_room =
+      units_keep_room layout t at_flip m here z h.finals f r.run x most (scans_are_done layout t.formats t.chains at_flip)
+      (stands_for_units layout past h x parts reach r of marked m room) (none_pushed m) ends

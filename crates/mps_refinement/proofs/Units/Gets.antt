@@ -49,14 +49,13 @@ use Rattle.mps_heap_spec.specs.State.{HeapState}
 use Rattle.mps_heap_spec.specs.declared.found.Block.{Block}
 use Rattle.mps_refinement.specs.Answering.{answer_to, says_ok}
 use Rattle.mps_refinement.specs.RightStep.{IsRightIn, step_of}
-use Rattle.mps_refinement.specs.StandsFor.{AreParts, IsReached, MayRunBetweenCalls, Past, Runs, collector_of, runs}
+use Rattle.mps_refinement.specs.StandsFor.{AreParts, IsReached, Past, Runs, collector_of, runs}
 use Rattle.mps_refinement.proofs.Calls.Objects.{IsFoundIn, object_found_in, reference_got_alike, reference_got_same}
 use Rattle.mps_refinement.proofs.Lookups.Found.{again}
 use Rattle.mps_refinement.proofs.Lookups.LiveObjects.{IsObject}
 use Rattle.mps_refinement.proofs.Units.Accesses.{IsAccessed}
 use Rattle.mps_refinement.proofs.Units.FromUnits.{collector_after}
 use Rattle.mps_refinement.proofs.Units.MovedParts.{collected_heap}
-use Rattle.mps_refinement.proofs.Units.Steps.{moves_alone}
 use Rattle.mps_refinement.proofs.Worlds.CellsByMoves.{found_again, references_in, references_kept}
 use Rattle.mps_refinement.proofs.Worlds.InSteps.{known_after_barrier}
 use Rattle.mps_refinement.proofs.Worlds.Known.{IsKnown}
@@ -188,7 +187,7 @@ no_moves = []
 
 module _ {F : Type 0} (layout : F → Layout) (past : Past) (h : HeapState F) (x : Collecting) (parts : AreParts layout past h x.world)
     (knows : IsKnown past.time x.world) (reach : IsReached x.world) (r : Runs past.time (collector_of h) x.world x)
-    (may : MayRunBetweenCalls) (line : ℕ) (target source : Slot) (k : ℕ) where
+    (line : ℕ) (target source : Slot) (k : ℕ) where
   abbrev w : World
   w = x.world
 
@@ -205,7 +204,7 @@ module _ {F : Type 0} (layout : F → Layout) (past : Past) (h : HeapState F) (x
   pub refused_get_is_right : (why : Refusal) → reference_got layout h target source k ≡ Err why
       → IsRightIn layout w (step_of line c [] (refused why)) h
   refused_get_is_right why e =
-      refusal_is_right layout past h w line c why refl reach parts (runs x r may) (record {
+      refusal_is_right layout past h w line c why refl reach parts (runs x r) (record {
         supported = refl;
         legal = tt;
         due = no_barrier (is_running w);
@@ -217,7 +216,15 @@ module _ {F : Type 0} (layout : F → Layout) (past : Past) (h : HeapState F) (x
 
   -- ---- one that reads, after what was done by `access`
 
-  module _ (m : Moves) (none : m.moves ≡ []) (o : Outcome F (Unit {0})) (accepted : reference_got layout h target source k ≡ Ok o)
+  object_of : (b : Block F) → object_in layout h source ≡ Ok b
+      → IsThere (λ (b : Block F) (n : Numbered Object). IsObject layout past h w b n × IsFoundIn w source n) b
+  object_of b found = is_there b (object_found_in layout past h w parts knows source) found
+
+  -- the segment over the object
+  pub its_segment : (b : Block F) → object_in layout h source ≡ Ok b → (s : Segment) × (segment_over h.segs.segments b.at ≡ Some s)
+  its_segment b found = let block = (object_of b found).fit.0.block in (block.segment, block.over)
+
+  module _ (m : Moves) (o : Outcome F (Unit {0})) (accepted : reference_got layout h target source k ≡ Ok o)
       (b : Block F) (found : object_in layout h source ≡ Ok b) (s : Segment) (over : segment_over h.segs.segments b.at ≡ Some s)
       (z : Traced)
       (is : IsAccessed layout past h x r m s z) where
@@ -238,7 +245,7 @@ module _ {F : Type 0} (layout : F → Layout) (past : Past) (h : HeapState F) (x
 
     knows_then : IsKnown is.time y.world
     knows_then =
-        known_after_barrier is.time (collector_after z r.run) s x y is.moves reach r.invariant is.barrier (runs y is.runs may)
+        known_after_barrier is.time (collector_after z r.run) s x y is.moves reach r.invariant is.barrier (runs y is.runs)
 
     same_references : references_in y.world.graph.objects ≡ references_in w.graph.objects
     same_references = ap (λ (u : World). references_in u.graph.objects) (sym did.leads) ∙ references_kept w is.moves
@@ -246,7 +253,7 @@ module _ {F : Type 0} (layout : F → Layout) (past : Past) (h : HeapState F) (x
     -- ---- the object that is read
 
     the_object : IsThere (λ (b : Block F) (n : Numbered Object). IsObject layout past h w b n × IsFoundIn w source n) b
-    the_object = is_there b (object_found_in layout past h w parts knows source) found
+    the_object = object_of b found
 
     abbrev n : Numbered Object
     n = the_object.value
@@ -364,7 +371,7 @@ module _ {F : Type 0} (layout : F → Layout) (past : Past) (h : HeapState F) (x
     same_then = reference_got_same layout heap_then target source k y.world past_then is.parts knows_then black
 
     abbrev IsRightGet : Checked (Unit {0}) → HeapState F → Type 0
-    IsRightGet result after = IsRightIn layout w (step_of line c z.moves.moves (answer_to says_ok result)) after
+    IsRightGet result after = IsRightIn layout w (step_of line c is.moves (answer_to says_ok result)) after
 
     of_both : (result : Checked (Unit {0})) (after : HeapState F) (theirs : Checked (Outcome F (Unit {0})))
         → Same (Leads layout says_ok heap_then past_then y.world) theirs act_then → Comes heap_then theirs result after
@@ -372,8 +379,7 @@ module _ {F : Type 0} (layout : F → Layout) (past : Past) (h : HeapState F) (x
     of_both result after theirs (fits {a = out} leads) comes =
         subst (IsRightGet result) (sym comes.state)
         (subst (λ v. IsRightGet v out.state) (sym comes.answer)
-        (subst (λ ms. IsRightIn layout w (step_of line c ms (Replied reply.Ok)) out.state) (sym (moves_alone none is.trail))
-        (own_step_is_right layout is.time (collector_after z r.run) w y.world y is.runs may line c refl is.moves (Replied reply.Ok)
+        (own_step_is_right layout is.time (collector_after z r.run) w y.world y is.runs line c refl is.moves (Replied reply.Ok)
         out.state
         act_then refl reach own (ap (λ (u : World). u.formats) left.world) leads.has
         (record {
@@ -383,7 +389,7 @@ module _ {F : Type 0} (layout : F → Layout) (past : Past) (h : HeapState F) (x
           ranked = λ ranked. ranks_kept z.segs out.state.segs leads.keeps.1 leads.keeps.2 ranked;
           condemned = λ held t there. ap (λ bits. bit bits (grain_of t.base)) leads.keeps.0 ∙ held t there;
           flip = record { made = is.runs.flip.made; still = is.runs.flip.still };
-        }))))
+        })))
 
     -- the slot has what the cell refers to after the barrier
     pub get_is_right : (result : Checked (Unit {0})) (after : HeapState F)

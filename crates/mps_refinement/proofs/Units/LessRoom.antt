@@ -1,6 +1,6 @@
 -- Units do the same with less room in their trail: they only take room. So units to the end of a collection leave all of the room that is
 -- more than they need.
-use Rattle.std.proofs.Common.{◌≡◌, ◌∙◌, ℕ, ◌+◌, ◌-◌, refl, ap, List, [], ◌∷◌, ◌++◌, Option, Ok, Err, arith}
+use Rattle.std.proofs.Common.{◌≡◌, ◌∙◌, ℕ, ◌-◌, refl, ap, List, [], ◌∷◌, ◌++◌, Option, Ok, Err, arith}
 use Rattle.std.specs.Prelude.{Result}
 use Rattle.mps_base.specs.Address.{address_of_grain}
 use Rattle.mps_base.specs.Placement.{Placement, Place, NewSegment, OverLimit, NoFreeRun}

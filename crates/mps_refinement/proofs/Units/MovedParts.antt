@@ -1,5 +1,5 @@
 -- After moves of a collector the parts of a heap stand for the world after them, where what isn't white stays where it is.
-use Rattle.std.proofs.Common.{◌≡◌, ◌∙◌, ◌+◌, ◌≤◌, true, false, refl, sym, ap, subst, ◌++◌, map}
+use Rattle.std.proofs.Common.{◌≡◌, ◌∙◌, ◌+◌, ◌<◌, ◌≤◌, true, false, refl, sym, ap, subst, ◌++◌, map}
 use Rattle.std.specs.Prelude.{not}
 use Rattle.mps_base.specs.Address.{Id, max_grains, word_of}
 use Rattle.mps_format.specs.Layout.{Layout}
@@ -93,6 +93,7 @@ module _ {F : Type 0} (layout : F → Layout) (past : Past) (h : HeapState F) (x
         ) (
           subst (StandsAt t c.segs) same image,
           record {
+            nonzero = subst (λ n. 0 < n) (sym same_size) parts.arena.nonzero;
             at_most = subst (λ n. n ≤ max_grains) (sym same_size) parts.arena.at_most;
             within = λ key p held e f.
                 subst (λ n. word_of held.at.0 + held.words ≤ words_of_arena n) (sym same_size) (parts.arena.within key p held e f);

@@ -1,5 +1,5 @@
 -- A `park` that finishes a running collection is right: the collection ends, and the arena is parked.
-use Rattle.std.proofs.Common.{◌≡◌, ◌∙◌, ℕ, suc, ◌≤◌, refl, sym, ap, subst, []}
+use Rattle.std.proofs.Common.{◌∙◌, ℕ, suc, ◌≤◌, refl, sym, ap, subst}
 use Rattle.mps_base.specs.Trail.{Moves}
 use Rattle.mps_format.specs.Layout.{Layout}
 use Rattle.mps_model.specs.declared.call.Call.TheVariants as call
@@ -24,12 +24,11 @@ use Rattle.mps_trace_laws.specs.Units.Laws.{AreLastTracedUnitsDone}
 use Rattle.mps_heap_spec.specs.Arena.{with_arena}
 use Rattle.mps_heap_spec.specs.State.{HeapState}
 use Rattle.mps_heap_spec.specs.declared.arena.ArenaState.TheVariants as arena
-use Rattle.mps_refinement.specs.RightStep.{IsRightIn, step_of}
+use Rattle.mps_refinement.specs.RightMoving.{IsRightMovingIn}
 use Rattle.mps_refinement.specs.StandsFor.{AreParts, IsReached, Past, Runs, collector_of, time_at_rest}
 use Rattle.mps_refinement.proofs.Calls.ArenaCalls.{state_has}
 use Rattle.mps_refinement.proofs.Parts.BlockParts.{unpaired}
 use Rattle.mps_refinement.proofs.Units.Ended as ended
-use Rattle.mps_refinement.proofs.Units.Steps.{moves_alone}
 use Rattle.mps_refinement.proofs.Worlds.RestingActs.{resting_sound}
 use Rattle.mps_refinement.proofs.Worlds.Steps.{HasParts, moved_to_rest}
 
@@ -37,7 +36,7 @@ module _ {F : Type 0} (layout : F → Layout) (past : Past) (h : HeapState F) (x
     (reach : IsReached x.world) (r : Runs past.time (collector_of h) x.world x)
     (of : IsTraceOf h.pools (trace_of h.pools h.tails))
     (marked : IsMarked h.segs.grains h.segs.marks h.segs.condemned h.segs.summaries)
-    (m : Moves) (room : most_moves h.segs.grains ≤ m.spare) (none : m.moves ≡ []) (line most : ℕ) (z : Traced) (f : FinalsState)
+    (m : Moves) (room : most_moves h.segs.grains ≤ m.spare) (most : ℕ) (z : Traced) (f : FinalsState)
     (ends : EndsWithin layout (trace_of h.pools h.tails).formats (trace_of h.pools h.tails).chains
     (traced (trace_of h.pools h.tails) h.segs m) h.finals r.run most z f) where
   abbrev w : World
@@ -80,27 +79,31 @@ module _ {F : Type 0} (layout : F → Layout) (past : Past) (h : HeapState F) (x
       (sym (ap pairs_in parts_then.state ∙ unpaired h.arena))
       (state_has layout at_rest v (record past { time = time_at_rest }) parts_then arena.Parked)
 
-  pub parking_is_right : IsRightIn layout w (step_of line call.Park z.moves.moves ok) heap_after
+  pub parking_is_right : IsRightMovingIn layout w call.Park m.moves z.moves.moves ok heap_after
   parking_is_right =
       let left = ended.left layout past h x parts reach r of marked m room most z f ends in
       let rest = ended.rests_after layout past h x parts reach r of marked m room most z f ends in
-      subst (λ ms. IsRightIn layout w (step_of line call.Park ms ok) heap_after) (sym (moves_alone none over.trail))
-      (moved_to_rest layout time_at_rest w line call.Park over.moves ok heap_after (done u) refl
-      (ap (λ (q : World). q.formats) left.but_collected.world) reach
-      (record {
-        legal = last.legal;
-        due = (work_is_due x r.invariant).finish over.units;
-        comes = refl;
-        answers = refl;
-        marked = tt;
-        supported = refl;
-        sound = resting_sound u over.ended live;
-      })
-      has
-      (record {
-        none = rest.none;
-        time = rest.time;
-        not_running = rest.not_running;
-        not_condemned = rest.not_condemned;
-        not_kept = rest.not_kept;
-      }))
+      record {
+        moves = over.moves;
+        appended = over.trail;
+        right = λ line.
+            moved_to_rest layout time_at_rest w line call.Park over.moves ok heap_after (done u) refl
+            (ap (λ (q : World). q.formats) left.but_collected.world) reach
+            (record {
+              legal = last.legal;
+              due = (work_is_due x r.invariant).finish over.units;
+              comes = refl;
+              answers = refl;
+              marked = tt;
+              supported = refl;
+              sound = resting_sound u over.ended live;
+            })
+            has
+            (record {
+              none = rest.none;
+              time = rest.time;
+              not_running = rest.not_running;
+              not_condemned = rest.not_condemned;
+              not_kept = rest.not_kept;
+            });
+      }

@@ -1,9 +1,13 @@
--- A `reserve` that polls a running collection is right, whether the collection goes on after the 64 units of the poll or ends in them.
-use Rattle.std.proofs.Common.{◌≡◌, ◌∙◌, ◌≤◌, suc, true, sym, [], arith}
-use Rattle.std.specs.Prelude.{ℕ}
+-- A `reserve` is right, whatever its poll does: where no collection runs it does nothing, and where one runs it does 64 units, or fewer if
+-- the collection ends in them. It can be done, and keeps the room of its trail.
+use Rattle.std.proofs.Common.{◌≡◌, ◌∙◌, ◌<◌, ◌≤◌, Bool, suc, true, false, refl, sym, ap, subst, List, [], ◌++◌, arith}
+use Rattle.std.proofs.lemmas.List.{append-nil}
+use Rattle.std.specs.Prelude.{ℕ, MatchBool}
 use Rattle.mps_base.specs.Trail.{Moves}
+use Rattle.mps_base.specs.declared.moves.Move.{Move}
 use Rattle.mps_base.specs.declared.names.Name.{Name}
 use Rattle.mps_format.specs.Layout.{Layout}
+use Rattle.mps_model.specs.declared.call.Call.{Call}
 use Rattle.mps_model.specs.declared.call.Call.TheVariants as call
 use Rattle.mps_model.specs.Checked.{Checked}
 use Rattle.mps_model.specs.Policy.{polls, units_of_poll}
@@ -20,44 +24,70 @@ use Rattle.mps_abstract.specs.Collecting.{Collecting}
 use Rattle.mps_trace_laws.specs.Units.Laws.{AreLastTracedUnitsDone, AreTracedUnitsDone}
 use Rattle.mps_heap_spec.specs.Allocating.{after_reserve, check_reserve}
 use Rattle.mps_heap_spec.specs.Coming.{ComesMoving}
-use Rattle.mps_heap_spec.specs.State.{HeapState}
+use Rattle.mps_heap_spec.specs.Polling.{CanPoll, HasReserved, polls_for}
+use Rattle.mps_heap_spec.specs.State.{HeapState, IsReady}
+use Rattle.mps_heap_spec.specs.Units.{HasDoneUnits, IsWhole, ends, goes_on, none_runs, traced_in}
 use Rattle.mps_refinement.specs.Answering.{answer_to, says_ok}
-use Rattle.mps_refinement.specs.RightStep.{IsRightIn, step_of}
-use Rattle.mps_refinement.specs.StandsFor.{AreParts, IsReached, MayRunBetweenCalls, Past, Runs, Time, collector_of, rests, runs, time_at_rest}
-use Rattle.mps_refinement.proofs.Calls.ReserveChecks.{polls_for}
-use Rattle.mps_refinement.proofs.Calls.Reserves.{came_so, polls_alike}
+use Rattle.mps_refinement.specs.RightMoving.{IsRightMovingIn, KeepsRoom}
+use Rattle.mps_refinement.specs.StandsFor.{AreParts, IsInTime, IsReached, Past, Runs, StandsFor, Time, collector_of, rests, runs, time_at_rest}
+use Rattle.mps_refinement.proofs.Calls.Reserves.{no_poll, no_poll_at_rest, polls_alike}
+use Rattle.mps_refinement.proofs.Calls.ReserveStep.{Polls}
 use Rattle.mps_refinement.proofs.Calls.RightReserve.{reserve_runs_on}
+use Rattle.mps_refinement.proofs.Units.Collects.{more_is_left}
 use Rattle.mps_refinement.proofs.Units.Ended as ended
 use Rattle.mps_refinement.proofs.Units.FromUnits.{collector_after}
+use Rattle.mps_refinement.proofs.Units.Outcomes.{can_do_units, units_keep_room}
 use Rattle.mps_refinement.proofs.Units.Polls.{last_units_poll, units_poll}
-use Rattle.mps_refinement.proofs.Units.Steps.{moves_alone}
 use Rattle.mps_refinement.proofs.Units.UnitsDone as going
+use Rattle.mps_refinement.proofs.Worlds.Appending.{outcome_appended, reserve_appends}
 use Rattle.mps_refinement.proofs.Worlds.InSteps.{known_after_asked_units}
-use Rattle.mps_refinement.proofs.Worlds.Known.{IsKnown, known}
-use Rattle.mps_refinement.proofs.Worlds.Ready.{laid_out}
+use Rattle.mps_refinement.proofs.Worlds.Known.{IsKnown, known, known_now}
+use Rattle.mps_refinement.proofs.Worlds.Ready.{heap_is_ready, laid_out, ready}
+use Rattle.mps_refinement.proofs.Worlds.Room.{keeps_room, reserve_keeps_room}
+use Rattle.mps_refinement.proofs.Worlds.RunningNow.{resting_now, running_now}
+
+-- ---- after the moves of a poll
+
+module _ {F : Type 0} (layout : F → Layout) (w : World) (reach : IsReached w) (name : Name) (head : ℕ) (before : List Move) where
+  abbrev the_call : Call
+  the_call = call.Reserve name head
+
+  -- what comes of a `reserve` of a heap after the poll, over a trail that had these moves, is right
+  abbrev pub IsRightAfterPoll : HeapState F → Moves → Type 0
+  IsRightAfterPoll polled trail =
+      (result : Checked (Unit {0})) (after : HeapState F) (trail_after : Moves)
+      → ComesMoving polled trail (after_reserve layout polled trail name head) result after trail_after
+      → IsRightMovingIn layout w the_call before trail_after.moves (answer_to says_ok result) after
+
+  judged_is_right : (past : Past) (polled : HeapState F) (trail : Moves) (poll : List Move) (v : World) → Polls w name head poll v
+      → AreParts layout past polled v → IsKnown past.time v → IsInTime past.time (collector_of polled) v → trail.moves ≡ before ++ poll
+      → IsRightAfterPoll polled trail
+  judged_is_right past polled trail poll v polls_so parts knows time trail_is =
+      let own : Moves = record { moves = poll; spare = trail.spare } in
+      let is : trail ≡ record { moves = before ++ poll; spare = trail.spare } =
+      ap (λ ms. let t : Moves = record { moves = ms; spare = trail.spare } in t) trail_is
+      in
+      outcome_appended layout polled w the_call before says_ok own trail (after_reserve layout polled trail name head)
+      (after_reserve layout polled own name head) is (reserve_appends layout polled name head before trail own is)
+      (λ line. reserve_runs_on layout past polled w (laid_out w reach) reach name head poll v polls_so parts knows time own refl line)
+
+-- ---- while a collection runs
 
 module _ {F : Type 0} (layout : F → Layout) (past : Past) (h : HeapState F) (x : Collecting) (parts : AreParts layout past h x.world)
-    (reach : IsReached x.world) (r : Runs past.time (collector_of h) x.world x) (may : MayRunBetweenCalls)
+    (reach : IsReached x.world) (r : Runs past.time (collector_of h) x.world x)
     (of : IsTraceOf h.pools (trace_of h.pools h.tails))
     (marked : IsMarked h.segs.grains h.segs.marks h.segs.condemned h.segs.summaries)
-    (m : Moves) (room : most_moves h.segs.grains ≤ m.spare) (none : m.moves ≡ []) (line : ℕ) (name : Name) (head : ℕ)
-    (polling : polls_for layout h (check_reserve layout h name head) ≡ true) where
+    (m : Moves) (room : most_moves h.segs.grains ≤ m.spare) where
   abbrev w : World
   w = x.world
 
   abbrev here : Traced
   here = traced (trace_of h.pools h.tails) h.segs m
 
-  polls_there : polls w (call.Reserve name head) ≡ true
-  polls_there =
-      sym (polls_alike layout past h w parts (known past.time (collector_of h) w reach (runs x r may)) name head) ∙ polling
-
-  -- what came of a `reserve` of the heap after the poll is right
-  abbrev pub IsRightAfterPoll : HeapState F → Moves → Type 0
-  IsRightAfterPoll heap trail =
-      (result : Checked (Unit {0})) (after : HeapState F) (trail_after : Moves)
-      → ComesMoving heap trail (after_reserve layout heap trail name head) result after trail_after
-      → IsRightIn layout w (step_of line (call.Reserve name head) trail_after.moves (answer_to says_ok result)) after
+  -- the model polls if the heap does
+  polls_there : (name : Name) (head : ℕ) → polls_for h (check_reserve layout h name head) ≡ true → polls w (call.Reserve name head) ≡ true
+  polls_there name head polling =
+      sym (polls_alike layout past h w parts (known past.time (collector_of h) w reach (runs x r)) name head) ∙ polling
 
   -- ---- it goes on
 
@@ -77,39 +107,174 @@ module _ {F : Type 0} (layout : F → Layout) (past : Past) (h : HeapState F) (x
     abbrev heap_after : HeapState F
     heap_after = going.heap_after layout past h x parts reach r of marked m room units_of_poll z f run units
 
+    parts_after : AreParts layout (record past { time = time_after }) heap_after later.world
+    parts_after = going.parts_later layout past h x parts reach r of marked m room units_of_poll z f run units
+
+    in_time : IsInTime time_after (collector_of heap_after) later.world
+    in_time = runs later (going.runs_later layout past h x parts reach r of marked m room units_of_poll z f run units)
+
     knows : IsKnown time_after later.world
     knows =
         known_after_asked_units x done.after units_of_poll done.moves reach r.invariant done.units time_after (collector_after z run)
-        (runs later (going.runs_later layout past h x parts reach r of marked m room units_of_poll z f run units) may)
+        in_time
 
-    pub polled_is_right : IsRightAfterPoll heap_after z.moves
-    polled_is_right result after trail_after comes =
-        came_so layout heap_after z.moves w line name head result after trail_after comes
-        (reserve_runs_on layout (record past { time = time_after }) heap_after w (laid_out w reach) reach name head done.moves later.world
-        (units_poll x r.invariant name head polls_there done.after done.moves done.units)
-        (going.parts_later layout past h x parts reach r of marked m room units_of_poll z f run units) knows
-        (runs later (going.runs_later layout past h x parts reach r of marked m room units_of_poll z f run units) may) z.moves
-        (moves_alone none done.trail) line)
+    pub ready_after : IsReady heap_after
+    ready_after = heap_is_ready layout (record past { time = time_after }) heap_after later.world parts_after knows.laid
+
+    pub polled_is_right : (name : Name) (head : ℕ) → polls_for h (check_reserve layout h name head) ≡ true
+        → IsRightAfterPoll layout w reach name head m.moves heap_after z.moves
+    polled_is_right name head polling =
+        judged_is_right layout w reach name head m.moves (record past { time = time_after }) heap_after z.moves done.moves later.world
+        (units_poll x r.invariant name head (polls_there name head polling) done.after done.moves done.units) parts_after knows in_time
+        done.trail
 
   -- ---- it ends
 
   module _ (z : Traced) (f : FinalsState)
-      (ends : EndsWithin layout (trace_of h.pools h.tails).formats (trace_of h.pools h.tails).chains
+      (over : EndsWithin layout (trace_of h.pools h.tails).formats (trace_of h.pools h.tails).chains
       (traced (trace_of h.pools h.tails) h.segs m) h.finals r.run units_of_poll z f) where
-    abbrev over : AreLastTracedUnitsDone here x (suc ends.count) z f
-    over = ended.done layout past h x parts reach r of marked m room units_of_poll z f ends
+    abbrev last : AreLastTracedUnitsDone here x (suc over.count) z f
+    last = ended.done layout past h x parts reach r of marked m room units_of_poll z f over
+
+    abbrev v : World
+    v = ended.v layout past h x parts reach r of marked m room units_of_poll z f over
 
     abbrev heap_at_rest : HeapState F
-    heap_at_rest = ended.heap_after layout past h x parts reach r of marked m room units_of_poll z f ends
+    heap_at_rest = ended.heap_after layout past h x parts reach r of marked m room units_of_poll z f over
 
-    pub last_polled_is_right : IsRightAfterPoll heap_at_rest z.moves
-    last_polled_is_right result after trail_after comes =
-        came_so layout heap_at_rest z.moves w line name head result after trail_after comes
-        (reserve_runs_on layout (record past { time = time_at_rest }) heap_at_rest w (laid_out w reach) reach name head over.moves
-        (ended.v layout past h x parts reach r of marked m room units_of_poll z f ends)
-        (last_units_poll x r.invariant name head polls_there (suc ends.count) over.moves over.units
-        (let within = ends.within in omega (arith, within)))
-        (ended.parts_after layout past h x parts reach r of marked m room units_of_poll z f ends)
-        (ended.knows_after layout past h x parts reach r of marked m room units_of_poll z f ends)
-        (rests (ended.rests_after layout past h x parts reach r of marked m room units_of_poll z f ends)) z.moves
-        (moves_alone none over.trail) line)
+    parts_at_rest : AreParts layout (record past { time = time_at_rest }) heap_at_rest v
+    parts_at_rest = ended.parts_after layout past h x parts reach r of marked m room units_of_poll z f over
+
+    knows_at_rest : IsKnown time_at_rest v
+    knows_at_rest = ended.knows_after layout past h x parts reach r of marked m room units_of_poll z f over
+
+    pub ready_at_rest : IsReady heap_at_rest
+    ready_at_rest = heap_is_ready layout (record past { time = time_at_rest }) heap_at_rest v parts_at_rest knows_at_rest.laid
+
+    pub last_polled_is_right : (name : Name) (head : ℕ) → polls_for h (check_reserve layout h name head) ≡ true
+        → IsRightAfterPoll layout w reach name head m.moves heap_at_rest z.moves
+    last_polled_is_right name head polling =
+        judged_is_right layout w reach name head m.moves (record past { time = time_at_rest }) heap_at_rest z.moves last.moves v
+        (last_units_poll x r.invariant name head (polls_there name head polling) (suc over.count) last.moves last.units
+        (let within = over.within in omega (arith, within))) parts_at_rest knows_at_rest
+        (rests (ended.rests_after layout past h x parts reach r of marked m room units_of_poll z f over)) last.trail
+
+-- ---- at any time
+
+module _ {F : Type 0} (layout : F → Layout) (h : HeapState F) (whole : IsWhole h) (m : Moves)
+    (room : most_moves h.segs.grains < m.spare) (w : World) (st : StandsFor layout h w) where
+  enough : most_moves h.segs.grains ≤ m.spare
+  enough = omega (arith, room)
+
+  -- the points are ready after a poll
+  ready_then : (h' : HeapState F) (m' : Moves) → HasDoneUnits layout h m units_of_poll h' m' → IsReady h'
+  ready_then h' m' (none_runs none is trail) = subst IsReady (sym is) (ready layout h w st)
+  ready_then h' m' (goes_on run next is units state) =
+      let g = running_now layout h w st run is in
+      subst IsReady (sym state)
+      (ready_after layout g.past h g.collecting g.parts g.reached g.runs whole.tails whole.marked m enough (traced_in h' m') h'.finals
+      next
+      (subst (λ q. UnitsTo layout (trace_of h.pools h.tails).formats (trace_of h.pools h.tails).chains (traced_in h m) h.finals q
+      units_of_poll (traced_in h' m') h'.finals next) (sym g.same) units))
+  ready_then h' m' (ends run is over state) =
+      let g = running_now layout h w st run is in
+      subst IsReady (sym state)
+      (ready_at_rest layout g.past h g.collecting g.parts g.reached g.runs whole.tails whole.marked m enough (traced_in h' m')
+      h'.finals
+      (subst (λ q. EndsWithin layout (trace_of h.pools h.tails).formats (trace_of h.pools h.tails).chains (traced_in h m) h.finals q
+      units_of_poll (traced_in h' m') h'.finals) (sym g.same) over))
+
+  -- and there is room for a move
+  room_then : (h' : HeapState F) (m' : Moves) → HasDoneUnits layout h m units_of_poll h' m' → 0 < m'.spare
+  room_then h' m' (none_runs none is trail) = let same = ap (λ (u : Moves). u.spare) trail in omega (arith, same, room)
+  room_then h' m' (goes_on run next is units state) =
+      let g = running_now layout h w st run is in
+      going.room_left layout g.past h g.collecting g.parts g.reached g.runs whole.tails whole.marked m enough units_of_poll
+      (traced_in h' m') h'.finals next
+      (subst (λ q. UnitsTo layout (trace_of h.pools h.tails).formats (trace_of h.pools h.tails).chains (traced_in h m) h.finals q
+      units_of_poll (traced_in h' m') h'.finals next) (sym g.same) units)
+  room_then h' m' (ends run is over state) =
+      let g = running_now layout h w st run is in
+      let more =
+      more_is_left layout g.past h g.collecting g.parts g.reached g.runs whole.tails whole.marked m enough units_of_poll (traced_in h' m')
+      h'.finals
+      (subst (λ q. EndsWithin layout (trace_of h.pools h.tails).formats (trace_of h.pools h.tails).chains (traced_in h m) h.finals q
+      units_of_poll (traced_in h' m') h'.finals) (sym g.same) over)
+      in
+      omega (arith, more, room)
+
+  pub can_poll : CanPoll layout h m
+  can_poll = record { units = can_do_units layout h whole m enough w st units_of_poll; ready = ready_then; room = room_then }
+
+  module _ (name : Name) (head : ℕ) where
+    -- where the poll does nothing
+    unpolled_is_right : Polls w name head [] w → IsRightAfterPoll layout w st.reached name head m.moves h m
+    unpolled_is_right none =
+        judged_is_right layout w st.reached name head m.moves st.past h m [] w none st.parts (known_now st) st.time
+        (sym (append-nil m.moves))
+
+    after_the_poll : (polled : HeapState F) (trail : Moves) → polls_for h (check_reserve layout h name head) ≡ true
+        → HasDoneUnits layout h m units_of_poll polled trail → IsRightAfterPoll layout w st.reached name head m.moves polled trail
+    after_the_poll polled trail polling (none_runs none is same) =
+        let right =
+        unpolled_is_right (no_poll_at_rest w name head (resting_now layout h w st none).none st.parts.chains)
+        in
+        subst (λ s. IsRightAfterPoll layout w st.reached name head m.moves s trail) (sym is)
+        (subst (λ u. IsRightAfterPoll layout w st.reached name head m.moves h u) (sym same) right)
+    after_the_poll polled trail polling (goes_on run next is units state) =
+        let g = running_now layout h w st run is in
+        let right =
+        polled_is_right layout g.past h g.collecting g.parts g.reached g.runs whole.tails whole.marked m enough
+        (traced_in polled trail) polled.finals next
+        (subst (λ q. UnitsTo layout (trace_of h.pools h.tails).formats (trace_of h.pools h.tails).chains (traced_in h m) h.finals q
+        units_of_poll (traced_in polled trail) polled.finals next) (sym g.same) units) name head polling
+        in
+        λ result after trail_after comes.
+        subst (λ v. IsRightMovingIn layout v (call.Reserve name head) m.moves trail_after.moves (answer_to says_ok result) after) g.world
+        (right result after trail_after
+        (subst (λ s. ComesMoving s trail (after_reserve layout s trail name head) result after trail_after) state comes))
+    after_the_poll polled trail polling (ends run is over state) =
+        let g = running_now layout h w st run is in
+        let right =
+        last_polled_is_right layout g.past h g.collecting g.parts g.reached g.runs whole.tails whole.marked m enough
+        (traced_in polled trail) polled.finals
+        (subst (λ q. EndsWithin layout (trace_of h.pools h.tails).formats (trace_of h.pools h.tails).chains (traced_in h m) h.finals q
+        units_of_poll (traced_in polled trail) polled.finals) (sym g.same) over) name head polling
+        in
+        λ result after trail_after comes.
+        subst (λ v. IsRightMovingIn layout v (call.Reserve name head) m.moves trail_after.moves (answer_to says_ok result) after) g.world
+        (right result after trail_after
+        (subst (λ s. ComesMoving s trail (after_reserve layout s trail name head) result after trail_after) state comes))
+
+    module _ (result : Checked (Unit {0})) (after : HeapState F) (trail_after : Moves)
+        (reserved : HasReserved layout h m name head result after trail_after) where
+      -- whether it polls or not
+      of_polling : (b : Bool) → polls_for h (check_reserve layout h name head) ≡ b
+          → MatchBool b (HasDoneUnits layout h m units_of_poll reserved.polled reserved.trail_polled)
+          ((reserved.polled ≡ h) × (reserved.trail_polled ≡ m))
+          → IsRightMovingIn layout w (call.Reserve name head) m.moves trail_after.moves (answer_to says_ok result) after
+          × KeepsRoom m trail_after
+      of_polling true is units = (
+        after_the_poll reserved.polled reserved.trail_polled is units result after trail_after reserved.comes,
+        keeps_room reserved.trail_polled reserved.polled (after_reserve layout reserved.polled reserved.trail_polled name head) result after
+            trail_after reserved.comes
+            (reserve_keeps_room layout reserved.polled reserved.trail_polled name head (room_then reserved.polled reserved.trail_polled
+            units)) ∙ units_keep_room layout h whole m enough w st units_of_poll reserved.polled reserved.trail_polled units,
+      )
+      of_polling false is still =
+          let comes =
+          subst (λ u. ComesMoving h u (after_reserve layout h u name head) result after trail_after) still.1
+          (subst (λ s. ComesMoving s reserved.trail_polled (after_reserve layout s reserved.trail_polled name head) result after
+          trail_after) still.0 reserved.comes)
+          in (
+            unpolled_is_right (no_poll w name head
+                (sym (polls_alike layout st.past h w st.parts (known_now st) name head) ∙ is)) result after trail_after comes,
+            keeps_room m h (after_reserve layout h m name head) result after trail_after comes
+                (reserve_keeps_room layout h m name head (omega (arith, room))),
+          )
+
+      -- so it is right, and the trail keeps its room
+      pub a_reserve_is_right :
+          IsRightMovingIn layout w (call.Reserve name head) m.moves trail_after.moves (answer_to says_ok result) after
+          × KeepsRoom m trail_after
+      a_reserve_is_right = of_polling (polls_for h (check_reserve layout h name head)) refl reserved.poll

@@ -1,5 +1,5 @@
 -- A `step` of n units is right, whether the running collection goes on after them or ends in them, and so is one that does nothing.
-use Rattle.std.proofs.Common.{◌≡◌, ◌∙◌, ℕ, suc, ◌+◌, ◌≤◌, Bool, true, false, refl, sym, ap, subst, List, [], ◌++◌, Option, Some, None, Ok, is_some, arith}
+use Rattle.std.proofs.Common.{◌≡◌, ◌∙◌, ℕ, suc, ◌+◌, ◌≤◌, Bool, true, false, refl, sym, ap, subst, List, [], Option, Some, None, Ok, is_some, arith}
 use Rattle.std.proofs.lemmas.Bool.{true≢false}
 use Rattle.std.specs.Prelude.{MatchBool, ◌&&◌, if◌then◌else◌}
 use Rattle.mps_base.specs.Trail.{Moves}
@@ -31,8 +31,9 @@ use Rattle.mps_abstract.specs.Laws.{AreLastUnitsDone, AreUnitsDone}
 use Rattle.mps_abstract.proofs.Due.{work_is_due}
 use Rattle.mps_trace_laws.specs.Units.Laws.{AreLastTracedUnitsDone, AreTracedUnitsDone}
 use Rattle.mps_heap_spec.specs.State.{HeapState}
+use Rattle.mps_refinement.specs.RightMoving.{IsRightMovingIn}
 use Rattle.mps_refinement.specs.RightStep.{IsRightIn, step_of}
-use Rattle.mps_refinement.specs.StandsFor.{AreParts, IsInTime, IsReached, MayRunBetweenCalls, Past, Runs, collector_of, rests, runs, time_at_rest}
+use Rattle.mps_refinement.specs.StandsFor.{AreParts, IsInTime, IsReached, Past, Runs, collector_of, rests, runs, time_at_rest}
 use Rattle.mps_refinement.proofs.Units.Ended as ended
 use Rattle.mps_refinement.proofs.Units.UnitsDone as going
 use Rattle.mps_refinement.proofs.Units.FromUnits.{collector_after}
@@ -43,16 +44,12 @@ use Rattle.mps_refinement.proofs.Worlds.RunningSteps.{IsOwnStep, placed_from_lay
 use Rattle.mps_refinement.proofs.Worlds.Steps.{keeps_still, moved_to_rest, own_step_is_right, run_kept, runs_on_is_right}
 use Rattle.mps_refinement.proofs.Worlds.Reached.{reached_live, reached_sound}
 
--- the trail has the moves of units alone if it was empty before them
-pub moves_alone : {before after ms : List Move} → before ≡ [] → after ≡ before ++ ms → after ≡ ms
-moves_alone {ms = ms} none trail = trail ∙ ap (λ (xs : List Move). xs ++ ms) none
-
 module _ {F : Type 0} (layout : F → Layout) (past : Past) (h : HeapState F) (x : Collecting) (parts : AreParts layout past h x.world)
     (reach : IsReached x.world) (r : Runs past.time (collector_of h) x.world x)
     (of : IsTraceOf h.pools (trace_of h.pools h.tails))
     (marked : IsMarked h.segs.grains h.segs.marks h.segs.condemned h.segs.summaries)
-    (m : Moves) (room : most_moves h.segs.grains ≤ m.spare) (none : m.moves ≡ []) (unclamped : is_unclamped x.world ≡ true)
-    (line n : ℕ) where
+    (m : Moves) (room : most_moves h.segs.grains ≤ m.spare) (unclamped : is_unclamped x.world ≡ true)
+    (n : ℕ) where
   abbrev w : World
   w = x.world
 
@@ -61,7 +58,7 @@ module _ {F : Type 0} (layout : F → Layout) (past : Past) (h : HeapState F) (x
 
   -- ---- it goes on after n units
 
-  module _ (may : MayRunBetweenCalls) (z : Traced) (f : FinalsState) (run : RunningState)
+  module _ (z : Traced) (f : FinalsState) (run : RunningState)
       (units : UnitsTo layout (trace_of h.pools h.tails).formats (trace_of h.pools h.tails).chains
       (traced (trace_of h.pools h.tails) h.segs m) h.finals r.run n z f run) where
     abbrev done : AreTracedUnitsDone layout (trace_of h.pools h.tails).formats (trace_of h.pools h.tails).chains past.time.at_flip here x n
@@ -86,7 +83,7 @@ module _ {F : Type 0} (layout : F → Layout) (past : Past) (h : HeapState F) (x
     knows =
         known_after_asked_units x done.after n done.moves reach r.invariant done.units
         (going.time_after layout past h x parts reach r of marked m room n z f run units) (collector_after z run)
-        (runs later (going.runs_later layout past h x parts reach r of marked m room n z f run units) may)
+        (runs later (going.runs_later layout past h x parts reach r of marked m room n z f run units))
 
     abbrev more : Answer
     more = Replied reply.More
@@ -118,28 +115,31 @@ module _ {F : Type 0} (layout : F → Layout) (past : Past) (h : HeapState F) (x
           blocks_after = knows.live.blocks;
         }
 
-    pub step_is_right : IsRightIn layout w (step_of line (call.Step n) z.moves.moves more) heap_after
+    pub step_is_right : IsRightMovingIn layout w (call.Step n) m.moves z.moves.moves more heap_after
     step_is_right =
         let left = going.left layout past h x parts reach r of marked m room n z f run units in
         let on = going.runs_later layout past h x parts reach r of marked m room n z f run units in
-        subst (λ ms. IsRightIn layout w (step_of line (call.Step n) ms more) heap_after) (sym (moves_alone none done.trail))
-        (own_step_is_right layout (going.time_after layout past h x parts reach r of marked m room n z f run units) (collector_after z run)
-        w
-        later.world later on may line (call.Step n) refl done.moves more heap_after result refl reach own
-        (ap (λ (u : World). u.formats) left.world)
-        (record {
-          past = record past { time = going.time_after layout past h x parts reach r of marked m room n z f run units };
-          timed = refl;
-          parts = going.parts_later layout past h x parts reach r of marked m room n z f run units;
-        })
-        (record {
-          running = refl;
-          tails = λ pool generation. refl;
-          world_tails = λ pool generation. refl;
-          ranked = λ ranked. ranked;
-          condemned = λ condemned. condemned;
-          flip = on.flip;
-        }))
+        record {
+          moves = done.moves;
+          appended = done.trail;
+          right = λ line.
+              own_step_is_right layout (going.time_after layout past h x parts reach r of marked m room n z f run units)
+              (collector_after z run) w later.world later on line (call.Step n) refl done.moves more heap_after result refl reach own
+              (ap (λ (u : World). u.formats) left.world)
+              (record {
+                past = record past { time = going.time_after layout past h x parts reach r of marked m room n z f run units };
+                timed = refl;
+                parts = going.parts_later layout past h x parts reach r of marked m room n z f run units;
+              })
+              (record {
+                running = refl;
+                tails = λ pool generation. refl;
+                world_tails = λ pool generation. refl;
+                ranked = λ ranked. ranked;
+                condemned = λ condemned. condemned;
+                flip = on.flip;
+              });
+        }
 
   -- ---- it ends in them
 
@@ -164,26 +164,29 @@ module _ {F : Type 0} (layout : F → Layout) (past : Past) (h : HeapState F) (x
         ∙ with_collection-none v (λ (c : Collection). record c { spent = c.spent + n }) over.ended)
         ∙ ap (λ (o : Option Collection). says (if is_some o then reply.More else reply.Idle) v) over.ended
 
-    pub last_step_is_right : IsRightIn layout w (step_of line (call.Step n) z.moves.moves idle)
+    pub last_step_is_right : IsRightMovingIn layout w (call.Step n) m.moves z.moves.moves idle
         (ended.heap_after layout past h x parts reach r of marked m room n z f ends)
     last_step_is_right =
         let left = ended.left layout past h x parts reach r of marked m room n z f ends in
-        subst (λ ms. IsRightIn layout w (step_of line (call.Step n) ms idle)
-        (ended.heap_after layout past h x parts reach r of marked m room n z f ends)) (sym (moves_alone none over.trail))
-        (moved_to_rest layout time_at_rest w line (call.Step n)
-        over.moves idle (ended.heap_after layout past h x parts reach r of marked m room n z f ends)
-        (Ok (record { answer = idle; world = v })) refl (ap (λ (u : World). u.formats) left.but_collected.world) reach
-        (record {
-          legal = last.legal;
-          due = (work_is_due x r.invariant).last_step unclamped over.units (let within = ends.within in omega (arith, within));
-          comes = comes_to_rest;
-          answers = refl;
-          marked = tt;
-          supported = refl;
-          sound = resting_sound v over.ended (ended.live layout past h x parts reach r of marked m room n z f ends);
-        })
-        (record { past = _; timed = refl; parts = ended.parts_after layout past h x parts reach r of marked m room n z f ends })
-        (ended.rests_after layout past h x parts reach r of marked m room n z f ends))
+        record {
+          moves = over.moves;
+          appended = over.trail;
+          right = λ line.
+              moved_to_rest layout time_at_rest w line (call.Step n) over.moves idle
+              (ended.heap_after layout past h x parts reach r of marked m room n z f ends)
+              (Ok (record { answer = idle; world = v })) refl (ap (λ (u : World). u.formats) left.but_collected.world) reach
+              (record {
+                legal = last.legal;
+                due = (work_is_due x r.invariant).last_step unclamped over.units (let within = ends.within in omega (arith, within));
+                comes = comes_to_rest;
+                answers = refl;
+                marked = tt;
+                supported = refl;
+                sound = resting_sound v over.ended (ended.live layout past h x parts reach r of marked m room n z f ends);
+              })
+              (record { past = _; timed = refl; parts = ended.parts_after layout past h x parts reach r of marked m room n z f ends })
+              (ended.rests_after layout past h x parts reach r of marked m room n z f ends);
+        }
 
 -- ---- a step that does nothing: no collection runs, or the arena isn't unclamped
 
@@ -237,8 +240,8 @@ module _ {F : Type 0} (layout : F → Layout) (past : Past) (h : HeapState F) (w
         sound = reached_sound w reach rest.none;
       })
       (record { past = past; timed = refl; parts = parts }) rest
-  idle_step_is_right (runs y q may) =
-      runs_on_is_right layout past.time (collector_of h) w w y q may line the_call refl [] answer h
+  idle_step_is_right (runs y q) =
+      runs_on_is_right layout past.time (collector_of h) w w y q line the_call refl [] answer h
       (Ok (record { answer = answer; world = w })) refl reach
       (still_step_runs_on w y line the_call [] answer (Ok (record { answer = answer; world = w })) q.invariant (record {
         supported = supported;

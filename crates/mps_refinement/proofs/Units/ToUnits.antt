@@ -121,7 +121,7 @@ module _ {F : Type 0} (layout : F → Layout) (past : Past) (h : HeapState F) (x
   enough : moves_left x + 2 ≤ m.spare
   enough =
       let bounded = moves_are_bounded x r.invariant in
-      let few = moves_are_few layout past h w parts formed laid (blocks_in_order layout past h w parts laid) in
+      let few = moves_are_few layout past h w parts formed laid (blocks_in_order layout past h w parts laid) (reached_graph w reach) in
       omega (arith, bounded, few, room)
 
   -- ---- the image

@@ -1,6 +1,6 @@
 -- N units of a running collection, after which it goes on: what they are to the abstract collector, and that the heap stands for the world
 -- after them, also once a call has asked for them.
-use Rattle.std.proofs.Common.{ℕ, ◌≤◌, refl, List, Option}
+use Rattle.std.proofs.Common.{ℕ, ◌<◌, ◌≤◌, refl, List, Option, arith}
 use Rattle.mps_base.specs.Address.{Address}
 use Rattle.mps_base.specs.Trail.{Moves}
 use Rattle.mps_format.specs.Layout.{Layout}
@@ -25,7 +25,10 @@ use Rattle.mps_trace_laws.specs.Units.Laws.{AreTracedUnitsDone}
 use Rattle.mps_trace_laws.proofs.Units.Rows.{units_are_done}
 use Rattle.mps_trace_laws.proofs.Units.Scanning.{scans_are_done}
 use Rattle.mps_heap_spec.specs.State.{HeapState}
+use Rattle.mps_refinement.specs.RightMoving.{KeepsRoom}
 use Rattle.mps_refinement.specs.StandsFor.{AreParts, IsReached, Past, Runs, Time, collector_of}
+use Rattle.mps_refinement.proofs.Collect.PushedMoves.{pushed_keeps, told_below, units_push}
+use Rattle.mps_refinement.proofs.Collect.RoomKept.{has_room}
 use Rattle.mps_refinement.proofs.Parts.PartsByKind.{parts_of_kinds, arena_of, finals_of, image_of, points_of, pools_of, roots_of, states_of}
 use Rattle.mps_refinement.proofs.Units.FromUnits.{collector_after, parts_then, runs_then, time_then}
 use Rattle.mps_refinement.proofs.Units.MovedParts.{collected_heap}
@@ -82,6 +85,17 @@ module _ {F : Type 0} (layout : F → Layout) (past : Past) (h : HeapState F) (x
   runs_after =
       runs_then layout past h x parts (reached_well_formed w reach) r.invariant r.flip t.formats t.chains done.after done.moves shown.leads
       left stays z f run done.stands
+
+  -- a move is still left in the trail
+  pub room_left : 0 < z.moves.spare
+  room_left = has_room layout t at_flip z f run done.after done.stands
+
+  -- the trail keeps its room, since there is some left
+  pub keeps_room : KeepsRoom m z.moves
+  keeps_room =
+      let pushed = units_push layout t.formats t.chains here h.finals r.run n z f run units in
+      let below = told_below pushed room_left in
+      pushed_keeps pushed (omega (arith, below))
 
   -- ---- once a call has asked for them
 

@@ -261,13 +261,7 @@ module _ (x y : Collecting) (count : ℕ) (ms : List Move) (reach : IsReached x.
   live_then : HeldAreLive (world_after_moves x.world ms)
   live_then = subst HeldAreLive (sym leads) (live_while_running y (units_done x y count ms run units).running blocks_after_units)
 
-  pub known_after_units : (now : Time) (s : CollectorState) → IsInTime now s y.world → IsKnown now y.world
-  known_after_units now s time =
-      subst (IsKnown now) leads
-      (known_then x run reach ms (units_done x y count ms run units).legal left_then stays_then live_then now s
-      (subst (IsInTime now s) (sym leads) time))
-
-  -- which a call asks for
+  -- units that a call asks for
   pub known_after_asked_units : (now : Time) (s : CollectorState) → IsInTime now s (asked y count).world → IsKnown now (asked y count).world
   known_after_asked_units now s time =
       subst (λ u. IsKnown now (asking (Some count) u)) leads

@@ -58,7 +58,7 @@ pub record IsKnown (t : Time) (w : World) : Type 0 where
 held_kept : (t : Time) (s : CollectorState) (w : World) → IsInTime t s w → (id : Id) → contains (ids_of_client w.graph) id ≡ true
     → is_white t.condemned t.colours id ≡ false
 held_kept t s w (rests rest) id h = ap (λ (u : Time). is_white u.condemned u.colours id) rest.time
-held_kept t s w (runs x r may) id h =
+held_kept t s w (runs x r) id h =
     ap (λ cs. is_white cs t.colours id) r.condemned_ids ∙ ap (λ k. is_white x.running.condemned k id) r.colours
     ∙ r.invariant.coloured.held id (ap (λ (v : World). contains (ids_of_client v.graph) id) r.world ∙ h)
 
@@ -74,8 +74,8 @@ read_where_kept t s w x r id kept =
 held_read : (t : Time) (s : CollectorState) (w : World) → IsInTime t s w → (id : Id) → contains (ids_of_client w.graph) id ≡ true
     → t.is_read id ≡ true
 held_read t s w (rests rest) id h = ap (λ (u : Time). u.is_read id) rest.time
-held_read t s w (runs x r may) id h =
-    read_where_kept t s w x r id (held_kept t s w (runs x r may) id h)
+held_read t s w (runs x r) id h =
+    read_where_kept t s w x r id (held_kept t s w (runs x r) id h)
 
 -- what isn't automatic isn't condemned
 pub not_both : (o : Option Object) → option_map_or is_automatic o false ≡ true → option_map_or (λ x. not (is_automatic x)) o false ≡ true
@@ -90,7 +90,7 @@ not_both (Some o) a m = of_test (is_automatic o) a m
 manual_read : (t : Time) (s : CollectorState) (w : World) → IsInTime t s w → (id : Id)
     → object_is (λ o. not (is_automatic o)) w id ≡ true → t.is_read id ≡ true
 manual_read t s w (rests rest) id h = ap (λ (u : Time). u.is_read id) rest.time
-manual_read t s w (runs x r may) id h =
+manual_read t s w (runs x r) id h =
     read_where_kept t s w x r id (elim (cases_Bool (contains t.condemned id)) [
       | inl is ↦ absurd (not_both (slice_get w.graph.objects id)
           (ap (λ (v : World). object_is is_automatic v id) (sym r.world)
@@ -110,7 +110,7 @@ unused_at t s w numbered (rests rest) = record {
   not_grey = ap (λ (u : Time). is_grey u.colours (length w.graph.objects)) rest.time;
   fresh = ap (λ (u : Time). entry_at u.at_flip (length w.graph.objects)) rest.time;
 }
-unused_at t s w numbered (runs x r may) = record {
+unused_at t s w numbered (runs x r) = record {
   not_white = elim (cases_Bool (contains t.condemned n)) [
     | inl is ↦ absurd (no_object (ap (λ (v : World). object_is is_automatic v n) (sym r.world)
         ∙ r.invariant.condemned.objects n (ap (λ ids. contains ids n) (sym r.condemned_ids) ∙ is)))
@@ -136,7 +136,7 @@ unused_at t s w numbered (runs x r may) = record {
 
 before_there : (t : Time) (s : CollectorState) (w : World) → IsInTime t s w → t.registered_before ≤ length w.graph.registered
 before_there t s w (rests rest) = let none = ap (λ (u : Time). u.registered_before) rest.time in omega (arith, none)
-before_there t s w (runs x r may) =
+before_there t s w (runs x r) =
     subst (λ (v : World). t.registered_before ≤ length v.graph.registered) r.world
     (subst (λ n. n ≤ length x.world.graph.registered) (sym r.registered_before) r.invariant.examined.existing)
 

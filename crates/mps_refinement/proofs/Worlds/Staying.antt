@@ -1,5 +1,5 @@
 -- A heap goes on standing for some world, whatever the numbers of its formats are: when it is new, and after each call that is right.
-use Rattle.std.proofs.Common.{◌≡◌, ◌≢◌, ◌∙◌, ℕ, refl, sym, ap, subst, [], ◌∷◌, ◌++◌, List, length, Option, Some, None, Result, Ok, Err, inl, inr}
+use Rattle.std.proofs.Common.{◌≡◌, ◌≢◌, ◌∙◌, ℕ, false, refl, sym, ap, subst, [], ◌∷◌, ◌++◌, List, length, Option, Some, None, Result, Ok, Err, inl, inr}
 use Rattle.std.proofs.lemmas.Option.{none-some}
 use Rattle.std.specs.Prelude.{slice_get}
 use Rattle.std.specs.Option.{option_map_or}
@@ -13,6 +13,8 @@ use Rattle.mps_format.specs.Front.{front_layout}
 use Rattle.mps_format.specs.Laws.{front_is_lawful}
 use Rattle.mps_format.specs.Layout.{Layout, IsLawful}
 use Rattle.mps_trace_laws.proofs.Image.Entries.{slice_get-last, slice_get-pushed, slice_get-still}
+use Rattle.mps_changes.specs.Change.{makes_arena}
+use Rattle.mps_laws.proofs.WellFormedHistories.{step_grains}
 use Rattle.mps_model.specs.declared.call.Call.{Call}
 use Rattle.mps_model.specs.declared.call.Call.TheVariants as call
 use Rattle.mps_model.specs.Answer.{Answer}
@@ -153,3 +155,11 @@ module _ {F : Type 0} (layout : F → Layout) where
   -- a world for which it stands
   pub one_world : (h : HeapState F) → StandsForSome layout h → (w : World) × StandsFor layout h w
   one_world h some = let s = some_world h some in (s.world, s.stands)
+
+  -- after a call that is right its arena has as many grains
+  pub grains_stay : (h after : HeapState F) (c : Call) (ms : List Move) (answer : Answer) → StandsForSome layout h
+      → IsRight layout h c ms answer after → makes_arena c ≡ false → after.segs.grains ≡ h.segs.grains
+  grains_stay h after c ms answer some right other =
+      let s = one_world h some in
+      let r = right s.0 0 s.1 in
+      r.stands.parts.grains ∙ step_grains 0 s.0 c ms answer other ∙ sym s.1.parts.grains

@@ -19,7 +19,7 @@ use Rattle.mps_heap_spec.specs.State.{HeapState}
 use Rattle.mps_heap_spec.specs.Coming.{Outcome, Comes, answered, state_from}
 pub use Rattle.mps_refinement.specs.Answering.{answer_to}
 use Rattle.mps_refinement.specs.RightStep.{IsRight, IsRightIn, step_of}
-use Rattle.mps_refinement.specs.StandsFor.{MayRunBetweenCalls, Rests, AreParts, IsReached, Past, StandsFor, AreCondemnedIn, AreOfFlip, CollectorState, IsInTime, Runs, Time, collector_of, rests, runs}
+use Rattle.mps_refinement.specs.StandsFor.{Rests, AreParts, IsReached, Past, StandsFor, AreCondemnedIn, AreOfFlip, CollectorState, IsInTime, Runs, Time, collector_of, rests, runs}
 use Rattle.mps_refinement.proofs.Worlds.RestingActs.{LeavesSound, act_leaves_sound, may_move}
 use Rattle.mps_refinement.proofs.Worlds.RestingSteps.{IsMoving, moving_step, quiet_at_rest}
 use Rattle.mps_refinement.proofs.Worlds.Reached.{reached_next, reached_sound}
@@ -127,7 +127,7 @@ module _ {F : Type 0} (layout : F → Layout) where
     answered_is_right s x after (rests rest) of same comes answers kept formats has =
         resting_is_right w line c answer (moves_not_at_rest c still) (makes_no_arena c still) supported reached (position_taken w c) t s x
         after rest same comes answers has
-    answered_is_right s x after (runs y r may) known same comes answers kept formats has =
+    answered_is_right s x after (runs y r) known same comes answers kept formats has =
         let on = running_step y r.world r.invariant (kept y r.world r.condemned_ids r.colours) in
         let flips : AreOfFlip t.at_flip (world_from w x) =
         subst (λ r. AreOfFlip t.at_flip (world_from w r)) comes
@@ -152,7 +152,7 @@ module _ {F : Type 0} (layout : F → Layout) where
           condemned = λ is held there. ap (λ bits. bit bits (grain_of held.base)) same.0
               ∙ is held (subst (λ ss. Contains ss held) segments there);
           flip = record { made = flips.made; still = flips.still };
-        }))) may)
+        }))))
       where
         segments : (world_from w x).segments ≡ w.segments
         segments =
@@ -373,7 +373,7 @@ module _ {F : Type 0} (layout : F → Layout) where
     pub keeps : KeepsTime t s w (collector_of after) (world_from (moved_world w c ms) result)
 
   -- a step while a collection runs: its collector's part led to a state with this time, and the client's part keeps it
-  module _ (t : Time) (s : CollectorState) (w u : World) (y : Collecting) (r : Runs t s u y) (may : MayRunBetweenCalls) (line : ℕ)
+  module _ (t : Time) (s : CollectorState) (w u : World) (y : Collecting) (r : Runs t s u y) (line : ℕ)
       (c : Call) (none : position_taken y.world c ≡ Err refusal.NotRegistered) (ms : List Move)
       (answer : Answer) (after : HeapState F) (result : Checked Act) (arena : makes_arena c ≡ false) (reached : IsReached w) where
     abbrev v : World
@@ -405,7 +405,7 @@ module _ {F : Type 0} (layout : F → Layout) where
           ranked = kept.ranked;
           condemned = kept.condemned;
           flip = record { made = kept.flip.made; still = kept.flip.still };
-        })) may)
+        })))
 
     pub own_step_is_right : IsOwnStep w y c ms answer result → v.formats ≡ w.formats → HasParts t after v
         → IsRunKept (Err refusal.NotRegistered) t s (collector_of after) u v y → IsRightIn layout w (step_of line c ms answer) after
@@ -434,8 +434,8 @@ module _ {F : Type 0} (layout : F → Layout) where
         not_condemned = m.keeps.not_condemned rest.not_condemned;
         not_kept = m.keeps.not_kept rest.not_condemned rest.not_kept;
       })
-  moving_is_right t s w line c none ms answer after result arena reached (runs y r may) m =
-      own_step_is_right t s w w y r may line c (none y.world) ms answer after result arena reached (m.moving y r.world r.invariant)
+  moving_is_right t s w line c none ms answer after result arena reached (runs y r) m =
+      own_step_is_right t s w w y r line c (none y.world) ms answer after result arena reached (m.moving y r.world r.invariant)
       m.formats
       m.has (run_kept m.keeps y r)
 
@@ -459,8 +459,8 @@ module _ {F : Type 0} (layout : F → Layout) where
       step_stands past.time h w w line c [] (refused why) reached step.legal
       (step.world ∙ ap with_client_remembered still ∙ with_client_remembered-none w rest.none) refl arena
       (record { past = past; timed = refl; parts = parts }) (rests rest)
-  refusal_is_right past h w line c why arena reached parts (runs y r may) m still not_taken =
-      runs_on_is_right past.time (collector_of h) w w y r may line c (not_taken y.world) [] (refused why) h (Err why) arena reached
+  refusal_is_right past h w line c why arena reached parts (runs y r) m still not_taken =
+      runs_on_is_right past.time (collector_of h) w w y r line c (not_taken y.world) [] (refused why) h (Err why) arena reached
       (still_step_runs_on w y line c [] (refused why) (Err why) r.invariant m (still ∙ sym r.world) refusal.NotRegistered
       (not_taken y.world))
       (ap (λ (u : World). u.formats) still)

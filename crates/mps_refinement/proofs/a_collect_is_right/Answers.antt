@@ -1,4 +1,4 @@
-use Rattle.mps_refinement.proofs.Collect.HeapCollects.{a_collect_is_right}
+use Rattle.mps_refinement.proofs.Units.Outcomes.{a_collect_is_right}
 use Rattle.mps_refinement.proofs.a_collect_is_right.Goals as goal
 
 pub returns : goal.returns

@@ -1,0 +1,176 @@
+-- The call `get` at any time: the barrier that it needs can be done, the call is right, and its trail keeps its room.
+use Rattle.std.proofs.Common.{◌≡◌, ◌∙◌, ℕ, ◌<◌, ◌≤◌, refl, sym, ap, subst, List, [], ◌++◌, Option, Some, None, Contains, arith}
+use Rattle.std.proofs.lemmas.List.{append-nil, append_cancel_left}
+use Rattle.std.proofs.lemmas.Option.{none-some, same_Some}
+use Rattle.mps_base.specs.Segment.{Segment}
+use Rattle.mps_base.specs.Trail.{Moves}
+use Rattle.mps_base.specs.declared.moves.Move.{Move}
+use Rattle.mps_base.specs.declared.names.Slot.{Slot}
+use Rattle.mps_amc.proofs.Found.{over_is_there}
+use Rattle.mps_format.specs.Layout.{Layout}
+use Rattle.mps_trace.specs.Access.{CanAccess, too_many_scans}
+use Rattle.mps_trace.specs.Collect.{most_moves}
+use Rattle.mps_trace.specs.Trace.{Traced}
+use Rattle.mps_trace.specs.declared.running.Running.{Running as RunningState}
+use Rattle.mps_abstract.specs.Collecting.{Collecting, units_left}
+use Rattle.mps_model.specs.declared.call.Call.{Call}
+use Rattle.mps_model.specs.declared.call.Call.TheVariants as call
+use Rattle.mps_model.specs.Checked.{Checked}
+use Rattle.mps_model.specs.World.{World}
+use Rattle.mps_heap_spec.specs.Coming.{Comes, answered, state_from}
+use Rattle.mps_heap_spec.specs.Getting.{AreTablesWhole, CanGet, IsGot, is_refused, reads, trace_in, traced_in, with_traced}
+use Rattle.mps_heap_spec.specs.Objects.{reference_got}
+use Rattle.mps_heap_spec.specs.State.{HeapState}
+use Rattle.mps_refinement.specs.Answering.{answer_to, says_ok}
+use Rattle.mps_refinement.specs.RightMoving.{IsRightMoving, KeepsRoom}
+use Rattle.mps_refinement.specs.RightStep.{IsRightIn, step_of}
+use Rattle.mps_refinement.specs.StandsFor.{AreParts, IsInTime, IsReached, Past, Rests, Runs, StandsFor, collector_of, rests, runs}
+use Rattle.mps_refinement.specs.StandsForSome.{StandsForSome}
+use Rattle.mps_refinement.proofs.Calls.Gets.{resting_get_is_right}
+use Rattle.mps_refinement.proofs.Units.Accesses.{IsAccessed, access_can_be_done, access_is_done}
+use Rattle.mps_refinement.proofs.Units.Gets.{get_is_right, its_segment, refused_get_is_right}
+use Rattle.mps_refinement.proofs.Units.Ready.{units_are_few}
+use Rattle.mps_refinement.proofs.Worlds.Known.{IsKnown, known_now}
+use Rattle.mps_refinement.proofs.Worlds.Staying.{one_world}
+
+-- what is shown of a running collection by the world that the abstract collector has
+in_its_world : {F : Type 0} {layout : F → Layout} {past : Past} {h : HeapState F} {w : World} (x : Collecting) (A : World → Type 0)
+    → (AreParts layout past h x.world → IsKnown past.time x.world → IsReached x.world → Runs past.time (collector_of h) x.world x
+    → A x.world) → AreParts layout past h w → IsKnown past.time w → IsReached w → Runs past.time (collector_of h) w x → A w
+in_its_world {layout = layout} {past = past} {h = h} x A shown parts knows reach r =
+    subst (λ v. AreParts layout past h v → IsKnown past.time v → IsReached v → Runs past.time (collector_of h) v x → A v) r.world shown
+    parts knows reach r
+
+module _ {F : Type 0} (layout : F → Layout) (h : HeapState F) (m : Moves) (room : most_moves h.segs.grains ≤ m.spare) where
+  -- ---- the barrier
+
+  module _ (whole : AreTablesWhole h) (past : Past) (x : Collecting) (parts : AreParts layout past h x.world) (reach : IsReached x.world)
+      (r : Runs past.time (collector_of h) x.world x) where
+    few : units_left x < too_many_scans
+    few =
+        let below = units_are_few layout past h x parts reach r in
+        let grains = parts.arena.at_most in
+        let registered = whole.few in
+        omega (arith, below, grains, registered)
+
+    can_access : (run : RunningState) → h.running ≡ Some run → (t : Segment) → Contains h.segs.segments t
+        → CanAccess layout run.band (trace_in h) h.segs m t
+    can_access run running t held =
+        subst (λ (o : RunningState). CanAccess layout o.band (trace_in h) h.segs m t) (same_Some r.run run (sym r.running ∙ running))
+        (access_can_be_done layout past h x parts reach r whole.tails whole.marked m room t held few)
+
+  pub can_get : (w : World) → StandsFor layout h w → (target source : Slot) (k : ℕ) → CanGet layout h m target source k
+  can_get w st target source k whole object found run running t over = of_time st.time
+    where
+      of_time : IsInTime st.past.time (collector_of h) w → CanAccess layout run.band (trace_in h) h.segs m t
+      of_time (rests rest) = absurd (none-some run (sym rest.not_running ∙ running))
+      of_time (runs x r) =
+          in_its_world x (λ v. CanAccess layout run.band (trace_in h) h.segs m t)
+          (λ parts knows reach now. can_access whole st.past x parts reach now run running t
+          (over_is_there h.segs.segments object.at t over)) st.parts (known_now st) st.reached r
+
+  -- ---- what it does
+
+  module _ (target source : Slot) (k : ℕ) (result : Checked (Unit {0})) (after : HeapState F) (m' : Moves)
+      (got : IsGot layout h m target source k result after m') where
+    abbrev c : Call
+    c = call.Get target source k
+
+    -- in a world: its moves, by which the step is legal
+    record IsGotIn (w : World) : Type 0 where
+      moves : List Move
+      appended : m'.moves ≡ m.moves ++ moves
+      kept : KeepsRoom m m'
+      right : (line : ℕ) → IsRightIn layout w (step_of line c moves (answer_to says_ok result)) after
+
+    -- a trail that is as it was
+    none_appended : m' ≡ m → m'.moves ≡ m.moves ++ []
+    none_appended same = ap (λ (n : Moves). n.moves) same ∙ sym (append-nil m.moves)
+
+    kept_as : m' ≡ m → KeepsRoom m m'
+    kept_as same = subst (KeepsRoom m) (sym same) refl
+
+    -- ---- at rest
+
+    read_alone : h.running ≡ None → IsGot layout h m target source k result after m'
+        → Comes h (reference_got layout h target source k) result after × (m' ≡ m)
+    read_alone none (is_refused why e answer state trail) =
+        (record { answer = answer ∙ sym (ap answered e); state = state ∙ sym (ap (state_from h) e) }, trail)
+    read_alone none (reads x is comes trail) =
+        let same : x ≡ traced_in h m = is.accessed.rests none in (
+          subst (λ (z : Traced). Comes (with_traced h z) (reference_got layout (with_traced h z) target source k) result after) same comes,
+          trail ∙ ap (λ (z : Traced). z.moves) same,
+        )
+
+    resting : (w : World) (st : StandsFor layout h w) → Rests st.past.time (collector_of h) w → IsGotIn w
+    resting w st rest =
+        let plain = read_alone rest.not_running got in
+        record {
+          moves = [];
+          appended = none_appended plain.1;
+          kept = kept_as plain.1;
+          right = λ line. resting_get_is_right layout h target source k result after w line st rest plain.0;
+        }
+
+    -- ---- while a collection runs
+
+    module _ (past : Past) (x : Collecting) (parts : AreParts layout past h x.world)
+        (knows : IsKnown past.time x.world) (reach : IsReached x.world) (r : Runs past.time (collector_of h) x.world x) where
+      running : IsGot layout h m target source k result after m' → IsGotIn x.world
+      running (is_refused why e answer state trail) = record {
+        moves = [];
+        appended = none_appended trail;
+        kept = kept_as trail;
+        right = λ line.
+            subst (λ s. IsRightIn layout x.world (step_of line c [] (answer_to says_ok result)) s) (sym state)
+            (subst (λ a. IsRightIn layout x.world (step_of line c [] (answer_to says_ok a)) h) (sym answer)
+            (refused_get_is_right layout past h x parts knows reach r line target source k why e));
+      }
+      running (reads z accessed comes trail) =
+          let whole = accessed.accessed.whole r.run r.running in
+          let b = accessed.object in
+          let over = its_segment layout past h x parts knows reach r 0 target source k b accessed.found in
+          let is : IsAccessed layout past h x r m over.0 z =
+          access_is_done layout past h x parts reach r whole.tails whole.marked m room over.0
+          (over_is_there h.segs.segments b.at over.0 over.1) z (accessed.accessed.runs r.run r.running over.0 over.1) in
+          let then =
+          subst
+          (λ (run : Option RunningState). let after_barrier : HeapState F = record (with_traced h z) { running = run } in
+          Comes after_barrier (reference_got layout after_barrier target source k) result after)
+          r.running comes in
+          record {
+            moves = is.moves;
+            appended = ap (λ (n : Moves). n.moves) trail ∙ is.trail;
+            kept = subst (KeepsRoom m) (sym trail) is.room;
+            right = λ line.
+                get_is_right layout past h x parts knows reach r line target source k m accessed.outcome accessed.accepted b
+                accessed.found over.0 over.1 z is result after then;
+          }
+
+    -- ---- at any time
+
+    got_in : (w : World) → StandsFor layout h w → IsGotIn w
+    got_in w st = of_time st.time
+      where
+        of_time : IsInTime st.past.time (collector_of h) w → IsGotIn w
+        of_time (rests rest) = resting w st rest
+        of_time (runs x r) =
+            in_its_world x IsGotIn (λ parts knows reach now. running st.past x parts knows reach now got) st.parts (known_now st)
+            st.reached r
+
+    -- it makes the same moves, whatever the world is
+    pub got_rightly : StandsForSome layout h
+        → IsRightMoving layout h c m.moves m'.moves (answer_to says_ok result) after × KeepsRoom m m'
+    got_rightly some =
+        let one = one_world layout h some in
+        let here = got_in one.0 one.1 in (
+          record {
+            moves = here.moves;
+            appended = here.appended;
+            right = λ v line stands.
+                let there = got_in v stands in
+                subst (λ ms. IsRightIn layout v (step_of line c ms (answer_to says_ok result)) after)
+                (append_cancel_left m.moves there.moves here.moves (sym there.appended ∙ here.appended)) (there.right line);
+          },
+          here.kept,
+        )
