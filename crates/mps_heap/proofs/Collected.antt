@@ -1,38 +1,86 @@
--- What a heap needs to collect everything, and what it then guarantees.
-use Rattle.std.proofs.Common.{◌≡◌, ◌∙◌, ◌<◌, ◌≤◌, ◌^◌, true, sym, subst}
+-- What a heap needs to end the collection that runs and to collect everything, and what it then guarantees.
+use Rattle.std.proofs.Common.{◌≡◌, ◌∙◌, ℕ, ◌*◌, ◌<◌, ◌≤◌, ◌^◌, true, sym, ap, arith}
 use Rattle.std.proofs.lemmas.Bool.{ltb-true}
 use Rattle.mps_base.specs.Trail.{Moves}
-use Rattle.mps_heap_spec.specs.Points.{WereMadeBefore}
 use Rattle.mps_format.specs.Layout.{Layout}
+use Rattle.mps_model.specs.Answer.{Answer, Replied}
 use Rattle.mps_model.specs.World.{World}
-use Rattle.mps_heap_spec.specs.Table.{IsMarked}
+use Rattle.mps_model.specs.declared.call.Call.TheVariants as call
+use Rattle.mps_model.specs.declared.reply.Reply.TheVariants as reply
+use Rattle.mps_heap_spec.specs.Arena.{with_arena}
 use Rattle.mps_heap_spec.specs.Collect.{most_moves}
 use Rattle.mps_heap_spec.specs.Collecting.{CanCollectAll, IsCollected, can_collect, most_flips}
+use Rattle.mps_heap_spec.specs.Points.{WereMadeBefore}
 use Rattle.mps_heap_spec.specs.State.{HeapState}
+use Rattle.mps_heap_spec.specs.Units.{CanDoUnits, HasDoneUnits, HasStepped, IsWhole, units_to_end}
+use Rattle.mps_heap_spec.specs.declared.arena.ArenaState.TheVariants as arena
+use Rattle.mps_heap_spec.specs.declared.arena.Progress.{Progress}
+use Rattle.mps_refinement.specs.Answering.{says_progress}
+use Rattle.mps_refinement.specs.Collect.Collecting.{IsRightCollect}
+use Rattle.mps_refinement.specs.RightMoving.{IsRightMoving, KeepsRoom}
 use Rattle.mps_refinement.specs.StandsFor.{StandsFor}
 use Rattle.mps_refinement.specs.StandsForSome.{StandsForSome}
+use Rattle.mps_refinement.proofs.Units.Outcomes as outcomes
+use Rattle.mps_refinement.proofs.Units.Outcomes.{a_collect_is_right, can_do_units, park_is_right, right_in_each, stepped_is_right, stepped_keeps_room, units_keep_room, units_leave}
 use Rattle.mps_refinement.proofs.Worlds.Staying.{one_world}
-use Rattle.mps_refinement.specs.Collect.Collecting.{IsRightCollect, MayCollect}
-use Rattle.mps_refinement.proofs.Collect.HeapCollects.{a_collect_is_right, a_heap_can_collect}
 
-module _ {F : Type 0} (layout : F → Layout) (h : HeapState F) (some : StandsForSome layout h) (can : can_collect h ≡ true) where
+module _ {F : Type 0} (layout : F → Layout) (h : HeapState F) (some : StandsForSome layout h) (whole : IsWhole h) (m : Moves) where
   one : (w : World) × StandsFor layout h w
   one = one_world layout h some
 
-  -- one flip more can be counted
-  pub few_epochs : h.epochs.count < 2 ^ 63
-  few_epochs =
-      let few = ltb-true h.points.flips most_flips can in
-      subst (λ n. n < 2 ^ 63) (one.1.parts.point_flips ∙ sym one.1.parts.flips.count) few
+  abbrev ok : Answer
+  ok = Replied reply.Ok
 
-  module _ (marked : IsMarked h.segs.grains h.segs.marks h.segs.condemned h.segs.summaries) (m : Moves)
-      (room : most_moves h.segs.grains ≤ m.spare) where
-    may : MayCollect layout h m
-    may = record { world = one.0; stands = one.1; marked = marked; room = room }
+  module _ (room : most_moves h.segs.grains ≤ m.spare) where
+    -- the units to the end can be done
+    pub can_end : CanDoUnits layout h m (units_to_end h)
+    can_end = can_do_units layout h whole m room one.0 one.1 (units_to_end h)
 
-    pub can_collect_here : CanCollectAll layout h m
-    can_collect_here = a_heap_can_collect layout h m may
+    -- and once the arena is parked after them, that is a `park`
+    pub parked_rightly : (between : HeapState F) (m' : Moves) → HasDoneUnits layout h m (units_to_end h) between m'
+        → IsRightMoving layout h call.Park m.moves m'.moves ok (with_arena between arena.Parked) × KeepsRoom m m'
+    parked_rightly between m' units = (
+      right_in_each layout h call.Park m.moves m'.moves ok (with_arena between arena.Parked) one
+          (λ w st. park_is_right layout h whole m room w st between m' units),
+      units_keep_room layout h whole m room one.0 one.1 (units_to_end h) between m' units,
+    )
 
-    pub collected_rightly : WereMadeBefore h.points.flips h.points → (h' : HeapState F) (m' : Moves) → IsCollected layout h m h' m'
-        → IsRightCollect layout h m h' m'
-    collected_rightly made h' m' collected = a_collect_is_right layout h m h' m' may made collected
+    -- any number of units can be done in an unclamped arena
+    pub can_step : (n : ℕ) → h.arena ≡ arena.Unclamped → CanDoUnits layout h m n
+    can_step n unclamped = can_do_units layout h whole m room one.0 one.1 n
+
+    -- and what came of a step is right
+    pub stepped_rightly : (n : ℕ) (h' : HeapState F) (m' : Moves) (answer : Progress) → HasStepped layout h m n h' m' answer
+        → IsRightMoving layout h (call.Step n) m.moves m'.moves (says_progress answer) h' × KeepsRoom m m'
+    stepped_rightly n h' m' answer stepped = (
+      right_in_each layout h (call.Step n) m.moves m'.moves (says_progress answer) h' one
+          (λ w st. stepped_is_right layout h whole m room w st n h' m' answer stepped),
+      stepped_keeps_room layout h whole m room one.0 one.1 n h' m' answer stepped,
+    )
+
+  -- a collection of everything after them is a `collect`, if one flip more can be counted and there is room for two collections
+  module _ (can : can_collect h ≡ true) (both_fit : 2 * most_moves h.segs.grains ≤ m.spare) where
+    pub can_end_first : CanDoUnits layout h m (units_to_end h)
+    can_end_first = can_end (omega (arith, both_fit))
+
+    module _ (between : HeapState F) (m_between : Moves) (units : HasDoneUnits layout h m (units_to_end h) between m_between) where
+      pub can_count : can_collect between ≡ true
+      can_count = ap (λ (g : HeapState F). can_collect g) (units_leave units) ∙ can
+
+      pub few_epochs : between.epochs.count < 2 ^ 63
+      few_epochs =
+          let few = ltb-true h.points.flips most_flips can in
+          let same = one.1.parts.point_flips ∙ sym one.1.parts.flips.count in
+          let left = ap (λ (g : HeapState F). g.epochs.count) (units_leave units) in
+          omega (arith, few, same, left)
+
+      module _ (whole_then : IsWhole between) where
+        pub can_collect_then : CanCollectAll layout between m_between
+        can_collect_then =
+            outcomes.can_collect_then layout h whole m (omega (arith, both_fit)) one.0 one.1 both_fit between m_between whole_then units
+
+        pub collected_rightly : WereMadeBefore h.points.flips h.points → (h' : HeapState F) (m' : Moves)
+            → IsCollected layout between m_between h' m' → IsRightCollect layout h m h' m'
+        collected_rightly made h' m' collected =
+            a_collect_is_right layout h m between m_between h' m'
+            (record { world = one.0; stands = one.1; whole = whole; room = both_fit }) made units whole_then collected

@@ -1,6 +1,6 @@
 -- Words that were borrowed, of a manual block or of a leaf object, are the model's, and a heap in which others were left in those of
 -- a block stands for the world after a store of each.
-use Rattle.std.proofs.Common.{◌≡◌, ◌∙◌, ℕ, suc, ◌+◌, ◌*◌, ◌<◌, Bor, Result, refl, sym, ap, subst, Bool, true, false, List, [], ◌∷◌, drop, length, Option, Ok, Err, Contains, arith}
+use Rattle.std.proofs.Common.{◌≡◌, ◌∙◌, ℕ, suc, ◌+◌, ◌*◌, ◌<◌, Bor, Result, refl, sym, ap, subst, Bool, true, false, List, [], ◌∷◌, drop, length, map, Option, Ok, Err, Contains, arith}
 use Rattle.std.proofs.lemmas.List.{length-set}
 use Rattle.std.specs.Option.{option_map_or}
 use Rattle.std.specs.Prelude.{MatchResult, nat_le, not, slice_range, slice_set}
@@ -18,9 +18,8 @@ use Rattle.mps_model.specs.declared.call.Call.TheVariants as call
 use Rattle.mps_model.specs.declared.reply.Reply.TheVariants as reply
 use Rattle.mps_model.specs.Answer.{Replied}
 use Rattle.mps_model.specs.History.{world_after}
-use Rattle.mps_model.specs.Checked.{Checked, Found, Numbered, ◌>>=◌, ◌>>◌, refuse_when, required}
-use Rattle.mps_model.specs.Graph.{Object}
-use Rattle.mps_model.specs.Image.{image_of, image_of_body}
+use Rattle.mps_model.specs.Checked.{Checked, Found, Numbered, ◌>>=◌, ◌>>◌, cells_of_body, refuse_when, required}
+use Rattle.mps_model.specs.Graph.{Cell, NumberCell, Object}
 use Rattle.mps_model.specs.World as world
 use Rattle.mps_model.specs.World.{World, is_leaf_kind}
 use Rattle.mps_heap_spec.specs.Coming.{answered, done, state_from}
@@ -36,10 +35,10 @@ use Rattle.mps_format.specs.Pools.{is_leaf_pool}
 use Rattle.mps_refinement.specs.StandsFor.{StandsFor}
 use Rattle.mps_refinement.specs.RightStep.{step_of}
 use Rattle.mps_refinement.specs.StandsForSome.{StandsForSome, StandsWith}
-use Rattle.mps_refinement.proofs.Lookups.BlockRuns.{run_is, words_are}
+use Rattle.mps_refinement.proofs.Lookups.BlockRuns.{run_is}
 use Rattle.mps_refinement.proofs.Lookups.Blocks.{begins_at_object}
 use Rattle.mps_refinement.proofs.Lookups.BlockWords.{store_is_right}
-use Rattle.mps_refinement.proofs.Parts.Resting.{at_rest, image_at_rest}
+use Rattle.mps_refinement.proofs.Lookups.LeafCells.{leaf_numbers}
 use Rattle.mps_refinement.proofs.Worlds.Known.{known_now}
 use Rattle.mps_refinement.proofs.Lookups.LiveObjects.{IsObject, object_then}
 use Rattle.mps_refinement.proofs.Lookups.Loans.{block_borrowed, fits_ours}
@@ -48,10 +47,9 @@ use Rattle.mps_refinement.proofs.Calls.LoanSteps.{block_loan_is_right, stored_is
 use Rattle.mps_refinement.proofs.Lookups.Lookups.{place_same}
 use Rattle.mps_refinement.proofs.Lookups.ManualBlocks.{block_same, block_words, setting}
 use Rattle.mps_refinement.proofs.Lookups.PoolKinds.{kind_of, kinds_alike}
-use Rattle.mps_refinement.proofs.Worlds.Reached.{reached_sound}
-use Rattle.mps_heap_code.specs.Lending.{AreBlockWords, IsBlockBorrowed, IsBlockWritten, IsLeafBorrowed, IsNoBlock, IsNoLeaf, leaf_named}
+use Rattle.mps_heap_manual.specs.Lending.{AreBlockWords, IsBlockBorrowed, IsBlockWritten, IsLeafBorrowed, IsNoBlock, IsNoLeaf, leaf_named}
 use Rattle.mps_heap.specs.Lending as spec
-use Rattle.mps_heap.specs.Lending.{ComesToWords, IsBorrowedAndWritten, IsNotBorrowed, words_of_block, words_of_leaf}
+use Rattle.mps_heap.specs.Lending.{ComesTo, IsBorrowedAndWritten, IsNotBorrowed, cells_of_leaf, words_of_block}
 
 -- what is made of the value of a check matters not to its refusals
 told : {A B C : Type 0} {Fits : A → B → Type 0} {x : Checked A} {y : Checked B} (f : B → C) → Same Fits x y
@@ -73,7 +71,7 @@ module _ {F : Type 0} (layout : F → Layout) (h : HeapState F) (place : Slot) w
 
   -- ---- what is borrowed
 
-  pub borrowed_is_right : (words : List ℕ) → IsBlockBorrowed h place words → ComesToWords layout h (λ w. words_of_block w place) (Ok words)
+  pub borrowed_is_right : (words : List ℕ) → IsBlockBorrowed h place words → ComesTo layout h (λ w. words_of_block w place) (Ok words)
   borrowed_is_right words borrowed w st =
       let n = named words borrowed in
       let b = block_borrowed layout h w st.past st.parts (known_now st) place n.entry borrowed.at n.place_is n.block_is in
@@ -87,7 +85,7 @@ module _ {F : Type 0} (layout : F → Layout) (h : HeapState F) (place : Slot) w
       ∙ ap (λ o. required o refusal.NotABlock >>= (λ id. Ok (words_at w.graph id))) b.held
       ∙ ap Ok image
 
-  pub no_block_is_right : (why : Refusal) → IsNoBlock h place why → ComesToWords layout h (λ w. words_of_block w place) (Err why)
+  pub no_block_is_right : (why : Refusal) → IsNoBlock h place why → ComesTo layout h (λ w. words_of_block w place) (Err why)
   no_block_is_right why none w st =
       same_err (λ a b. Unit {0}) (block_place_in h place >>= (λ (from : Entry Address). block_in h from)) (words_of_block w place) why
       (same_then (place_same layout st.past h w st.parts place) (λ entry found is.
@@ -189,17 +187,17 @@ leaf_of_kind (pool.OneSize words) = refl
 leaf_of_kind pool.AnySize = refl
 
 module _ {F : Type 0} (layout : F → Layout) (h : HeapState F) (w : World) (st : StandsFor layout h w) where
-  -- what is known of an address: the words after the head of the block there
-  abbrev AreAfterHead : Address → List ℕ → Type 0
-  AreAfterHead at found = (words : List ℕ) → AreBlockWords h at words → found ≡ drop 1 words
+  -- what is known of an address: these are numbers, the words after the head of the block there
+  abbrev AreAfterHead : Address → List Cell → Type 0
+  AreAfterHead at found = (words : List ℕ) → AreBlockWords h at words → found ≡ map NumberCell (drop 1 words)
 
   module _ (b : Block F) (o : Numbered Object) (is : IsObject layout st.past h w b o) where
     -- both checks that the object is of a leaf pool, by what they find
     abbrev own_checks : (leaf over : Bool) → Checked Address
     own_checks leaf over = refuse_when (not leaf) refusal.WrongPool >> (refuse_when (not over) refusal.NullRef >> Ok b.at)
 
-    abbrev checks : (leaf : Bool) → Checked (List ℕ)
-    checks leaf = refuse_when (not leaf) refusal.WrongPool >> Ok (drop 1 (image_of w o.number))
+    abbrev checks : (leaf : Bool) → Checked (List Cell)
+    checks leaf = refuse_when (not leaf) refusal.WrongPool >> Ok (drop 1 (cells_of_body o.value.body))
 
     leaf_is : option_map_or is_leaf_pool (pool_over h b.at) false ≡ spec.is_leaf_pool w o.value.pool
     leaf_is =
@@ -213,23 +211,20 @@ module _ {F : Type 0} (layout : F → Layout) (h : HeapState F) (w : World) (st 
         let s = setting layout st.past h w st.parts (known_now st) in
         begins_at_object s w.addresses st.parts.image.placed h.segs st.parts.image.runs.blocks o.number b.at o.value is.address is.object
 
-    image_is : (words : List ℕ) → AreBlockWords h b.at words → image_of w o.number ≡ words
-    image_is words are =
+    -- its cells after the head, where its pool is a leaf pool
+    cells_are : spec.is_leaf_pool w o.value.pool ≡ true → AreAfterHead b.at (drop 1 (cells_of_body o.value.body))
+    cells_are leaf words are =
         let s = setting layout st.past h w st.parts (known_now st) in
         let parts = st.parts in
-        let now = at_rest st.time in
-        let size = run_is s w.addresses parts.image.placed h.segs parts.image.runs.blocks o.number b.at o.value is.address is.object
-        (length words) are.whole in
-        ap (λ x. option_map_or (λ (q : Object). image_of_body w q.body) x []) is.object
-        ∙ sym (words_are h.segs w (image_at_rest layout st.past h w parts now.time) now.none (reached_sound w st.reached now.none)
-        o.number b.at o.value is.address
-        is.object)
-        ∙ sym (ap (λ n. slice_range h.segs.words (word_of b.at) (word_of b.at + n)) size)
-        ∙ sym are.value
+        leaf_numbers layout st.past h w parts b o is words
+        (run_is s w.addresses parts.image.placed h.segs parts.image.runs.blocks o.number b.at o.value is.address is.object (length words)
+        are.whole)
+        are.value
+        (sym (ap (λ (x : Option world.Pool). option_map_or (λ (p : world.Pool). is_leaf_kind p.kind) x false) is.block.has) ∙ leaf)
 
-    of_leaf : (leaf : Bool) → Same AreAfterHead (own_checks leaf true) (checks leaf)
-    of_leaf true = fits (λ words are. ap (λ (ws : List ℕ). drop 1 ws) (image_is words are))
-    of_leaf false = same.refused
+    of_leaf : (leaf : Bool) → spec.is_leaf_pool w o.value.pool ≡ leaf → Same AreAfterHead (own_checks leaf true) (checks leaf)
+    of_leaf true is_leaf = fits (cells_are is_leaf)
+    of_leaf false is_leaf = same.refused
 
     checks_same : Same AreAfterHead
         (own_checks (option_map_or is_leaf_pool (pool_over h b.at) false) (is_block_over h.segs b.at b.at))
@@ -238,26 +233,27 @@ module _ {F : Type 0} (layout : F → Layout) (h : HeapState F) (w : World) (st 
         subst (λ leaf. Same AreAfterHead (own_checks leaf (is_block_over h.segs b.at b.at)) (checks (spec.is_leaf_pool w o.value.pool)))
         (sym leaf_is)
         (subst (λ over. Same AreAfterHead (own_checks (spec.is_leaf_pool w o.value.pool) over)
-        (checks (spec.is_leaf_pool w o.value.pool))) (sym over_is) (of_leaf (spec.is_leaf_pool w o.value.pool)))
+        (checks (spec.is_leaf_pool w o.value.pool))) (sym over_is) (of_leaf (spec.is_leaf_pool w o.value.pool) refl))
 
-  leaf_same : (slot : Slot) → Same AreAfterHead (leaf_named layout h slot) (words_of_leaf w slot)
+  leaf_same : (slot : Slot) → Same AreAfterHead (leaf_named layout h slot) (cells_of_leaf w slot)
   leaf_same slot = object_then layout st.past h w st.parts (known_now st) slot (λ b o is. checks_same b o is)
 
 module _ {F : Type 0} (layout : F → Layout) (h : HeapState F) (slot : Slot) where
-  pub leaf_is_right : (words : List ℕ) → IsLeafBorrowed layout h slot words → ComesToWords layout h (λ w. words_of_leaf w slot) (Ok words)
+  pub leaf_is_right : (words : List ℕ) → IsLeafBorrowed layout h slot words
+      → ComesTo layout h (λ w. cells_of_leaf w slot) (Ok (map NumberCell words))
   leaf_is_right words borrowed w st =
-      let found = fits_ours (AreAfterHead layout h w st) (leaf_named layout h slot) (words_of_leaf w slot) borrowed.at
+      let found = fits_ours (AreAfterHead layout h w st) (leaf_named layout h slot) (cells_of_leaf w slot) borrowed.at
       (leaf_same layout h w st slot) borrowed.named in
-      found.comes ∙ ap Ok (found.fit borrowed.whole borrowed.are ∙ sym borrowed.value)
+      found.comes ∙ ap Ok (found.fit borrowed.whole borrowed.are ∙ ap (map NumberCell) (sym borrowed.value))
 
-  pub no_leaf_is_right : (why : Refusal) → IsNoLeaf layout h slot why → ComesToWords layout h (λ w. words_of_leaf w slot) (Err why)
+  pub no_leaf_is_right : (why : Refusal) → IsNoLeaf layout h slot why → ComesTo layout h (λ w. cells_of_leaf w slot) (Err why)
   no_leaf_is_right why none w st =
-      same_err (AreAfterHead layout h w st) (leaf_named layout h slot) (words_of_leaf w slot) why (leaf_same layout h w st slot) none
+      same_err (AreAfterHead layout h w st) (leaf_named layout h slot) (cells_of_leaf w slot) why (leaf_same layout h w st slot) none
 
   pub leaf_or_refused : (result : Result (Bor (List ℕ)) Refusal)
       → MatchResult result (λ words. IsLeafBorrowed layout h slot words.now) (λ why. IsNoLeaf layout h slot why)
-      → MatchResult result (λ words. ComesToWords layout h (λ w. words_of_leaf w slot) (Ok words.now))
-      (λ why. ComesToWords layout h (λ w. words_of_leaf w slot) (Err why))
+      → MatchResult result (λ words. ComesTo layout h (λ w. cells_of_leaf w slot) (Ok (map NumberCell words.now)))
+      (λ why. ComesTo layout h (λ w. cells_of_leaf w slot) (Err why))
   leaf_or_refused (Ok words) borrowed = leaf_is_right words.now borrowed
   leaf_or_refused (Err why) none = no_leaf_is_right why none
 
@@ -266,8 +262,8 @@ module _ {F : Type 0} (layout : F → Layout) (h : HeapState F) (slot : Slot) wh
 module _ {F : Type 0} (layout : F → Layout) (h : HeapState F) (place : Slot) where
   pub borrowed_or_refused : (result : Result (Bor (List ℕ)) Refusal)
       → MatchResult result (λ words. IsBlockBorrowed h place words.now) (λ why. IsNoBlock h place why)
-      → MatchResult result (λ words. ComesToWords layout h (λ w. words_of_block w place) (Ok words.now))
-      (λ why. ComesToWords layout h (λ w. words_of_block w place) (Err why))
+      → MatchResult result (λ words. ComesTo layout h (λ w. words_of_block w place) (Ok words.now))
+      (λ why. ComesTo layout h (λ w. words_of_block w place) (Err why))
   borrowed_or_refused (Ok words) borrowed = borrowed_is_right layout h place words.now borrowed
   borrowed_or_refused (Err why) none = no_block_is_right layout h place why none
 

@@ -1,4 +1,6 @@
 pub mod Collected
 pub mod Lending
 pub mod NewHeaps
+pub mod Reserving
 pub mod Results
+pub mod Starting

@@ -19,7 +19,7 @@ ghost use Rattle.mps_base.specs.Address.{max_grains};
 ghost use Rattle.mps_heap.specs.Right.{IsNewHeap};
 
 use mps_format::Format;
-use mps_heap_code::State;
+use mps_heap_state::State;
 use std::alloc::{AllocError, Global};
 use std::marker::Model;
 

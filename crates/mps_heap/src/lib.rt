@@ -5,4 +5,5 @@
 mod heap;
 
 pub use heap::Heap;
-pub use mps_heap_spec::Committed;
+pub use mps_heap_code::steps::Steps;
+pub use mps_heap_spec::{Committed, Progress};

@@ -1,5 +1,6 @@
 // A list of numbers in a heap.
-ghost use Rattle.std.specs.Prelude.{◌+◌, ◌<◌, length};
+ghost use Rattle.std.specs.Prelude.{◌≡◌, ◌+◌, ◌<◌, ◌≤◌, length};
+ghost use Rattle.mps_heap.specs.Collect.{most_moves};
 ghost use Rattle.mps_heap.specs.RightMoving.{KeepsRoom};
 
 use crate::Tail;
@@ -49,10 +50,12 @@ pub fn make(heap: &mut Heap<Tail>) -> Result<(), Refusal> {
     heap.point(named(b'x'), named(b'p'), Rank::Exact)
 }
 
-/// Puts a number before the others. A trail is emptied before each call that may move, so that its whole room is spare.
+/// Puts a number before the others. A trail is emptied before each call that may move, so that its whole room is spare. It is enough
+/// for a collection and one move more.
 pub fn push(heap: &mut Heap<Tail>, trail: &mut Trail, number: u64) -> Result<(), Refusal>
-    requires room { 0 < trail.old.spare + length trail.old.moves }
+    requires room { most_moves heap.old.segs.grains < trail.old.spare + length trail.old.moves }
     ensures room { KeepsRoom trail.old trail.new }
+    ensures grains { heap.new.segs.grains ≡ heap.old.segs.grains }
 {
     let point = named(b'x');
     trail.clear();
@@ -64,22 +67,30 @@ pub fn push(heap: &mut Heap<Tail>, trail: &mut Trail, number: u64) -> Result<(),
     Ok(())
 }
 
-/// Drops the first item.
-pub fn pop(heap: &mut Heap<Tail>) -> Result<(), Refusal> {
-    heap.get(first(), first(), NEXT)
+/// Drops the first item. The whole room of the trail is enough for a collection.
+pub fn pop(heap: &mut Heap<Tail>, trail: &mut Trail) -> Result<(), Refusal>
+    requires room { most_moves heap.old.segs.grains ≤ trail.old.spare + length trail.old.moves }
+    ensures room { KeepsRoom trail.old trail.new }
+{
+    trail.clear();
+    heap.get(trail, first(), first(), NEXT)
 }
 
 /// Marks the first items of the list up to one that is marked, at most `most` of them, and returns how many they are. As items come
 /// before the others, these are the new ones. A mark is the tag of the reference to the next item: it takes no word of an item, and
 /// stays where the item moves.
-pub fn mark_new(heap: &mut Heap<Tail>, most: u64) -> Result<u64, Refusal> {
+pub fn mark_new(heap: &mut Heap<Tail>, trail: &mut Trail, most: u64) -> Result<u64, Refusal>
+    requires room { most_moves heap.old.segs.grains ≤ trail.old.spare + length trail.old.moves }
+    ensures room { KeepsRoom trail.old trail.new }
+{
     heap.copy(cursor(), first())?;
     for count in 0..most {
         if heap.is_null(cursor())? || heap.tag(cursor(), NEXT)? == MARKED {
             return Ok(count);
         }
         heap.set_tag(cursor(), NEXT, MARKED)?;
-        heap.get(cursor(), cursor(), NEXT)?;
+        trail.clear();
+        heap.get(trail, cursor(), cursor(), NEXT)?;
     }
     Ok(most)
 }
@@ -89,14 +100,17 @@ pub fn collect(alloc: Global, heap: &mut Heap<Tail>) -> Result<bool, AllocError>
     if !heap.can_collect() {
         return Ok(false);
     }
-    let mut trail = Trail::new(alloc, heap.most_moves())?;
+    let mut trail = Trail::new(alloc, 2 * heap.most_moves())?;
     heap.collect(&mut trail);
     Ok(true)
 }
 
 /// The sum of the first numbers of the list, at most `most` of them, modulo 2^64. This is a runtime's inner loop: it takes no memory, and
 /// each call in it is a few look-ups.
-pub fn sum(heap: &mut Heap<Tail>, most: u64) -> Result<u64, Refusal> {
+pub fn sum(heap: &mut Heap<Tail>, trail: &mut Trail, most: u64) -> Result<u64, Refusal>
+    requires room { most_moves heap.old.segs.grains ≤ trail.old.spare + length trail.old.moves }
+    ensures room { KeepsRoom trail.old trail.new }
+{
     let mut total = 0u64;
     heap.copy(cursor(), first())?;
     for _ in 0..most {
@@ -104,7 +118,8 @@ pub fn sum(heap: &mut Heap<Tail>, most: u64) -> Result<u64, Refusal> {
             break;
         }
         total = total.wrapping_add(heap.num(cursor(), NUMBER)?);
-        heap.get(cursor(), cursor(), NEXT)?;
+        trail.clear();
+        heap.get(trail, cursor(), cursor(), NEXT)?;
     }
     Ok(total)
 }

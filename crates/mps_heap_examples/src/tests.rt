@@ -1,10 +1,11 @@
 // A heap over a format that isn't one of the three, through all of its life; and the words that a heap lends.
-ghost use Rattle.std.specs.Prelude.{◌<◌};
+ghost use Rattle.std.specs.Prelude.{◌≡◌, ◌+◌, IfOk, []};
+ghost use Rattle.mps_heap.specs.Collect.{most_moves};
 
 use crate::list::named;
 use crate::{HEAD, Tail, collect, make, mark_new, pop, push, sum};
 use mps_base::{Addr, Kind, Rank, Refusal, Slot, Trail};
-use mps_format::Leaf;
+use mps_format::{Format, Leaf};
 use mps_heap::Heap;
 use std::alloc::{AllocError, Global};
 use std::process::Abort;
@@ -31,9 +32,34 @@ fn allocate(alloc: Global, heap: &mut Heap<Tail>, words: u64, at: Slot) -> Resul
     heap.alloc(&mut trail, named(b'v'), words, at)
 }
 
+/// A trail with room for what a call on the heap may move.
+fn trail_for<F: Format>(alloc: Global, heap: &Heap<F>) -> Result<Trail, Refusal>
+    ensures { IfOk result (λ trail. trail ≡ record { moves = []; spare = most_moves heap.now.segs.grains + 1 }) }
+{
+    Trail::new(alloc, heap.most_moves() + 1).map_err(|_| Refusal::OutOfMemory)
+}
+
+/// The sum of the first numbers of the list, with a trail of its own.
+fn sum_of(alloc: Global, heap: &mut Heap<Tail>, most: u64) -> Result<u64, Refusal> {
+    let mut trail = trail_for(alloc, heap)?;
+    sum(heap, &mut trail, most)
+}
+
+/// Drops the first item, with a trail of its own.
+fn pop_one(alloc: Global, heap: &mut Heap<Tail>) -> Result<(), Refusal> {
+    let mut trail = trail_for(alloc, heap)?;
+    pop(heap, &mut trail)
+}
+
+/// Marks the new items, with a trail of its own.
+fn mark(alloc: Global, heap: &mut Heap<Tail>, most: u64) -> Result<u64, Refusal> {
+    let mut trail = trail_for(alloc, heap)?;
+    mark_new(heap, &mut trail, most)
+}
+
 /// Pushes the numbers 1 to 5, with one trail.
 fn push_five(alloc: Global, heap: &mut Heap<Tail>) -> Result<(), Refusal> {
-    let mut trail = Trail::new(alloc, 1).map_err(|_| Refusal::OutOfMemory)?;
+    let mut trail = trail_for(alloc, heap)?;
     push(heap, &mut trail, 1)?;
     push(heap, &mut trail, 2)?;
     push(heap, &mut trail, 3)?;
@@ -44,16 +70,16 @@ fn push_five(alloc: Global, heap: &mut Heap<Tail>) -> Result<(), Refusal> {
 /// A list is made, read and changed.
 fn use_list(rt: &impl Abort, alloc: Global, heap: &mut Heap<Tail>) {
     assert!(rt; make(heap).is_ok());
-    assert!(rt; sum(heap, 10) == Ok(0));
+    assert!(rt; sum_of(alloc, heap, 10) == Ok(0));
     assert!(rt; push_five(alloc, heap).is_ok());
-    assert!(rt; sum(heap, 10) == Ok(15));
-    assert!(rt; sum(heap, 2) == Ok(9));
+    assert!(rt; sum_of(alloc, heap, 10) == Ok(15));
+    assert!(rt; sum_of(alloc, heap, 2) == Ok(9));
     assert!(rt; heap.head(slot(0)) == Ok(HEAD));
     assert!(rt; heap.set_num(slot(0), 1, 20) == Ok(()));
     assert!(rt; heap.put(slot(0), 3, slot(0)) == Ok(()));
     assert!(rt; heap.put(slot(0), 1, slot(0)) == Err(Refusal::NotARef));
     assert!(rt; heap.num(slot(0), 3) == Err(Refusal::NotANumber));
-    assert!(rt; sum(heap, 10) == Ok(30));
+    assert!(rt; sum_of(alloc, heap, 10) == Ok(30));
     assert!(rt; heap.lend_leaf(slot(0)) == Err(Refusal::WrongPool));
     assert!(rt; heap.live() == (5, 20));
 }
@@ -100,7 +126,7 @@ fn a_heap_over_a_format_of_its_own(rt: HostRuntime) -> Result<(), AllocError> {
 
 /// Pushes a number, with a trail of its own.
 fn push_one(alloc: Global, heap: &mut Heap<Tail>, number: u64) -> Result<(), Refusal> {
-    let mut trail = Trail::new(alloc, 1).map_err(|_| Refusal::OutOfMemory)?;
+    let mut trail = trail_for(alloc, heap)?;
     push(heap, &mut trail, number)
 }
 
@@ -108,17 +134,17 @@ fn push_one(alloc: Global, heap: &mut Heap<Tail>, number: u64) -> Result<(), Ref
 fn collect_list(rt: &impl Abort, alloc: Global, heap: &mut Heap<Tail>) {
     assert!(rt; make(heap).is_ok());
     assert!(rt; push_five(alloc, heap).is_ok());
-    assert!(rt; mark_new(heap, 10) == Ok(5));
-    assert!(rt; pop(heap) == Ok(()));
-    assert!(rt; pop(heap) == Ok(()));
-    assert!(rt; sum(heap, 10) == Ok(6));
+    assert!(rt; mark(alloc, heap, 10) == Ok(5));
+    assert!(rt; pop_one(alloc, heap) == Ok(()));
+    assert!(rt; pop_one(alloc, heap) == Ok(()));
+    assert!(rt; sum_of(alloc, heap, 10) == Ok(6));
     assert!(rt; heap.live() == (5, 20));
     assert!(rt; matches!(collect(alloc, heap), Ok(true)));
-    assert!(rt; sum(heap, 10) == Ok(6));
+    assert!(rt; sum_of(alloc, heap, 10) == Ok(6));
     assert!(rt; heap.live() == (3, 12));
     assert!(rt; push_one(alloc, heap, 10).is_ok());
-    assert!(rt; sum(heap, 10) == Ok(16));
-    assert!(rt; mark_new(heap, 10) == Ok(1));
+    assert!(rt; sum_of(alloc, heap, 10) == Ok(16));
+    assert!(rt; mark(alloc, heap, 10) == Ok(1));
 }
 
 #[test]
@@ -131,10 +157,10 @@ fn what_was_dropped_is_collected(rt: HostRuntime) -> Result<(), AllocError> {
 
 /// Makes an object of three words without references, whose numbers are 7 and 0, with a trail of its own.
 fn make_leaf(alloc: Global, heap: &mut Heap<Leaf>) -> Result<(), Refusal> {
-    let mut trail = Trail::new(alloc, 1).map_err(|_| Refusal::OutOfMemory)?;
     heap.pool(named(b'p'), Kind::Lo, Leaf)?;
     heap.table(named(b't'), 2)?;
     heap.point(named(b'x'), named(b'p'), Rank::Exact)?;
+    let mut trail = trail_for(alloc, heap)?;
     heap.reserve(&mut trail, named(b'x'), 0x303)?;
     heap.init_num(named(b'x'), 1, 7)?;
     trail.clear();

@@ -9,33 +9,34 @@ ghost use Rattle.mps_refinement.specs.Answering.{answer_to, says_block, says_ok,
 use super::Heap;
 use mps_base::{Refusal, Slot};
 use mps_format::Format;
+use mps_heap_access::areas;
 
 impl<F: Format> Heap<F> {
     /// Stores a word in an area, and says whether it holds an object from now on: one in which the word lies.
     pub fn poke(&mut self, place: Slot, word: u64) -> Result<bool, Refusal>
         ensures right { IsRight F.layout self.old (call.Poke place word) [] (answer_to says_block result) self.new }
     {
-        self.state.poke(place, word)
+        areas::poke(&mut self.state, place, word)
     }
 
     /// A word of an area.
     pub fn peek(&self, place: Slot) -> Result<u64, Refusal>
         ensures right { IsRight F.layout self.now (call.Peek place) [] (answer_to says_word result) self.now }
     {
-        self.state.peek(place)
+        areas::peek(&self.state, place)
     }
 
     /// Stores the address of the object in a slot in an area, where it holds the object.
     pub fn pin(&mut self, place: Slot, slot: Slot) -> Result<(), Refusal>
         ensures right { IsRight F.layout self.old (call.Pin place slot) [] (answer_to says_ok result) self.new }
     {
-        self.state.pin(place, slot)
+        areas::pin(&mut self.state, place, slot)
     }
 
     /// A slot becomes the object that a word of an area holds. Refuses `NotARef` if it holds none.
     pub fn take(&mut self, slot: Slot, place: Slot) -> Result<(), Refusal>
         ensures right { IsRight F.layout self.old (call.Take slot place) [] (answer_to says_ok result) self.new }
     {
-        self.state.take(slot, place)
+        areas::take(&mut self.state, slot, place)
     }
 }

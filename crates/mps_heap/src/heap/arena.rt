@@ -12,48 +12,42 @@ ghost use Rattle.mps_model.specs.Answer.{Replied};
 use super::Heap;
 use mps_base::{Addr, Refusal};
 use mps_format::Format;
+use mps_heap_code::arena;
 
 impl<F: Format> Heap<F> {
     /// Sets the commit limit, in grains. Refuses `BelowCommitted` if more grains are held.
     pub fn limit(&mut self, n: u32) -> Result<(), Refusal>
         ensures right { IsRight F.layout self.old (call.Limit n) [] (answer_to says_ok result) self.new }
     {
-        self.state.limit(n)
+        arena::limit(&mut self.state, n)
     }
 
     /// How many grains are held.
     pub fn committed(&self) -> u32
         ensures right { IsRight F.layout self.now call.Committed [] (says_number result) self.now }
     {
-        self.state.committed()
+        arena::committed(&self.state)
     }
 
     /// The arena is clamped: it does nothing by itself.
     pub fn clamp(&mut self)
         ensures right { IsRight F.layout self.old call.Clamp [] (Replied reply.Ok) self.new }
     {
-        self.state.clamp();
-    }
-
-    /// The arena is parked: it does nothing by itself, and no collection is in progress.
-    pub fn park(&mut self)
-        ensures right { IsRight F.layout self.old call.Park [] (Replied reply.Ok) self.new }
-    {
-        self.state.park();
+        arena::clamp(&mut self.state);
     }
 
     /// The arena is unclamped: it may collect by itself.
     pub fn release(&mut self)
         ensures right { IsRight F.layout self.old call.Release [] (Replied reply.Ok) self.new }
     {
-        self.state.release();
+        arena::release(&mut self.state);
     }
 
     /// How many blocks live, and how many words they have together.
     pub fn live(&self) -> (u64, u64)
         ensures right { IsRight F.layout self.now call.Live [] (says_pair result) self.now }
     {
-        self.state.live()
+        arena::live(&self.state)
     }
 
     /// How many words the live block has that begins at an address: they are the arena's words there. Refuses `Running` if a collection
@@ -61,6 +55,6 @@ impl<F: Format> Heap<F> {
     pub fn dump(&self, at: Addr) -> Result<u32, Refusal>
         ensures right { IsRight F.layout self.now (call.Dump at.0) [] (answer_to (says_words self.now.segs.words at) result) self.now }
     {
-        self.state.dump(at.0)
+        arena::dump(&self.state, at.0)
     }
 }

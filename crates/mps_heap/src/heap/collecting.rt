@@ -1,45 +1,91 @@
 // Collections.
 #![tactic(auto)]
 
-ghost use Rattle.std.specs.Prelude.{◌≡◌, ◌≤◌, IsTrue};
+ghost use Rattle.std.specs.Prelude.{◌≡◌, ◌*◌, ◌^◌, ◌≤◌, IsTrue};
 ghost use Rattle.mps_model.specs.declared.call.Call.TheVariants as call;
 ghost use Rattle.mps_model.specs.declared.reply.Reply.TheVariants as reply;
 ghost use Rattle.mps_model.specs.Answer.{Replied};
+ghost use Rattle.mps_heap_code.specs.Ticks.{HasTicked};
 ghost use Rattle.mps_heap_spec.specs.Collecting.{can_collect};
+ghost use Rattle.mps_refinement.specs.Answering.{answer_to, says_ok, says_progress};
 ghost use Rattle.mps_refinement.specs.RightMoving.{IsRightMoving, KeepsRoom};
 ghost use Rattle.mps_heap_spec.specs.Collect.{most_moves};
 
 use super::Heap;
-use mps_base::Trail;
+use mps_base::{Refusal, Trail};
 use mps_format::Format;
+use mps_heap_code::steps::{self, Steps};
+use mps_heap_code::{arena, collecting};
+use mps_heap_spec::Progress;
+use mps_heap_state::units;
+use std::sync::ledger::Ledger;
 
 impl<F: Format> Heap<F> {
     /// Whether the heap can collect everything: fewer than 2^63 collections came before.
     pub fn can_collect(&self) -> bool
         ensures value { result ≡ can_collect self.now }
     {
-        self.state.can_collect()
+        collecting::can_collect(&self.state)
     }
 
-    /// How many moves a full collection makes at most: the room that its trail needs. They are 1,025 a grain of the arena, and
-    /// 1,028 more.
+    /// How many moves a full collection makes at most: the room that its trail needs. They are two for each word of the arena, 1,024 a
+    /// grain.
     pub fn most_moves(&self) -> u32
         ensures value { result ≡ most_moves self.now.segs.grains }
+        ensures at_most { result ≤ 2 ^ 21 }
     {
-        self.state.most_moves()
+        collecting::most_moves(&self.state)
     }
 
     /// Collects everything, and leaves the arena parked. What can be reached from slots, messages and words of areas stays; an object in
     /// which a word of an area lies stays where it is, and all others of copying pools are moved, if there is room. What is registered and
-    /// isn't reached stays too, and becomes a message. References of weak objects to what is freed become null. The trail has room for
-    /// `most_moves`.
+    /// isn't reached stays too, and becomes a message. References of weak objects to what is freed become null. A collection in progress is
+    /// finished first, so the trail has room for twice `most_moves`: four moves for each word of the arena.
     pub fn collect(&mut self, trail: &mut Trail)
         requires built { IsTrue (can_collect self.old) }
-        requires fits { most_moves self.old.segs.grains ≤ trail.old.spare }
+        requires fits { 2 * most_moves self.old.segs.grains ≤ trail.old.spare }
         ensures right { IsRightMoving F.layout self.old call.Collect trail.old.moves trail.new.moves (Replied reply.Ok) self.new }
         ensures room { KeepsRoom trail.old trail.new }
     {
-        let _ = self.state.can_collect(); // what it tells of tables and reservations
-        self.state.collect(trail);
+        units::is_whole(&self.state);
+        units::end_collection(&mut self.state, trail);
+        units::is_whole(&self.state);
+        collecting::collect(&mut self.state, trail);
+    }
+
+    /// Finishes the collection in progress, if there is one, and leaves the arena parked: it does nothing by itself. The trail has room for
+    /// `most_moves`.
+    pub fn park(&mut self, trail: &mut Trail)
+        requires fits { most_moves self.old.segs.grains ≤ trail.old.spare }
+        ensures right { IsRightMoving F.layout self.old call.Park trail.old.moves trail.new.moves (Replied reply.Ok) self.new }
+        ensures room { KeepsRoom trail.old trail.new }
+    {
+        units::is_whole(&self.state);
+        units::end_collection(&mut self.state, trail);
+        arena::park(&mut self.state);
+    }
+
+    /// Begins a collection of everything: the flip alone, which moves what slots and messages hold, and no unit. The arena is unclamped
+    /// then. Refuses `Running` if a collection is in progress. The trail has room for `most_moves`.
+    pub fn start(&mut self, trail: &mut Trail) -> Result<(), Refusal>
+        requires few_flips { IsTrue (can_collect self.old) }
+        requires fits { most_moves self.old.segs.grains ≤ trail.old.spare }
+        ensures right { IsRightMoving F.layout self.old call.Start trail.old.moves trail.new.moves (answer_to says_ok result) self.new }
+        ensures room { KeepsRoom trail.old trail.new }
+    {
+        units::is_whole(&self.state);
+        collecting::start(&mut self.state, trail)
+    }
+
+    /// Has the collection in progress do n units, or fewer if it ends in them, and says whether one is in progress then. An arena that is
+    /// clamped or parked does none. Each unit ticks. The trail has room for `most_moves`.
+    pub fn step<L: Ledger>(&mut self, trail: &mut Trail, n: u64, steps: &mut Steps<L>) -> Progress
+        requires fits { most_moves self.old.segs.grains ≤ trail.old.spare }
+        ensures right { IsRightMoving F.layout self.old (call.Step n) trail.old.moves trail.new.moves (says_progress result) self.new }
+        ensures ticks { HasTicked self.old n result steps.old steps.new }
+        ensures room { KeepsRoom trail.old trail.new }
+    {
+        units::is_whole(&self.state);
+        steps::step(&mut self.state, trail, n, steps)
     }
 }

@@ -9,6 +9,7 @@ ghost use Rattle.mps_refinement.specs.Answering.{answer_to, says_interned, says_
 use super::Heap;
 use mps_base::{Addr, Name, Refusal, Slot};
 use mps_format::Format;
+use mps_heap_labelling::labelling;
 
 impl<F: Format> Heap<F> {
     /// Makes a label of any 16 bytes, and returns its number, that of the labels before it. It takes no memory, and stays as long as the
@@ -16,7 +17,7 @@ impl<F: Format> Heap<F> {
     pub fn intern(&mut self, name: Name) -> Result<u32, Refusal>
         ensures right { IsRight F.layout self.old (call.Intern name) [] (answer_to says_interned result) self.new }
     {
-        self.state.intern(name)
+        labelling::intern(&mut self.state, name)
     }
 
     /// The address of the object in a slot and the number of a label, as the record of a log has them. Refuses as `addr` does, and then
@@ -24,6 +25,6 @@ impl<F: Format> Heap<F> {
     pub fn label(&self, slot: Slot, name: Name) -> Result<(Addr, u32), Refusal>
         ensures right { IsRight F.layout self.now (call.Label slot name) [] (answer_to says_labelled result) self.now }
     {
-        self.state.label(slot, name)
+        labelling::label(&self.state, slot, name)
     }
 }

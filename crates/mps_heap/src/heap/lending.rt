@@ -1,22 +1,24 @@
 // The words of manual blocks and of leaf objects are borrowed.
 #![tactic(auto)]
 
-ghost use Rattle.std.specs.Prelude.{MatchResult, Ok, Err};
+ghost use Rattle.std.specs.Prelude.{MatchResult, Ok, Err, map};
 ghost use Rattle.std.specs.Fn.{FnOnceReturnsAtMut};
-ghost use Rattle.mps_heap.specs.Lending.{ComesToWords, IsBorrowedAndWritten, IsNotBorrowed, words_of_block, words_of_leaf};
+ghost use Rattle.mps_model.specs.Graph.{NumberCell};
+ghost use Rattle.mps_heap.specs.Lending.{ComesTo, IsBorrowedAndWritten, IsNotBorrowed, words_of_block, cells_of_leaf};
 
 use super::Heap;
 use mps_base::{Refusal, Slot};
 use mps_format::Format;
+use mps_heap_manual::lending;
 
 impl<F: Format> Heap<F> {
     /// Lends the words of the manual block in a place, and no others. Refuses `BadName`, `BadIndex`, and `NotABlock` if the place is
     /// empty.
     pub fn lend(&self, place: Slot) -> Result<&[u64], Refusal>
-        ensures right { MatchResult result (λ words. ComesToWords F.layout self.now (λ w. words_of_block w place) (Ok words.now))
-            (λ why. ComesToWords F.layout self.now (λ w. words_of_block w place) (Err why)) }
+        ensures right { MatchResult result (λ words. ComesTo F.layout self.now (λ w. words_of_block w place) (Ok words.now))
+            (λ why. ComesTo F.layout self.now (λ w. words_of_block w place) (Err why)) }
     {
-        self.state.lend(place)
+        lending::lend(&self.state, place)
     }
 
     /// Lends the words of the manual block in a place, and no others, to a closure, which may write them, and returns what the closure
@@ -32,15 +34,16 @@ impl<F: Format> Heap<F> {
             (λ r. IsBorrowedAndWritten F.layout self.old place (λ words left. FnOnceReturnsAtMut W.FnOnce write words r left) self.new)
             (λ why. IsNotBorrowed F.layout self.old place why self.new) }
     {
-        self.state.lend_mut(place, write)
+        lending::lend_mut(&mut self.state, place, write)
     }
 
-    /// Lends the words after the head of the object in a slot: its cells from cell 1 on. Refuses `BadName`, `BadIndex`, `NullRef` if
-    /// the slot is null, and `WrongPool` if the object's pool isn't a leaf pool, that is one of the kind `Amcz` or `Lo`.
+    /// Lends the words after the head of the object in a slot: the numbers in its cells from cell 1 on. Refuses `BadName`,
+    /// `BadIndex`, `NullRef` if the slot is null, and `WrongPool` if the object's pool isn't a leaf pool, that is one of the kind `Amcz`
+    /// or `Lo`.
     pub fn lend_leaf(&self, slot: Slot) -> Result<&[u64], Refusal>
-        ensures right { MatchResult result (λ words. ComesToWords F.layout self.now (λ w. words_of_leaf w slot) (Ok words.now))
-            (λ why. ComesToWords F.layout self.now (λ w. words_of_leaf w slot) (Err why)) }
+        ensures right { MatchResult result (λ words. ComesTo F.layout self.now (λ w. cells_of_leaf w slot)
+            (Ok (map NumberCell words.now))) (λ why. ComesTo F.layout self.now (λ w. cells_of_leaf w slot) (Err why)) }
     {
-        self.state.lend_leaf(slot)
+        lending::lend_leaf(&self.state, slot)
     }
 }

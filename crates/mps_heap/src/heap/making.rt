@@ -12,6 +12,7 @@ use super::Heap;
 use super::results::without_key;
 use mps_base::{Kind, Name, Rank, Refusal};
 use mps_format::Format;
+use mps_heap_making::making;
 
 impl<F: Format> Heap<F> {
     /// Makes an automatic pool, whose objects have this format. Refuses `NameTaken`, `TooMany` if there are 64, and
@@ -20,21 +21,21 @@ impl<F: Format> Heap<F> {
         ensures right { (number : ℕ) → IsRightMakingIn F.layout (MeansLayout number (F.layout format)) self.old (call.Pool name kind number)
             result self.new }
     {
-        without_key(self.state.pool(name, kind, format))
+        without_key(making::pool(&mut self.state, name, kind, format))
     }
 
     /// Makes a manual pool of blocks of `words` words. Refuses `BadSize` too, if that isn't 1 to 65,536.
     pub fn pool_mfs(&mut self, name: Name, words: u64) -> Result<(), Refusal>
         ensures right { IsRightMaking F.layout self.old (call.PoolMfs name words) result self.new }
     {
-        without_key(self.state.pool_mfs(name, words))
+        without_key(making::pool_mfs(&mut self.state, name, words))
     }
 
     /// Makes a manual pool of blocks of any sizes.
     pub fn pool_mvff(&mut self, name: Name) -> Result<(), Refusal>
         ensures right { IsRightMaking F.layout self.old (call.PoolMvff name) result self.new }
     {
-        without_key(self.state.pool_mvff(name))
+        without_key(making::pool_mvff(&mut self.state, name))
     }
 
     /// Makes a table of n slots, all null. Refuses `NameTaken`, `TooMany` if there are 256 roots, or more than 65,536 slots, words and
@@ -42,28 +43,28 @@ impl<F: Format> Heap<F> {
     pub fn table(&mut self, name: Name, n: u32) -> Result<(), Refusal>
         ensures right { IsRightMaking F.layout self.old (call.Table name n) result self.new }
     {
-        without_key(self.state.table(name, n))
+        without_key(making::table(&mut self.state, name, n))
     }
 
     /// Makes an area of n words, all 0. Refuses as `table` does.
     pub fn area(&mut self, name: Name, n: u32) -> Result<(), Refusal>
         ensures right { IsRightMaking F.layout self.old (call.Area name n) result self.new }
     {
-        without_key(self.state.area(name, n))
+        without_key(making::area(&mut self.state, name, n))
     }
 
     /// Makes a table of n places for manual blocks, all empty. Refuses as `table` does.
     pub fn blocks(&mut self, name: Name, n: u32) -> Result<(), Refusal>
         ensures right { IsRightMaking F.layout self.old (call.Blocks name n) result self.new }
     {
-        without_key(self.state.blocks(name, n))
+        without_key(making::blocks(&mut self.state, name, n))
     }
 
     /// Drops a table or an area, whose name is free again. Refuses `BadName` for anything else.
     pub fn drop_root(&mut self, name: Name) -> Result<(), Refusal>
         ensures right { IsRight F.layout self.old (call.DropRoot name) [] (answer_to says_ok result) self.new }
     {
-        self.state.drop_root(name)
+        making::drop_root(&mut self.state, name)
     }
 
     /// Makes a point of a pool. Refuses `WrongPool` if the pool is manual, or the rank is weak and the pool can't have weak objects, and
@@ -71,13 +72,13 @@ impl<F: Format> Heap<F> {
     pub fn point(&mut self, name: Name, pool: Name, rank: Rank) -> Result<(), Refusal>
         ensures right { IsRightMaking F.layout self.old (call.Point name pool rank) result self.new }
     {
-        without_key(self.state.point(name, pool, rank))
+        without_key(making::point(&mut self.state, name, pool, rank))
     }
 
     /// Drops a point, whose name is free again. Refuses `Open` if it has an open reservation.
     pub fn drop_point(&mut self, name: Name) -> Result<(), Refusal>
         ensures right { IsRight F.layout self.old (call.DropPoint name) [] (answer_to says_ok result) self.new }
     {
-        self.state.drop_point(name)
+        making::drop_point(&mut self.state, name)
     }
 }

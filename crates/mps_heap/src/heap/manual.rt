@@ -10,6 +10,7 @@ ghost use Rattle.mps_refinement.specs.RightMoving.{IsRightMoving, KeepsRoom};
 use super::Heap;
 use mps_base::{Name, Refusal, Slot, Trail};
 use mps_format::Format;
+use mps_heap_manual::manual;
 
 impl<F: Format> Heap<F> {
     /// Makes a manual block of `words` words, all 0, in a place. Refuses `WrongPool` if the pool is automatic, `BadSize` if it has no
@@ -26,7 +27,7 @@ impl<F: Format> Heap<F> {
             (answer_to says_ok result) self.new }
         ensures room { KeepsRoom trail.old trail.new }
     {
-        self.state.alloc(trail, pool, words, place)
+        manual::alloc(&mut self.state, trail, pool, words, place)
     }
 
     /// Frees the block in a place, which is empty then. Refuses `NotABlock` if it was empty.
@@ -36,20 +37,20 @@ impl<F: Format> Heap<F> {
             (answer_to says_ok result) self.new }
         ensures room { KeepsRoom trail.old trail.new }
     {
-        self.state.free(trail, place)
+        manual::free(&mut self.state, trail, place)
     }
 
     /// A word of the block in a place. Refuses `NotABlock`, and `BadIndex` past its last word.
     pub fn load(&self, place: Slot, word: u64) -> Result<u64, Refusal>
         ensures right { IsRight F.layout self.now (call.Load place word) [] (answer_to says_number result) self.now }
     {
-        self.state.load(place, word)
+        manual::load(&self.state, place, word)
     }
 
     /// Writes a word of the block in a place. Refuses as `load` does.
     pub fn store(&mut self, place: Slot, word: u64, n: u64) -> Result<(), Refusal>
         ensures right { IsRight F.layout self.old (call.Store place word n) [] (answer_to says_ok result) self.new }
     {
-        self.state.store(place, word, n)
+        manual::store(&mut self.state, place, word, n)
     }
 }

@@ -1,31 +1,35 @@
 // Slots and objects.
 #![tactic(auto)]
 
-ghost use Rattle.std.specs.Prelude.{[], ◌<◌};
+ghost use Rattle.std.specs.Prelude.{[], ◌≡◌, ◌<◌, ◌≤◌};
 ghost use Rattle.mps_model.specs.Tagging.{tag_count};
 ghost use Rattle.mps_model.specs.declared.call.Call.TheVariants as call;
+ghost use Rattle.mps_refinement.specs.RightMoving.{IsRightMoving, KeepsRoom};
 ghost use Rattle.mps_refinement.specs.RightStep.{IsRight};
 ghost use Rattle.mps_refinement.specs.Answering.{answer_to, says_bool, says_head, says_number, says_ok};
+ghost use Rattle.mps_heap_spec.specs.Collect.{most_moves};
 ghost use Rattle.mps_heap.specs.Answers.{says_address};
 
 use super::Heap;
 use super::results::as_address;
-use mps_base::{Addr, Refusal, Slot};
+use mps_base::{Addr, Refusal, Slot, Trail};
 use mps_format::Format;
+use mps_heap_access::objects;
 
 impl<F: Format> Heap<F> {
     /// A slot becomes what another is.
     pub fn copy(&mut self, target: Slot, source: Slot) -> Result<(), Refusal>
         ensures right { IsRight F.layout self.old (call.Copy target source) [] (answer_to says_ok result) self.new }
+        ensures grains { self.new.segs.grains ≡ self.old.segs.grains }
     {
-        self.state.copy(target, source)
+        objects::copy(&mut self.state, target, source)
     }
 
     /// A slot becomes null.
     pub fn clear(&mut self, slot: Slot) -> Result<(), Refusal>
         ensures right { IsRight F.layout self.old (call.Clear slot) [] (answer_to says_ok result) self.new }
     {
-        self.state.clear(slot)
+        objects::clear(&mut self.state, slot)
     }
 
     /// Whether two slots are both null or hold the same object.
@@ -33,7 +37,7 @@ impl<F: Format> Heap<F> {
     pub fn same(&self, slot: Slot, other: Slot) -> Result<bool, Refusal>
         ensures right { IsRight F.layout self.now (call.Same slot other) [] (answer_to says_bool result) self.now }
     {
-        self.state.same(slot, other)
+        objects::same(&self.state, slot, other)
     }
 
     /// Whether a slot is null.
@@ -41,7 +45,7 @@ impl<F: Format> Heap<F> {
     pub fn is_null(&self, slot: Slot) -> Result<bool, Refusal>
         ensures right { IsRight F.layout self.now (call.Null slot) [] (answer_to says_bool result) self.now }
     {
-        self.state.is_null(slot)
+        objects::is_null(&self.state, slot)
     }
 
     /// The head of the object in a slot. Refuses `NullRef` if the slot is null.
@@ -49,7 +53,7 @@ impl<F: Format> Heap<F> {
     pub fn head(&self, slot: Slot) -> Result<u64, Refusal>
         ensures right { IsRight F.layout self.now (call.Head slot) [] (answer_to says_head result) self.now }
     {
-        self.state.head(slot)
+        objects::head(&self.state, slot)
     }
 
     /// The address of the object in a slot. The object stays there until the next flip.
@@ -57,7 +61,7 @@ impl<F: Format> Heap<F> {
     pub fn addr(&self, slot: Slot) -> Result<Addr, Refusal>
         ensures right { IsRight F.layout self.now (call.Address slot) [] (answer_to says_address result) self.now }
     {
-        as_address(self.state.addr(slot))
+        as_address(objects::addr(&self.state, slot))
     }
 
     /// The number in a cell of the object in a slot. Refuses `NullRef`, `BadIndex` past the last cell, and `NotANumber` if the cell is a
@@ -66,29 +70,40 @@ impl<F: Format> Heap<F> {
     pub fn num(&self, slot: Slot, cell: u64) -> Result<u64, Refusal>
         ensures right { IsRight F.layout self.now (call.Number slot cell) [] (answer_to says_number result) self.now }
     {
-        self.state.num(slot, cell)
+        objects::num(&self.state, slot, cell)
     }
 
     /// Writes a number into a cell of the object in a slot. Refuses as `num` does.
     pub fn set_num(&mut self, slot: Slot, cell: u64, n: u64) -> Result<(), Refusal>
         ensures right { IsRight F.layout self.old (call.SetNumber slot cell n) [] (answer_to says_ok result) self.new }
     {
-        self.state.set_num(slot, cell, n)
+        objects::set_num(&mut self.state, slot, cell, n)
     }
 
-    /// A slot becomes what a cell of the object in another slot refers to. Refuses `NullRef`, `BadIndex`, and `NotARef` if the cell is
-    /// no reference.
-    pub fn get(&mut self, target: Slot, source: Slot, cell: u64) -> Result<(), Refusal>
-        ensures right { IsRight F.layout self.old (call.Get target source cell) [] (answer_to says_ok result) self.new }
+    /// A slot becomes what a cell of the object in another slot refers to. If a collection runs, its read barrier comes first: it scans
+    /// what is still to be scanned in the segment of the object, and objects may move in that. The trail has room for `most_moves`.
+    /// Refuses `NullRef`, `BadIndex`, and `NotARef` if the cell is no reference.
+    pub fn get(
+        &mut self,
+        trail: &mut Trail,
+        target: Slot,
+        source: Slot,
+        cell: u64,
+    ) -> Result<(), Refusal>
+        requires fits { most_moves self.old.segs.grains ≤ trail.old.spare }
+        ensures right { IsRightMoving F.layout self.old (call.Get target source cell) trail.old.moves trail.new.moves
+            (answer_to says_ok result) self.new }
+        ensures room { KeepsRoom trail.old trail.new }
+        ensures grains { self.new.segs.grains ≡ self.old.segs.grains }
     {
-        self.state.get(target, source, cell)
+        objects::get(&mut self.state, trail, target, source, cell)
     }
 
     /// A cell of the object in a slot refers to what another slot has. Refuses as `get` does.
     pub fn put(&mut self, target: Slot, cell: u64, source: Slot) -> Result<(), Refusal>
         ensures right { IsRight F.layout self.old (call.Put target cell source) [] (answer_to says_ok result) self.new }
     {
-        self.state.put(target, cell, source)
+        objects::put(&mut self.state, target, cell, source)
     }
 
     /// The tag of the reference in a cell of the object in a slot, 0 to 7. Refuses as `get` does.
@@ -96,14 +111,15 @@ impl<F: Format> Heap<F> {
     pub fn tag(&self, slot: Slot, cell: u64) -> Result<u8, Refusal>
         ensures right { IsRight F.layout self.now (call.Tag slot cell) [] (answer_to says_number result) self.now }
     {
-        self.state.tag(slot, cell)
+        objects::tag(&self.state, slot, cell)
     }
 
     /// The reference in a cell of the object in a slot gets this tag, 0 to 7, and refers to what it did. Refuses as `get` does.
     pub fn set_tag(&mut self, slot: Slot, cell: u64, tag: u8) -> Result<(), Refusal>
         requires fits { tag < tag_count }
         ensures right { IsRight F.layout self.old (call.SetTag slot cell tag) [] (answer_to says_ok result) self.new }
+        ensures grains { self.new.segs.grains ≡ self.old.segs.grains }
     {
-        self.state.set_tag(slot, cell, tag)
+        objects::set_tag(&mut self.state, slot, cell, tag)
     }
 }

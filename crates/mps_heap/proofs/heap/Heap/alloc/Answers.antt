@@ -11,20 +11,20 @@ use Rattle.mps_heap.proofs.heap.Heap.alloc.Goals as goal
 pub invariant_of-self : goal.invariant_of-self
 invariant_of-self g c =
     let moved = alloc_is_right_after g.F.Format.layout c.self.inside.state c.args.trail.now c.args.pool c.args.words c.args.place
-    c.alloc.result c.alloc.new.self c.alloc.new.trail c.alloc.ensures in
-    stays g.F.Format.layout c.self.inside.state c.alloc.new.self (call.Alloc c.args.pool c.args.words c.args.place) moved.moves
+    c.alloc.result c.alloc.new.state c.alloc.new.trail c.alloc.ensures in
+    stays g.F.Format.layout c.self.inside.state c.alloc.new.state (call.Alloc c.args.pool c.args.words c.args.place) moved.moves
     (answer_to says_ok c.alloc.result) c.self.invariant moved.right
 
 pub returns : goal.returns
 returns g c = record {
   right = subst
       (λ h. IsRightMoving g.F.Format.layout h (call.Alloc c.args.pool c.args.words c.args.place) c.args.trail.now.moves
-      c.alloc.new.trail.moves (answer_to says_ok c.alloc.result) c.alloc.new.self)
+      c.alloc.new.trail.moves (answer_to says_ok c.alloc.result) c.alloc.new.state)
       c.self.view_is
       (alloc_is_right_after g.F.Format.layout c.self.inside.state c.args.trail.now c.args.pool c.args.words c.args.place c.alloc.result
-      c.alloc.new.self c.alloc.new.trail c.alloc.ensures);
+      c.alloc.new.state c.alloc.new.trail c.alloc.ensures);
   room = keeps_room c.args.trail.now c.self.inside.state (block_allocated c.self.inside.state c.args.trail.now c.args.pool c.args.words
-      c.args.place) c.alloc.result c.alloc.new.self
+      c.args.place) c.alloc.result c.alloc.new.state
       c.alloc.new.trail c.alloc.ensures (alloc_keeps_room g.F.Format.layout c.self.inside.state c.args.trail.now c.args.pool
       c.args.words c.args.place c.requires.fits);
 }

@@ -8,15 +8,15 @@ use Rattle.mps_heap.proofs.heap.Heap.area.Goals as goal
 
 pub invariant_of-self : goal.invariant_of-self
 invariant_of-self g c =
-    making_stays g.F.Format.layout c.self.inside.state c.area.new.self (call.Area c.args.name c.args.n) c.area.result c.self.invariant
-    (area_is_right g.F.Format.layout c.self.inside.state c.args.name c.args.n c.area.result c.area.new.self c.area.ensures)
+    making_stays g.F.Format.layout c.self.inside.state c.area.new.state (call.Area c.args.name c.args.n) c.area.result c.self.invariant
+    (area_is_right g.F.Format.layout c.self.inside.state c.args.name c.args.n c.area.result c.area.new.state c.area.ensures)
 
 pub returns : goal.returns
 returns g c = record {
-  right = subst (λ h. IsRightMaking g.F.Format.layout h (call.Area c.args.name c.args.n) c.without_key.result c.area.new.self)
+  right = subst (λ h. IsRightMaking g.F.Format.layout h (call.Area c.args.name c.args.n) c.without_key.result c.area.new.state)
       c.self.view_is
-      (making_without_key g.F.Format.layout c.self.inside.state c.area.new.self (call.Area c.args.name c.args.n) c.area.result
+      (making_without_key g.F.Format.layout c.self.inside.state c.area.new.state (call.Area c.args.name c.args.n) c.area.result
       c.without_key.result
       c.without_key.ensures.value
-      (area_is_right g.F.Format.layout c.self.inside.state c.args.name c.args.n c.area.result c.area.new.self c.area.ensures));
+      (area_is_right g.F.Format.layout c.self.inside.state c.args.name c.args.n c.area.result c.area.new.state c.area.ensures));
 }

@@ -8,17 +8,17 @@ use Rattle.mps_heap.proofs.heap.Heap.blocks.Goals as goal
 
 pub invariant_of-self : goal.invariant_of-self
 invariant_of-self g c =
-    making_stays g.F.Format.layout c.self.inside.state c.blocks-2.new.self (call.Blocks c.args.name c.args.n) c.blocks-2.result
+    making_stays g.F.Format.layout c.self.inside.state c.blocks-2.new.state (call.Blocks c.args.name c.args.n) c.blocks-2.result
     c.self.invariant
-    (blocks_is_right g.F.Format.layout c.self.inside.state c.args.name c.args.n c.blocks-2.result c.blocks-2.new.self c.blocks-2.ensures)
+    (blocks_is_right g.F.Format.layout c.self.inside.state c.args.name c.args.n c.blocks-2.result c.blocks-2.new.state c.blocks-2.ensures)
 
 pub returns : goal.returns
 returns g c = record {
-  right = subst (λ h. IsRightMaking g.F.Format.layout h (call.Blocks c.args.name c.args.n) c.without_key.result c.blocks-2.new.self)
+  right = subst (λ h. IsRightMaking g.F.Format.layout h (call.Blocks c.args.name c.args.n) c.without_key.result c.blocks-2.new.state)
       c.self.view_is
-      (making_without_key g.F.Format.layout c.self.inside.state c.blocks-2.new.self (call.Blocks c.args.name c.args.n)
+      (making_without_key g.F.Format.layout c.self.inside.state c.blocks-2.new.state (call.Blocks c.args.name c.args.n)
       c.blocks-2.result c.without_key.result
       c.without_key.ensures.value
-      (blocks_is_right g.F.Format.layout c.self.inside.state c.args.name c.args.n c.blocks-2.result c.blocks-2.new.self
+      (blocks_is_right g.F.Format.layout c.self.inside.state c.args.name c.args.n c.blocks-2.result c.blocks-2.new.state
       c.blocks-2.ensures));
 }

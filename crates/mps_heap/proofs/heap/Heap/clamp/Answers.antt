@@ -9,11 +9,11 @@ use Rattle.mps_heap.proofs.heap.Heap.clamp.Goals as goal
 
 pub invariant_of-self : goal.invariant_of-self
 invariant_of-self g c =
-    stays g.F.Format.layout c.self.inside.state c.clamp.new.self call.Clamp [] (Replied reply.Ok) c.self.invariant (clamp_is_right
-    g.F.Format.layout c.self.inside.state c.clamp.new.self c.clamp.ensures)
+    stays g.F.Format.layout c.self.inside.state c.clamp.new.state call.Clamp [] (Replied reply.Ok) c.self.invariant (clamp_is_right
+    g.F.Format.layout c.self.inside.state c.clamp.new.state c.clamp.ensures)
 
 pub returns : goal.returns
 returns g c = record {
-  right = subst (λ h. IsRight g.F.Format.layout h call.Clamp [] (Replied reply.Ok) c.clamp.new.self) c.self.view_is (clamp_is_right
-      g.F.Format.layout c.self.inside.state c.clamp.new.self c.clamp.ensures);
+  right = subst (λ h. IsRight g.F.Format.layout h call.Clamp [] (Replied reply.Ok) c.clamp.new.state) c.self.view_is (clamp_is_right
+      g.F.Format.layout c.self.inside.state c.clamp.new.state c.clamp.ensures);
 }

@@ -8,13 +8,13 @@ use Rattle.mps_heap.proofs.heap.Heap.clear.Goals as goal
 
 pub invariant_of-self : goal.invariant_of-self
 invariant_of-self g c =
-    stays g.F.Format.layout c.self.inside.state c.clear.new.self (call.Clear c.args.slot) [] (answer_to says_ok c.clear.result)
+    stays g.F.Format.layout c.self.inside.state c.clear.new.state (call.Clear c.args.slot) [] (answer_to says_ok c.clear.result)
     c.self.invariant
-    (cleared_right g.F.Format.layout c.self.inside.state c.args.slot c.clear.result c.clear.new.self c.clear.ensures)
+    (cleared_right g.F.Format.layout c.self.inside.state c.args.slot c.clear.result c.clear.new.state c.clear.ensures)
 
 pub returns : goal.returns
 returns g c = record {
-  right = subst (λ h. IsRight g.F.Format.layout h (call.Clear c.args.slot) [] (answer_to says_ok c.clear.result) c.clear.new.self)
+  right = subst (λ h. IsRight g.F.Format.layout h (call.Clear c.args.slot) [] (answer_to says_ok c.clear.result) c.clear.new.state)
       c.self.view_is
-      (cleared_right g.F.Format.layout c.self.inside.state c.args.slot c.clear.result c.clear.new.self c.clear.ensures);
+      (cleared_right g.F.Format.layout c.self.inside.state c.args.slot c.clear.result c.clear.new.state c.clear.ensures);
 }

@@ -1,20 +1,24 @@
-use Rattle.std.proofs.Common.{subst, []}
+use Rattle.std.proofs.Common.{◌≡◌, refl, subst, []}
 use Rattle.mps_model.specs.declared.call.Call.TheVariants as call
 use Rattle.mps_refinement.specs.Answering.{answer_to, says_ok}
 use Rattle.mps_refinement.specs.RightStep.{IsRight}
 use Rattle.mps_refinement.proofs.Calls.Slots.{copied_right}
-use Rattle.mps_refinement.proofs.Worlds.Staying.{stays}
+use Rattle.mps_refinement.proofs.Worlds.Staying.{grains_stay, stays}
 use Rattle.mps_heap.proofs.heap.Heap.copy.Goals as goal
 
 pub invariant_of-self : goal.invariant_of-self
 invariant_of-self g c =
-    stays g.F.Format.layout c.self.inside.state c.copy.new.self (call.Copy c.args.target c.args.source) [] (answer_to says_ok
+    stays g.F.Format.layout c.self.inside.state c.copy.new.state (call.Copy c.args.target c.args.source) [] (answer_to says_ok
     c.copy.result) c.self.invariant
-    (copied_right g.F.Format.layout c.self.inside.state c.args.target c.args.source c.copy.result c.copy.new.self c.copy.ensures)
+    (copied_right g.F.Format.layout c.self.inside.state c.args.target c.args.source c.copy.result c.copy.new.state c.copy.ensures)
 
 pub returns : goal.returns
 returns g c = record {
   right = subst (λ h. IsRight g.F.Format.layout h (call.Copy c.args.target c.args.source) [] (answer_to says_ok c.copy.result)
-      c.copy.new.self) c.self.view_is
-      (copied_right g.F.Format.layout c.self.inside.state c.args.target c.args.source c.copy.result c.copy.new.self c.copy.ensures);
+      c.copy.new.state) c.self.view_is
+      (copied_right g.F.Format.layout c.self.inside.state c.args.target c.args.source c.copy.result c.copy.new.state c.copy.ensures);
+  grains = subst (λ h. c.copy.new.state.segs.grains ≡ h.segs.grains) c.self.view_is
+      (grains_stay g.F.Format.layout c.self.inside.state c.copy.new.state (call.Copy c.args.target c.args.source) [] (answer_to says_ok
+      c.copy.result) c.self.invariant
+      (copied_right g.F.Format.layout c.self.inside.state c.args.target c.args.source c.copy.result c.copy.new.state c.copy.ensures) refl);
 }

@@ -2,20 +2,25 @@ use Rattle.std.proofs.Common.{subst, []}
 use Rattle.mps_model.specs.declared.call.Call.TheVariants as call
 use Rattle.mps_refinement.specs.Answering.{answer_to, says_ok}
 use Rattle.mps_refinement.specs.RightStep.{IsRight}
-use Rattle.mps_refinement.proofs.Calls.Definalizing.{unregistered_right}
-use Rattle.mps_refinement.proofs.Worlds.Staying.{stays}
+use Rattle.mps_refinement.proofs.Calls.Definalizing.{can_unregister, unregistered_right}
+use Rattle.mps_refinement.proofs.Worlds.Staying.{one_world, stays}
 use Rattle.mps_heap.proofs.heap.Heap.definalize.Goals as goal
+
+pub definalize-requires : goal.definalize-requires
+definalize-requires g c =
+    let one = one_world g.F.Format.layout c.self.inside.state c.self.invariant in
+    can_unregister g.F.Format.layout c.self.inside.state one.0 one.1
 
 pub invariant_of-self : goal.invariant_of-self
 invariant_of-self g c =
-    stays g.F.Format.layout c.self.inside.state c.definalize.new.self (call.Definalize c.args.slot) [] (answer_to says_ok
+    stays g.F.Format.layout c.self.inside.state c.definalize.new.state (call.Definalize c.args.slot) [] (answer_to says_ok
     c.definalize.result) c.self.invariant
-    (unregistered_right g.F.Format.layout c.self.inside.state c.args.slot c.definalize.result c.definalize.new.self c.definalize.ensures)
+    (unregistered_right g.F.Format.layout c.self.inside.state c.args.slot c.definalize.result c.definalize.new.state c.definalize.ensures)
 
 pub returns : goal.returns
 returns g c = record {
   right = subst (λ h. IsRight g.F.Format.layout h (call.Definalize c.args.slot) [] (answer_to says_ok c.definalize.result)
-      c.definalize.new.self) c.self.view_is
-      (unregistered_right g.F.Format.layout c.self.inside.state c.args.slot c.definalize.result c.definalize.new.self
+      c.definalize.new.state) c.self.view_is
+      (unregistered_right g.F.Format.layout c.self.inside.state c.args.slot c.definalize.result c.definalize.new.state
       c.definalize.ensures);
 }

@@ -8,14 +8,14 @@ use Rattle.mps_heap.proofs.heap.Heap.drop_point.Goals as goal
 
 pub invariant_of-self : goal.invariant_of-self
 invariant_of-self g c =
-    stays g.F.Format.layout c.self.inside.state c.drop_point.new.self (call.DropPoint c.args.name) [] (answer_to says_ok
+    stays g.F.Format.layout c.self.inside.state c.drop_point.new.state (call.DropPoint c.args.name) [] (answer_to says_ok
     c.drop_point.result) c.self.invariant
-    (droppoint_is_right g.F.Format.layout c.self.inside.state c.args.name c.drop_point.result c.drop_point.new.self c.drop_point.ensures)
+    (droppoint_is_right g.F.Format.layout c.self.inside.state c.args.name c.drop_point.result c.drop_point.new.state c.drop_point.ensures)
 
 pub returns : goal.returns
 returns g c = record {
   right = subst (λ h. IsRight g.F.Format.layout h (call.DropPoint c.args.name) [] (answer_to says_ok c.drop_point.result)
-      c.drop_point.new.self) c.self.view_is
-      (droppoint_is_right g.F.Format.layout c.self.inside.state c.args.name c.drop_point.result c.drop_point.new.self
+      c.drop_point.new.state) c.self.view_is
+      (droppoint_is_right g.F.Format.layout c.self.inside.state c.args.name c.drop_point.result c.drop_point.new.state
       c.drop_point.ensures);
 }

@@ -8,13 +8,13 @@ use Rattle.mps_heap.proofs.heap.Heap.drop_root.Goals as goal
 
 pub invariant_of-self : goal.invariant_of-self
 invariant_of-self g c =
-    stays g.F.Format.layout c.self.inside.state c.drop_root.new.self (call.DropRoot c.args.name) [] (answer_to says_ok
+    stays g.F.Format.layout c.self.inside.state c.drop_root.new.state (call.DropRoot c.args.name) [] (answer_to says_ok
     c.drop_root.result) c.self.invariant
-    (droproot_is_right g.F.Format.layout c.self.inside.state c.args.name c.drop_root.result c.drop_root.new.self c.drop_root.ensures)
+    (droproot_is_right g.F.Format.layout c.self.inside.state c.args.name c.drop_root.result c.drop_root.new.state c.drop_root.ensures)
 
 pub returns : goal.returns
 returns g c = record {
   right = subst (λ h. IsRight g.F.Format.layout h (call.DropRoot c.args.name) [] (answer_to says_ok c.drop_root.result)
-      c.drop_root.new.self) c.self.view_is
-      (droproot_is_right g.F.Format.layout c.self.inside.state c.args.name c.drop_root.result c.drop_root.new.self c.drop_root.ensures);
+      c.drop_root.new.state) c.self.view_is
+      (droproot_is_right g.F.Format.layout c.self.inside.state c.args.name c.drop_root.result c.drop_root.new.state c.drop_root.ensures);
 }

@@ -8,13 +8,13 @@ use Rattle.mps_heap.proofs.heap.Heap.finalize.Goals as goal
 
 pub invariant_of-self : goal.invariant_of-self
 invariant_of-self g c =
-    stays g.F.Format.layout c.self.inside.state c.finalize.new.self (call.Finalize c.args.slot) [] (answer_to says_ok
+    stays g.F.Format.layout c.self.inside.state c.finalize.new.state (call.Finalize c.args.slot) [] (answer_to says_ok
     c.finalize.result) c.self.invariant
-    (registered_right g.F.Format.layout c.self.inside.state c.args.slot c.finalize.result c.finalize.new.self c.finalize.ensures)
+    (registered_right g.F.Format.layout c.self.inside.state c.args.slot c.finalize.result c.finalize.new.state c.finalize.ensures)
 
 pub returns : goal.returns
 returns g c = record {
   right = subst (λ h. IsRight g.F.Format.layout h (call.Finalize c.args.slot) [] (answer_to says_ok c.finalize.result)
-      c.finalize.new.self) c.self.view_is
-      (registered_right g.F.Format.layout c.self.inside.state c.args.slot c.finalize.result c.finalize.new.self c.finalize.ensures);
+      c.finalize.new.state) c.self.view_is
+      (registered_right g.F.Format.layout c.self.inside.state c.args.slot c.finalize.result c.finalize.new.state c.finalize.ensures);
 }

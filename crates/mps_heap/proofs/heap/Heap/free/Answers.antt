@@ -10,21 +10,21 @@ use Rattle.mps_heap.proofs.heap.Heap.free.Goals as goal
 
 pub invariant_of-self : goal.invariant_of-self
 invariant_of-self g c =
-    let moved = free_is_right_after g.F.Format.layout c.self.inside.state c.args.trail.now c.args.place c.free.result c.free.new.self
+    let moved = free_is_right_after g.F.Format.layout c.self.inside.state c.args.trail.now c.args.place c.free.result c.free.new.state
     c.free.new.trail c.free.ensures in
-    stays g.F.Format.layout c.self.inside.state c.free.new.self (call.Free c.args.place) moved.moves (answer_to says_ok c.free.result)
+    stays g.F.Format.layout c.self.inside.state c.free.new.state (call.Free c.args.place) moved.moves (answer_to says_ok c.free.result)
     c.self.invariant moved.right
 
 pub returns : goal.returns
 returns g c = record {
   right = subst
       (λ h. IsRightMoving g.F.Format.layout h (call.Free c.args.place) c.args.trail.now.moves c.free.new.trail.moves (answer_to says_ok
-      c.free.result) c.free.new.self)
+      c.free.result) c.free.new.state)
       c.self.view_is
-      (free_is_right_after g.F.Format.layout c.self.inside.state c.args.trail.now c.args.place c.free.result c.free.new.self
+      (free_is_right_after g.F.Format.layout c.self.inside.state c.args.trail.now c.args.place c.free.result c.free.new.state
       c.free.new.trail c.free.ensures);
   room = keeps_room c.args.trail.now c.self.inside.state (block_freed c.self.inside.state c.args.trail.now c.args.place) c.free.result
-      c.free.new.self
+      c.free.new.state
       c.free.new.trail c.free.ensures (free_keeps_room g.F.Format.layout c.self.inside.state c.args.trail.now c.args.place
       c.requires.fits);
 }

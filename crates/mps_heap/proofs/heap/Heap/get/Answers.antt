@@ -1,22 +1,41 @@
-use Rattle.std.proofs.Common.{subst, []}
+use Rattle.std.proofs.Common.{◌≡◌, ◌≤◌, refl, subst, sym}
 use Rattle.mps_model.specs.declared.call.Call.TheVariants as call
+use Rattle.mps_heap_spec.specs.Collect.{most_moves}
 use Rattle.mps_refinement.specs.Answering.{answer_to, says_ok}
-use Rattle.mps_refinement.specs.RightStep.{IsRight}
-use Rattle.mps_refinement.proofs.Calls.Gets.{reference_got_right}
-use Rattle.mps_refinement.proofs.Worlds.Staying.{stays}
+use Rattle.mps_refinement.specs.RightMoving.{IsRightMoving}
+use Rattle.mps_refinement.proofs.Units.GetCalls.{can_get, got_rightly}
+use Rattle.mps_refinement.proofs.Worlds.Staying.{grains_stay, one_world, stays}
 use Rattle.mps_heap.proofs.heap.Heap.get.Goals as goal
+
+pub get-requires : goal.get-requires
+get-requires g c =
+    let h = c.self.inside.state in
+    let room = subst (λ x. most_moves x.segs.grains ≤ c.args.trail.now.spare) (sym c.self.view_is) c.requires.fits in
+    let one = one_world g.F.Format.layout h c.self.invariant in
+    can_get g.F.Format.layout h c.args.trail.now room one.0 one.1 c.args.target c.args.source c.args.cell
 
 pub invariant_of-self : goal.invariant_of-self
 invariant_of-self g c =
-    stays g.F.Format.layout c.self.inside.state c.get.new.self (call.Get c.args.target c.args.source c.args.cell) [] (answer_to says_ok
-    c.get.result) c.self.invariant
-    (reference_got_right g.F.Format.layout c.self.inside.state c.args.target c.args.source c.args.cell c.get.result c.get.new.self
-    c.get.ensures)
+    let h = c.self.inside.state in
+    let room = subst (λ x. most_moves x.segs.grains ≤ c.args.trail.now.spare) (sym c.self.view_is) c.requires.fits in
+    let moved = (got_rightly g.F.Format.layout h c.args.trail.now room c.args.target c.args.source c.args.cell c.get.result c.get.new.state
+    c.get.new.trail c.get.ensures c.self.invariant).0 in
+    stays g.F.Format.layout h c.get.new.state (call.Get c.args.target c.args.source c.args.cell) moved.moves (answer_to says_ok
+    c.get.result) c.self.invariant moved.right
 
 pub returns : goal.returns
-returns g c = record {
-  right = subst (λ h. IsRight g.F.Format.layout h (call.Get c.args.target c.args.source c.args.cell) [] (answer_to says_ok
-      c.get.result) c.get.new.self) c.self.view_is
-      (reference_got_right g.F.Format.layout c.self.inside.state c.args.target c.args.source c.args.cell c.get.result c.get.new.self
-      c.get.ensures);
-}
+returns g c =
+    let h = c.self.inside.state in
+    let room = subst (λ x. most_moves x.segs.grains ≤ c.args.trail.now.spare) (sym c.self.view_is) c.requires.fits in
+    let got = got_rightly g.F.Format.layout h c.args.trail.now room c.args.target c.args.source c.args.cell c.get.result c.get.new.state
+    c.get.new.trail c.get.ensures c.self.invariant in
+    record {
+      right = subst
+          (λ x. IsRightMoving g.F.Format.layout x (call.Get c.args.target c.args.source c.args.cell) c.args.trail.now.moves
+          c.get.new.trail.moves (answer_to says_ok c.get.result) c.get.new.state)
+          c.self.view_is got.0;
+      room = got.1;
+      grains = subst (λ x. c.get.new.state.segs.grains ≡ x.segs.grains) c.self.view_is
+          (grains_stay g.F.Format.layout h c.get.new.state (call.Get c.args.target c.args.source c.args.cell) got.0.moves (answer_to says_ok
+          c.get.result) c.self.invariant got.0.right refl);
+    }

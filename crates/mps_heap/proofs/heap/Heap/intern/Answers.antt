@@ -8,13 +8,13 @@ use Rattle.mps_heap.proofs.heap.Heap.intern.Goals as goal
 
 pub invariant_of-self : goal.invariant_of-self
 invariant_of-self g c =
-    stays g.F.Format.layout c.self.inside.state c.intern.new.self (call.Intern c.args.name) [] (answer_to says_interned c.intern.result)
+    stays g.F.Format.layout c.self.inside.state c.intern.new.state (call.Intern c.args.name) [] (answer_to says_interned c.intern.result)
     c.self.invariant
-    (intern_is_right g.F.Format.layout c.self.inside.state c.args.name c.intern.result c.intern.new.self c.intern.ensures)
+    (intern_is_right g.F.Format.layout c.self.inside.state c.args.name c.intern.result c.intern.new.state c.intern.ensures.outcome)
 
 pub returns : goal.returns
 returns g c = record {
   right = subst (λ h. IsRight g.F.Format.layout h (call.Intern c.args.name) [] (answer_to says_interned c.intern.result)
-      c.intern.new.self) c.self.view_is
-      (intern_is_right g.F.Format.layout c.self.inside.state c.args.name c.intern.result c.intern.new.self c.intern.ensures);
+      c.intern.new.state) c.self.view_is
+      (intern_is_right g.F.Format.layout c.self.inside.state c.args.name c.intern.result c.intern.new.state c.intern.ensures.outcome);
 }

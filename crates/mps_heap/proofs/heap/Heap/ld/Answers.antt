@@ -8,14 +8,14 @@ use Rattle.mps_heap.proofs.heap.Heap.ld.Goals as goal
 
 pub invariant_of-self : goal.invariant_of-self
 invariant_of-self g c =
-    making_stays g.F.Format.layout c.self.inside.state c.ld.new.self (call.Dependency c.args.name) c.ld.result c.self.invariant
-    (dependency_is_right g.F.Format.layout c.self.inside.state c.args.name c.ld.result c.ld.new.self c.ld.ensures)
+    making_stays g.F.Format.layout c.self.inside.state c.ld.new.state (call.Dependency c.args.name) c.ld.result c.self.invariant
+    (dependency_is_right g.F.Format.layout c.self.inside.state c.args.name c.ld.result c.ld.new.state c.ld.ensures)
 
 pub returns : goal.returns
 returns g c = record {
-  right = subst (λ h. IsRightMaking g.F.Format.layout h (call.Dependency c.args.name) c.without_key.result c.ld.new.self) c.self.view_is
-      (making_without_key g.F.Format.layout c.self.inside.state c.ld.new.self (call.Dependency c.args.name) c.ld.result
+  right = subst (λ h. IsRightMaking g.F.Format.layout h (call.Dependency c.args.name) c.without_key.result c.ld.new.state) c.self.view_is
+      (making_without_key g.F.Format.layout c.self.inside.state c.ld.new.state (call.Dependency c.args.name) c.ld.result
       c.without_key.result
       c.without_key.ensures.value
-      (dependency_is_right g.F.Format.layout c.self.inside.state c.args.name c.ld.result c.ld.new.self c.ld.ensures));
+      (dependency_is_right g.F.Format.layout c.self.inside.state c.args.name c.ld.result c.ld.new.state c.ld.ensures));
 }

@@ -8,15 +8,15 @@ use Rattle.mps_heap.proofs.heap.Heap.ld_add.Goals as goal
 
 pub invariant_of-self : goal.invariant_of-self
 invariant_of-self g c =
-    stays g.F.Format.layout c.self.inside.state c.ld_add.new.self (call.DependencyAdd c.args.name c.args.slot) [] (answer_to says_ok
+    stays g.F.Format.layout c.self.inside.state c.ld_add.new.state (call.DependencyAdd c.args.name c.args.slot) [] (answer_to says_ok
     c.ld_add.result) c.self.invariant
-    (dependency_added_right g.F.Format.layout c.self.inside.state c.args.name c.args.slot c.ld_add.result c.ld_add.new.self
+    (dependency_added_right g.F.Format.layout c.self.inside.state c.args.name c.args.slot c.ld_add.result c.ld_add.new.state
     c.ld_add.ensures)
 
 pub returns : goal.returns
 returns g c = record {
   right = subst (λ h. IsRight g.F.Format.layout h (call.DependencyAdd c.args.name c.args.slot) [] (answer_to says_ok c.ld_add.result)
-      c.ld_add.new.self) c.self.view_is
-      (dependency_added_right g.F.Format.layout c.self.inside.state c.args.name c.args.slot c.ld_add.result c.ld_add.new.self
+      c.ld_add.new.state) c.self.view_is
+      (dependency_added_right g.F.Format.layout c.self.inside.state c.args.name c.args.slot c.ld_add.result c.ld_add.new.state
       c.ld_add.ensures);
 }

@@ -8,15 +8,15 @@ use Rattle.mps_heap.proofs.heap.Heap.ld_merge.Goals as goal
 
 pub invariant_of-self : goal.invariant_of-self
 invariant_of-self g c =
-    stays g.F.Format.layout c.self.inside.state c.ld_merge.new.self (call.DependencyMerge c.args.name c.args.source) [] (answer_to
+    stays g.F.Format.layout c.self.inside.state c.ld_merge.new.state (call.DependencyMerge c.args.name c.args.source) [] (answer_to
     says_ok c.ld_merge.result) c.self.invariant
-    (dependency_merge_is_right g.F.Format.layout c.self.inside.state c.args.name c.args.source c.ld_merge.result c.ld_merge.new.self
+    (dependency_merge_is_right g.F.Format.layout c.self.inside.state c.args.name c.args.source c.ld_merge.result c.ld_merge.new.state
     c.ld_merge.ensures)
 
 pub returns : goal.returns
 returns g c = record {
   right = subst (λ h. IsRight g.F.Format.layout h (call.DependencyMerge c.args.name c.args.source) [] (answer_to says_ok
-      c.ld_merge.result) c.ld_merge.new.self) c.self.view_is
-      (dependency_merge_is_right g.F.Format.layout c.self.inside.state c.args.name c.args.source c.ld_merge.result c.ld_merge.new.self
+      c.ld_merge.result) c.ld_merge.new.state) c.self.view_is
+      (dependency_merge_is_right g.F.Format.layout c.self.inside.state c.args.name c.args.source c.ld_merge.result c.ld_merge.new.state
       c.ld_merge.ensures);
 }

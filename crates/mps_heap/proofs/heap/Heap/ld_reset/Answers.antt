@@ -8,14 +8,14 @@ use Rattle.mps_heap.proofs.heap.Heap.ld_reset.Goals as goal
 
 pub invariant_of-self : goal.invariant_of-self
 invariant_of-self g c =
-    stays g.F.Format.layout c.self.inside.state c.ld_reset.new.self (call.DependencyReset c.args.name) [] (answer_to says_ok
+    stays g.F.Format.layout c.self.inside.state c.ld_reset.new.state (call.DependencyReset c.args.name) [] (answer_to says_ok
     c.ld_reset.result) c.self.invariant
-    (dependency_reset_is_right g.F.Format.layout c.self.inside.state c.args.name c.ld_reset.result c.ld_reset.new.self c.ld_reset.ensures)
+    (dependency_reset_is_right g.F.Format.layout c.self.inside.state c.args.name c.ld_reset.result c.ld_reset.new.state c.ld_reset.ensures)
 
 pub returns : goal.returns
 returns g c = record {
   right = subst (λ h. IsRight g.F.Format.layout h (call.DependencyReset c.args.name) [] (answer_to says_ok c.ld_reset.result)
-      c.ld_reset.new.self) c.self.view_is
-      (dependency_reset_is_right g.F.Format.layout c.self.inside.state c.args.name c.ld_reset.result c.ld_reset.new.self
+      c.ld_reset.new.state) c.self.view_is
+      (dependency_reset_is_right g.F.Format.layout c.self.inside.state c.args.name c.ld_reset.result c.ld_reset.new.state
       c.ld_reset.ensures);
 }

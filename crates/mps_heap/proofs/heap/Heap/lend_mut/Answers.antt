@@ -8,7 +8,7 @@ use Rattle.mps_heap.proofs.heap.Heap.lend_mut.Goals as goal
 pub invariant_of-self : goal.invariant_of-self
 invariant_of-self g c =
     written_or_refused_stays g.F.Format.layout c.self.inside.state c.args.place
-    (λ r words left. FnOnceReturnsAtMut g.W.FnOnce c.args.write words r left) c.lend_mut.new.self c.lend_mut.result c.lend_mut.ensures
+    (λ r words left. FnOnceReturnsAtMut g.W.FnOnce c.args.write words r left) c.lend_mut.new.state c.lend_mut.result c.lend_mut.ensures
     c.self.invariant
 
 pub returns : goal.returns
@@ -17,10 +17,10 @@ returns g c = record {
       subst
       (λ h. MatchResult c.lend_mut.result
       (λ r. IsBorrowedAndWritten g.F.Format.layout h c.args.place (λ words left. FnOnceReturnsAtMut g.W.FnOnce c.args.write words r left)
-      c.lend_mut.new.self)
-      (λ why. IsNotBorrowed g.F.Format.layout h c.args.place why c.lend_mut.new.self))
+      c.lend_mut.new.state)
+      (λ why. IsNotBorrowed g.F.Format.layout h c.args.place why c.lend_mut.new.state))
       c.self.view_is
       (written_or_refused g.F.Format.layout c.self.inside.state c.args.place
-      (λ r words left. FnOnceReturnsAtMut g.W.FnOnce c.args.write words r left) c.lend_mut.new.self c.lend_mut.result
+      (λ r words left. FnOnceReturnsAtMut g.W.FnOnce c.args.write words r left) c.lend_mut.new.state c.lend_mut.result
       c.lend_mut.ensures);
 }

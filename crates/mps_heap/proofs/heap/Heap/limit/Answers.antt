@@ -8,13 +8,13 @@ use Rattle.mps_heap.proofs.heap.Heap.limit.Goals as goal
 
 pub invariant_of-self : goal.invariant_of-self
 invariant_of-self g c =
-    stays g.F.Format.layout c.self.inside.state c.limit.new.self (call.Limit c.args.n) [] (answer_to says_ok c.limit.result)
+    stays g.F.Format.layout c.self.inside.state c.limit.new.state (call.Limit c.args.n) [] (answer_to says_ok c.limit.result)
     c.self.invariant
-    (limit_is_right g.F.Format.layout c.self.inside.state c.args.n c.limit.result c.limit.new.self c.limit.ensures)
+    (limit_is_right g.F.Format.layout c.self.inside.state c.args.n c.limit.result c.limit.new.state c.limit.ensures)
 
 pub returns : goal.returns
 returns g c = record {
-  right = subst (λ h. IsRight g.F.Format.layout h (call.Limit c.args.n) [] (answer_to says_ok c.limit.result) c.limit.new.self)
+  right = subst (λ h. IsRight g.F.Format.layout h (call.Limit c.args.n) [] (answer_to says_ok c.limit.result) c.limit.new.state)
       c.self.view_is
-      (limit_is_right g.F.Format.layout c.self.inside.state c.args.n c.limit.result c.limit.new.self c.limit.ensures);
+      (limit_is_right g.F.Format.layout c.self.inside.state c.args.n c.limit.result c.limit.new.state c.limit.ensures);
 }

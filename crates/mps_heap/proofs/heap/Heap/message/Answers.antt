@@ -8,13 +8,13 @@ use Rattle.mps_heap.proofs.heap.Heap.message.Goals as goal
 
 pub invariant_of-self : goal.invariant_of-self
 invariant_of-self g c =
-    stays g.F.Format.layout c.self.inside.state c.message.new.self (call.Message c.args.slot) [] (answer_to says_message
+    stays g.F.Format.layout c.self.inside.state c.message.new.state (call.Message c.args.slot) [] (answer_to says_message
     c.message.result) c.self.invariant
-    (message_right g.F.Format.layout c.self.inside.state c.args.slot c.message.result c.message.new.self c.message.ensures)
+    (message_right g.F.Format.layout c.self.inside.state c.args.slot c.message.result c.message.new.state c.message.ensures)
 
 pub returns : goal.returns
 returns g c = record {
   right = subst (λ h. IsRight g.F.Format.layout h (call.Message c.args.slot) [] (answer_to says_message c.message.result)
-      c.message.new.self) c.self.view_is
-      (message_right g.F.Format.layout c.self.inside.state c.args.slot c.message.result c.message.new.self c.message.ensures);
+      c.message.new.state) c.self.view_is
+      (message_right g.F.Format.layout c.self.inside.state c.args.slot c.message.result c.message.new.state c.message.ensures);
 }

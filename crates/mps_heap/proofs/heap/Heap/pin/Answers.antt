@@ -8,13 +8,13 @@ use Rattle.mps_heap.proofs.heap.Heap.pin.Goals as goal
 
 pub invariant_of-self : goal.invariant_of-self
 invariant_of-self g c =
-    stays g.F.Format.layout c.self.inside.state c.pin.new.self (call.Pin c.args.place c.args.slot) [] (answer_to says_ok c.pin.result)
+    stays g.F.Format.layout c.self.inside.state c.pin.new.state (call.Pin c.args.place c.args.slot) [] (answer_to says_ok c.pin.result)
     c.self.invariant
-    (pinned_right g.F.Format.layout c.self.inside.state c.args.place c.args.slot c.pin.result c.pin.new.self c.pin.ensures)
+    (pinned_right g.F.Format.layout c.self.inside.state c.args.place c.args.slot c.pin.result c.pin.new.state c.pin.ensures)
 
 pub returns : goal.returns
 returns g c = record {
   right = subst (λ h. IsRight g.F.Format.layout h (call.Pin c.args.place c.args.slot) [] (answer_to says_ok c.pin.result)
-      c.pin.new.self) c.self.view_is
-      (pinned_right g.F.Format.layout c.self.inside.state c.args.place c.args.slot c.pin.result c.pin.new.self c.pin.ensures);
+      c.pin.new.state) c.self.view_is
+      (pinned_right g.F.Format.layout c.self.inside.state c.args.place c.args.slot c.pin.result c.pin.new.state c.pin.ensures);
 }

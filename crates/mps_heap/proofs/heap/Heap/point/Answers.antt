@@ -8,18 +8,18 @@ use Rattle.mps_heap.proofs.heap.Heap.point.Goals as goal
 
 pub invariant_of-self : goal.invariant_of-self
 invariant_of-self g c =
-    making_stays g.F.Format.layout c.self.inside.state c.point.new.self (call.Point c.args.name c.args.pool c.args.rank) c.point.result
+    making_stays g.F.Format.layout c.self.inside.state c.point.new.state (call.Point c.args.name c.args.pool c.args.rank) c.point.result
     c.self.invariant
-    (point_is_right g.F.Format.layout c.self.inside.state c.args.name c.args.pool c.args.rank c.point.result c.point.new.self
+    (point_is_right g.F.Format.layout c.self.inside.state c.args.name c.args.pool c.args.rank c.point.result c.point.new.state
     c.point.ensures)
 
 pub returns : goal.returns
 returns g c = record {
   right = subst (λ h. IsRightMaking g.F.Format.layout h (call.Point c.args.name c.args.pool c.args.rank) c.without_key.result
-      c.point.new.self) c.self.view_is
-      (making_without_key g.F.Format.layout c.self.inside.state c.point.new.self (call.Point c.args.name c.args.pool c.args.rank)
+      c.point.new.state) c.self.view_is
+      (making_without_key g.F.Format.layout c.self.inside.state c.point.new.state (call.Point c.args.name c.args.pool c.args.rank)
       c.point.result c.without_key.result
       c.without_key.ensures.value
-      (point_is_right g.F.Format.layout c.self.inside.state c.args.name c.args.pool c.args.rank c.point.result c.point.new.self
+      (point_is_right g.F.Format.layout c.self.inside.state c.args.name c.args.pool c.args.rank c.point.result c.point.new.state
       c.point.ensures));
 }

@@ -8,13 +8,13 @@ use Rattle.mps_heap.proofs.heap.Heap.poke.Goals as goal
 
 pub invariant_of-self : goal.invariant_of-self
 invariant_of-self g c =
-    stays g.F.Format.layout c.self.inside.state c.poke.new.self (call.Poke c.args.place c.args.word) [] (answer_to says_block
+    stays g.F.Format.layout c.self.inside.state c.poke.new.state (call.Poke c.args.place c.args.word) [] (answer_to says_block
     c.poke.result) c.self.invariant
-    (poked_right g.F.Format.layout c.self.inside.state c.args.place c.args.word c.poke.result c.poke.new.self c.poke.ensures)
+    (poked_right g.F.Format.layout c.self.inside.state c.args.place c.args.word c.poke.result c.poke.new.state c.poke.ensures)
 
 pub returns : goal.returns
 returns g c = record {
   right = subst (λ h. IsRight g.F.Format.layout h (call.Poke c.args.place c.args.word) [] (answer_to says_block c.poke.result)
-      c.poke.new.self) c.self.view_is
-      (poked_right g.F.Format.layout c.self.inside.state c.args.place c.args.word c.poke.result c.poke.new.self c.poke.ensures);
+      c.poke.new.state) c.self.view_is
+      (poked_right g.F.Format.layout c.self.inside.state c.args.place c.args.word c.poke.result c.poke.new.state c.poke.ensures);
 }

@@ -8,18 +8,18 @@ use Rattle.mps_heap.proofs.heap.Heap.pool.Goals as goal
 
 pub invariant_of-self : goal.invariant_of-self
 invariant_of-self g c =
-    pool_stays g.F.Format.layout c.self.inside.state c.pool.new.self c.args.name c.args.kind c.args.format c.pool.result
+    pool_stays g.F.Format.layout c.self.inside.state c.pool.new.state c.args.name c.args.kind c.args.format c.pool.result
     (g.met.F.Format.lawful c.args.format) c.self.invariant
     (λ number. pool_is_right g.F.Format.layout c.self.inside.state c.args.name c.args.kind c.args.format number c.pool.result
-    c.pool.new.self c.pool.ensures)
+    c.pool.new.state c.pool.ensures)
 
 pub returns : goal.returns
 returns g c = record {
   right = λ number.
       subst (λ h. IsRightMakingIn g.F.Format.layout (MeansLayout number (g.F.Format.layout c.args.format)) h
-      (call.Pool c.args.name c.args.kind number) c.without_key.result c.pool.new.self) c.self.view_is
-      (making_in_without_key g.F.Format.layout (MeansLayout number (g.F.Format.layout c.args.format)) c.self.inside.state c.pool.new.self
+      (call.Pool c.args.name c.args.kind number) c.without_key.result c.pool.new.state) c.self.view_is
+      (making_in_without_key g.F.Format.layout (MeansLayout number (g.F.Format.layout c.args.format)) c.self.inside.state c.pool.new.state
       (call.Pool c.args.name c.args.kind number) c.pool.result c.without_key.result c.without_key.ensures.value
-      (pool_is_right g.F.Format.layout c.self.inside.state c.args.name c.args.kind c.args.format number c.pool.result c.pool.new.self
+      (pool_is_right g.F.Format.layout c.self.inside.state c.args.name c.args.kind c.args.format number c.pool.result c.pool.new.state
       c.pool.ensures));
 }

@@ -8,18 +8,18 @@ use Rattle.mps_heap.proofs.heap.Heap.pool_mfs.Goals as goal
 
 pub invariant_of-self : goal.invariant_of-self
 invariant_of-self g c =
-    making_stays g.F.Format.layout c.self.inside.state c.pool_mfs.new.self (call.PoolMfs c.args.name c.args.words) c.pool_mfs.result
+    making_stays g.F.Format.layout c.self.inside.state c.pool_mfs.new.state (call.PoolMfs c.args.name c.args.words) c.pool_mfs.result
     c.self.invariant
-    (pool_mfs_is_right g.F.Format.layout c.self.inside.state c.args.name c.args.words c.pool_mfs.result c.pool_mfs.new.self
+    (pool_mfs_is_right g.F.Format.layout c.self.inside.state c.args.name c.args.words c.pool_mfs.result c.pool_mfs.new.state
     c.pool_mfs.ensures)
 
 pub returns : goal.returns
 returns g c = record {
   right = subst (λ h. IsRightMaking g.F.Format.layout h (call.PoolMfs c.args.name c.args.words) c.without_key.result
-      c.pool_mfs.new.self) c.self.view_is
-      (making_without_key g.F.Format.layout c.self.inside.state c.pool_mfs.new.self (call.PoolMfs c.args.name c.args.words)
+      c.pool_mfs.new.state) c.self.view_is
+      (making_without_key g.F.Format.layout c.self.inside.state c.pool_mfs.new.state (call.PoolMfs c.args.name c.args.words)
       c.pool_mfs.result c.without_key.result
       c.without_key.ensures.value
-      (pool_mfs_is_right g.F.Format.layout c.self.inside.state c.args.name c.args.words c.pool_mfs.result c.pool_mfs.new.self
+      (pool_mfs_is_right g.F.Format.layout c.self.inside.state c.args.name c.args.words c.pool_mfs.result c.pool_mfs.new.state
       c.pool_mfs.ensures));
 }

@@ -8,16 +8,16 @@ use Rattle.mps_heap.proofs.heap.Heap.pool_mvff.Goals as goal
 
 pub invariant_of-self : goal.invariant_of-self
 invariant_of-self g c =
-    making_stays g.F.Format.layout c.self.inside.state c.pool_mvff.new.self (call.PoolMvff c.args.name) c.pool_mvff.result
+    making_stays g.F.Format.layout c.self.inside.state c.pool_mvff.new.state (call.PoolMvff c.args.name) c.pool_mvff.result
     c.self.invariant
-    (pool_mvff_is_right g.F.Format.layout c.self.inside.state c.args.name c.pool_mvff.result c.pool_mvff.new.self c.pool_mvff.ensures)
+    (pool_mvff_is_right g.F.Format.layout c.self.inside.state c.args.name c.pool_mvff.result c.pool_mvff.new.state c.pool_mvff.ensures)
 
 pub returns : goal.returns
 returns g c = record {
-  right = subst (λ h. IsRightMaking g.F.Format.layout h (call.PoolMvff c.args.name) c.without_key.result c.pool_mvff.new.self)
+  right = subst (λ h. IsRightMaking g.F.Format.layout h (call.PoolMvff c.args.name) c.without_key.result c.pool_mvff.new.state)
       c.self.view_is
-      (making_without_key g.F.Format.layout c.self.inside.state c.pool_mvff.new.self (call.PoolMvff c.args.name) c.pool_mvff.result
+      (making_without_key g.F.Format.layout c.self.inside.state c.pool_mvff.new.state (call.PoolMvff c.args.name) c.pool_mvff.result
       c.without_key.result
       c.without_key.ensures.value
-      (pool_mvff_is_right g.F.Format.layout c.self.inside.state c.args.name c.pool_mvff.result c.pool_mvff.new.self c.pool_mvff.ensures));
+      (pool_mvff_is_right g.F.Format.layout c.self.inside.state c.args.name c.pool_mvff.result c.pool_mvff.new.state c.pool_mvff.ensures));
 }

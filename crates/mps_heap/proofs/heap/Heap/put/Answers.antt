@@ -8,15 +8,15 @@ use Rattle.mps_heap.proofs.heap.Heap.put.Goals as goal
 
 pub invariant_of-self : goal.invariant_of-self
 invariant_of-self g c =
-    stays g.F.Format.layout c.self.inside.state c.put.new.self (call.Put c.args.target c.args.cell c.args.source) [] (answer_to says_ok
+    stays g.F.Format.layout c.self.inside.state c.put.new.state (call.Put c.args.target c.args.cell c.args.source) [] (answer_to says_ok
     c.put.result) c.self.invariant
-    (reference_put_right g.F.Format.layout c.self.inside.state c.args.target c.args.cell c.args.source c.put.result c.put.new.self
-    c.put.ensures)
+    (reference_put_right g.F.Format.layout c.self.inside.state c.args.target c.args.cell c.args.source c.put.result c.put.new.state
+    c.put.ensures.outcome)
 
 pub returns : goal.returns
 returns g c = record {
   right = subst (λ h. IsRight g.F.Format.layout h (call.Put c.args.target c.args.cell c.args.source) [] (answer_to says_ok
-      c.put.result) c.put.new.self) c.self.view_is
-      (reference_put_right g.F.Format.layout c.self.inside.state c.args.target c.args.cell c.args.source c.put.result c.put.new.self
-      c.put.ensures);
+      c.put.result) c.put.new.state) c.self.view_is
+      (reference_put_right g.F.Format.layout c.self.inside.state c.args.target c.args.cell c.args.source c.put.result c.put.new.state
+      c.put.ensures.outcome);
 }

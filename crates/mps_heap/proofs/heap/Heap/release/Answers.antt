@@ -9,11 +9,11 @@ use Rattle.mps_heap.proofs.heap.Heap.release.Goals as goal
 
 pub invariant_of-self : goal.invariant_of-self
 invariant_of-self g c =
-    stays g.F.Format.layout c.self.inside.state c.release.new.self call.Release [] (Replied reply.Ok) c.self.invariant
-    (release_is_right g.F.Format.layout c.self.inside.state c.release.new.self c.release.ensures)
+    stays g.F.Format.layout c.self.inside.state c.release.new.state call.Release [] (Replied reply.Ok) c.self.invariant
+    (release_is_right g.F.Format.layout c.self.inside.state c.release.new.state c.release.ensures)
 
 pub returns : goal.returns
 returns g c = record {
-  right = subst (λ h. IsRight g.F.Format.layout h call.Release [] (Replied reply.Ok) c.release.new.self) c.self.view_is
-      (release_is_right g.F.Format.layout c.self.inside.state c.release.new.self c.release.ensures);
+  right = subst (λ h. IsRight g.F.Format.layout h call.Release [] (Replied reply.Ok) c.release.new.state) c.self.view_is
+      (release_is_right g.F.Format.layout c.self.inside.state c.release.new.state c.release.ensures);
 }

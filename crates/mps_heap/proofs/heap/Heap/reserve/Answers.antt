@@ -1,33 +1,48 @@
-use Rattle.std.proofs.Common.{subst}
+use Rattle.std.proofs.Common.{◌≡◌, ◌<◌, refl, sym, subst}
 use Rattle.mps_model.specs.declared.call.Call.TheVariants as call
-use Rattle.mps_heap_spec.specs.Allocating.{after_reserve}
+use Rattle.mps_heap_spec.specs.Collect.{most_moves}
 use Rattle.mps_refinement.specs.Answering.{answer_to, says_ok}
 use Rattle.mps_refinement.specs.RightMoving.{IsRightMoving}
-use Rattle.mps_refinement.proofs.Worlds.Appending.{reserve_is_right_after}
-use Rattle.mps_refinement.proofs.Worlds.Room.{keeps_room, reserve_keeps_room}
-use Rattle.mps_refinement.proofs.Worlds.Staying.{is_ready, stays}
+use Rattle.mps_refinement.proofs.Worlds.Staying.{grains_stay, is_ready, stays}
+use Rattle.mps_heap.proofs.Reserving.{can_poll_here, reserved_rightly, some_room}
 use Rattle.mps_heap.proofs.heap.Heap.reserve.Goals as goal
 
 pub reserve-requires : goal.reserve-requires
-reserve-requires g c = record { ready = is_ready g.F.Format.layout c.self.inside.state c.self.invariant; fits = c.requires.fits }
+reserve-requires g c =
+    let layout = g.F.Format.layout in
+    let h = c.self.inside.state in
+    let m = c.args.trail.now in
+    let room = subst (λ x. most_moves x.segs.grains < c.args.trail.now.spare) (sym c.self.view_is) c.requires.fits in
+    record {
+      ready = is_ready layout h c.self.invariant;
+      fits = some_room layout h c.self.invariant c.is_whole.ensures.whole m room;
+      can = can_poll_here layout h c.self.invariant c.is_whole.ensures.whole m room;
+    }
 
 pub invariant_of-self : goal.invariant_of-self
 invariant_of-self g c =
-    let moved = reserve_is_right_after g.F.Format.layout c.self.inside.state c.args.trail.now c.args.x c.args.head c.reserve.result
-    c.reserve.new.self c.reserve.new.trail c.reserve.ensures in
-    stays g.F.Format.layout c.self.inside.state c.reserve.new.self (call.Reserve c.args.x c.args.head) moved.moves (answer_to says_ok
-    c.reserve.result) c.self.invariant moved.right
+    let layout = g.F.Format.layout in
+    let h = c.self.inside.state in
+    let room = subst (λ x. most_moves x.segs.grains < c.args.trail.now.spare) (sym c.self.view_is) c.requires.fits in
+    let moved = (reserved_rightly layout h c.self.invariant c.is_whole.ensures.whole c.args.trail.now room c.args.x c.args.head
+    c.reserve.result c.reserve.new.state c.reserve.new.trail c.reserve.ensures).0 in
+    stays layout h c.reserve.new.state (call.Reserve c.args.x c.args.head) moved.moves (answer_to says_ok c.reserve.result)
+    c.self.invariant moved.right
 
 pub returns : goal.returns
-returns g c = record {
-  right = subst
-      (λ h. IsRightMoving g.F.Format.layout h (call.Reserve c.args.x c.args.head) c.args.trail.now.moves c.reserve.new.trail.moves
-      (answer_to says_ok c.reserve.result) c.reserve.new.self)
-      c.self.view_is
-      (reserve_is_right_after g.F.Format.layout c.self.inside.state c.args.trail.now c.args.x c.args.head c.reserve.result
-      c.reserve.new.self c.reserve.new.trail c.reserve.ensures);
-  room = keeps_room c.args.trail.now c.self.inside.state (after_reserve g.F.Format.layout c.self.inside.state c.args.trail.now c.args.x
-      c.args.head) c.reserve.result c.reserve.new.self
-      c.reserve.new.trail c.reserve.ensures (reserve_keeps_room g.F.Format.layout c.self.inside.state c.args.trail.now c.args.x
-      c.args.head c.requires.fits);
-}
+returns g c =
+    let layout = g.F.Format.layout in
+    let h = c.self.inside.state in
+    let room = subst (λ x. most_moves x.segs.grains < c.args.trail.now.spare) (sym c.self.view_is) c.requires.fits in
+    let came = reserved_rightly layout h c.self.invariant c.is_whole.ensures.whole c.args.trail.now room c.args.x c.args.head
+    c.reserve.result c.reserve.new.state c.reserve.new.trail c.reserve.ensures in
+    record {
+      right = subst
+          (λ x. IsRightMoving layout x (call.Reserve c.args.x c.args.head) c.args.trail.now.moves c.reserve.new.trail.moves
+          (answer_to says_ok c.reserve.result) c.reserve.new.state)
+          c.self.view_is came.0;
+      room = came.1;
+      grains = subst (λ x. c.reserve.new.state.segs.grains ≡ x.segs.grains) c.self.view_is
+          (grains_stay layout h c.reserve.new.state (call.Reserve c.args.x c.args.head) came.0.moves (answer_to says_ok c.reserve.result)
+          c.self.invariant came.0.right refl);
+    }

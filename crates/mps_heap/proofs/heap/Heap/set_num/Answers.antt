@@ -8,15 +8,15 @@ use Rattle.mps_heap.proofs.heap.Heap.set_num.Goals as goal
 
 pub invariant_of-self : goal.invariant_of-self
 invariant_of-self g c =
-    stays g.F.Format.layout c.self.inside.state c.set_num.new.self (call.SetNumber c.args.slot c.args.cell c.args.n) [] (answer_to
+    stays g.F.Format.layout c.self.inside.state c.set_num.new.state (call.SetNumber c.args.slot c.args.cell c.args.n) [] (answer_to
     says_ok c.set_num.result) c.self.invariant
-    (number_set_right g.F.Format.layout c.self.inside.state c.args.slot c.args.cell c.args.n c.set_num.result c.set_num.new.self
+    (number_set_right g.F.Format.layout c.self.inside.state c.args.slot c.args.cell c.args.n c.set_num.result c.set_num.new.state
     c.set_num.ensures)
 
 pub returns : goal.returns
 returns g c = record {
   right = subst (λ h. IsRight g.F.Format.layout h (call.SetNumber c.args.slot c.args.cell c.args.n) [] (answer_to says_ok
-      c.set_num.result) c.set_num.new.self) c.self.view_is
-      (number_set_right g.F.Format.layout c.self.inside.state c.args.slot c.args.cell c.args.n c.set_num.result c.set_num.new.self
+      c.set_num.result) c.set_num.new.state) c.self.view_is
+      (number_set_right g.F.Format.layout c.self.inside.state c.args.slot c.args.cell c.args.n c.set_num.result c.set_num.new.state
       c.set_num.ensures);
 }

@@ -8,15 +8,15 @@ use Rattle.mps_heap.proofs.heap.Heap.store.Goals as goal
 
 pub invariant_of-self : goal.invariant_of-self
 invariant_of-self g c =
-    stays g.F.Format.layout c.self.inside.state c.store.new.self (call.Store c.args.place c.args.word c.args.n) [] (answer_to says_ok
+    stays g.F.Format.layout c.self.inside.state c.store.new.state (call.Store c.args.place c.args.word c.args.n) [] (answer_to says_ok
     c.store.result) c.self.invariant
-    (store_is_right g.F.Format.layout c.self.inside.state c.args.place c.args.word c.args.n c.store.result c.store.new.self
+    (store_is_right g.F.Format.layout c.self.inside.state c.args.place c.args.word c.args.n c.store.result c.store.new.state
     c.store.ensures)
 
 pub returns : goal.returns
 returns g c = record {
   right = subst (λ h. IsRight g.F.Format.layout h (call.Store c.args.place c.args.word c.args.n) [] (answer_to says_ok c.store.result)
-      c.store.new.self) c.self.view_is
-      (store_is_right g.F.Format.layout c.self.inside.state c.args.place c.args.word c.args.n c.store.result c.store.new.self
+      c.store.new.state) c.self.view_is
+      (store_is_right g.F.Format.layout c.self.inside.state c.args.place c.args.word c.args.n c.store.result c.store.new.state
       c.store.ensures);
 }

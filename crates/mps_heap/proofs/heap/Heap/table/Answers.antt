@@ -8,15 +8,15 @@ use Rattle.mps_heap.proofs.heap.Heap.table.Goals as goal
 
 pub invariant_of-self : goal.invariant_of-self
 invariant_of-self g c =
-    making_stays g.F.Format.layout c.self.inside.state c.table.new.self (call.Table c.args.name c.args.n) c.table.result c.self.invariant
-    (table_is_right g.F.Format.layout c.self.inside.state c.args.name c.args.n c.table.result c.table.new.self c.table.ensures)
+    making_stays g.F.Format.layout c.self.inside.state c.table.new.state (call.Table c.args.name c.args.n) c.table.result c.self.invariant
+    (table_is_right g.F.Format.layout c.self.inside.state c.args.name c.args.n c.table.result c.table.new.state c.table.ensures)
 
 pub returns : goal.returns
 returns g c = record {
-  right = subst (λ h. IsRightMaking g.F.Format.layout h (call.Table c.args.name c.args.n) c.without_key.result c.table.new.self)
+  right = subst (λ h. IsRightMaking g.F.Format.layout h (call.Table c.args.name c.args.n) c.without_key.result c.table.new.state)
       c.self.view_is
-      (making_without_key g.F.Format.layout c.self.inside.state c.table.new.self (call.Table c.args.name c.args.n) c.table.result
+      (making_without_key g.F.Format.layout c.self.inside.state c.table.new.state (call.Table c.args.name c.args.n) c.table.result
       c.without_key.result
       c.without_key.ensures.value
-      (table_is_right g.F.Format.layout c.self.inside.state c.args.name c.args.n c.table.result c.table.new.self c.table.ensures));
+      (table_is_right g.F.Format.layout c.self.inside.state c.args.name c.args.n c.table.result c.table.new.state c.table.ensures));
 }

@@ -8,13 +8,13 @@ use Rattle.mps_heap.proofs.heap.Heap.take.Goals as goal
 
 pub invariant_of-self : goal.invariant_of-self
 invariant_of-self g c =
-    stays g.F.Format.layout c.self.inside.state c.take.new.self (call.Take c.args.slot c.args.place) [] (answer_to says_ok
+    stays g.F.Format.layout c.self.inside.state c.take.new.state (call.Take c.args.slot c.args.place) [] (answer_to says_ok
     c.take.result) c.self.invariant
-    (taken_right g.F.Format.layout c.self.inside.state c.args.slot c.args.place c.take.result c.take.new.self c.take.ensures)
+    (taken_right g.F.Format.layout c.self.inside.state c.args.slot c.args.place c.take.result c.take.new.state c.take.ensures)
 
 pub returns : goal.returns
 returns g c = record {
   right = subst (λ h. IsRight g.F.Format.layout h (call.Take c.args.slot c.args.place) [] (answer_to says_ok c.take.result)
-      c.take.new.self) c.self.view_is
-      (taken_right g.F.Format.layout c.self.inside.state c.args.slot c.args.place c.take.result c.take.new.self c.take.ensures);
+      c.take.new.state) c.self.view_is
+      (taken_right g.F.Format.layout c.self.inside.state c.args.slot c.args.place c.take.result c.take.new.state c.take.ensures);
 }

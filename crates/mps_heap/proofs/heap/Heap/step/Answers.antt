@@ -1,0 +1,39 @@
+use Rattle.std.proofs.Common.{◌≤◌, sym, subst}
+use Rattle.mps_model.specs.declared.call.Call.TheVariants as call
+use Rattle.mps_heap_spec.specs.Collect.{most_moves}
+use Rattle.mps_heap_code.specs.Ticks.{HasTicked}
+use Rattle.mps_refinement.specs.Answering.{says_progress}
+use Rattle.mps_refinement.specs.RightMoving.{IsRightMoving}
+use Rattle.mps_refinement.proofs.Worlds.Staying.{stays}
+use Rattle.mps_heap.proofs.Collected.{can_step, stepped_rightly}
+use Rattle.mps_heap.proofs.heap.Heap.step.Goals as goal
+
+pub step-requires : goal.step-requires
+step-requires g c =
+    let room = subst (λ x. most_moves x.segs.grains ≤ c.args.trail.now.spare) (sym c.self.view_is) c.requires.fits in
+    can_step g.F.Format.layout c.self.inside.state c.self.invariant c.is_whole.ensures.whole c.args.trail.now room c.args.n
+
+pub invariant_of-self : goal.invariant_of-self
+invariant_of-self g c =
+    let layout = g.F.Format.layout in
+    let h = c.self.inside.state in
+    let room = subst (λ x. most_moves x.segs.grains ≤ c.args.trail.now.spare) (sym c.self.view_is) c.requires.fits in
+    let moved = (stepped_rightly layout h c.self.invariant c.is_whole.ensures.whole c.args.trail.now room c.args.n c.step.new.state
+    c.step.new.trail c.step.result c.step.ensures.stepped).0 in
+    stays layout h c.step.new.state (call.Step c.args.n) moved.moves (says_progress c.step.result) c.self.invariant moved.right
+
+pub returns : goal.returns
+returns g c =
+    let layout = g.F.Format.layout in
+    let h = c.self.inside.state in
+    let room = subst (λ x. most_moves x.segs.grains ≤ c.args.trail.now.spare) (sym c.self.view_is) c.requires.fits in
+    let stepped = stepped_rightly layout h c.self.invariant c.is_whole.ensures.whole c.args.trail.now room c.args.n c.step.new.state
+    c.step.new.trail c.step.result c.step.ensures.stepped in
+    record {
+      right = subst
+          (λ x. IsRightMoving layout x (call.Step c.args.n) c.args.trail.now.moves c.step.new.trail.moves (says_progress c.step.result)
+          c.step.new.state)
+          c.self.view_is stepped.0;
+      ticks = subst (λ x. HasTicked x c.args.n c.step.result c.args.steps.now c.step.new.steps) c.self.view_is c.step.ensures.ticked;
+      room = stepped.1;
+    }

@@ -1,0 +1,8 @@
+use Rattle.std.proofs.Common.{◌+◌, ◌≤◌, length}
+use Rattle.mps_heap.specs.Collect.{most_moves}
+use Rattle.mps_heap.specs.RightMoving.{KeepsRoom}
+use Rattle.mps_heap_examples.proofs.list.mark_new.Given as goal
+
+-- the whole room of the trail stays enough
+abbrev pub invariant-loop-count : goal.invariant-loop-count
+invariant-loop-count l = (most_moves l.heap.segs.grains ≤ l.trail.spare + length l.trail.moves) × KeepsRoom l.fn.trail l.trail
