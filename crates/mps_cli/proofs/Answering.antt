@@ -1,5 +1,5 @@
 -- From what a method of the heap guarantees to what its answer does.
-use Rattle.std.proofs.Common.{◌≡◌, ◌≢◌, ◌∙◌, ℕ, Bool, true, sym, ap, subst, List, [], ◌++◌, Result, Ok, Err}
+use Rattle.std.proofs.Common.{◌≡◌, ◌≢◌, ◌∙◌, ℕ, Bool, true, refl, sym, ap, subst, List, [], ◌++◌, Result, Ok, Err}
 use Rattle.std.specs.Prelude.{IfOk, OnErr}
 use Rattle.mps_base.specs.declared.address.Addr.{Addr}
 use Rattle.mps_base.specs.declared.moves.Move.{Move}
@@ -24,6 +24,7 @@ use Rattle.mps_cli.specs.Built.{is_answered}
 use Rattle.mps_cli.specs.Groups.{makes_thing}
 use Rattle.mps_cli.specs.Standing.{AnswersRightly, Answered, IsAnswered, HasScriptFormats, HeapStandsStill}
 use Rattle.mps_cli.specs.Told.{Tells}
+use Rattle.mps_cli.proofs.Groups.{collect_is_answered, start_is_answered}
 
 -- in a world, where the reply tells the answer
 told_right : {after : HeapState AnyFormat} {c d : Call} {moves : List Move} {given : Reply} {answer : Answer} (w : World) (line : ℕ)
@@ -55,6 +56,30 @@ module _ {h after : HeapState AnyFormat} {c d : Call} (is : c ≡ d) where
   answered_making came (Ok given) makes tells other right =
       Answered (ap makes_thing is ∙ makes) (answered tells (right.answered other))
   answered_making came (Err e) makes tells other right = tt
+
+-- calls that begin a collection, or have one in progress go on or end
+module _ {h after : HeapState AnyFormat} {c : Call} {moves : List Move} {given : Reply} (collects : Bool) where
+  pub answered_collect : c ≡ call.Collect → AnswersRightly collects h call.Collect moves given after
+      → AnswersRightly (is_answered collects c) h c moves given after
+  answered_collect is right =
+      subst (λ (k : Call). AnswersRightly (is_answered collects k) h k moves given after) (sym is)
+      (subst (λ (b : Bool). AnswersRightly b h call.Collect moves given after) (sym (collect_is_answered collects)) right)
+
+  pub answered_start : c ≡ call.Start → AnswersRightly collects h call.Start moves given after
+      → AnswersRightly (is_answered collects c) h c moves given after
+  answered_start is right =
+      subst (λ (k : Call). AnswersRightly (is_answered collects k) h k moves given after) (sym is)
+      (subst (λ (b : Bool). AnswersRightly b h call.Start moves given after) (sym (start_is_answered collects)) right)
+
+  pub answered_park : c ≡ call.Park → IsAnswered h call.Park moves given after
+      → AnswersRightly (is_answered collects c) h c moves given after
+  answered_park is right =
+      subst (λ (k : Call). AnswersRightly (is_answered collects k) h k moves given after) (sym is) (Answered refl right)
+
+  pub answered_step : (units : ℕ) → c ≡ call.Step units → IsAnswered h (call.Step units) moves given after
+      → AnswersRightly (is_answered collects c) h c moves given after
+  answered_step units is right =
+      subst (λ (k : Call). AnswersRightly (is_answered collects k) h k moves given after) (sym is) (Answered refl right)
 
 -- a pool of objects of the format that a number means
 pub answered_pool : {h after : HeapState AnyFormat} {c d : Call} (is : c ≡ d) {A : Type 0} (came : Result A Refusal) {E : Type 0}

@@ -1,5 +1,5 @@
 -- A session goes on standing for some world of a script, with room for the moves of each call.
-use Rattle.std.proofs.Common.{◌≡◌, ◌∙◌, ◌+◌, ◌<◌, ◌≤◌, ℕ, Bool, sym, ap, subst, List, [], length, Result, Ok, Err, arith}
+use Rattle.std.proofs.Common.{◌≡◌, ◌∙◌, ◌+◌, ◌*◌, ◌<◌, ◌≤◌, ℕ, Bool, sym, ap, subst, List, [], length, Result, Ok, Err, arith}
 use Rattle.std.specs.Prelude.{OnErr, OnOk}
 use Rattle.mps_base.specs.Trail.{Moves, emptied}
 use Rattle.mps_base.specs.declared.moves.Move.{Move}
@@ -22,8 +22,8 @@ use Rattle.mps_cli.specs.Standing.{AnswersRightly, Answered, HeapStands, HeapSta
 use Rattle.mps_cli.proofs.Standing.{StepsTo, answer, answers_in, makes_none, numbers_are_lawful}
 
 -- the trail was emptied, and a call kept its room, in an arena of as many grains
-has_room : (grains grains' : ℕ) (trail after : Moves) → grains' ≡ grains → most_moves grains ≤ trail.spare + length trail.moves
-    → KeepsRoom (emptied trail) after → most_moves grains' ≤ after.spare + length after.moves
+has_room : (grains grains' : ℕ) (trail after : Moves) → grains' ≡ grains → 2 * most_moves grains ≤ trail.spare + length trail.moves
+    → KeepsRoom (emptied trail) after → 2 * most_moves grains' ≤ after.spare + length after.moves
 has_room grains grains' trail after same fits kept = omega (arith, same, fits, kept)
 
 module _ (h after : HeapState AnyFormat) (trail trail' : Moves) (kept : KeepsRoom (emptied trail) trail') where
@@ -63,13 +63,13 @@ module _ (h after : HeapState AnyFormat) (trail trail' : Moves) (kept : KeepsRoo
   call_keeps c moves given collects (Ok done) answers still s = answered_keeps c moves given collects answers s
   call_keeps c moves given collects (Err e) answers still s = still_keeps still s
 
--- a new heap, with an empty trail that has room for a collection of it
+-- a new heap, with an empty trail that has room for two collections of it
 pub new_keeps : (grains limit : ℕ) (h : HeapState AnyFormat) (trail : Moves) → 0 < grains → IsNewHeap any_layout grains limit h
-    → trail ≡ record { moves = []; spare = most_moves h.segs.grains } → StandsForScript h trail
+    → trail ≡ record { moves = []; spare = 2 * most_moves h.segs.grains } → StandsForScript h trail
 new_keeps grains limit h trail some new is =
     let r = new numbered_layout numbers_are_lawful 0 in
     record {
       world = world_after empty_world (arena_step 0 grains limit);
       stands = record { heap = r.stands; formats = r.formats; arena = some };
-      fits = subst (λ (t : Moves). most_moves h.segs.grains ≤ t.spare + length t.moves) (sym is) (omega arith);
+      fits = subst (λ (t : Moves). 2 * most_moves h.segs.grains ≤ t.spare + length t.moves) (sym is) (omega arith);
     }

@@ -1,6 +1,7 @@
 -- What is built, and what takes memory.
 use Rattle.std.specs.Prelude.{◌≡◌, ◌∷◌, [], Bool, true, false, ◌&&◌, nat_lt, not, if◌then◌else◌, None, refl}
 use Rattle.mps_base.specs.declared.names.Kind.TheVariants as kind
+use Rattle.mps_base.specs.declared.names.Name.{Name}
 use Rattle.mps_model.specs.declared.call.Call.{Call}
 use Rattle.mps_model.specs.declared.call.Call.TheVariants as call
 use Rattle.mps_model.specs.FirstCall.{is_arena}
@@ -8,15 +9,14 @@ use Rattle.mps_model.specs.Graph.{empty_graph}
 use Rattle.mps_model.specs.World.{World, Collected, empty_world}
 use Rattle.mps_commands.specs.Built.{Built}
 
--- whether the form of a call is built: all but chains of generations, what begins or drives a collection by steps, dependents,
--- transforms, caches and frames; a collection of everything is if it can be counted
+-- whether the form of a call is built: all but chains of generations, dependents, transforms, caches and frames; what flips is if one flip
+-- more can be counted
 abbrev pub is_built : (collects : Bool) → Call → Bool
 is_built collects (call.Chain chain count capacities) = false
 is_built collects (call.PoolOnChain pool kind format chain) = false
 is_built collects call.Collect = collects
-is_built collects call.Start = false
+is_built collects call.Start = collects
 is_built collects (call.StartChain chain generation) = false
-is_built collects (call.Step units) = false
 is_built collects (call.Depend holder dependent) = false
 is_built collects (call.Undepend holder) = false
 is_built collects (call.Transform transform) = false
@@ -80,8 +80,14 @@ live_is_built = refl
 pub a_collection_is : is_unsupported_call example_world call.Collect ≡ false
 a_collection_is = refl
 
-pub no_collection_by_steps_is : is_unsupported_call example_world call.Start ≡ true
-no_collection_by_steps_is = refl
+pub a_collection_by_steps_is : is_unsupported_call example_world call.Start ≡ false
+a_collection_by_steps_is = refl
+
+pub a_step_is : is_unsupported_call example_world (call.Step 1) ≡ false
+a_step_is = refl
+
+pub no_collection_of_a_chain_is : (chain : Name) → is_unsupported_call example_world (call.StartChain chain 0) ≡ true
+no_collection_of_a_chain_is chain = refl
 
 pub a_collection_beside_a_pool_that_marks :
     is_unsupported_call (record example_world { pools = record { kind = Collected kind.Ams; format = 1; chain = None } ∷ [] }) call.Collect

@@ -3,17 +3,21 @@ use Rattle.std.specs.Prelude.{Bool, true, false, ◌||◌}
 use Rattle.mps_model.specs.declared.call.Call.{Call}
 use Rattle.mps_model.specs.declared.call.Call.TheVariants as call
 
--- a call that collects
+-- a call that begins a collection, or has one in progress go on or end
 abbrev pub is_collection : Call → Bool
+is_collection call.Start = true
+is_collection (call.Step units) = true
 is_collection call.Collect = true
+is_collection call.Park = true
 is_collection _ = false
 
--- a call that makes or ends a block, and may make moves
+-- a call that makes or ends a block, or reads a reference, and may make moves
 abbrev pub may_move : Call → Bool
 may_move (call.Reserve point head) = true
 may_move (call.Commit point target) = true
 may_move (call.Alloc pool words place) = true
 may_move (call.Free place) = true
+may_move (call.Get target source cell) = true
 may_move _ = false
 
 -- a call that reads a slot, or a word of an object or a manual block
@@ -30,7 +34,6 @@ reads_words _ = false
 
 -- a call that writes a slot, or a word of an object, a reservation or a manual block
 abbrev pub writes_words : Call → Bool
-writes_words (call.Get target source cell) = true
 writes_words (call.Put target cell source) = true
 writes_words (call.SetNumber slot cell value) = true
 writes_words (call.Copy target source) = true
@@ -65,7 +68,6 @@ abbrev pub is_on_arena : Call → Bool
 is_on_arena (call.Limit limit) = true
 is_on_arena call.Committed = true
 is_on_arena call.Clamp = true
-is_on_arena call.Park = true
 is_on_arena call.Release = true
 is_on_arena call.Live = true
 is_on_arena (call.Dump at) = true

@@ -1,5 +1,5 @@
 -- What a session has: a heap and the moves of its last call, once the arena was made.
-use Rattle.std.specs.Prelude.{ℕ, ◌+◌, ◌≤◌, List, [], length, Option, Some, None}
+use Rattle.std.specs.Prelude.{ℕ, ◌+◌, ◌*◌, ◌≤◌, List, [], length, Option, Some, None}
 use Rattle.mps_base.specs.Trail.{Moves}
 use Rattle.mps_base.specs.declared.moves.Move.{Move}
 use Rattle.mps_format.specs.declared.any.AnyFormat.{AnyFormat}
@@ -10,9 +10,9 @@ pub record MadeState : Type 0 where
   pub heap : HeapState AnyFormat
   pub trail : Moves
 
--- the trail has room for the moves of one call in an arena of these grains: a full collection makes the most
+-- the trail has room for the moves of one call in an arena of these grains: a `collect` makes the most, those of two collections
 abbrev pub HasRoomForMoves : (grains : ℕ) → Moves → Type 0
-HasRoomForMoves grains trail = most_moves grains ≤ trail.spare + length trail.moves
+HasRoomForMoves grains trail = 2 * most_moves grains ≤ trail.spare + length trail.moves
 
 abbrev pub last_moves : Option MadeState → List Move
 last_moves None = []

@@ -2,6 +2,7 @@
 //
 // The check goes over each test as over any function, so their form is one that costs little: tables are constants, a case
 // has a function of its own, and the function that owns a desk does nothing but hand it on.
+mod between_units;
 mod collected;
 mod desk;
 mod gathered;
@@ -11,6 +12,7 @@ mod memory;
 mod played;
 mod scripts;
 mod session;
+mod stepped;
 mod words;
 
 use crate::mps::mps;
@@ -51,7 +53,7 @@ const FULL_ARENA_ANSWERS: &[u8] =
     b"ok\nok\nok\nok\nrefused 4\nok\nok\nrefused 10 1 1 1\nrefused 5\n";
 
 /// A command that isn't built.
-const NOT_BUILT: &[u8] = b"# x\n arena  8   9 \nstart\n";
+const NOT_BUILT: &[u8] = b"# x\n arena  8   9 \nchain c 1\n";
 
 const NOT_BUILT_ANSWERS: &[u8] = b"ok\nunsupported\n";
 

@@ -22,7 +22,6 @@ pub fn answer(heap: &mut Heap<AnyFormat>, call: &Call) -> Option<Reply>
         Call::Limit { limit } => Some(done(heap.limit(limit as u32))),
         Call::Committed => Some(Reply::Number(u64::from(heap.committed()))),
         Call::Clamp => Some(clamp(heap)),
-        Call::Park => Some(park(heap)),
         Call::Release => Some(release(heap)),
         Call::Live => Some(live(heap)),
         Call::Dump { at } => Some(dump(heap, Addr(at))),
@@ -37,13 +36,6 @@ fn clamp(heap: &mut Heap<AnyFormat>) -> Reply
     ensures { IsAnswered heap.old call.Clamp [] result heap.new }
 {
     heap.clamp();
-    Reply::Ok
-}
-
-fn park(heap: &mut Heap<AnyFormat>) -> Reply
-    ensures { IsAnswered heap.old call.Park [] result heap.new }
-{
-    heap.park();
     Reply::Ok
 }
 

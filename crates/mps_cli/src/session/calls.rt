@@ -1,5 +1,5 @@
 // Answers the calls on the heap of an arena.
-ghost use Rattle.std.specs.Prelude.{◌≡◌, ◌≤◌, OnErr, OnOk, IsTrue, false, []};
+ghost use Rattle.std.specs.Prelude.{◌≡◌, ◌*◌, ◌<◌, ◌≤◌, OnErr, OnOk, IsTrue, false, []};
 ghost use Rattle.mps_commands.specs.Range.{IsInRange};
 ghost use Rattle.mps_refinement.specs.Collecting.{can_collect};
 ghost use Rattle.mps_refinement.specs.RightMoving.{KeepsRoom};
@@ -25,7 +25,8 @@ pub fn answer(
 ) -> Result<(), AllocError>
     requires range { IsInRange call.now }
     requires empty { trail.old.moves ≡ [] }
-    requires fits { most_moves heap.old.segs.grains ≤ trail.old.spare }
+    requires grains { 0 < heap.old.segs.grains }
+    requires fits { 2 * most_moves heap.old.segs.grains ≤ trail.old.spare }
     ensures right { OnOk result
         (AnswersRightly (is_answered (can_collect heap.old) call.now) heap.old call.now trail.new.moves reply.new heap.new) }
     ensures unchanged { OnErr result (HeapStandsStill heap.old heap.new) }
@@ -59,15 +60,15 @@ fn answer_seldom(
     requires range { IsInRange call.now }
     requires seldom { is_frequent call.now ≡ false }
     requires empty { trail.old.moves ≡ [] }
-    requires fits { most_moves heap.old.segs.grains ≤ trail.old.spare }
+    requires fits { 2 * most_moves heap.old.segs.grains ≤ trail.old.spare }
     ensures right { OnOk result
         (AnswersRightly (is_answered (can_collect heap.old) call.now) heap.old call.now trail.new.moves reply.new heap.new) }
     ensures unchanged { OnErr result (HeapStandsStill heap.old heap.new) }
     ensures memory { OnErr result (IsTrue (call_takes_memory call.now)) }
     ensures room { KeepsRoom trail.old trail.new }
 {
-    if let Call::Collect = *call {
-        *reply = collecting::collect(heap, trail);
+    if let Some(given) = collecting::answer(heap, trail, call) {
+        *reply = given;
         return Ok(());
     }
     if let Some(given) = areas::answer(heap, call) {

@@ -34,7 +34,8 @@ impl Model for Made {
 }
 
 impl Made {
-    /// The heap of a new arena, which made no move, with room for the moves of a collection: no call makes more. The numbers are in grains.
+    /// The heap of a new arena, which made no move, with room for the moves of two collections: no call makes more. The numbers are in
+    /// grains.
     pub fn new(alloc: Global, grains: u32, limit: u32) -> Result<Made, AllocError>
         requires nonzero { 0 < grains }
         requires at_most { grains ≤ max_grains }
@@ -42,7 +43,7 @@ impl Made {
         ensures unmoved { IfOk result (λ made. made.trail.moves ≡ []) }
     {
         let heap = Heap::new(alloc, grains, limit)?;
-        let trail = match Trail::new(alloc, heap.most_moves()) {
+        let trail = match Trail::new(alloc, 2 * heap.most_moves()) {
             Ok(trail) => trail,
             Err(why) => {
                 heap.finish();

@@ -1,8 +1,9 @@
 // Answers the calls that may make moves.
-ghost use Rattle.std.specs.Prelude.{◌≡◌, ◌<◌, [], true};
+ghost use Rattle.std.specs.Prelude.{◌≡◌, ◌*◌, ◌<◌, ◌≤◌, [], true};
 ghost use Rattle.mps_refinement.specs.RightMoving.{KeepsRoom};
 ghost use Rattle.mps_cli.specs.Groups.{may_move};
 ghost use Rattle.mps_cli.specs.Standing.{IsAnswered};
+ghost use Rattle.mps_refinement.specs.TraceCollect.{most_moves};
 
 use crate::session::replies::{committed, done};
 use mps_base::Trail;
@@ -10,14 +11,18 @@ use mps_format::AnyFormat;
 use mps_heap::Heap;
 use mps_model::{Call, Reply};
 
-/// Whether a call makes or ends a block, and so may make moves. A collection isn't one of these.
+/// Whether a call makes or ends a block, or reads a reference, and so may make moves. A collection isn't one of these.
 #[inline(always)]
 pub fn may_move(call: &Call) -> bool
     ensures { result ≡ may_move call.now }
 {
     matches!(
         call,
-        Call::Reserve { .. } | Call::Commit { .. } | Call::Alloc { .. } | Call::Free { .. }
+        Call::Reserve { .. }
+            | Call::Commit { .. }
+            | Call::Alloc { .. }
+            | Call::Free { .. }
+            | Call::Get { .. }
     )
 }
 
@@ -26,7 +31,8 @@ pub fn may_move(call: &Call) -> bool
 pub fn answer(heap: &mut Heap<AnyFormat>, trail: &mut Trail, call: &Call, reply: &mut Reply)
     requires which { may_move call.now ≡ true }
     requires empty { trail.old.moves ≡ [] }
-    requires fits { 1 < trail.old.spare }
+    requires grains { 0 < heap.old.segs.grains }
+    requires fits { 2 * most_moves heap.old.segs.grains ≤ trail.old.spare }
     ensures right { IsAnswered heap.old call.now trail.new.moves reply.new heap.new }
     ensures room { KeepsRoom trail.old trail.new }
 {
@@ -35,6 +41,11 @@ pub fn answer(heap: &mut Heap<AnyFormat>, trail: &mut Trail, call: &Call, reply:
         Call::Commit { point, target } => committed(heap.commit(trail, point, target)),
         Call::Alloc { pool, words, place } => done(heap.alloc(trail, pool, words, place)),
         Call::Free { place } => done(heap.free(trail, place)),
+        Call::Get {
+            target,
+            source,
+            cell,
+        } => done(heap.get(trail, target, source, cell)),
         _ => unreachable!(),
     };
 }

@@ -1,5 +1,5 @@
 // The replies to the heap's calls, by their results.
-ghost use Rattle.mps_refinement.specs.Answering.{answer_to, says_block, says_bool, says_committed, says_head, says_interned, says_labelled, says_message, says_number, says_ok, says_word};
+ghost use Rattle.mps_refinement.specs.Answering.{answer_to, says_block, says_bool, says_committed, says_head, says_interned, says_labelled, says_message, says_number, says_ok, says_progress, says_word};
 ghost use Rattle.mps_refinement.specs.Making.{answer_of_making};
 ghost use Rattle.mps_heap.specs.Answers.{says_address};
 ghost use Rattle.std.specs.Prelude.{◌≡◌, ◌≢◌, Err, IfOk, OnErr};
@@ -7,7 +7,7 @@ ghost use Rattle.mps_base.specs.declared.refusal.Refusal.TheVariants.{OutOfMemor
 ghost use Rattle.mps_cli.specs.Told.{Tells};
 
 use mps_base::{Addr, Refusal};
-use mps_heap::Committed;
+use mps_heap::{Committed, Progress};
 use mps_model::Reply;
 use std::alloc::AllocError;
 
@@ -134,6 +134,16 @@ pub fn message(came: Result<bool, Refusal>) -> Reply
         Ok(true) => Reply::Ok,
         Ok(false) => Reply::None_,
         Err(why) => Reply::Refused(why),
+    }
+}
+
+/// Of a step.
+pub fn progress(came: Progress) -> Reply
+    ensures { Tells result (says_progress came) }
+{
+    match came {
+        Progress::More => Reply::More,
+        Progress::Idle => Reply::Idle,
     }
 }
 

@@ -16,8 +16,7 @@ pub fn writes_words(call: &Call) -> bool
 {
     matches!(
         call,
-        Call::Get { .. }
-            | Call::Put { .. }
+        Call::Put { .. }
             | Call::SetNumber { .. }
             | Call::Copy { .. }
             | Call::Clear { .. }
@@ -36,11 +35,6 @@ pub fn answer(heap: &mut Heap<AnyFormat>, call: &Call, reply: &mut Reply)
     ensures { IsAnswered heap.old call.now [] reply.new heap.new }
 {
     *reply = match *call {
-        Call::Get {
-            target,
-            source,
-            cell,
-        } => done(heap.get(target, source, cell)),
         Call::Put {
             target,
             cell,

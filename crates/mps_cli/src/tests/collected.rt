@@ -7,12 +7,16 @@ use std::test::Fail;
 
 /// A script, and what it prints.
 #[derive(Clone, Copy)]
-struct CollectedCase {
-    script: &'static [u8],
-    printed: &'static [u8],
+pub(super) struct CollectedCase {
+    pub script: &'static [u8],
+    pub printed: &'static [u8],
 }
 
-fn check_collected(rt: &impl Abort, alloc: Global, case: &CollectedCase) -> Result<(), Fail> {
+pub(super) fn check_collected(
+    rt: &impl Abort,
+    alloc: Global,
+    case: &CollectedCase,
+) -> Result<(), Fail> {
     let mut desk = MemDesk::new(alloc);
     check_collected_on(rt, alloc, &mut desk, case)
 }

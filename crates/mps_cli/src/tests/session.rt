@@ -332,7 +332,7 @@ fn a_marked_block_is_kept_by_its_address_alone(rt: HostRuntime) {
         Move::Unseg { base },
         Move::End,
     ];
-    let steps: [Step<'_>; 13] = [
+    let steps: [Step<'_>; 17] = [
         (arena(8), Reply::Ok, &[]),
         (table(), Reply::Ok, &[]),
         (area(), Reply::Ok, &[]),
@@ -343,6 +343,10 @@ fn a_marked_block_is_kept_by_its_address_alone(rt: HostRuntime) {
         (Call::Clear { slot: slot(0) }, Reply::Ok, &[]),
         (poke(0x1000), Reply::Block, &[]),
         (Call::Collect, Reply::Ok, &[flip, Move::End]),
+        (Call::Step { units: 64 }, Reply::Idle, &[]),
+        (Call::Release, Reply::Ok, &[]),
+        (Call::Step { units: u64::MAX }, Reply::Idle, &[]),
+        (Call::Park, Reply::Ok, &[]),
         (poke(0x1001), Reply::Plain, &[]),
         (Call::Collect, Reply::Ok, &gone),
         (Call::Live, Reply::Pair(0, 0), &[]),

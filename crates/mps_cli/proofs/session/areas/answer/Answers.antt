@@ -27,3 +27,9 @@ returns-in-DependencyAdd-clause-right c = answered c.in-DependencyAdd.is c.done-
 
 pub returns-in-DependencyMerge-clause-right : goal.returns-in-DependencyMerge-clause-right
 returns-in-DependencyMerge-clause-right c = answered c.in-DependencyMerge.is c.done-in-DependencyMerge.ensures c.ld_merge.ensures.right
+
+pub returns-in-Peek-clause-right : goal.returns-in-Peek-clause-right
+returns-in-Peek-clause-right c = answered c.in-Peek.is c.word.ensures c.peek.ensures.right
+
+pub returns-in-DependencyStale-clause-right : goal.returns-in-DependencyStale-clause-right
+returns-in-DependencyStale-clause-right c = answered c.in-DependencyStale.is c.yes_or_no.ensures c.ld_stale.ensures.right

@@ -12,3 +12,6 @@ returns-in-Alloc-clause-right c = answered_moving c.in-Alloc.is c.requires.empty
 
 pub returns-in-Free-clause-right : goal.returns-in-Free-clause-right
 returns-in-Free-clause-right c = answered_moving c.in-Free.is c.requires.empty c.done-in-Free.ensures c.free.ensures.right
+
+pub returns-in-Get-clause-right : goal.returns-in-Get-clause-right
+returns-in-Get-clause-right c = answered_moving c.in-Get.is c.requires.empty c.done-in-Get.ensures c.get.ensures.right

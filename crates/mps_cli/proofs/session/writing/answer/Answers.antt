@@ -1,11 +1,8 @@
 use Rattle.mps_cli.proofs.Answering.{answered}
 use Rattle.mps_cli.proofs.session.writing.answer.Goals as goal
 
-pub returns-in-Get : goal.returns-in-Get
-returns-in-Get c = answered c.in-Get.is c.done.ensures c.get.ensures.right
-
 pub returns-in-Put : goal.returns-in-Put
-returns-in-Put c = answered c.in-Put.is c.done-in-Put.ensures c.put.ensures.right
+returns-in-Put c = answered c.in-Put.is c.done.ensures c.put.ensures.right
 
 pub returns-in-SetNumber : goal.returns-in-SetNumber
 returns-in-SetNumber c = answered c.in-SetNumber.is c.done-in-SetNumber.ensures c.set_num.ensures.right

@@ -1,9 +1,17 @@
-use Rattle.std.proofs.Common.{subst}
+use Rattle.std.proofs.Common.{rules, subst}
 use Rattle.mps_base.specs.Trail.{Moves}
 use Rattle.mps_refinement.specs.Collecting.{can_collect}
 use Rattle.mps_refinement.specs.RightMoving.{KeepsRoom}
 use Rattle.mps_cli.proofs.Keeping.{call_keeps}
 use Rattle.mps_cli.proofs.session.made.Made.answer.Goals as goal
+
+pub answer-requires : goal.answer-requires
+answer-requires c = record {
+  range = c.requires.range;
+  empty = search rules;
+  grains = c.self.invariant.stands.heap.parts.arena.nonzero;
+  fits = search rules;
+}
 
 pub invariant_of-self : goal.invariant_of-self
 invariant_of-self c =
