@@ -49,6 +49,9 @@ const HEAD: u64 = 0x1_0000_0301;
 /// How often each heap is collected.
 const TIMES: u64 = 3;
 
+/// One more than a collection makes in the largest arena: the most that a call on an object asks for.
+const MOST_MOVES: u32 = 2_097_153;
+
 fn named(letter: u8) -> Name {
     Name { bytes: [letter, 0, 0, 0, 0, 0, 0, 0, 0, 0, 0, 0, 0, 0, 0, 0] }
 }
@@ -64,22 +67,23 @@ struct Moves {
 }
 
 impl Model for Moves {
-    ghost use Rattle.std.specs.Prelude.{ℕ, ◌+◌, ◌≤◌, length};
+    ghost use Rattle.std.specs.Prelude.{ℕ, ◌+◌, ◌^◌, ◌<◌, length};
 
     ghost Value = { ℕ };
 
     ghost view = { λ m. m.trail.spare + length m.trail.moves };
 
-    ghost invariant = { λ m. 2 ≤ m.trail.spare + length m.trail.moves };
+    ghost invariant = { λ m. 2 ^ 21 < m.trail.spare + length m.trail.moves };
 }
 
 impl Moves {
     fn new(alloc: Global) -> Result<Moves, AllocError> {
-        Ok(Moves { trail: Trail::new(alloc, 2)? })
+        Ok(Moves { trail: Trail::new(alloc, MOST_MOVES)? })
     }
 
     fn reserve(&mut self, heap: &mut Heap<Front>) -> Result<(), Refusal> {
         self.trail.clear();
+        let _ = heap.most_moves(); // at most 2^21
         heap.reserve(&mut self.trail, named(b'x'), HEAD)
     }
 
@@ -141,7 +145,7 @@ fn collect(rt: &HostRuntime, heap: &mut Heap<Front>) -> io::Result<Option<u128>>
     if !heap.can_collect() {
         return Ok(None);
     }
-    let mut trail = Trail::new(rt.alloc(), heap.most_moves())?;
+    let mut trail = Trail::new(rt.alloc(), 2 * heap.most_moves())?;
     let began = Instant::now(rt)?;
     heap.collect(&mut trail);
     let took = began.elapsed(rt)?.as_nanos();

@@ -52,6 +52,9 @@ const WORDS: u64 = 17;
 /// How many places there are for blocks.
 const PLACES: u32 = 65_000;
 
+/// One more than a collection makes in the largest arena: the most that a call on an object asks for.
+const MOST_MOVES: u32 = 2_097_153;
+
 fn named(letter: u8) -> Name {
     Name { bytes: [letter, 0, 0, 0, 0, 0, 0, 0, 0, 0, 0, 0, 0, 0, 0, 0] }
 }
@@ -64,30 +67,37 @@ fn place(index: u64) -> Slot {
     Slot { name: named(b'b'), index }
 }
 
-/// A trail with room for the moves of any call where no collection runs, once it is emptied.
+/// A trail with room for the moves of any call but a collection, once it is emptied.
 #[derive(Drop)]
 struct Moves {
     trail: Trail,
 }
 
 impl Model for Moves {
-    ghost use Rattle.std.specs.Prelude.{ℕ, ◌+◌, ◌≤◌, length};
+    ghost use Rattle.std.specs.Prelude.{ℕ, ◌+◌, ◌^◌, ◌<◌, length};
 
     ghost Value = { ℕ };
 
     ghost view = { λ m. m.trail.spare + length m.trail.moves };
 
-    ghost invariant = { λ m. 2 ≤ m.trail.spare + length m.trail.moves };
+    ghost invariant = { λ m. 2 ^ 21 < m.trail.spare + length m.trail.moves };
 }
 
 impl Moves {
     fn new(alloc: Global) -> Result<Moves, AllocError> {
-        Ok(Moves { trail: Trail::new(alloc, 2)? })
+        Ok(Moves { trail: Trail::new(alloc, MOST_MOVES)? })
     }
 
     fn reserve(&mut self, heap: &mut Heap<Front>) -> Result<(), Refusal> {
         self.trail.clear();
+        let _ = heap.most_moves(); // at most 2^21
         heap.reserve(&mut self.trail, named(b'x'), HEAD)
+    }
+
+    fn get(&mut self, heap: &mut Heap<Front>, into: Slot, from: Slot, cell: u64) -> Result<(), Refusal> {
+        self.trail.clear();
+        let _ = heap.most_moves(); // at most 2^21
+        heap.get(&mut self.trail, into, from, cell)
     }
 
     fn commit(&mut self, heap: &mut Heap<Front>, into: Slot) -> Result<(), Refusal> {
@@ -132,10 +142,10 @@ fn access(heap: &mut Heap<Front>, times: u64) -> u64 {
     refused
 }
 
-fn read(heap: &mut Heap<Front>, times: u64) -> u64 {
+fn read(heap: &mut Heap<Front>, moves: &mut Moves, times: u64) -> u64 {
     let mut refused = 0u64;
     for i in 0..times {
-        if heap.get(slot(2), slot(i % 2), 1 + i % 3).is_err() {
+        if moves.get(heap, slot(2), slot(i % 2), 1 + i % 3).is_err() {
             refused = refused.wrapping_add(1);
         }
     }
@@ -226,12 +236,12 @@ fn show(rt: &HostRuntime, what: &str, count: u64, began: &Instant) -> io::Result
     println!(rt; "{what}: {count} times, {}.{} ns each", took / count, 10 * (took % count) / count)
 }
 
-fn time_accesses(rt: &HostRuntime, heap: &mut Heap<Front>, times: u64) -> io::Result<()> {
+fn time_accesses(rt: &HostRuntime, heap: &mut Heap<Front>, moves: &mut Moves, times: u64) -> io::Result<()> {
     let began = Instant::now(rt)?;
     let refused = access(heap, times);
     show(rt, "put", times.saturating_sub(refused), &began)?;
     let began = Instant::now(rt)?;
-    let refused = read(heap, times);
+    let refused = read(heap, moves, times);
     show(rt, "get", times.saturating_sub(refused), &began)?;
     let began = Instant::now(rt)?;
     show(rt, "num", numbers(heap, times), &began)
@@ -259,7 +269,7 @@ fn time_all(rt: &HostRuntime, heap: &mut Heap<Front>) -> io::Result<()> {
     if make(heap).is_err() || object(heap, &mut moves, slot(0)).is_err() || object(heap, &mut moves, slot(1)).is_err() {
         return println!(rt; "refused");
     }
-    time_accesses(rt, heap, 1_000_000)?;
+    time_accesses(rt, heap, &mut moves, 1_000_000)?;
     time_blocks(rt, heap, &mut moves)?;
     if moves.alloc(heap, place(0)).is_err() {
         return println!(rt; "refused");
