@@ -7,7 +7,7 @@ use Rattle.mps_base.specs.Trail.{Moves}
 use Rattle.mps_base.specs.declared.names.Slot.{Slot}
 use Rattle.mps_format.specs.Layout.{Layout}
 use Rattle.mps_trace.specs.Access.{AccessesTo, CanAccess}
-use Rattle.mps_trace.specs.Pools.{PoolsState}
+use Rattle.mps_pools.specs.Pools.{PoolsState}
 use Rattle.mps_trace.specs.Trace.{Traced}
 use Rattle.mps_trace.specs.declared.running.Band.{Band}
 use Rattle.mps_trace.specs.declared.running.Running.{Running}

@@ -10,7 +10,7 @@ use Rattle.mps_heap_spec.specs.Collecting.{CanCollectAll, IsCollected}
 use Rattle.mps_heap_spec.specs.State.{HeapState}
 use Rattle.mps_format.specs.Pools.{policy_of_pool}
 use Rattle.mps_heap_spec.specs.declared.arena.ArenaState.TheVariants as arena
-use Rattle.mps_trace.specs.PoolsCollecting.{CanCollectPools, ArePoolsCollected}
+use Rattle.mps_pools.specs.Collecting.{CanCollectPools, ArePoolsCollected}
 use Rattle.mps_format.specs.declared.pool.Policy.{Policy}
 
 module _ {F : Type 0} (layout : F → Layout) (h : HeapState F) (m : Moves) where

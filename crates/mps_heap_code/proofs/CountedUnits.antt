@@ -5,7 +5,7 @@ use Rattle.mps_final.specs.State.{FinalsState}
 use Rattle.mps_format.specs.Layout.{Layout}
 use Rattle.mps_format.specs.declared.pool.Pool.{Pool}
 use Rattle.mps_seg.specs.Segs.{SegsState}
-use Rattle.mps_trace.specs.Pools.{PoolsState, trace_of}
+use Rattle.mps_pools.specs.Pools.{PoolsState, trace_of}
 use Rattle.mps_trace.specs.Trace.{Traced, traced}
 use Rattle.mps_trace.specs.Unit.{AreUnitsReady, CanUnit, UnitTo, UnitsTo}
 use Rattle.mps_trace.specs.declared.running.Running.{Running}

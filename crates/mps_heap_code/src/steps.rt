@@ -1,6 +1,6 @@
 // A step of a collection, and the count of its units.
 ghost use Rattle.std.specs.Prelude.{◌≡◌, ℕ, ◌+◌, ◌<◌, ◌≤◌, IfNone, IfSome, IsSome};
-ghost use Rattle.mps_trace.specs.Pools.{trace_of};
+ghost use Rattle.mps_pools.specs.Pools.{trace_of};
 ghost use Rattle.mps_trace.specs.Trace.{traced};
 ghost use Rattle.mps_trace.specs.Unit.{AreUnitsReady, EndsWithin, UnitsTo};
 ghost use Rattle.mps_heap_spec.specs.Units.{CanDoUnits, HasStepped, progress_of};
@@ -12,8 +12,9 @@ use mps_final::Finals;
 use mps_format::Format;
 use mps_heap_spec::{ArenaState, Progress};
 use mps_heap_state::State;
+use mps_pools::Pools;
 use mps_seg::Segs;
-use mps_trace::{Pools, Running};
+use mps_trace::Running;
 use std::marker::Model;
 use std::sync::ledger::{Blank, Book, Ledger, Share};
 

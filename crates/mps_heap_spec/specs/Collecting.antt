@@ -9,11 +9,11 @@ use Rattle.mps_base.specs.declared.refusal.Refusal.TheVariants as refusal
 use Rattle.mps_format.specs.Pools.{policy_of_pool}
 use Rattle.mps_model.specs.Checked.{Checked}
 use Rattle.mps_trace.specs.Begin.{Begins, CanBegin, EndsAtOnce}
-use Rattle.mps_trace.specs.Pools.{trace_of}
+use Rattle.mps_pools.specs.Pools.{trace_of}
 use Rattle.mps_trace.specs.Trace.{TraceState, traced}
 use Rattle.mps_trace.specs.Collect.{CanCollect, Collects, most_units}
 use Rattle.mps_trace.specs.Flip.{moving_of, zones_of}
-use Rattle.mps_trace.specs.PoolsCollecting.{IsTraceOf}
+use Rattle.mps_pools.specs.Collecting.{IsTraceOf}
 use Rattle.mps_trace.specs.declared.condemn.Condemn.TheVariants.{Everything}
 use Rattle.mps_heap_spec.specs.State.{HeapState}
 use Rattle.mps_heap_spec.specs.declared.arena.ArenaState.TheVariants as arena

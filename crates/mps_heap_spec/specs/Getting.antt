@@ -12,8 +12,8 @@ use Rattle.mps_model.specs.Checked.{Checked}
 use Rattle.mps_seg.specs.Collecting.{lowest_grey_in}
 use Rattle.mps_seg.specs.Table.{IsMarked}
 use Rattle.mps_trace.specs.Access.{AccessesTo, CanAccess}
-use Rattle.mps_trace.specs.Pools.{trace_of}
-use Rattle.mps_trace.specs.PoolsCollecting.{IsTraceOf}
+use Rattle.mps_pools.specs.Pools.{trace_of}
+use Rattle.mps_pools.specs.Collecting.{IsTraceOf}
 use Rattle.mps_trace.specs.State.{max_finals}
 use Rattle.mps_trace.specs.Trace.{TraceState, Traced, traced}
 use Rattle.mps_trace.specs.declared.running.Band.TheVariants as band

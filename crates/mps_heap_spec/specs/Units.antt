@@ -4,8 +4,8 @@ use Rattle.mps_base.specs.Trail.{Moves}
 use Rattle.mps_format.specs.Layout.{Layout}
 use Rattle.mps_trace.specs.Collect.{most_units}
 use Rattle.mps_seg.specs.Table.{IsMarked}
-use Rattle.mps_trace.specs.Pools.{trace_of}
-use Rattle.mps_trace.specs.PoolsCollecting.{IsTraceOf}
+use Rattle.mps_pools.specs.Pools.{trace_of}
+use Rattle.mps_pools.specs.Collecting.{IsTraceOf}
 use Rattle.mps_trace.specs.Trace.{Traced, traced}
 use Rattle.mps_trace.specs.Unit.{AreUnitsReady, EndsWithin, UnitsTo}
 use Rattle.mps_trace.specs.declared.running.Running.{Running}

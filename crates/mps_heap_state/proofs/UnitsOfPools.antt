@@ -3,7 +3,7 @@ use Rattle.std.proofs.Common.{ℕ, ◌≡◌, Option, Some, None, subst, sym}
 use Rattle.std.specs.Prelude.{IfNone, IfSome}
 use Rattle.mps_base.specs.Trail.{Moves}
 use Rattle.mps_format.specs.Layout.{Layout}
-use Rattle.mps_trace.specs.Pools.{trace_of}
+use Rattle.mps_pools.specs.Pools.{trace_of}
 use Rattle.mps_trace.specs.Unit.{AreUnitsReady, EndsWithin, UnitsTo}
 use Rattle.mps_trace.specs.declared.running.Running.{Running}
 use Rattle.mps_heap_spec.specs.State.{HeapState}

@@ -17,9 +17,10 @@ use mps_format::Format;
 use mps_heap_spec::{ArenaState, Entry};
 use mps_ld::{Epochs, Ld};
 use mps_names::Names;
+use mps_pools::Pools;
 use mps_root::Roots;
 use mps_seg::Segs;
-use mps_trace::{Pools, Running};
+use mps_trace::Running;
 use std::alloc::{AllocError, Global};
 use std::marker::Model;
 

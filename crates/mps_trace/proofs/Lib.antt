@@ -16,6 +16,3 @@ pub mod Rooted
 pub mod Scanned
 pub mod Units
 pub mod Zones
-pub mod PoolsCollecting
-pub mod PoolsRows
-pub mod PoolsSound

@@ -4,9 +4,6 @@ pub mod Condemned
 pub mod Examine
 pub mod Finding
 pub mod Flip
-pub mod Pools
-pub mod PoolsCollecting
-pub mod PoolsInside
 pub mod Reclaim
 pub mod Registration
 pub mod Roots
@@ -19,4 +16,3 @@ pub use Rattle.mps_amc.specs.Amc as AmcState
 pub use Rattle.mps_ld.specs.State as LdState
 pub use Rattle.mps_final.specs.State
 pub use Rattle.mps_gen.specs.State as GenState
-pub use Rattle.mps_manual.specs.Manual

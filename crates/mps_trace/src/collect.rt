@@ -1,15 +1,16 @@
 // A whole collection.
 #![tactic(auto)]
 
-ghost use Rattle.std.specs.Prelude.{◌≡◌, ◌^◌, ◌<◌};
+ghost use Rattle.std.specs.Prelude.{◌≡◌, ◌^◌, ◌<◌, ◌≤◌};
+ghost use Rattle.mps_base.specs.Address.{max_grains};
 ghost use Rattle.mps_buffer.specs.Points as buffer;
 ghost use Rattle.mps_ld.specs.State as ld;
-ghost use Rattle.mps_trace.specs.Collect.{CanCollect, Collects};
+ghost use Rattle.mps_trace.specs.Collect.{CanCollect, Collects, most_moves, most_units};
 ghost use Rattle.mps_trace.specs.Flip.{moving_of, zones_of};
 ghost use Rattle.mps_trace.specs.Trace.{traced};
 
 use crate::{Condemn, Trace};
-use mps_base::Trail;
+use mps_base::{Trail, WORDS_OF_GRAIN};
 use mps_buffer::OpenPoints;
 use mps_final::Finals;
 use mps_format::Format;
@@ -53,4 +54,23 @@ impl<F: Format> Trace<F> {
             unreachable!()
         };
     }
+}
+
+/// The most moves of a full collection in an arena of these grains: two for each word.
+pub fn most_moves(grains: u32) -> u32
+    requires at_most { grains ≤ max_grains }
+    ensures value { result ≡ most_moves grains }
+{
+    2 * (WORDS_OF_GRAIN as u32 * grains)
+}
+
+/// The most units of a full collection in an arena of these grains, with n registrations.
+pub fn most_units(grains: u32, registrations: u32) -> u64
+    requires at_most { grains ≤ max_grains }
+    ensures value { result ≡ most_units grains registrations }
+{
+    u64::from(WORDS_OF_GRAIN as u32 * (grains + 1))
+        + u64::from(registrations)
+        + u64::from(grains)
+        + 1
 }

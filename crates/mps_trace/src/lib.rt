@@ -1,5 +1,4 @@
-//! The tracing collector: where the blocks lie that references lead to, what blocks refer to, and how a collection runs; and a heap's
-//! pools, as its calls, its manual blocks and its collector know them.
+//! The tracing collector: where the blocks lie that references lead to, what blocks refer to, and how a collection runs.
 #![tactic(auto)]
 
 mod access;
@@ -10,15 +9,14 @@ mod condemn;
 mod examining;
 mod finding;
 mod flip;
-mod pools;
 mod registration;
 mod roots;
 mod running;
 mod splatting;
 mod trace;
 
+pub use collect::{most_moves, most_units};
 pub use condemn::Condemn;
-pub use pools::{Pools, most_moves, most_units};
 pub use running::{Band, Running};
 pub use trace::Trace;
 

@@ -22,12 +22,7 @@ impl<F: Format> Trace<F> {
 
     /// The position of the first registration of the block that lies at an address now; None if it has none. A registration that a
     /// running collection hasn't examined has the address that its block had at the flip.
-    pub(crate) fn registration_of(
-        &self,
-        segs: &Segs,
-        finals: &mut Finals,
-        at: Addr,
-    ) -> Option<usize>
+    pub fn registration_of(&self, segs: &Segs, finals: &mut Finals, at: Addr) -> Option<usize>
         requires { AreFindable F.layout self.now.formats segs.now finals.old.registered }
         ensures unchanged { finals.new ≡ finals.old }
         ensures found { FindsRegistration F.layout self.now.formats segs.now finals.old.registered at.0 result }

@@ -3,8 +3,8 @@ ghost use Rattle.std.specs.Prelude.{◌≡◌, ◌<◌, ◌^◌};
 ghost use Rattle.mps_buffer.specs.Tokens.{NoneIsOpen};
 ghost use Rattle.mps_seg.specs.Segs.{new_segments};
 
-use crate::{Band, Condemn, Pools, Running, Trace};
-use mps_base::{Addr, Move, Trail, ZoneSet};
+use crate::{Condemn, Running, Trace};
+use mps_base::{Move, Trail, ZoneSet};
 use mps_buffer::OpenPoints;
 use mps_final::Finals;
 use mps_format::Front;
@@ -55,17 +55,5 @@ fn a_collection_of_nothing_ends_at_once(rt: HostRuntime) -> Result<(), AllocErro
         generation: 0,
     };
     assert!(rt; trail.moves() == [flip, Move::End].as_slice());
-    Ok(())
-}
-
-#[test]
-fn a_barrier_where_nothing_is_held_does_nothing(rt: HostRuntime) -> Result<(), AllocError> {
-    let mut segs = Segs::new(rt.alloc(), 8, 8)?;
-    let mut trail = Trail::new(rt.alloc(), 2)?;
-    let mut pools: Pools<Front> = Pools::new(rt.alloc());
-    for band in [Band::Exact, Band::Final, Band::Weak, Band::Reclaim] {
-        pools.access(&mut segs, &mut trail, band, Addr(0x1000));
-    }
-    assert!(rt; trail.moves() == [].as_slice());
     Ok(())
 }

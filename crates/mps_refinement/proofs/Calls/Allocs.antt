@@ -21,7 +21,7 @@ use Rattle.mps_laws.proofs.Sound.PoolsThere.{all-at}
 use Rattle.mps_laws.proofs.Same as same
 use Rattle.mps_laws.proofs.Same.{Same, fits}
 use Rattle.mps_laws.proofs.Sound.SoundGraph.{PassesOrNull, all-at as all-in, entry-passes}
-use Rattle.mps_trace.specs.Manual.{has_blocks_of}
+use Rattle.mps_pools.specs.Manual.{has_blocks_of}
 use Rattle.mps_model.specs.declared.call.Call.TheVariants as call
 use Rattle.mps_model.specs.declared.reply.Reply.TheVariants as reply
 use Rattle.mps_model.specs.Allocating.{act_alloc, address_of_placement, allows_size, refuse_without_place}

@@ -17,7 +17,7 @@ use Rattle.mps_laws.proofs.Same as same
 use Rattle.mps_laws.proofs.Same.{Same, fits}
 use Rattle.mps_laws.proofs.Positions.Segments.{among_aligned, found_among, IsAmong, among_without, same_by_base}
 use Rattle.mps_base.specs.Segment.{is_in_segment, without_segment}
-use Rattle.mps_trace.specs.Manual.{any_size, block_removed, segs_after_free, is_unused, moves_freed, moves_given_back}
+use Rattle.mps_pools.specs.Manual.{any_size, block_removed, segs_after_free, is_unused, moves_freed, moves_given_back}
 use Rattle.mps_model.specs.Allocating as model
 use Rattle.mps_model.specs.declared.call.Call.TheVariants as call
 use Rattle.mps_model.specs.Checked as checked

@@ -11,7 +11,7 @@ use Rattle.mps_model.specs.Effect.{Everything, condemned_by}
 use Rattle.mps_model.specs.Flip.{is_nothing}
 use Rattle.mps_model.specs.World.{World, live_ids}
 use Rattle.mps_heap_spec.specs.Collecting.{CanCollectAll}
-use Rattle.mps_trace.specs.PoolsCollecting.{IsTraceOf}
+use Rattle.mps_pools.specs.Collecting.{IsTraceOf}
 use Rattle.mps_heap_spec.specs.State.{HeapState}
 use Rattle.mps_trace.specs.Begin.{marked_at_flip, Begins, CanBegin, CanFixRoots}
 use Rattle.mps_trace.specs.Collect.{CanEnd, most_units}

@@ -15,7 +15,7 @@ use Rattle.mps_model.specs.World.{World, area_words}
 use Rattle.mps_model.proofs.Cutting.{world_after_moves-append}
 use Rattle.mps_root.specs.State.{kept}
 use Rattle.mps_heap_spec.specs.Collecting.{IsCollected}
-use Rattle.mps_trace.specs.PoolsCollecting.{IsTraceOf}
+use Rattle.mps_pools.specs.Collecting.{IsTraceOf}
 use Rattle.mps_heap_spec.specs.State.{HeapState}
 use Rattle.mps_abstract.specs.Collecting.{Collecting}
 use Rattle.mps_abstract.specs.FlipLaws.{IsAtRest, IsFlipDone}

@@ -18,7 +18,7 @@ use Rattle.mps_trace.specs.Trace.{TraceState}
 use Rattle.mps_trace_laws.specs.Fix.Tracing.{AreKnownPools}
 use Rattle.mps_trace_laws.specs.Flip.Condemned.{AreFormatsOf, AreMovesOf}
 use Rattle.mps_trace_laws.specs.Begin.Before.{ArePoolsKnown}
-use Rattle.mps_trace.specs.PoolsCollecting.{IsTraceOf}
+use Rattle.mps_pools.specs.Collecting.{IsTraceOf}
 use Rattle.mps_format.specs.Pools.{policy_of_pool, is_copying_pool}
 use Rattle.mps_format.specs.declared.pool.Pool.{Pool}
 use Rattle.mps_format.specs.declared.pool.Pool.TheVariants as pool

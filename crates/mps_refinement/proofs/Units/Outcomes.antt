@@ -15,7 +15,7 @@ use Rattle.mps_model.specs.Answer.{Answer, Replied}
 use Rattle.mps_model.specs.Collection.{Collection}
 use Rattle.mps_model.specs.World.{World, is_running, is_unclamped}
 use Rattle.mps_trace.specs.Collect.{most_moves}
-use Rattle.mps_trace.specs.Pools.{trace_of}
+use Rattle.mps_pools.specs.Pools.{trace_of}
 use Rattle.mps_trace.specs.State.{FinalsState}
 use Rattle.mps_trace.specs.Trace.{TraceState, Traced}
 use Rattle.mps_trace.specs.Unit.{AreUnitsReady, EndsWithin, UnitsTo}

@@ -14,8 +14,8 @@ use Rattle.mps_model.specs.Policy.{polls, units_of_poll}
 use Rattle.mps_model.specs.World.{World}
 use Rattle.mps_seg.specs.Table.{IsMarked}
 use Rattle.mps_trace.specs.Collect.{most_moves}
-use Rattle.mps_trace.specs.Pools.{trace_of}
-use Rattle.mps_trace.specs.PoolsCollecting.{IsTraceOf}
+use Rattle.mps_pools.specs.Pools.{trace_of}
+use Rattle.mps_pools.specs.Collecting.{IsTraceOf}
 use Rattle.mps_trace.specs.State.{FinalsState}
 use Rattle.mps_trace.specs.Trace.{Traced, traced}
 use Rattle.mps_trace.specs.Unit.{EndsWithin, UnitsTo}

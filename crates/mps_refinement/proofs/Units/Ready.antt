@@ -5,8 +5,8 @@ use Rattle.mps_format.specs.Layout.{Layout}
 use Rattle.mps_seg.specs.Table.{IsMarked}
 use Rattle.mps_model.specs.World.{World}
 use Rattle.mps_trace.specs.Collect.{most_moves, most_units}
-use Rattle.mps_trace.specs.Pools.{trace_of}
-use Rattle.mps_trace.specs.PoolsCollecting.{IsTraceOf}
+use Rattle.mps_pools.specs.Pools.{trace_of}
+use Rattle.mps_pools.specs.Collecting.{IsTraceOf}
 use Rattle.mps_trace.specs.State.{FinalsState}
 use Rattle.mps_trace.specs.Trace.{TraceState, Traced, traced}
 use Rattle.mps_trace.specs.Unit.{AreUnitsReady, UnitsTo}

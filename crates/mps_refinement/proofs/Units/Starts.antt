@@ -29,8 +29,8 @@ use Rattle.mps_seg.specs.Table.{IsMarked}
 use Rattle.mps_trace.specs.Begin.{Begins, EndsAtOnce, marked_at_flip}
 use Rattle.mps_trace.specs.Collect.{most_moves}
 use Rattle.mps_trace.specs.Flip.{moving_of, zones_of}
-use Rattle.mps_trace.specs.Pools.{trace_of}
-use Rattle.mps_trace.specs.PoolsCollecting.{IsTraceOf}
+use Rattle.mps_pools.specs.Pools.{trace_of}
+use Rattle.mps_pools.specs.Collecting.{IsTraceOf}
 use Rattle.mps_trace.specs.Trace.{TraceState, Traced, traced}
 use Rattle.mps_trace.specs.declared.condemn.Condemn.TheVariants as condemn
 use Rattle.mps_trace.specs.declared.running.Running.{Running as RunningState}

@@ -14,8 +14,8 @@ use Rattle.mps_model.specs.World.{World, is_copying_pool}
 use Rattle.mps_seg.specs.Table.{IsMarked}
 use Rattle.mps_laws.proofs.Positions.LegalMoves.{HasLayout}
 use Rattle.mps_trace.specs.Collect.{most_moves}
-use Rattle.mps_trace.specs.Pools.{trace_of}
-use Rattle.mps_trace.specs.PoolsCollecting.{IsTraceOf}
+use Rattle.mps_pools.specs.Pools.{trace_of}
+use Rattle.mps_pools.specs.Collecting.{IsTraceOf}
 use Rattle.mps_trace.specs.Trace.{TraceState, Traced, traced}
 use Rattle.mps_abstract.specs.Colours.{Colours, is_white}
 use Rattle.mps_abstract.specs.Collecting.{Collecting}

@@ -15,7 +15,7 @@ use Rattle.mps_base.specs.declared.names.Name.{Name}
 use Rattle.mps_base.specs.declared.names.Rank.TheVariants as rank
 use Rattle.mps_base.specs.declared.names.Slot.{Slot}
 use Rattle.mps_base.specs.declared.refusal.Refusal.TheVariants as refusal
-use Rattle.mps_trace.specs.Manual.{segs_after_alloc, answer_of_alloc, any_size, block_removed, has_blocks_of, is_unused, moves_freed, moves_given_back}
+use Rattle.mps_pools.specs.Manual.{segs_after_alloc, answer_of_alloc, any_size, block_removed, has_blocks_of, is_unused, moves_freed, moves_given_back}
 use Rattle.mps_buffer.specs.Points.{placement_at}
 use Rattle.mps_format.specs.Layout.{Layout}
 use Rattle.mps_model.specs.declared.call.Call.{Call}

@@ -1,5 +1,5 @@
 use Rattle.std.proofs.Common.{refl, ap, ◌∙◌, arith}
-use Rattle.mps_trace.specs.Pools.{PoolsState, trace_of}
+use Rattle.mps_pools.specs.Pools.{PoolsState, trace_of}
 use Rattle.mps_trace.specs.Trace.{traced}
 use Rattle.mps_trace.specs.Unit.{begins, goes_on}
 use Rattle.mps_heap_code.proofs.CountedUnits.{next_is_ready, one_more}

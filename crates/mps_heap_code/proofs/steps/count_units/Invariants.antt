@@ -1,5 +1,5 @@
 use Rattle.std.proofs.Common.{◌≡◌, ◌+◌}
-use Rattle.mps_trace.specs.Pools.{trace_of}
+use Rattle.mps_pools.specs.Pools.{trace_of}
 use Rattle.mps_trace.specs.Trace.{traced}
 use Rattle.mps_trace.specs.Unit.{UnitsTo}
 use Rattle.mps_heap_code.proofs.steps.count_units.Given as goal

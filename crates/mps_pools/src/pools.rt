@@ -1,8 +1,7 @@
-// The pools of a heap.
+// The table of pools.
 #![tactic(auto)]
 
-ghost use Rattle.std.specs.Prelude.{◌≡◌, ℕ, ◌^◌, ◌<◌, ◌≤◌, Some, None, length, map, slice_get, IfNone, IfSome, MatchResult};
-ghost use Rattle.mps_base.specs.Address.{max_grains};
+ghost use Rattle.std.specs.Prelude.{◌≡◌, ℕ, ◌^◌, ◌<◌, Some, None, length, map, slice_get, IfNone, IfSome, MatchResult};
 ghost use Rattle.mps_base.specs.Segment.{Segment, segment_over};
 ghost use Rattle.mps_buffer.specs.Points as buffer;
 ghost use Rattle.mps_gen.specs.State.{max_pools};
@@ -10,18 +9,15 @@ ghost use Rattle.mps_ld.specs.State as ld;
 ghost use Rattle.mps_format.specs.Pools.{policy_of_pool};
 ghost use Rattle.mps_trace.specs.Access.{CanAccess, AccessesTo};
 ghost use Rattle.mps_trace.specs.Begin.{Begins, CanBegin, EndsAtOnce};
-ghost use Rattle.mps_trace.specs.Collect.{most_moves, most_units};
 ghost use Rattle.mps_trace.specs.Flip.{moving_of, zones_of};
-ghost use Rattle.mps_trace.specs.PoolsCollecting.{CanCollectPools, ArePoolsCollected, IsTraceOf};
-ghost use Rattle.mps_trace.specs.Pools.{none_made, trace_of, with_one_more};
+ghost use Rattle.mps_pools.specs.Collecting.{CanCollectPools, ArePoolsCollected, IsTraceOf};
+ghost use Rattle.mps_pools.specs.Pools.{none_made, trace_of, with_one_more};
 ghost use Rattle.mps_trace.specs.Registration.{AreFindable, FindsRegistration};
 ghost use Rattle.mps_trace.specs.Trace.{traced};
 ghost use Rattle.mps_trace.specs.declared.condemn.Condemn.TheVariants.{Everything};
 ghost use Rattle.mps_trace.specs.Unit.{CanUnit, AreUnitsReady, UnitTo, LastUnitTo, UnitsTo, EndsWithin};
 
-use crate::running::{Band, Running};
-use crate::{Condemn, Trace};
-use mps_base::{Addr, Trail, WORDS_OF_GRAIN};
+use mps_base::{Addr, Trail};
 use mps_buffer::OpenPoints;
 use mps_final::Finals;
 use mps_format::{Format, Pool, policy_of_pool, size_of_pool};
@@ -29,6 +25,7 @@ use mps_ld::Epochs;
 use mps_manual::Manual;
 use mps_root::Roots;
 use mps_seg::Segs;
+use mps_trace::{Band, Condemn, Running, Trace};
 use std::alloc::{AllocError, Global};
 use std::marker::Model;
 
@@ -41,8 +38,8 @@ pub struct Pools<F: Format> {
 }
 
 impl<F: Format> Model for Pools<F> {
-    ghost use Rattle.mps_trace.specs.PoolsInside.{IsSoundTrace};
-    ghost use Rattle.mps_trace.specs.Pools.{PoolsState};
+    ghost use Rattle.mps_pools.specs.Inside.{IsSoundTrace};
+    ghost use Rattle.mps_pools.specs.Pools.{PoolsState};
 
     ghost Value = { PoolsState F };
 
@@ -236,23 +233,4 @@ impl<F: Format> Pools<F> {
     {
         self.trace.access(segs, trail, band, at);
     }
-}
-
-/// The most moves of a full collection in an arena of these grains: two for each word.
-pub fn most_moves(grains: u32) -> u32
-    requires at_most { grains ≤ max_grains }
-    ensures value { result ≡ most_moves grains }
-{
-    2 * (WORDS_OF_GRAIN as u32 * grains)
-}
-
-/// The most units of a full collection in an arena of these grains, with n registrations.
-pub fn most_units(grains: u32, registrations: u32) -> u64
-    requires at_most { grains ≤ max_grains }
-    ensures value { result ≡ most_units grains registrations }
-{
-    u64::from(WORDS_OF_GRAIN as u32 * (grains + 1))
-        + u64::from(registrations)
-        + u64::from(grains)
-        + 1
 }

@@ -1,6 +1,6 @@
 use Rattle.std.proofs.Common.{rules}
-use Rattle.mps_trace.proofs.PoolsSound.{is_sound_with}
-use Rattle.mps_trace.proofs.pools.Pools.add.Goals as goal
+use Rattle.mps_pools.proofs.Sound.{is_sound_with}
+use Rattle.mps_pools.proofs.pools.Pools.add.Goals as goal
 
 pub invariant_of-self-2 : goal.invariant_of-self-2
 invariant_of-self-2 g c =

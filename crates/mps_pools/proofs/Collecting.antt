@@ -12,12 +12,12 @@ use Rattle.mps_format.specs.declared.pool.Policy.{Policy}
 use Rattle.mps_trace.specs.Flip.{moving_of, zones_of}
 use Rattle.mps_trace.specs.Collect.{CanCollect, Collects}
 use Rattle.mps_trace.specs.Trace.{TraceState, traced}
-use Rattle.mps_trace.specs.PoolsCollecting.{IsTraceOf}
+use Rattle.mps_pools.specs.Collecting.{IsTraceOf}
 use Rattle.mps_format.specs.Pools.{policy_of_pool}
-use Rattle.mps_trace.specs.PoolsCollecting.{CanCollectPools, ArePoolsCollected}
-use Rattle.mps_trace.specs.PoolsInside.{IsSoundTrace}
-use Rattle.mps_trace.specs.Pools.{PoolsState}
-use Rattle.mps_trace.proofs.PoolsSound.{is_trace}
+use Rattle.mps_pools.specs.Collecting.{CanCollectPools, ArePoolsCollected}
+use Rattle.mps_pools.specs.Inside.{IsSoundTrace}
+use Rattle.mps_pools.specs.Pools.{PoolsState}
+use Rattle.mps_pools.proofs.Sound.{is_trace}
 
 -- the pools are seen in two ways
 module _ {F : Type 0} (layout : F → Layout) (seen value : PoolsState F) (is : seen ≡ value) (t : TraceState F)

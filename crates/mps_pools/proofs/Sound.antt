@@ -5,11 +5,11 @@ use Rattle.mps_amc.specs.Amc.{tails_of}
 use Rattle.mps_gen.specs.State.{ChainsState}
 use Rattle.mps_trace.specs.Trace.{TraceState, with_pool}
 use Rattle.mps_format.specs.declared.pool.Policy.{Policy}
-use Rattle.mps_trace.specs.Pools.{PoolsState, trace_of}
-use Rattle.mps_trace.specs.PoolsCollecting.{IsTraceOf}
+use Rattle.mps_pools.specs.Pools.{PoolsState, trace_of}
+use Rattle.mps_pools.specs.Collecting.{IsTraceOf}
 use Rattle.mps_format.specs.Pools.{policy_of_pool}
 use Rattle.mps_format.specs.declared.pool.Pool.{Pool}
-use Rattle.mps_trace.specs.PoolsInside.{IsSoundTrace, rows_of}
+use Rattle.mps_pools.specs.Inside.{IsSoundTrace, rows_of}
 
 -- one more of the same after a row
 one_longer : {A B : Type 0} (xs : List B) (y : B) (a : A)

@@ -7,10 +7,10 @@ use Rattle.mps_trace.specs.Flip.{zones_of}
 use Rattle.mps_trace.specs.Trace.{TraceState, traced}
 use Rattle.mps_trace.specs.declared.condemn.Condemn.TheVariants.{Everything}
 use Rattle.mps_trace.proofs.Condemning.{all_that_moves}
-use Rattle.mps_trace.proofs.PoolsCollecting.{are_flipped}
-use Rattle.mps_trace.proofs.PoolsRows.{after_begin}
-use Rattle.mps_trace.proofs.PoolsSound.{still_sound, trace_seen}
-use Rattle.mps_trace.proofs.pools.Pools.begin.Goals as goal
+use Rattle.mps_pools.proofs.Collecting.{are_flipped}
+use Rattle.mps_pools.proofs.Rows.{after_begin}
+use Rattle.mps_pools.proofs.Sound.{still_sound, trace_seen}
+use Rattle.mps_pools.proofs.pools.Pools.begin.Goals as goal
 
 pub begin-requires : goal.begin-requires
 begin-requires g c =

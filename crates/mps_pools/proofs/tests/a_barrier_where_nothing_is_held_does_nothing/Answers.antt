@@ -2,7 +2,7 @@ use Rattle.std.proofs.Common.{◌∙◌, sym, ap}
 use Rattle.std.proofs.lemmas.Option.{none-some}
 use Rattle.mps_base.specs.Segment.{segment_over}
 use Rattle.mps_seg.specs.Segs.{SegsState}
-use Rattle.mps_trace.proofs.tests.a_barrier_where_nothing_is_held_does_nothing.Goals as goal
+use Rattle.mps_pools.proofs.tests.a_barrier_where_nothing_is_held_does_nothing.Goals as goal
 
 pub access-requires : goal.access-requires
 access-requires g c t over =

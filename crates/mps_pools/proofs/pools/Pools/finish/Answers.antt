@@ -2,9 +2,9 @@ use Rattle.std.proofs.Common.{refl, subst, sym}
 use Rattle.std.specs.Prelude.{IfNone, IfSome}
 use Rattle.mps_trace.specs.Trace.{TraceState, traced}
 use Rattle.mps_trace.specs.Unit.{AreUnitsReady, EndsWithin, UnitsTo}
-use Rattle.mps_trace.proofs.PoolsRows.{after_units}
-use Rattle.mps_trace.proofs.PoolsSound.{still_sound, trace_seen}
-use Rattle.mps_trace.proofs.pools.Pools.finish.Goals as goal
+use Rattle.mps_pools.proofs.Rows.{after_units}
+use Rattle.mps_pools.proofs.Sound.{still_sound, trace_seen}
+use Rattle.mps_pools.proofs.pools.Pools.finish.Goals as goal
 
 pub finish-requires : goal.finish-requires
 finish-requires g c =

@@ -1,11 +1,11 @@
 use Rattle.std.proofs.Common.{◌≡◌, ◌∙◌, Option, None, Some, refl, ap, subst, sym}
 use Rattle.mps_base.specs.Segment.{Segment, segment_over}
 use Rattle.mps_trace.specs.Access.{AccessesTo, CanAccess}
-use Rattle.mps_trace.specs.PoolsInside.{rows_of}
+use Rattle.mps_pools.specs.Inside.{rows_of}
 use Rattle.mps_trace.specs.Trace.{TraceState, traced}
-use Rattle.mps_trace.proofs.PoolsRows.{accessed}
-use Rattle.mps_trace.proofs.PoolsSound.{still_sound, trace_seen}
-use Rattle.mps_trace.proofs.pools.Pools.access.Goals as goal
+use Rattle.mps_pools.proofs.Rows.{accessed}
+use Rattle.mps_pools.proofs.Sound.{still_sound, trace_seen}
+use Rattle.mps_pools.proofs.pools.Pools.access.Goals as goal
 
 pub access-requires : goal.access-requires
 access-requires g c =

@@ -1,8 +1,8 @@
 use Rattle.std.proofs.Common.{refl, subst, sym}
 use Rattle.mps_trace.specs.Registration.{AreFindable, FindsRegistration}
 use Rattle.mps_trace.specs.Trace.{TraceState}
-use Rattle.mps_trace.proofs.PoolsSound.{trace_seen}
-use Rattle.mps_trace.proofs.pools.Pools.registration_of.Goals as goal
+use Rattle.mps_pools.proofs.Sound.{trace_seen}
+use Rattle.mps_pools.proofs.pools.Pools.registration_of.Goals as goal
 
 pub registration_of-requires : goal.registration_of-requires
 registration_of-requires g c =

@@ -1,6 +1,6 @@
 use Rattle.std.proofs.Common.{◌≡◌}
 use Rattle.mps_seg.specs.Segs.{new_segments}
-use Rattle.mps_trace.proofs.tests.a_barrier_where_nothing_is_held_does_nothing.Given as goal
+use Rattle.mps_pools.proofs.tests.a_barrier_where_nothing_is_held_does_nothing.Given as goal
 
 -- nothing has changed
 abbrev pub invariant-loop-band : goal.invariant-loop-band

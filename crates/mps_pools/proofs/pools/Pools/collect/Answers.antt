@@ -1,7 +1,7 @@
-use Rattle.mps_trace.proofs.PoolsCollecting.{can_trace, are_collected, are_flipped}
-use Rattle.mps_trace.proofs.PoolsRows.{collected}
-use Rattle.mps_trace.proofs.PoolsSound.{still_sound}
-use Rattle.mps_trace.proofs.pools.Pools.collect.Goals as goal
+use Rattle.mps_pools.proofs.Collecting.{can_trace, are_collected, are_flipped}
+use Rattle.mps_pools.proofs.Rows.{collected}
+use Rattle.mps_pools.proofs.Sound.{still_sound}
+use Rattle.mps_pools.proofs.pools.Pools.collect.Goals as goal
 
 pub collect-requires-clause-can : goal.collect-requires-clause-can
 collect-requires-clause-can g c =

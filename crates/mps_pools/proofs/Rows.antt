@@ -26,7 +26,7 @@ use Rattle.mps_trace.specs.declared.condemn.Condemn.{Condemn}
 use Rattle.mps_trace.specs.declared.running.Band.{Band}
 use Rattle.mps_trace.specs.declared.running.Band.TheVariants.{Exact, Final, Weak, Reclaim}
 use Rattle.mps_trace.specs.declared.running.Running.{Running}
-use Rattle.mps_trace.specs.PoolsInside.{rows_of}
+use Rattle.mps_pools.specs.Inside.{rows_of}
 use Rattle.mps_format.specs.declared.pool.Policy.{Policy}
 
 tail_written : (amc : AmcState) (pool generation : ℕ) (tail : Buffer) → rows_of (with_tail amc pool generation tail) ≡ rows_of amc

@@ -2,9 +2,9 @@ use Rattle.std.proofs.Common.{refl, subst, sym}
 use Rattle.std.specs.Prelude.{◌≡◌, IfNone, IfSome}
 use Rattle.mps_trace.specs.Trace.{TraceState, traced}
 use Rattle.mps_trace.specs.Unit.{CanUnit, LastUnitTo, UnitTo}
-use Rattle.mps_trace.proofs.PoolsRows.{after_unit}
-use Rattle.mps_trace.proofs.PoolsSound.{still_sound, trace_seen}
-use Rattle.mps_trace.proofs.pools.Pools.unit.Goals as goal
+use Rattle.mps_pools.proofs.Rows.{after_unit}
+use Rattle.mps_pools.proofs.Sound.{still_sound, trace_seen}
+use Rattle.mps_pools.proofs.pools.Pools.unit.Goals as goal
 
 pub unit-requires : goal.unit-requires
 unit-requires g c =
