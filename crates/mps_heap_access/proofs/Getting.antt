@@ -14,9 +14,10 @@ use Rattle.mps_trace.specs.declared.running.Running.{Running}
 use Rattle.mps_heap_spec.specs.Checked.{Checked, ◌>>=◌}
 use Rattle.mps_heap_spec.specs.Coming.{Comes, Outcome, answered, done, state_from}
 use Rattle.mps_heap_spec.specs.Finding.{object_in, reference_cell_at, slot_in}
-use Rattle.mps_heap_spec.specs.Getting.{AreTablesWhole, CanGet, IsAccessed, IsGot, is_refused, reads, trace_in, traced_in, with_traced}
+use Rattle.mps_heap_spec.specs.Getting.{CanGet, IsAccessed, IsGot, is_refused, reads, with_traced}
 use Rattle.mps_heap_spec.specs.Objects.{reference_got, with_slot}
 use Rattle.mps_heap_spec.specs.State.{HeapState}
+use Rattle.mps_heap_spec.specs.Units.{IsWhole, trace_in, traced_in}
 use Rattle.mps_heap_spec.specs.declared.found.Block.{Block}
 use Rattle.mps_heap_spec.specs.declared.found.CellFound.{CellFound}
 use Rattle.mps_heap_spec.specs.declared.found.Entry.{Entry}
@@ -54,7 +55,7 @@ module _ {F : Type 0} (layout : F → Layout) (h : HeapState F) (m : Moves) (tar
         (sym (reads_cell ∙ ap (λ (v : HeapState F). reference_cell_at layout v.segs.words object k) is)),
   )
 
-  module _ (seen : HeapState F) (is : seen ≡ h) (whole : AreTablesWhole seen) (object : Block F)
+  module _ (seen : HeapState F) (is : seen ≡ h) (whole : IsWhole seen) (object : Block F)
       (found : Ok object ≡ object_in layout h source)
       (band : Band) (now : (run : Running) × (h.running ≡ Some run) × (run.band ≡ band)) where
     -- the barrier can be done
@@ -67,7 +68,7 @@ module _ {F : Type 0} (layout : F → Layout) (h : HeapState F) (m : Moves) (tar
         (sym is)
         (subst
         (λ b. (t : Segment) → segment_over h.segs.segments object.at ≡ Some t → CanAccess layout b (trace_in h) h.segs m t) now.2
-        (can (subst AreTablesWhole is whole) object (sym found) now.0 now.1))
+        (can (subst IsWhole is whole) object (sym found) now.0 now.1))
 
     -- and the call is accepted, with what it left
     pub is_accessed : (into : Entry Address) (cell : CellFound) → Ok into ≡ slot_in h target
@@ -84,7 +85,7 @@ module _ {F : Type 0} (layout : F → Layout) (h : HeapState F) (m : Moves) (tar
           found = sym found;
           accessed = record {
             rests = λ none. absurd (none-some now.0 (sym none ∙ now.1));
-            whole = λ run running. subst AreTablesWhole is whole;
+            whole = λ run running. subst IsWhole is whole;
             runs = λ run running.
                 let same : band ≡ run.band =
                 sym now.2 ∙ ap (λ (r : Running). r.band) (same_Some now.0 run (sym now.1 ∙ running)) in

@@ -9,13 +9,13 @@ use Rattle.mps_base.specs.declared.refusal.Refusal.TheVariants as refusal
 use Rattle.mps_format.specs.Pools.{policy_of_pool}
 use Rattle.mps_model.specs.Checked.{Checked}
 use Rattle.mps_trace.specs.Begin.{Begins, CanBegin, EndsAtOnce}
-use Rattle.mps_pools.specs.Pools.{trace_of}
 use Rattle.mps_trace.specs.Trace.{TraceState, traced}
 use Rattle.mps_trace.specs.Collect.{CanCollect, Collects, most_units}
 use Rattle.mps_trace.specs.Flip.{moving_of, zones_of}
 use Rattle.mps_pools.specs.Collecting.{IsTraceOf}
 use Rattle.mps_trace.specs.declared.condemn.Condemn.TheVariants.{Everything}
 use Rattle.mps_heap_spec.specs.State.{HeapState}
+use Rattle.mps_heap_spec.specs.Units.{trace_in, traced_in}
 use Rattle.mps_heap_spec.specs.declared.arena.ArenaState.TheVariants as arena
 
 -- the most flips that a heap counts
@@ -54,17 +54,15 @@ module _ {F : Type 0} where
 
   -- a heap can begin a collection of everything within this trail
   abbrev pub CanStart : (F → Layout) → HeapState F → Moves → Type 0
-  CanStart layout h m = CanBegin layout (trace_of h.pools h.tails) h.points h.roots h.finals h.segs m
+  CanStart layout h m = CanBegin layout (trace_in h) h.points h.roots h.finals h.segs m
 
   -- a collection of everything was begun by its flip, and no unit was done; where nothing is condemned it ended at once. The arena is
   -- unclamped
   pub record IsStarted (layout : F → Layout) (h : HeapState F) (m : Moves) (h' : HeapState F) (m' : Moves) : Type 0 where
-    pub begun : IfSome h'.running (λ run. Begins layout (trace_of h.pools h.tails).formats (trace_of h.pools h.tails).chains Everything
-        h.points h.roots h.finals (traced (trace_of h.pools h.tails) h.segs m) h'.roots h'.finals
-        (traced (trace_of h'.pools h'.tails) h'.segs m') run)
-    pub ended : IfNone h'.running (EndsAtOnce (trace_of h.pools h.tails).formats (trace_of h.pools h.tails).chains Everything h.points
-        h.roots h.finals (traced (trace_of h.pools h.tails) h.segs m) h'.roots h'.finals
-        (traced (trace_of h'.pools h'.tails) h'.segs m'))
+    pub begun : IfSome h'.running (λ run. Begins layout (trace_in h).formats (trace_in h).chains Everything h.points h.roots h.finals
+        (traced_in h m) h'.roots h'.finals (traced_in h' m') run)
+    pub ended : IfNone h'.running (EndsAtOnce (trace_in h).formats (trace_in h).chains Everything h.points h.roots h.finals (traced_in h m)
+        h'.roots h'.finals (traced_in h' m'))
     pub state : h' ≡ record h {
       segs = h'.segs;
       roots = h'.roots;

@@ -1,5 +1,5 @@
 -- The outcome of `get`: the read barrier of the collection that runs, if one does, and then the read.
-use Rattle.std.specs.Prelude.{◌≡◌, ℕ, ◌≤◌, Some, None, Ok, Err, length}
+use Rattle.std.specs.Prelude.{◌≡◌, ℕ, Some, None, Ok, Err}
 use Rattle.std.proofs.Common.{◌∙◌, ap, subst, sym}
 use Rattle.mps_base.specs.Address.{Address}
 use Rattle.mps_base.specs.Segment.{Segment, segment_over}
@@ -10,38 +10,21 @@ use Rattle.mps_base.specs.declared.refusal.Refusal.{Refusal}
 use Rattle.mps_format.specs.Layout.{Layout}
 use Rattle.mps_model.specs.Checked.{Checked}
 use Rattle.mps_seg.specs.Collecting.{lowest_grey_in}
-use Rattle.mps_seg.specs.Table.{IsMarked}
 use Rattle.mps_trace.specs.Access.{AccessesTo, CanAccess}
-use Rattle.mps_pools.specs.Pools.{trace_of}
-use Rattle.mps_pools.specs.Collecting.{IsTraceOf}
-use Rattle.mps_trace.specs.State.{max_finals}
-use Rattle.mps_trace.specs.Trace.{TraceState, Traced, traced}
+use Rattle.mps_trace.specs.Trace.{Traced}
 use Rattle.mps_trace.specs.declared.running.Band.TheVariants as band
 use Rattle.mps_trace.specs.declared.running.Running.{Running}
 use Rattle.mps_heap_spec.specs.State.{HeapState}
 use Rattle.mps_heap_spec.specs.Coming.{Comes, Outcome}
 use Rattle.mps_heap_spec.specs.Finding.{object_in}
 use Rattle.mps_heap_spec.specs.Objects.{reference_got}
+use Rattle.mps_heap_spec.specs.Units.{IsWhole, trace_in, traced_in}
 use Rattle.mps_heap_spec.specs.declared.found.Block.{Block}
 
 module _ {F : Type 0} (h : HeapState F) where
-  -- what the collector knows of the pools of a heap
-  abbrev pub trace_in : TraceState F
-  trace_in = trace_of h.pools h.tails
-
-  -- what it changes of a heap and a trail
-  abbrev pub traced_in : Moves → Traced
-  traced_in m = traced trace_in h.segs m
-
-  -- the heap after it changed this
+  -- the heap after the collector changed this
   abbrev pub with_traced : Traced → HeapState F
   with_traced x = record h { segs = x.segs; tails = x.amc }
-
-  -- what is known of the tables of each heap: each pool has a tail, marks are as many as words, and registrations are few
-  pub record AreTablesWhole : Type 0 where
-    pub tails : IsTraceOf h.pools trace_in
-    pub marked : IsMarked h.segs.grains h.segs.marks h.segs.condemned h.segs.summaries
-    pub few : length h.finals.registered ≤ max_finals
 
 module _ {F : Type 0} (layout : F → Layout) (h : HeapState F) (m : Moves) where
   -- while a collection runs, its read barrier can be done for a block at an address
@@ -53,14 +36,14 @@ module _ {F : Type 0} (layout : F → Layout) (h : HeapState F) (m : Moves) wher
   -- this is left by the read barrier for a block at an address: what was there, if no collection runs
   pub record IsAccessedAt (at : Address) (x : Traced) : Type 0 where
     pub rests : h.running ≡ None → x ≡ traced_in h m
-    pub whole : (run : Running) → h.running ≡ Some run → AreTablesWhole h
+    pub whole : (run : Running) → h.running ≡ Some run → IsWhole h
     pub runs : (run : Running) → h.running ≡ Some run → (t : Segment) → segment_over h.segs.segments at ≡ Some t
         → AccessesTo layout (trace_in h).formats (trace_in h).chains run.band t (traced_in h m) x
 
   module _ (target source : Slot) (k : ℕ) where
     -- what `get` needs of a heap whose tables are whole: the barrier can be done for the object that is read
     abbrev pub CanGet : Type 0
-    CanGet = AreTablesWhole h → (object : Block F) → object_in layout h source ≡ Ok object → CanAccessAt object.at
+    CanGet = IsWhole h → (object : Block F) → object_in layout h source ≡ Ok object → CanAccessAt object.at
 
     -- the call is accepted, and this is left by the barrier for its object
     pub record IsAccessed (x : Traced) : Type 0 where

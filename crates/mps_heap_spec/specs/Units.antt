@@ -1,12 +1,13 @@
 -- Units of a heap's collection, as `step`, polls, `park` and `collect` have it do some.
-use Rattle.std.specs.Prelude.{ℕ, ◌≡◌, ◌≢◌, is_some, if◌then◌else◌, Option, Some, None, length}
+use Rattle.std.specs.Prelude.{ℕ, ◌≡◌, ◌≢◌, ◌≤◌, is_some, if◌then◌else◌, Option, Some, None, length}
 use Rattle.mps_base.specs.Trail.{Moves}
 use Rattle.mps_format.specs.Layout.{Layout}
 use Rattle.mps_trace.specs.Collect.{most_units}
 use Rattle.mps_seg.specs.Table.{IsMarked}
 use Rattle.mps_pools.specs.Pools.{trace_of}
 use Rattle.mps_pools.specs.Collecting.{IsTraceOf}
-use Rattle.mps_trace.specs.Trace.{Traced, traced}
+use Rattle.mps_trace.specs.State.{max_finals}
+use Rattle.mps_trace.specs.Trace.{TraceState, Traced, traced}
 use Rattle.mps_trace.specs.Unit.{AreUnitsReady, EndsWithin, UnitsTo}
 use Rattle.mps_trace.specs.declared.running.Running.{Running}
 use Rattle.mps_heap_spec.specs.State.{HeapState}
@@ -15,19 +16,24 @@ use Rattle.mps_heap_spec.specs.declared.arena.Progress.{Progress}
 use Rattle.mps_heap_spec.specs.declared.arena.Progress.TheVariants.{Idle, More}
 
 module _ {F : Type 0} where
-  -- what units need of each heap: its tables of marks have their sizes, and each pool has a tail
+  -- what the collector knows of the pools of a heap
+  abbrev pub trace_in : HeapState F → TraceState F
+  trace_in h = trace_of h.pools h.tails
+
+  -- what it sees of a heap and a trail, and changes
+  abbrev pub traced_in : HeapState F → Moves → Traced
+  traced_in h m = traced (trace_in h) h.segs m
+
+  -- what is known of the tables of each heap: those of marks have their sizes, each pool has a tail, and registrations are few
   pub record IsWhole (h : HeapState F) : Type 0 where
     pub marked : IsMarked h.segs.grains h.segs.marks h.segs.condemned h.segs.summaries
-    pub tails : IsTraceOf h.pools (trace_of h.pools h.tails)
-
-  -- what a collector sees of a heap and a trail
-  abbrev pub traced_in : HeapState F → Moves → Traced
-  traced_in h m = traced (trace_of h.pools h.tails) h.segs m
+    pub tails : IsTraceOf h.pools (trace_in h)
+    pub few : length h.finals.registered ≤ max_finals
 
   -- each of at most n units of the collection that runs can be done when its turn comes
   abbrev pub CanDoUnits : (F → Layout) → HeapState F → Moves → (n : ℕ) → Type 0
   CanDoUnits layout h m n =
-      (run : Running) → h.running ≡ Some run → AreUnitsReady layout (trace_of h.pools h.tails) h.segs m h.finals run n
+      (run : Running) → h.running ≡ Some run → AreUnitsReady layout (trace_in h) h.segs m h.finals run n
 
   -- what the units of a collection leave of a heap, and whether it runs then
   abbrev pub after_units : (before after : HeapState F) → Option Running → HeapState F
@@ -37,11 +43,11 @@ module _ {F : Type 0} where
   pub data HasDoneUnits (layout : F → Layout) (h : HeapState F) (m : Moves) (n : ℕ) (h' : HeapState F) (m' : Moves) : Type 0 where
     none_runs : h.running ≡ None → h' ≡ h → m' ≡ m → HasDoneUnits layout h m n h' m'
     goes_on : (run next : Running) → h.running ≡ Some run
-        → UnitsTo layout (trace_of h.pools h.tails).formats (trace_of h.pools h.tails).chains (traced_in h m) h.finals run n
+        → UnitsTo layout (trace_in h).formats (trace_in h).chains (traced_in h m) h.finals run n
         (traced_in h' m') h'.finals next
         → h' ≡ after_units h h' (Some next) → HasDoneUnits layout h m n h' m'
     ends : (run : Running) → h.running ≡ Some run
-        → EndsWithin layout (trace_of h.pools h.tails).formats (trace_of h.pools h.tails).chains (traced_in h m) h.finals run n
+        → EndsWithin layout (trace_in h).formats (trace_in h).chains (traced_in h m) h.finals run n
         (traced_in h' m') h'.finals
         → h' ≡ after_units h h' None → HasDoneUnits layout h m n h' m'
 

@@ -8,14 +8,15 @@ use mps_base::Trail;
 use mps_format::Format;
 use mps_trace::most_units;
 
-/// Does nothing: a caller knows that its tables of marks have their sizes, that each pool has a tail, and that no reservation remembers a
-/// flip that is still to come.
+/// Does nothing: a caller knows that its tables of marks have their sizes, that each pool has a tail, that registrations are few, and that
+/// no reservation remembers a flip that is still to come.
 pub fn is_whole<F: Format>(state: &State<F>)
     ensures whole { IsWhole state.now }
     ensures made_before { WereMadeBefore state.now.points.flips state.now.points }
 {
     state.segs.tables_are_whole();
     state.pools.tails_are_listed();
+    state.finals.registrations_are_few();
     state.points.reservations_are_past();
 }
 

@@ -18,9 +18,10 @@ use Rattle.mps_model.specs.declared.call.Call.TheVariants as call
 use Rattle.mps_model.specs.Checked.{Checked}
 use Rattle.mps_model.specs.World.{World}
 use Rattle.mps_heap_spec.specs.Coming.{Comes, answered, state_from}
-use Rattle.mps_heap_spec.specs.Getting.{AreTablesWhole, CanGet, IsGot, is_refused, reads, trace_in, traced_in, with_traced}
+use Rattle.mps_heap_spec.specs.Getting.{CanGet, IsGot, is_refused, reads, with_traced}
 use Rattle.mps_heap_spec.specs.Objects.{reference_got}
 use Rattle.mps_heap_spec.specs.State.{HeapState}
+use Rattle.mps_heap_spec.specs.Units.{IsWhole, trace_in, traced_in}
 use Rattle.mps_refinement.specs.Answering.{answer_to, says_ok}
 use Rattle.mps_refinement.specs.RightMoving.{IsRightMoving, KeepsRoom}
 use Rattle.mps_refinement.specs.RightStep.{IsRightIn, step_of}
@@ -44,7 +45,7 @@ in_its_world {layout = layout} {past = past} {h = h} x A shown parts knows reach
 module _ {F : Type 0} (layout : F → Layout) (h : HeapState F) (m : Moves) (room : most_moves h.segs.grains ≤ m.spare) where
   -- ---- the barrier
 
-  module _ (whole : AreTablesWhole h) (past : Past) (x : Collecting) (parts : AreParts layout past h x.world) (reach : IsReached x.world)
+  module _ (whole : IsWhole h) (past : Past) (x : Collecting) (parts : AreParts layout past h x.world) (reach : IsReached x.world)
       (r : Runs past.time (collector_of h) x.world x) where
     few : units_left x < too_many_scans
     few =
