@@ -11,7 +11,6 @@ use mps_base::{Addr, Refusal, Slot, Trail};
 use mps_format::Format;
 use mps_heap_spec::{number_cell_at, reference_cell_at, tag_of, with_tag, with_target, write_word};
 use mps_heap_state::State;
-use mps_heap_state::units::is_whole;
 use mps_trace::Band;
 
 /// A slot becomes another. Refuses `BadName` and `BadIndex` of the one, and then of the other.
@@ -133,7 +132,9 @@ fn access<F: Format>(
     let _into = state.slot_in(target)?;
     let object = state.object_in(source)?;
     let _cell = reference_cell_at(&state.segs, &object, k)?;
-    is_whole(state);
+    state.pools.tails_are_listed();
+    state.segs.tables_are_whole();
+    state.finals.registrations_are_few();
     state
         .pools
         .access(&mut state.segs, trail, band, Addr(object.at));
@@ -170,7 +171,7 @@ pub fn get<F: Format>(
     k: u64,
 ) -> Result<(), Refusal>
     requires { CanGet F.layout state.old trail.old target source k }
-    ensures { IsGot F.layout state.old trail.old target source k result state.new trail.new }
+    ensures outcome { IsGot F.layout state.old trail.old target source k result state.new trail.new }
 {
     match state.running {
         None => read_reference(state, target, source, k),

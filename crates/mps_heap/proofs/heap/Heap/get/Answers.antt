@@ -19,7 +19,7 @@ invariant_of-self g c =
     let h = c.self.inside.state in
     let room = subst (λ x. most_moves x.segs.grains ≤ c.args.trail.now.spare) (sym c.self.view_is) c.requires.fits in
     let moved = (got_rightly g.F.Format.layout h c.args.trail.now room c.args.target c.args.source c.args.cell c.get.result c.get.new.state
-    c.get.new.trail c.get.ensures c.self.invariant).0 in
+    c.get.new.trail c.get.ensures.outcome c.self.invariant).0 in
     stays g.F.Format.layout h c.get.new.state (call.Get c.args.target c.args.source c.args.cell) moved.moves (answer_to says_ok
     c.get.result) c.self.invariant moved.right
 
@@ -28,7 +28,7 @@ returns g c =
     let h = c.self.inside.state in
     let room = subst (λ x. most_moves x.segs.grains ≤ c.args.trail.now.spare) (sym c.self.view_is) c.requires.fits in
     let got = got_rightly g.F.Format.layout h c.args.trail.now room c.args.target c.args.source c.args.cell c.get.result c.get.new.state
-    c.get.new.trail c.get.ensures c.self.invariant in
+    c.get.new.trail c.get.ensures.outcome c.self.invariant in
     record {
       right = subst
           (λ x. IsRightMoving g.F.Format.layout x (call.Get c.args.target c.args.source c.args.cell) c.args.trail.now.moves
