@@ -203,7 +203,7 @@ const POLLS: [CollectedCase; 4] = [
 ];
 
 /// Words of areas that are written while a collection runs.
-const WORDS: [CollectedCase; 4] = [
+const WORDS: [CollectedCase; 7] = [
     // A word that shows an old address of an object that moved holds nothing.
     CollectedCase {
         script: b"arena 8 8\ntable t 3\narea a 1\npool p amc front\nap x p exact\nreserve x f:2:0\ninit x 1 7\ncommit x t.0\naddr t.0\n\
@@ -230,6 +230,37 @@ const WORDS: [CollectedCase; 4] = [
         script: b"arena 8 8\ntable t 3\narea a 2\npool p amc front\nap x p exact\nreserve x f:2:0\ninit x 1 7\ncommit x t.0\n\
         pin a.0 t.0\nstart\naddr t.0\npoke a.1 0x1000\nclear t.0\ntake t.1 a.1\nsame t.1 t.0\nnum t.1 1\nstep 1000\naddr t.1\nlive\n",
         printed: b"ok\nok\nok\nok\nok\nok\nok\nok\nok\nok\n0x1000\nblock\nok\nok\nno\n7\nidle\n0x1000\n1 2\n",
+    },
+    // Words of each kind once registrations are examined: an old address, where the object is now, an object that is white, a marked and
+    // a white one of a pool that marks, and a pinned one.
+    CollectedCase {
+        script: b"arena 16 16\ntable t 4\narea a 2\npool p amc front\npool s ams front\npool w awl front\nap x p exact\nap y s exact\n\
+        ap z w weak\nreserve x f:2:0\ncommit x t.0\nreserve x f:2:0\ncommit x t.1\nfinalize t.1\nreserve x f:2:0\ncommit x t.1\n\
+        reserve y f:2:0\ncommit y t.1\nreserve y f:2:0\ncommit y t.2\nreserve z f:2:1\ncommit z t.3\nreserve x f:2:0\ncommit x t.2\n\
+        pin a.0 t.2\nclear t.2\nstart\nstep 4\npoke a.1 0x1000\npoke a.1 0x4000\npoke a.1 0x1020\npoke a.1 0x2000\npoke a.1 0x2010\n\
+        poke a.1 0x1030\nstep 1000\nlive\n",
+        printed: b"ok\nok\nok\nok\nok\nok\nok\nok\nok\nok\nok\nok\nok\nok\nok\nok\nok\nok\nok\nok\nok\nok\nok\nok\nok\nok\nok\nmore\n\
+        number\nblock\nnumber\nblock\nnumber\nblock\nidle\n5 10\n",
+    },
+    // The same once weak blocks are scanned.
+    CollectedCase {
+        script: b"arena 16 16\ntable t 4\narea a 2\npool p amc front\npool s ams front\npool w awl front\nap x p exact\nap y s exact\n\
+        ap z w weak\nreserve x f:2:0\ncommit x t.0\nreserve x f:2:0\ncommit x t.1\nfinalize t.1\nreserve x f:2:0\ncommit x t.1\n\
+        reserve y f:2:0\ncommit y t.1\nreserve y f:2:0\ncommit y t.2\nreserve z f:2:1\ncommit z t.3\nreserve x f:2:0\ncommit x t.2\n\
+        pin a.0 t.2\nclear t.2\nstart\nstep 6\npoke a.1 0x1000\npoke a.1 0x4000\npoke a.1 0x1020\npoke a.1 0x2000\npoke a.1 0x2010\n\
+        poke a.1 0x1030\nstep 1000\nlive\n",
+        printed: b"ok\nok\nok\nok\nok\nok\nok\nok\nok\nok\nok\nok\nok\nok\nok\nok\nok\nok\nok\nok\nok\nok\nok\nok\nok\nok\nok\nmore\n\
+        number\nblock\nnumber\nblock\nnumber\nblock\nidle\n5 10\n",
+    },
+    // The same once segments are reclaimed.
+    CollectedCase {
+        script: b"arena 16 16\ntable t 4\narea a 2\npool p amc front\npool s ams front\npool w awl front\nap x p exact\nap y s exact\n\
+        ap z w weak\nreserve x f:2:0\ncommit x t.0\nreserve x f:2:0\ncommit x t.1\nfinalize t.1\nreserve x f:2:0\ncommit x t.1\n\
+        reserve y f:2:0\ncommit y t.1\nreserve y f:2:0\ncommit y t.2\nreserve z f:2:1\ncommit z t.3\nreserve x f:2:0\ncommit x t.2\n\
+        pin a.0 t.2\nclear t.2\nstart\nstep 7\npoke a.1 0x1000\npoke a.1 0x4000\npoke a.1 0x1020\npoke a.1 0x2000\npoke a.1 0x2010\n\
+        poke a.1 0x1030\nstep 1000\nlive\n",
+        printed: b"ok\nok\nok\nok\nok\nok\nok\nok\nok\nok\nok\nok\nok\nok\nok\nok\nok\nok\nok\nok\nok\nok\nok\nok\nok\nok\nok\nmore\n\
+        number\nblock\nnumber\nblock\nnumber\nblock\nidle\n5 10\n",
     },
 ];
 
