@@ -116,3 +116,21 @@ block_stays f words from to n stands to_in apart some =
         stands.within,
       ) ∙ stands.whole ∙ ap (λ (h : ℕ). f.size h) (sym head);
     }
+
+-- where a block was copied it stands as it did
+pub copy_stands : (f : Layout) (words words' : List ℕ) (from to : Address) (n : ℕ) → BlockStands f words from n
+    → AreCopied f words words' from to n → word_of to + n ≤ length words → BlockStands f words' to n
+copy_stands f words words' from to n stands copied within =
+    let some = copied.begins.in_range.0 in
+    let there : word_of to ≡ word_of to + 0 = omega arith in
+    let here : word_of from + 0 ≡ word_of from = omega arith in
+    let head : slice_index words' (word_of to) ≡ slice_index words (word_of from) =
+    ap (λ (i : ℕ). slice_index words' i) there
+    ∙ copied.copied 0 (omega (arith, some))
+    ∙ ap (λ (i : ℕ). slice_index words i) here
+    in
+    record {
+      valid = let P : ℕ → Type 0 = λ h. IsTrue (f.is_valid h) in subst P (sym head) stands.valid;
+      whole = stands.whole ∙ ap (λ (h : ℕ). f.size h) (sym head);
+      within = omega (arith, copied.long, within);
+    }

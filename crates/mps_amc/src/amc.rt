@@ -101,6 +101,7 @@ impl Amc {
         requires fits { 1 < trail.old.spare }
         ensures kept { IsFixed (F.layout format.now) self.old self.new segs.old segs.new trail.old trail.new at pool generation
             (size_at (F.layout format.now) segs.old.words at.0) result }
+        ensures stands { BlockStands (F.layout format.now) segs.new.words result.0 (size_at (F.layout format.now) segs.old.words at.0) }
         ensures at_hand { IsAtHand segs.new (tail_of self.new pool generation) }
     {
         let words = format.words(segs.word(at));
@@ -159,6 +160,7 @@ impl Amc {
         requires fits { 1 < trail.old.spare }
         ensures fixed { IsFixed (F.layout format.now) self.old self.new segs.old segs.new trail.old trail.new at pool generation words
             result }
+        ensures stands { BlockStands (F.layout format.now) segs.new.words result.0 words }
         ensures at_hand { IsAtHand segs.new (tail_of self.new pool generation) }
     {
         let _ = segs.grains();
