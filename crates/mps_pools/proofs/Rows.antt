@@ -42,8 +42,8 @@ emptied (row ∷ rows) =
 
 module _ {F : Type 0} (layout : F → Layout) (formats : List (Option (Policy F))) (chains : ChainsState) where
   kept : {x y : Traced} {at answer : Addr} → KeepsTo layout formats chains x at y answer → rows_of y.amc ≡ rows_of x.amc
-  kept {x} (moves t format answer over listed is fixed) =
-      ap rows_of fixed.tails ∙ tail_written x.amc t.pool (target_of chains t) _
+  kept {x} (moves t format answer over listed is fixed noted) =
+      ap (λ (w : Traced). rows_of w.amc) noted ∙ ap rows_of fixed.tails ∙ tail_written x.amc t.pool (target_of chains t) _
   kept (marks t format over listed stays is) = ap (λ (w : Traced). rows_of w.amc) is
 
   fixed : {x y : Traced} {at answer : Addr} → FixesTo layout formats chains x at y answer → rows_of y.amc ≡ rows_of x.amc

@@ -1,6 +1,6 @@
 -- What holds after a block was kept.
-use Rattle.std.proofs.Common.{ℕ, ◌%◌, ◌≡◌, Result, Ok, Err, List, length, sym, ap, subst, arith}
-use Rattle.mps_base.specs.Address.{Address, bytes_of_word}
+use Rattle.std.proofs.Common.{ℕ, ◌+◌, ◌%◌, ◌≤◌, ◌≡◌, Result, Ok, Err, List, length, refl, sym, ap, subst, arith}
+use Rattle.mps_base.specs.Address.{Address, word_of, bytes_of_word}
 use Rattle.mps_base.specs.Placement.{Placement, Place, NewSegment, OverLimit, NoFreeRun}
 use Rattle.mps_base.specs.Trail.{Moves}
 use Rattle.mps_base.specs.declared.address.Addr.{Addr}
@@ -8,6 +8,7 @@ use Rattle.mps_base.specs.declared.refusal.Refusal.{Refusal}
 use Rattle.mps_format.specs.Layout.{Layout}
 use Rattle.mps_seg.specs.Arena.{answer_of_placement}
 use Rattle.mps_seg.specs.Segs.{SegsState}
+use Rattle.mps_amc.specs.Moving.{BlockStands, size_at}
 use Rattle.mps_amc.specs.Amc.{AmcState, answer_of_fix, AreWordsFixed, placement_of_copy, IsFixed}
 
 -- a block lies on a word wherever it was placed
@@ -22,6 +23,13 @@ words_long : (r : Result Addr Refusal) (f : Layout) (words words' : List ℕ) (a
     → AreWordsFixed r f words words' at size → length words' ≡ length words
 words_long (Ok to) f words words' at size fixed = fixed.long
 words_long (Err why) f words words' at size fixed = ap (λ (ws : List ℕ). length ws) fixed
+
+-- a block that stands has the size that its head gives
+pub stands_whole : {f : Layout} {words : List ℕ} {at : Address} {size : ℕ} → BlockStands f words at size
+    → BlockStands f words at (size_at f words at)
+stands_whole {f} {words} {at} stands =
+    let P : ℕ → Type 0 = λ n. word_of at + n ≤ length words in
+    record { valid = stands.valid; whole = refl; within = subst P stands.whole stands.within }
 
 module _ {f : Layout} {amc amc' : AmcState} {s s' : SegsState} {moves moves' : Moves} {at : Addr} {pool generation size : ℕ}
     {answer : Addr} (fixed : IsFixed f amc amc' s s' moves moves' at pool generation size answer)

@@ -58,14 +58,15 @@ module _ {F : Type 0} (layout : F → Layout) (formats : List (Option (Policy F)
   IsHeld x = Contains x.segs.segments t
 
   held_kept : {x z : Traced} {at answer : Addr} → KeepsTo layout formats of x at z answer → IsHeld x → IsHeld z
-  held_kept {x} {at = at} (moves u format answer over listed is fixed) there =
+  held_kept {x} {at = at} (moves u format answer over listed is fixed noted) there =
       let size = size_at (layout format.format) x.segs.words at.0 in
       let p = placement_of_copy x.amc x.segs u.pool (target_of of u) size in
       let s = with_place x.segs u.pool (target_of of u) p in
       let P : SegsState → Type 0 = λ g. Contains g.segments t in
       let Q : List Segment → Type 0 = λ ss. Contains ss t in
-      subst P (sym fixed.state)
-      (subst Q (sym (same_fixed (answer_of_placement p) s at.0 size)) (held_after p u.pool (target_of of u) t x.segs.segments there))
+      subst IsHeld (sym noted)
+      (subst P (sym fixed.state)
+      (subst Q (sym (same_fixed (answer_of_placement p) s at.0 size)) (held_after p u.pool (target_of of u) t x.segs.segments there)))
   held_kept {x} {at = at} (marks u format over listed stays is) there = subst IsHeld (sym is) there
 
   held_fixed : {x z : Traced} {at answer : Addr} → FixesTo layout formats of x at z answer → IsHeld x → IsHeld z

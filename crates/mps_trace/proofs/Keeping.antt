@@ -13,7 +13,7 @@ use Rattle.mps_seg.specs.declared.segment_info.Owner.{Owner}
 use Rattle.mps_amc.specs.Moving.{kept_in_place, size_at}
 use Rattle.mps_amc.specs.Amc.{HasTail, tail_of, IsFixed}
 use Rattle.mps_gen.specs.State.{generations_of}
-use Rattle.mps_trace.specs.Trace.{TraceState, Traced, traced, CanMove, CanKeep, KeepsTo, moves, marks, target_of}
+use Rattle.mps_trace.specs.Trace.{TraceState, Traced, traced, CanMove, CanKeep, KeepsTo, moves, marks, target_of, with_copy_noted}
 use Rattle.mps_trace.proofs.Known.{pool_is, target_is}
 
 -- that a block can be kept, as the fields of the collector have it
@@ -70,11 +70,11 @@ module _ {F : Type 0} (layout : F → Layout) (t : TraceState F) (s : SegsState)
               let Q : ℕ → Type 0 = λ g. IsAtHand s (tail_of t.amc can.segment.pool g) in
               subst P (sym pool_there) (subst Q (sym generation_there) can_move.at_hand)
 
-          pub moved : (y : Traced) (answer : Addr)
+          pub moved : (y z : Traced) (answer : Addr)
               → IsFixed (layout got.format) t.amc y.amc s y.segs m y.moves at owner.pool generation
-              (size_at (layout got.format) s.words at.0) answer
-              → KeepsTo layout t.formats t.chains x at y answer
-          moved y answer fixed =
+              (size_at (layout got.format) s.words at.0) answer → z ≡ with_copy_noted (layout got.format) at.0 answer.0 y
+              → KeepsTo layout t.formats t.chains x at z answer
+          moved y z answer fixed noted =
               let P : ℕ → Type 0 = λ p. IsFixed (layout got.format) t.amc y.amc s y.segs m y.moves at p generation
               (size_at (layout got.format) s.words at.0) answer in
               let Q : ℕ → Type 0 = λ g. IsFixed (layout got.format) t.amc y.amc s y.segs m y.moves at can.segment.pool g
@@ -83,5 +83,6 @@ module _ {F : Type 0} (layout : F → Layout) (t : TraceState F) (s : SegsState)
               λ q. IsFixed (layout q.format) t.amc y.amc s y.segs m y.moves at can.segment.pool (target_of t.chains can.segment)
               (size_at (layout q.format) s.words at.0) answer
               in
+              let S : Policy F → Type 0 = λ q. z ≡ with_copy_noted (layout q.format) at.0 answer.0 y in
               moves can.segment can.format answer can.over can.listed moves_is
-              (subst R got_is (subst Q generation_there (subst P pool_there fixed)))
+              (subst R got_is (subst Q generation_there (subst P pool_there fixed))) (subst S got_is noted)

@@ -2,8 +2,10 @@ pub mod Accessed
 pub mod AreaWords
 pub mod Beginning
 pub mod Collected
+pub mod CellZones
 pub mod Condemning
 pub mod Ending
+pub mod FirstGrains
 pub mod Fixed
 pub mod Held
 pub mod Keeping

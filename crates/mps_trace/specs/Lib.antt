@@ -4,6 +4,7 @@ pub mod Condemned
 pub mod Examine
 pub mod Finding
 pub mod Flip
+pub mod Noting
 pub mod Reclaim
 pub mod Registration
 pub mod Roots

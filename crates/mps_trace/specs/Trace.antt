@@ -12,6 +12,7 @@ use Rattle.mps_seg.specs.Buffer.{IsAtHand, empty_buffer}
 use Rattle.mps_amc.specs.Moving.{BlockStands, IsBlockOf, size_at, kept_in_place}
 use Rattle.mps_amc.specs.Amc.{AmcState, HasTail, tail_of, IsFixed}
 use Rattle.mps_amc.specs.Amc as amc
+use Rattle.mps_trace.specs.Noting.{copy_noted}
 use Rattle.mps_trace.specs.Finding.{CanFind, FindsTo, nothing_is_white_without_a_pool}
 use Rattle.mps_gen.specs.State.{ChainsState, no_chains, generations_of}
 use Rattle.mps_format.specs.declared.pool.Policy.{Policy}
@@ -76,16 +77,20 @@ pub record CanFixAt {F : Type 0} (layout : F → Layout) (formats : List (Option
 abbrev pub CanFix : {F : Type 0} → (F → Layout) → TraceState F → SegsState → Moves → Addr → Type 0
 CanFix layout t s m at = CanFixAt layout t.formats t.chains (traced t s m) at
 
+-- the references of a block are noted that was at one address and is at another
+abbrev pub with_copy_noted : Layout → (from to : Address) → Traced → Traced
+with_copy_noted f from to x = record x { segs = copy_noted f x.segs from to }
+
 -- what the pool of a white block does with it to keep it, and where the block lies then
 pub data KeepsTo {F : Type 0} (layout : F → Layout) (formats : List (Option (Policy F))) (chains : ChainsState) (x : Traced) (at : Addr)
     : Traced → (answer : Addr) → Type 0
   where
-    -- the pool moves its blocks
-    moves : {y : Traced} (t : Segment) (format : Policy F) (answer : Addr) → segment_over x.segs.segments at.0 ≡ Some t
+    -- the pool moves its blocks, and notes where the references of the block lead
+    moves : {y z : Traced} (t : Segment) (format : Policy F) (answer : Addr) → segment_over x.segs.segments at.0 ≡ Some t
         → slice_get formats t.pool ≡ Some (Some format) → format.moves ≡ true
         → IsFixed (layout format.format) x.amc y.amc x.segs y.segs x.moves y.moves at t.pool (target_of chains t)
         (size_at (layout format.format) x.segs.words at.0) answer
-        → KeepsTo layout formats chains x at y answer
+        → z ≡ with_copy_noted (layout format.format) at.0 answer.0 y → KeepsTo layout formats chains x at z answer
     -- or keeps them where they lie: the block is grey
     marks : {y : Traced} (t : Segment) (format : Policy F) → segment_over x.segs.segments at.0 ≡ Some t
         → slice_get formats t.pool ≡ Some (Some format) → format.moves ≡ false

@@ -9,6 +9,7 @@ mod condemn;
 mod examining;
 mod finding;
 mod flip;
+mod noting;
 mod registration;
 mod roots;
 mod running;

@@ -18,6 +18,7 @@ ghost use Rattle.mps_trace.specs.Reclaim.{CanReclaimAt, Reclaims};
 ghost use Rattle.mps_trace.specs.Scan.{FixesCell, CanFixCell, AreReadyIn, ScansAll, CanScan, Scanned, CanScanGrey, ScansOne, IsDrained};
 
 use crate::finding::{find_in, segment_at};
+use crate::noting::note_copy;
 use mps_amc::Amc;
 use mps_base::{Addr, BYTES_OF_WORD, Rank, Trail};
 use mps_format::{Format, Policy};
@@ -179,8 +180,11 @@ impl<F: Format> Trace<F> {
             return at;
         }
         let generation = self.chains.target(owner.pool, owner.generation);
-        self.amc
-            .keep(segs, trail, &policy.format, at, owner.pool, generation)
+        let to = self
+            .amc
+            .keep(segs, trail, &policy.format, at, owner.pool, generation);
+        note_copy(segs, &policy.format, at, to);
+        to
     }
 
     /// Fixes a reference: returns the new address of the block at `at`. A block in a segment that isn't condemned stays; any other

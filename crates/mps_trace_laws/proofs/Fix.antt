@@ -16,6 +16,7 @@ pub mod SplatsLeft
 pub mod Room
 pub mod Steps
 pub mod FixSteps
+pub mod Noted
 pub mod EachFix
 pub mod EachCell
 pub mod CellLists

@@ -82,11 +82,12 @@ kept_or_moved (Err why) m at = one_pushed m (Stay at)
 
 module _ {F : Type 0} (layout : F → Layout) (formats : List (Option (Policy F))) (chains : ChainsState) where
   keep_pushes : (x : Traced) (at : Addr) (y : Traced) (to : Addr) → KeepsTo layout formats chains x at y to → IsPushed x.moves y.moves
-  keep_pushes x at y to (moves t format answer over listed is fixed) =
+  keep_pushes x at y to (moves t format answer over listed is fixed noted) =
       let placement = placement_of_copy x.amc x.segs t.pool (target_of chains t) (size_at (layout format.format) x.segs.words at.0) in
-      subst (IsPushed x.moves) (sym fixed.trail)
+      subst (λ (w : Traced). IsPushed x.moves w.moves) (sym noted)
+      (subst (IsPushed x.moves) (sym fixed.trail)
       (pushed_on (placed placement t.pool (target_of chains t) x.moves)
-      (kept_or_moved (answer_of_placement placement) (moves_after placement t.pool (target_of chains t) x.moves) at))
+      (kept_or_moved (answer_of_placement placement) (moves_after placement t.pool (target_of chains t) x.moves) at)))
   keep_pushes x at y to (marks t format over listed stays is) =
       subst (λ (w : Traced). IsPushed x.moves w.moves) (sym is) (none_pushed x.moves)
 

@@ -66,9 +66,9 @@ module _ (n : ℕ) where
   module _ {F : Type 0} (layout : F → Layout) (formats : List (Option (Policy F))) (chains : ChainsState) where
     keep_alike : {x y : Traced} (at to : Addr) → KeepsTo layout formats chains x at y to
         → KeepsTo layout formats chains (traced_with_less x) at (traced_with_less y) to
-    keep_alike {x} {y} at to (moves t format answer over listed is fixed) =
+    keep_alike {x} at to (moves {y = w} t format answer over listed is fixed noted) =
         let placement = placement_of_copy x.amc x.segs t.pool (target_of chains t) (size_at (layout format.format) x.segs.words at.0) in
-        moves t format answer over listed is (record {
+        moves {y = traced_with_less w} t format answer over listed is (record {
           answer_is = fixed.answer_is;
           state = fixed.state;
           words = fixed.words;
@@ -77,7 +77,7 @@ module _ (n : ℕ) where
               ap with_less fixed.trail
               ∙ kept_or_moved (answer_of_placement placement) (moves_after placement t.pool (target_of chains t) x.moves) at
               ∙ ap (λ m. moves_fixed (answer_of_placement placement) m at) (takes placement t.pool (target_of chains t) x.moves);
-        })
+        }) (ap traced_with_less noted)
     keep_alike at to (marks t format over listed stays is) = marks t format over listed stays (ap traced_with_less is)
 
     fix_alike : {x y : Traced} (at to : Addr) → FixesTo layout formats chains x at y to

@@ -3,18 +3,16 @@ use Rattle.std.proofs.Common.{◌≡◌, ◌∙◌, ℕ, ◌+◌, ◌<◌, false
 use Rattle.std.proofs.lemmas.List.{append-nil}
 use Rattle.std.proofs.lemmas.Option.{none-some, same_Some}
 use Rattle.std.specs.Prelude.{slice_get, slice_set}
-use Rattle.mps_base.specs.Address.{Address, Id, Grain, word_of}
+use Rattle.mps_base.specs.Address.{Address, Id, word_of}
 use Rattle.mps_base.specs.declared.address.Addr.{Addr}
 use Rattle.mps_format.specs.Layout.{Layout}
-use Rattle.mps_seg.specs.Segs.{SegsState}
 use Rattle.mps_seg.specs.Collecting.{noting_in, first_grain_over}
-use Rattle.mps_amc.specs.Amc.{AmcState}
 use Rattle.mps_trace.specs.GenState.{ChainsState}
 use Rattle.mps_model.specs.Graph.{ReferenceCell, Object}
 use Rattle.mps_abstract.specs.Colours.{is_white}
 use Rattle.mps_abstract.specs.Collecting.{Collecting}
 use Rattle.mps_trace_laws.specs.Image.Memory.{Lies, memory_in, pool_layout}
-use Rattle.mps_trace_laws.specs.Image.Image.{CellSet, with_cell, AreShaped, ImageStands}
+use Rattle.mps_trace_laws.specs.Image.Image.{CellSet, with_cell, AreShaped}
 use Rattle.mps_trace_laws.specs.Image.Fixing as fixing
 use Rattle.mps_trace_laws.proofs.Image.Fixing.{holder_stays}
 use Rattle.mps_trace_laws.proofs.Image.References as references
@@ -22,53 +20,14 @@ use Rattle.mps_trace_laws.proofs.Image.Targets as targets
 use Rattle.mps_trace_laws.proofs.Image.Written.{cell_written, no_cell_changed}
 use Rattle.mps_trace.specs.Trace.{Traced}
 use Rattle.mps_trace.specs.Scan.{FixesCell, is_null, leads, CanFixCellAt, target_at}
-use Rattle.mps_trace_laws.specs.Fix.Tracing.{StateStands, TracingStands, setting_of}
+use Rattle.mps_trace_laws.specs.Fix.Tracing.{TracingStands, setting_of}
 use Rattle.mps_trace_laws.specs.Fix.Steps.{IsFixStep}
 use Rattle.mps_trace_laws.specs.Fix.Cells.{HoldsReference, IsCellStep}
 use Rattle.mps_trace_laws.proofs.Fix.CellLists.{image_again}
 use Rattle.mps_trace_laws.proofs.Fix.CanFix.{can_fix}
 use Rattle.mps_trace_laws.proofs.Fix.EachFix.{each_step}
+use Rattle.mps_trace_laws.proofs.Fix.Noted.{noted}
 use Rattle.mps_format.specs.declared.pool.Policy.{Policy}
-
--- the state stands where only words and the zones of a segment changed, and the image does
-module _ {F : Type 0} (layout : F → Layout) (formats : List (Option (Policy F))) (of : ChainsState) (at_flip : List (Option Address))
-    (done done' : CellSet) (state : AmcState) (s : SegsState) (y : Collecting)
-    (stands : StateStands layout formats of at_flip done state s y) (words : List ℕ) where
-  abbrev with_these : (summaries : List ℕ) → SegsState
-  with_these summaries = record s { words = words; summaries = summaries }
-
-  rewritten : (summaries : List ℕ)
-      → ImageStands (setting_of s at_flip y) (memory_in (with_these summaries)) y.world.addresses y.colours done'
-      → StateStands layout formats of at_flip done' state (with_these summaries) y
-  rewritten summaries image = record {
-    segments = record {
-      same_grains = stands.segments.same_grains;
-      same_limit = stands.segments.same_limit;
-      same_segments = stands.segments.same_segments;
-    };
-    held = record { small = stands.held.small; aligned = stands.held.aligned; ascending = stands.held.ascending };
-    tables = record {
-      kept = stands.tables.kept;
-      exact = stands.tables.exact;
-      weak = stands.tables.weak;
-      condemned = stands.tables.condemned;
-    };
-    covered = stands.covered;
-    reserved = stands.reserved;
-    condemned = record { is_bit = stands.condemned.is_bit; is_held = stands.condemned.is_held };
-    image = image;
-    pools = stands.pools;
-    collected = stands.collected;
-    still = stands.still;
-    tails = stands.tails;
-    hands = stands.hands;
-  }
-
-  pub noted : (over : Option Grain) (to : Address)
-      → ImageStands (setting_of s at_flip y) (memory_in (record s { words = words })) y.world.addresses y.colours done'
-      → StateStands layout formats of at_flip done' state (noting_in (record s { words = words }) over to) y
-  noted None to image = rewritten s.summaries image
-  noted (Some grain) to image = rewritten (noting_in (record s { words = words }) (Some grain) to).summaries image
 
 module _ (F : Type 0) (layout : F → Layout) (formats : List (Option (Policy F))) (of : ChainsState) (at_flip : List (Option Address))
     (done : CellSet) (x : Traced) (y : Collecting) (shaped : AreShaped y.world.graph.objects (pool_layout y.world))
@@ -83,7 +42,7 @@ module _ (F : Type 0) (layout : F → Layout) (formats : List (Option (Policy F)
     lies_null : Lies y.world.graph.objects y.world.addresses holder i o n
     lies_null = record { at = at.0; address = holds.there; object = holds.object; within = holds.within; is = refl }
 
-    null_target : target_at f x at i ≡ 0
+    pub null_target : target_at f x at i ≡ 0
     null_target =
         references.found_null (setting_of x.segs at_flip y) x.segs.words y.world.addresses shaped stands.state.image.placed
         stands.state.image.words (λ id. refl) holder i o n tag lies_null holds.cell
@@ -112,18 +71,18 @@ module _ (F : Type 0) (layout : F → Layout) (formats : List (Option (Policy F)
         }
 
   module _ (t : Id) (holds : HoldsReference y holder i at.0 o (Some t) tag) where
-    lies : Lies y.world.graph.objects y.world.addresses holder i o n
+    pub lies : Lies y.world.graph.objects y.world.addresses holder i o n
     lies = record { at = at.0; address = holds.there; object = holds.object; within = holds.within; is = refl }
 
-    abbrev now : Address
+    abbrev pub now : Address
     now = (holds.live t refl).0
 
-    found : references.FoundTarget (setting_of x.segs at_flip y) y.world.addresses f t tag (slice_index x.segs.words n) now
+    pub found : references.FoundTarget (setting_of x.segs at_flip y) y.world.addresses f t tag (slice_index x.segs.words n) now
     found =
         references.found (setting_of x.segs at_flip y) x.segs.words y.world.addresses shaped stands.state.image.placed
         stands.state.image.words (λ id. refl) holder i o n tag lies t now holds.cell (holds.live t refl).1
 
-    target_there : fixing.Target (setting_of x.segs at_flip y) y.world.addresses t (target_at f x at i) now found.object
+    pub target_there : fixing.Target (setting_of x.segs at_flip y) y.world.addresses t (target_at f x at i) now found.object
     target_there =
         subst (λ a. fixing.Target (setting_of x.segs at_flip y) y.world.addresses t a now found.object) (sym found.read.target)
         found.target

@@ -25,7 +25,7 @@ use Rattle.mps_abstract.specs.Collecting.{Collecting, is_white_in}
 use Rattle.mps_trace_laws.specs.Image.Memory.{pool_layout}
 use Rattle.mps_trace_laws.specs.Image.Image.{CellSet, AreShaped}
 use Rattle.mps_trace_laws.specs.Image.Fixing.{Target}
-use Rattle.mps_trace.specs.Trace.{Traced, KeepsTo, FixesTo, finds, keeps, target_of}
+use Rattle.mps_trace.specs.Trace.{Traced, KeepsTo, FixesTo, finds, keeps, target_of, with_copy_noted}
 use Rattle.mps_trace.specs.Trace as trace
 use Rattle.mps_trace_laws.specs.Fix.Finding.{FindsObject}
 use Rattle.mps_trace_laws.specs.Fix.Finding as finding
@@ -35,6 +35,7 @@ use Rattle.mps_trace_laws.specs.Fix.Steps.{IsFixStep, AFixIsAStep}
 use Rattle.mps_trace_laws.proofs.Fix.Hands.{IsPlacedAt, in_tail, in_new, is_over, has_no_run, placed_at}
 use Rattle.mps_trace_laws.proofs.Fix.Found as found
 use Rattle.mps_trace_laws.proofs.Fix.Steps.{nothing_done, mark_step}
+use Rattle.mps_trace_laws.proofs.Fix.Noted.{step_noted}
 use Rattle.mps_trace_laws.proofs.Fix.FixSteps.{place_is, stays_there, moves_there, new_there}
 use Rattle.mps_format.specs.declared.pool.Policy.{Policy}
 use Rattle.mps_model.specs.World.{is_copying_pool}
@@ -208,8 +209,11 @@ module _ (F : Type 0) (layout : F → Layout) (formats : List (Option (Policy F)
       -- a white object is kept
       kept_step : {z : Traced} {answer : Addr} → at.0 ≡ now → is_white_in y t ≡ true → is_condemned_at x.segs at.0 ≡ true
           → KeepsTo layout formats of x at z answer → IsFixStep layout formats of at_flip done x z y t answer.0
-      kept_step here white condemned (trace.moves s format answer over listed is fixed) =
-          moved_step here white condemned s over format listed answer is fixed
+      kept_step here white condemned (trace.moves {y = w} s format answer over listed is fixed noted) =
+          subst (λ (v : Traced). IsFixStep layout formats of at_flip done x v y t answer.0) (sym noted)
+          (step_noted layout formats of at_flip done x w y t answer.0
+          (with_copy_noted (layout format.format) at.0 answer.0 w).segs.summaries
+          (moved_step here white condemned s over format listed answer is fixed))
       kept_step here white condemned (trace.marks s format over listed stays is) =
           subst (λ (w : Traced). IsFixStep layout formats of at_flip done x w y t at.0) (sym is)
           (marked_step here white condemned s over format listed stays)

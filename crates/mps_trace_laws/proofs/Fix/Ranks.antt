@@ -217,11 +217,12 @@ module _ (all : List Segment) (order : AreSegmentsInOrder all) where
   module _ {F : Type 0} (layout : F → Layout) (formats : List (Option (Policy F))) (of : ChainsState) where
     kept_but : {x z : Traced} {at answer : Addr} → KeepsTo layout formats of x at z answer → AreAllButExact z.segs.segments all
         → AreAllButExact x.segs.segments all
-    kept_but {x} {at = at} (moves t format answer over listed is fixed) but =
+    kept_but {x} {at = at} (moves t format answer over listed is fixed noted) but =
         let size = size_at (layout format.format) x.segs.words at.0 in
         let p = placement_of_copy x.amc x.segs t.pool (target_of of t) size in
         let same =
-        ap (λ (s : SegsState). s.segments) fixed.state
+        ap (λ (w : Traced). w.segs.segments) noted
+        ∙ ap (λ (s : SegsState). s.segments) fixed.state
         ∙ fixed_segments (answer_of_placement p) (with_place x.segs t.pool (target_of of t) p) at.0 size
         in
         before_placement p t.pool (target_of of t) x.segs.segments all (subst (λ ss. AreAllButExact ss all) same but)
@@ -230,12 +231,16 @@ module _ (all : List Segment) (order : AreSegmentsInOrder all) where
 
     kept_ranked : {x z : Traced} {at answer : Addr} → KeepsTo layout formats of x at z answer → AreAllButExact z.segs.segments all
         → AreRanked x.segs.marks → AreRanked z.segs.marks
-    kept_ranked {x} {at = at} (moves t format answer over listed is fixed) but ranked =
+    kept_ranked {x} {at = at} (moves t format answer over listed is fixed noted) but ranked =
         let size = size_at (layout format.format) x.segs.words at.0 in
         let p = placement_of_copy x.amc x.segs t.pool (target_of of t) size in
         let grown = with_place x.segs t.pool (target_of of t) p in
-        let same = ap (λ (s : SegsState). s.segments) fixed.state ∙ fixed_segments (answer_of_placement p) grown at.0 size in
-        subst AreRanked (sym (ap (λ (s : SegsState). s.marks) fixed.state))
+        let same =
+        ap (λ (w : Traced). w.segs.segments) noted
+        ∙ ap (λ (s : SegsState). s.segments) fixed.state
+        ∙ fixed_segments (answer_of_placement p) grown at.0 size
+        in
+        subst AreRanked (sym (ap (λ (w : Traced). w.segs.marks) noted ∙ ap (λ (s : SegsState). s.marks) fixed.state))
         (fixed_ranked (answer_of_placement p) grown at.0 size (subst (λ ss. AreAllButExact ss all) same but)
         (record { exact = ranked.exact; weak = ranked.weak }))
     kept_ranked {x} {at = at} (marks t format over listed stays is) but ranked =

@@ -44,10 +44,10 @@ spare_of (NoFreeRun need longest) pool generation m at = omega arith
 
 module _ {F : Type 0} (layout : F → Layout) (formats : List (Option (Policy F))) (of : ChainsState) where
   spare_after : {x z : Traced} {at to : Addr} → KeepsTo layout formats of x at z to → x.moves.spare ≤ z.moves.spare + 2
-  spare_after {x} {at = at} (moves t format answer over listed is fixed) =
+  spare_after {x} {at = at} (moves t format answer over listed is fixed noted) =
       let p = placement_of_copy x.amc x.segs t.pool (target_of of t) (size_at (layout format.format) x.segs.words at.0) in
       let taken = spare_of p t.pool (target_of of t) x.moves at in
-      let same = ap (λ (m : Moves). m.spare) fixed.trail in
+      let same = ap (λ (w : Traced). w.moves.spare) noted ∙ ap (λ (m : Moves). m.spare) fixed.trail in
       omega (arith, taken, same)
   spare_after {x} (marks t format over listed stays is) =
       let same = ap (λ (w : Traced). w.moves.spare) is in omega (arith, same)
