@@ -8,3 +8,4 @@ pub mod Fix
 pub mod Units
 pub mod Splats
 pub mod Barrier
+pub mod Summaries

@@ -9,3 +9,4 @@ pub mod Units
 pub mod Splats
 pub mod Barrier
 pub mod Steps
+pub mod Summaries

@@ -12,6 +12,7 @@ ghost use Rattle.mps_trace_laws.specs.Begin.MovesOfObjects.{RoomIsEnough};
 ghost use Rattle.mps_trace_laws.specs.Splats.Laws.{ASplatScanIsAScan};
 ghost use Rattle.mps_trace_laws.specs.Steps.Laws.{UnitsInWordsAreUnits, UnitsToTheEndAreUnits, UnitsInWordsRunOut, UnitsCanBeDone};
 ghost use Rattle.mps_trace_laws.specs.Units.Examining.{ExaminationsAreUnits, PostsAreUnits};
+ghost use Rattle.mps_trace_laws.specs.Summaries.Laws.{AFixKeepsSummaries, AScanKeepsSummaries, ASplatScanKeepsSummaries, ABeginKeepsSummaries, UnitsKeepSummaries, TheEndKeepsSummaries, AnAccessKeepsSummaries, WordsTellAtRest};
 ghost use Rattle.mps_trace_laws.specs.Units.Left.{AFlipLeavesThese, NoCallLeavesMore, UnitsGoOnBelow};
 
 /// What is found at an address that means an object is where it lies now, and nothing is found exactly if it is white.
@@ -86,4 +87,18 @@ pub fn units_only_run_out()
     ensures flip { AFlipLeavesThese }
     ensures calls { NoCallLeavesMore }
     ensures below { UnitsGoOnBelow }
+{}
+
+/// By words, the summary of a segment has the zone of each reference of its blocks and reservations. A fix, a scan, the begin of a
+/// collection, its units and the read barrier keep that. At rest it tells which objects a flip has to scan besides those that it
+/// condemns.
+pub fn summaries_are_kept<F>()
+    ensures fix { AFixKeepsSummaries F }
+    ensures scan { AScanKeepsSummaries F }
+    ensures splat { ASplatScanKeepsSummaries F }
+    ensures begin { ABeginKeepsSummaries F }
+    ensures units { UnitsKeepSummaries F }
+    ensures ended { TheEndKeepsSummaries F }
+    ensures access { AnAccessKeepsSummaries F }
+    ensures at_rest { WordsTellAtRest F }
 {}

@@ -105,7 +105,7 @@ module _ {F : Type 0} (layout : F → Layout) (t : TraceState F) (s : SegsState)
     on_word : address_of_word (word_of at) ≡ at
     on_word = let aligned = (b.segments.image.placed.address id at there).aligned in omega (arith, aligned)
 
-    over_first : segment_over s.segments (address_of_word (word_of at)) ≡ Some its
+    pub over_first : segment_over s.segments (address_of_word (word_of at)) ≡ Some its
     over_first = over_its (word_of at) (omega arith) (let some = some_words in omega (arith, some))
 
     -- it is of the pool of the object
@@ -120,7 +120,7 @@ module _ {F : Type 0} (layout : F → Layout) (t : TraceState F) (s : SegsState)
     only_word : (u : Segment) → Contains s.segments u → word_of u.base ≤ word_of at → word_of at < word_of (end_of_segment u) → u ≡ its
     only_word u held above below = same_Some u its (sym (over s.segments order u (word_of at) held above below) ∙ over_first)
 
-    only_address : (u : Segment) → Contains s.segments u → is_in_segment u at ≡ true → u ≡ its
+    pub only_address : (u : Segment) → Contains s.segments u → is_in_segment u at ≡ true → u ≡ its
     only_address u held inside =
         let parts = and_parts (nat_le u.base at) (nat_lt at (end_of_segment u)) inside in
         let above = leb-true u.base at parts.0 in

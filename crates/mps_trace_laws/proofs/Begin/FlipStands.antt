@@ -109,16 +109,16 @@ module _ {F : Type 0} (layout : F → Layout) (t : TraceState F) (s : SegsState)
   grey : AreGreyToo after_nails z.segs (begins_in after_nails.blocks these)
   grey = marked layout t s m points w what b may roots.areas shown
 
-  same : z.segs ≡ record g { marks = z.segs.marks }
+  pub same : z.segs ≡ record g { marks = z.segs.marks }
   same = grey.same ∙ ap (λ (x : SegsState). record x { marks = z.segs.marks }) nailed.same
 
-  same_grains : z.segs.grains ≡ s.grains
+  pub same_grains : z.segs.grains ≡ s.grains
   same_grains = ap (λ (x : SegsState). x.grains) same ∙ (moved layout t s m points w what b may).grains
 
-  same_segments : z.segs.segments ≡ s.segments
+  pub same_segments : z.segs.segments ≡ s.segments
   same_segments = ap (λ (x : SegsState). x.segments) same ∙ (condemns layout t s m points w what b may).segments
 
-  none_live : AreNoneLive y.world.graph.points y.world.point_memories
+  pub none_live : AreNoneLive y.world.graph.points y.world.point_memories
   none_live = no_reservation_is_live w.graph.points w.point_memories
 
   -- ---- the image
@@ -142,7 +142,7 @@ module _ {F : Type 0} (layout : F → Layout) (t : TraceState F) (s : SegsState)
       ∙ ap (λ (n : ℕ). with_segments n g.segments) (moved layout t s m points w what b may).grains
       ∙ ap (λ (ts : List Segment). with_segments s.grains ts) (condemns layout t s m points w what b may).segments
 
-  image : ImageStands (setting_of z.segs w.addresses y) (memory_in z.segs) w.addresses y.colours
+  pub image : ImageStands (setting_of z.segs w.addresses y) (memory_in z.segs) w.addresses y.colours
       (black_cells y.running.condemned y.colours)
   image =
       subst (λ (x : Setting). ImageStands x (memory_in z.segs) w.addresses y.colours (black_cells y.running.condemned y.colours))

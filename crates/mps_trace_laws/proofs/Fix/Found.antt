@@ -56,7 +56,7 @@ grains_there (s ∷ ss) t (suc k, within, is) =
     (grains_there ss t (k, omega (arith, within), is))
 
 -- the segment over an address, where its pool is known
-over_of_pool : (o : Option Segment) (pool : ℕ) → option_map (λ (t : Segment). t.pool) o ≡ Some pool
+pub over_of_pool : (o : Option Segment) (pool : ℕ) → option_map (λ (t : Segment). t.pool) o ≡ Some pool
     → (t : Segment) × (o ≡ Some t) × (t.pool ≡ pool)
 over_of_pool None pool is = absurd (none-some pool is)
 over_of_pool (Some t) pool is = (t, refl, same_Some t.pool pool is)

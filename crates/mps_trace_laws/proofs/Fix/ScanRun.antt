@@ -101,10 +101,10 @@ module _ (F : Type 0) (layout : F → Layout) (formats : List (Option (Policy F)
     black_now =
         subst (λ ids. is_white ids y'.colours holder ≡ false) (sym run.same_condemned) (run.leaves.not_white holder scan.not_white)
 
-    shaped_now : AreShaped y'.world.graph.objects (pool_layout y'.world)
+    pub shaped_now : AreShaped y'.world.graph.objects (pool_layout y'.world)
     shaped_now = shaped_still y.world y'.world run.same shaped
 
-    holds : (target : Option Id) (tag : ℕ) → slice_get (all_cells o.body) k ≡ Some (ReferenceCell target tag)
+    pub holds : (target : Option Id) (tag : ℕ) → slice_get (all_cells o.body) k ≡ Some (ReferenceCell target tag)
         → HoldsReference y' holder k at.0 o target tag
     holds target tag cell = record {
       there = there_now;
@@ -242,12 +242,12 @@ module _ (F : Type 0) (layout : F → Layout) (formats : List (Option (Policy F)
       (omega (arith, low, within)))
 
   -- the first reference, as a cell
-  record IsReference (k : ℕ) : Type 0 where
-    target : Option Id
-    tag : ℕ
-    cell : slice_get (all_cells o.body) k ≡ Some (ReferenceCell target tag)
+  pub record IsReference (k : ℕ) : Type 0 where
+    pub target : Option Id
+    pub tag : ℕ
+    pub cell : slice_get (all_cells o.body) k ≡ Some (ReferenceCell target tag)
 
-  reference : (k : ℕ) → IsTrue (f.is_reference head k) → IsReference k
+  pub reference : (k : ℕ) → IsTrue (f.is_reference head k) → IsReference k
   reference k is =
       let c = cell_there o.body k (inside k is) in
       go c.0 c.1 (cell_cases c.0)

@@ -50,7 +50,7 @@ module _ (F : Type 0) (layout : F → Layout) (formats : List (Option (Policy F)
   abbrev head : ℕ
   head = head_of_body o.body
 
-  target : Target (setting_of x.segs at_flip y) y.world.addresses holder at.0 at.0 o
+  pub target : Target (setting_of x.segs at_flip y) y.world.addresses holder at.0 at.0 o
   target = record { means = inl scan.there; there = scan.there; object = scan.object; automatic = scan.automatic; read = refl }
 
   at_most : {from : ℕ} {z : Traced} → ScansTo layout f formats of head at x from z → from ≤ size_of o

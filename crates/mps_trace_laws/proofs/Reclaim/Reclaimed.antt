@@ -122,7 +122,7 @@ module _ (g : SegsState) (objects : List Object) (points : List (Option Point)) 
     old_words : freed.words ≡ g.words
     old_words = words_after (lost_of g t) g
 
-    inside_same : (id i : ℕ) (o : Object) (n : Word) → Lies objects left id i o n → slice_index words n ≡ slice_index g.words n
+    pub inside_same : (id i : ℕ) (o : Object) (n : Word) → Lies objects left id i o n → slice_index words n ≡ slice_index g.words n
     inside_same id i o n l =
         let h = home_left id l.at o l.address l.object in
         let is = l.is in

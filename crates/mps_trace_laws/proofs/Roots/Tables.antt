@@ -123,16 +123,16 @@ module _ {F : Type 0} (layout : F → Layout) (formats : List (Option (Policy F)
       abbrev key : ℕ
       key = key_at roots k
 
-      the_row : (row : List (Option Id)) × (slice_get rows k ≡ Some row)
+      pub the_row : (row : List (Option Id)) × (slice_get rows k ≡ Some row)
       the_row = has_row rows k (let long = held.long in omega (arith, long, within))
 
-      held_now : AreHeldAtFlip at_flip y' (items_of roots'.tables key) the_row.0
+      pub held_now : AreHeldAtFlip at_flip y' (items_of roots'.tables key) the_row.0
       held_now =
           subst (λ slots. AreHeldAtFlip at_flip y' slots the_row.0) (sym (run.rest k (omega arith) within))
           (still_held at_flip y y' (items_of roots.tables key) the_row.0 run.fixed.leaves run.fixed.same
           (held.each k the_row.0 the_row.1))
 
-      shaped_now : AreShaped y'.world.graph.objects (pool_layout y'.world)
+      pub shaped_now : AreShaped y'.world.graph.objects (pool_layout y'.world)
       shaped_now = shaped_still y.world y'.world run.fixed.same shaped
 
       can_slot : (count : ℕ) (roots'' : RootsState) (z' : Traced) → FixesSlots layout formats of key roots' z count roots'' z'

@@ -114,7 +114,7 @@ module _ (F : Type 0) (layout : F → Layout) (formats : List (Option (Policy F)
   }
 
   module _ (z : Traced) (i : ℕ) (run : To z i) (within : i < length cells) where
-    abbrev u : Collecting
+    abbrev pub u : Collecting
     u = run.after
 
     abbrev set : Setting
@@ -123,16 +123,16 @@ module _ (F : Type 0) (layout : F → Layout) (formats : List (Option (Policy F)
     abbrev m : Memory
     m = memory_in z.segs
 
-    inside : i < size_of run.object
+    pub inside : i < size_of run.object
     inside =
         let size = ap size_of_body run.body_now in
         let long = run.long in
         omega (arith, within, size, long)
 
-    holder_there : entry_at u.world.addresses holder ≡ Some at.0
+    pub holder_there : entry_at u.world.addresses holder ≡ Some at.0
     holder_there = ap (λ ps. entry_at ps holder) run.addresses ∙ scan.there
 
-    live_now : (t tag : ℕ) → slice_get cells i ≡ Some (ReferenceCell (Some t) tag)
+    pub live_now : (t tag : ℕ) → slice_get cells i ≡ Some (ReferenceCell (Some t) tag)
         → (now : Address) × (entry_at u.world.addresses t ≡ Some now)
     live_now t tag e =
         let one = scan.live i t tag (ap (λ b. slice_get (all_cells b) i) body ∙ e) in
@@ -177,13 +177,13 @@ module _ (F : Type 0) (layout : F → Layout) (formats : List (Option (Policy F)
       state = state;
     }
 
-    lies : Lies u.world.graph.objects u.world.addresses holder i run.object (word_of at.0 + i)
+    pub lies : Lies u.world.graph.objects u.world.addresses holder i run.object (word_of at.0 + i)
     lies = record { at = at.0; address = holder_there; object = run.there_now; within = inside; is = refl }
 
-    of_left : (c : Cell) → slice_get cells i ≡ Some c → slice_get run.left i ≡ Some c
+    pub of_left : (c : Cell) → slice_get cells i ≡ Some c → slice_get run.left i ≡ Some c
     of_left c e = run.rest i (omega arith) ∙ e
 
-    of_all : (c : Cell) → slice_get cells i ≡ Some c → slice_get (all_cells run.object.body) i ≡ Some c
+    pub of_all : (c : Cell) → slice_get cells i ≡ Some c → slice_get (all_cells run.object.body) i ≡ Some c
     of_all c e = ap (λ b. slice_get (all_cells b) i) run.body_now ∙ of_left c e
 
     pass : (c : Cell) → slice_get cells i ≡ Some c → ((condemned : List Id) (addresses at_flip : List (Option Address)) (k : Colours)
@@ -197,16 +197,16 @@ module _ (F : Type 0) (layout : F → Layout) (formats : List (Option (Policy F)
         (slice_index z.segs.words (word_of at.0 + i))
         (run.state.image.words.cells holder i run.object (word_of at.0 + i) c refl lies (of_all c e))) run.state.image))
 
-    g_now : pool_layout u.world run.object.pool ≡ f
+    pub g_now : pool_layout u.world run.object.pool ≡ f
     g_now = ap (λ (ls : ℕ → Layout). ls run.object.pool) run.pools ∙ ap L run.pool
 
-    abbrev g : Layout
+    abbrev pub g : Layout
     g = pool_layout u.world run.object.pool
 
     -- ---- null
 
     module _ (tag : ℕ) (e : slice_get cells i ≡ Some (ReferenceCell None tag)) where
-      reads_null : target_at g z at i ≡ 0
+      pub reads_null : target_at g z at i ≡ 0
       reads_null =
           cell_of.null_there set u m u.world.addresses u.colours run.done_after holder i at.0 run.object head run.left is_weak tag
           run.shaped_now (λ id. refl) holder_there run.there_now run.body_now inside run.state.image (of_left (ReferenceCell None tag) e)
@@ -224,13 +224,13 @@ module _ (F : Type 0) (layout : F → Layout) (formats : List (Option (Policy F)
     -- ---- an object
 
     module _ (t tag : ℕ) (e : slice_get cells i ≡ Some (ReferenceCell (Some t) tag)) where
-      abbrev now : Address
+      abbrev pub now : Address
       now = (live_now t tag e).0
 
-      abbrev here : slice_get run.left i ≡ Some (ReferenceCell (Some t) tag)
+      abbrev pub here : slice_get run.left i ≡ Some (ReferenceCell (Some t) tag)
       here = of_left (ReferenceCell (Some t) tag) e
 
-      abbrev found : FoundTarget set u.world.addresses g t tag (slice_index m.words (word_of at.0 + i)) now
+      abbrev pub found : FoundTarget set u.world.addresses g t tag (slice_index m.words (word_of at.0 + i)) now
       found = cell_of.found set u m u.world.addresses u.colours run.done_after holder i at.0 run.object head run.left is_weak tag
           run.shaped_now (λ id. refl) holder_there run.there_now run.body_now inside run.state.image t now here (live_now t tag e).1
 
@@ -261,7 +261,7 @@ module _ (F : Type 0) (layout : F → Layout) (formats : List (Option (Policy F)
       stands : TracingStands layout formats of at_flip run.done_after roomy u
       stands = record { state = run.state; room = omega arith }
 
-      is_found : (found_at : Option Addr) → FindsTo layout formats z.segs (record { 0 = target_at g z at i }) found_at
+      pub is_found : (found_at : Option Addr) → FindsTo layout formats z.segs (record { 0 = target_at g z at i }) found_at
           → FindsObject u t (target_at g z at i) now found_at
       is_found found_at finds =
           object_found F layout formats of at_flip run.done_after roomy u run.shaped_now stands (record { 0 = target_at g z at i }) t now
@@ -408,7 +408,7 @@ module _ (F : Type 0) (layout : F → Layout) (formats : List (Option (Policy F)
 
     -- ---- each
 
-    kind_is : (c : Cell) → slice_get cells i ≡ Some c → is_reference_cell c ≡ f.is_reference head i
+    pub kind_is : (c : Cell) → slice_get cells i ≡ Some c → is_reference_cell c ≡ f.is_reference head i
     kind_is c e =
         shaped.kinds holder i o c scan.object scan.automatic (ap (λ b. slice_get (all_cells b) i) body ∙ e)
 

@@ -35,7 +35,7 @@ module _ (F : Type 0) (layout : F → Layout) (formats : List (Option (Policy F)
   f = pool_layout y.world o.pool
 
   -- the cells before one were gone over, and one more is
-  abbrev To : Traced → (before : ℕ) → Type 0
+  abbrev pub To : Traced → (before : ℕ) → Type 0
   To z before = each.To F layout formats of at_flip done x y holder at o cells is_weak none_paired shaped st scan body z before
 
   start : To x 0
@@ -66,24 +66,24 @@ module _ (F : Type 0) (layout : F → Layout) (formats : List (Option (Policy F)
       (pass_all z n (from + 1) (passed z from run (omega (arith, within)) (none from (omega arith) (omega arith)))
       (λ k low high. none k (omega (arith, low)) (omega (arith, high))) (omega (arith, within)))
 
-  within_cells : (k : ℕ) → IsTrue (f.is_reference head k) → k < length cells
+  pub within_cells : (k : ℕ) → IsTrue (f.is_reference head k) → k < length cells
   within_cells k is =
       let valid = shaped.valid holder o scan.object scan.automatic in
       let at_most = ((shaped.lawful o.pool).references head k valid is).1 in
       let whole = shaped.whole holder o scan.object scan.automatic in
       omega (arith, at_most, whole, size_is)
 
-  to_cell : (z : Traced) (from cell : ℕ) → To z from → from ≤ cell → ((k : ℕ) → from ≤ k → k < cell → f.is_reference head k ≡ false)
+  pub to_cell : (z : Traced) (from cell : ℕ) → To z from → from ≤ cell → ((k : ℕ) → from ≤ k → k < cell → f.is_reference head k ≡ false)
       → cell ≤ length cells → To z cell
   to_cell z from cell run low none within =
       subst (To z) (let e : from + (cell - from) ≡ cell = omega (arith, low) in e)
       (pass_all z (cell - from) from run (λ k above below. none k above (omega (arith, below, low))) (omega (arith, low, within)))
 
-  record Reached (z : Traced) (from : ℕ) : Type 0 where
-    run : To z from
-    few : from ≤ length cells
+  pub record Reached (z : Traced) (from : ℕ) : Type 0 where
+    pub run : To z from
+    pub few : from ≤ length cells
 
-  run_to : {z : Traced} {from : ℕ} → SplatsTo layout f formats head at x from z → Reached z from
+  pub run_to : {z : Traced} {from : ℕ} → SplatsTo layout f formats head at x from z → Reached z from
   run_to begins = record { run = start; few = omega arith }
   run_to {z = z} (goes_on {y = w} from cell earlier first one) =
       let r = run_to earlier in

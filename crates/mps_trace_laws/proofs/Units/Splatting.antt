@@ -73,17 +73,17 @@ module _ {F : Type 0} (layout : F → Layout) (formats : List (Option (Policy F)
   -- ---- a scan
 
   module _ (z : Traced) (drained : IsDrained x.segs) (none : IsNoneDue run) (one : SplatsOne layout formats x z) where
-    abbrev id : Id
+    abbrev pub id : Id
     id = (g one.word one.grey drained).id
 
     abbrev tr : StandsTracing layout formats of at_flip x y
     tr = st one.word one.grey drained
 
     -- in the weak band
-    abbrev y₀ : Collecting
+    abbrev pub y₀ : Collecting
     y₀ = record y { band = abstract.Weak }
 
-    traces : TracingStands layout formats of at_flip (black_cells y₀.running.condemned y₀.colours) x y₀
+    pub traces : TracingStands layout formats of at_flip (black_cells y₀.running.condemned y₀.colours) x y₀
     traces =
         let s = tr.traces.state in
         record {
@@ -104,7 +104,7 @@ module _ {F : Type 0} (layout : F → Layout) (formats : List (Option (Policy F)
           room = tr.traces.room;
         }
 
-    to_scan : IsToBeScanned y₀ id (address_of_word one.word) (o one.word one.grey drained)
+    pub to_scan : IsToBeScanned y₀ id (address_of_word one.word) (o one.word one.grey drained)
     to_scan =
         let found = (found one.word one.grey drained).found in
         record {

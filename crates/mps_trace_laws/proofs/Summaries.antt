@@ -1,0 +1,21 @@
+-- Summaries have the zones of what segments refer to: in the middle of a collection by words, and at rest.
+pub mod Zones
+pub mod Runs
+pub mod CopyZones
+pub mod Copies
+pub mod Moves
+pub mod Keeps
+pub mod Writes
+pub mod StatesHeld
+pub mod FixKeeps
+pub mod CellWrites
+pub mod Cells
+pub mod Scans
+pub mod Splats
+pub mod Reclaims
+pub mod Units
+pub mod UnitRows
+pub mod Roots
+pub mod Flips
+pub mod Accesses
+pub mod AtRest

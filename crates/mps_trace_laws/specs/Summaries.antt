@@ -1,0 +1,3 @@
+-- Summaries have the zones of what segments refer to.
+pub mod Summed
+pub mod Laws
