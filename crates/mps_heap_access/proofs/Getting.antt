@@ -29,13 +29,14 @@ first_ok (Err why) f b e = absurd cc
 
 -- the heap with other segments and tails, as it is seen once its pools have these tails
 pub traced_seen : {F : Type 0} (seen h : HeapState F) (z : Traced) (p : PoolsState F) → seen ≡ h
-    → p ≡ record { pools = seen.pools; sizes = seen.sizes; tails = z.amc }
-    → record seen { segs = z.segs; pools = p.pools; sizes = p.sizes; tails = p.tails } ≡ with_traced h z
+    → p ≡ record { pools = seen.pools; sizes = seen.sizes; chains = seen.chains; tails = z.amc }
+    → record seen { segs = z.segs; pools = p.pools; sizes = p.sizes; chains = p.chains; tails = p.tails } ≡ with_traced h z
 traced_seen {F} seen h z p is unchanged =
     ap (λ (q : PoolsState F). let v : HeapState F = record seen {
       segs = z.segs;
       pools = q.pools;
       sizes = q.sizes;
+      chains = q.chains;
       tails = q.tails;
     } in v) unchanged
     ∙ ap (λ (v : HeapState F). with_traced v z) is

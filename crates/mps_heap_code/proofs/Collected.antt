@@ -17,10 +17,10 @@ module _ {F : Type 0} (layout : F → Layout) (h : HeapState F) (m : Moves) wher
   -- what a heap can do, its pools can, where the state is seen in two ways
   pub can_pools : (seen : HeapState F) (most : ℕ) → seen ≡ h → most ≡ most_units seen.segs.grains (length seen.finals.registered)
       → CanCollectAll layout h m
-      → CanCollectPools layout seen.pools seen.points seen.roots seen.finals seen.segs m most
+      → CanCollectPools layout seen.pools seen.chains seen.points seen.roots seen.finals seen.segs m most
   can_pools seen most is bound can =
       let P : HeapState F → Type 0 = λ g. CanCollectAll layout g m in
-      let Q : ℕ → Type 0 = λ n. CanCollectPools layout seen.pools seen.points seen.roots seen.finals seen.segs m n in
+      let Q : ℕ → Type 0 = λ n. CanCollectPools layout seen.pools seen.chains seen.points seen.roots seen.finals seen.segs m n in
       subst Q (sym bound) (subst P (sym is) can)
 
   -- the heap after the flip of a collection, with these formats
@@ -37,12 +37,12 @@ module _ {F : Type 0} (layout : F → Layout) (h : HeapState F) (m : Moves) wher
 
   pub collected : (seen h' : HeapState F) (m' : Moves) (most : ℕ) → seen ≡ h
       → most ≡ most_units seen.segs.grains (length seen.finals.registered)
-      → ArePoolsCollected layout seen.pools seen.points seen.roots seen.finals seen.segs m most h'.roots h'.finals h'.segs m'
+      → ArePoolsCollected layout seen.pools seen.chains seen.points seen.roots seen.finals seen.segs m most h'.roots h'.finals h'.segs m'
       → h' ≡ parked_with seen (map policy_of_pool seen.pools) h' → IsCollected layout h m h' m'
   collected seen h' m' most is bound of_pools state =
       let P : HeapState F → Type 0 = λ g. IsCollected layout g m h' m' in
       let Q : ℕ → Type 0 =
-      λ n. ArePoolsCollected layout seen.pools seen.points seen.roots seen.finals seen.segs m n h'.roots h'.finals h'.segs m' in
+      λ n. ArePoolsCollected layout seen.pools seen.chains seen.points seen.roots seen.finals seen.segs m n h'.roots h'.finals h'.segs m' in
       let c = subst Q bound of_pools in
       subst P is
       (record {

@@ -65,13 +65,15 @@ fn count_units<F: Format, L: Ledger>(
     n: u64,
     steps: &mut Steps<L>,
 ) -> Option<Running>
-    requires { AreUnitsReady F.layout (trace_of pools.old.pools pools.old.tails) segs.old trail.old finals.old running n }
-    ensures goes_on { IfSome result (λ next. UnitsTo F.layout (trace_of pools.old.pools pools.old.tails).formats
-        (trace_of pools.old.pools pools.old.tails).chains (traced (trace_of pools.old.pools pools.old.tails) segs.old trail.old)
-        finals.old running n (traced (trace_of pools.new.pools pools.new.tails) segs.new trail.new) finals.new next) }
-    ensures ended { IfNone result (EndsWithin F.layout (trace_of pools.old.pools pools.old.tails).formats
-        (trace_of pools.old.pools pools.old.tails).chains (traced (trace_of pools.old.pools pools.old.tails) segs.old trail.old)
-        finals.old running n (traced (trace_of pools.new.pools pools.new.tails) segs.new trail.new) finals.new) }
+    requires { AreUnitsReady F.layout (trace_of pools.old.pools pools.old.chains pools.old.tails) segs.old trail.old finals.old running n }
+    ensures goes_on { IfSome result (λ next. UnitsTo F.layout (trace_of pools.old.pools pools.old.chains pools.old.tails).formats
+        (trace_of pools.old.pools pools.old.chains pools.old.tails).chains
+        (traced (trace_of pools.old.pools pools.old.chains pools.old.tails) segs.old trail.old)
+        finals.old running n (traced (trace_of pools.new.pools pools.new.chains pools.new.tails) segs.new trail.new) finals.new next) }
+    ensures ended { IfNone result (EndsWithin F.layout (trace_of pools.old.pools pools.old.chains pools.old.tails).formats
+        (trace_of pools.old.pools pools.old.chains pools.old.tails).chains
+        (traced (trace_of pools.old.pools pools.old.chains pools.old.tails) segs.old trail.old)
+        finals.old running n (traced (trace_of pools.new.pools pools.new.chains pools.new.tails) segs.new trail.new) finals.new) }
     ensures unchanged { pools.new ≡ record pools.old { tails = pools.new.tails } }
     ensures all { IsSome result → steps.new ≡ steps.old + n }
     ensures at_most { steps.new ≤ steps.old + n }

@@ -5,6 +5,7 @@ use Rattle.mps_base.specs.Run.{total}
 use Rattle.mps_base.specs.declared.refusal.Refusal.TheVariants as refusal
 use Rattle.mps_buffer.specs.Points.{no_points}
 use Rattle.mps_trace.specs.AmcState.{no_pools}
+use Rattle.mps_trace.specs.GenState.{no_chains}
 use Rattle.mps_trace.specs.State.{no_finals}
 use Rattle.mps_trace.specs.LdState.{no_flips}
 use Rattle.mps_model.specs.Checked.{Checked, ◌>>◌, refuse_when}
@@ -33,6 +34,7 @@ module _ {F : Type 0} where
     dependencies = [];
     pools = [];
     sizes = [];
+    chains = no_chains;
     tails = no_pools;
     names = names;
     arena = arena.Unclamped;

@@ -30,14 +30,14 @@ module _ {F : Type 0} where
   -- whatever words are at hand for its pools, a heap can do a collection of everything within this trail
   abbrev pub CanCollectAll : (F → Layout) → HeapState F → Moves → Type 0
   CanCollectAll layout h m =
-      (t : TraceState F) → IsTraceOf h.pools t
+      (t : TraceState F) → IsTraceOf h.pools h.chains t
       → CanCollect layout t h.points h.roots h.finals h.segs m (most_units h.segs.grains (length h.finals.registered))
 
   -- a full collection was done, from its flip to its end, and the arena is parked
   pub record IsCollected (layout : F → Layout) (h : HeapState F) (m : Moves) (h' : HeapState F) (m' : Moves) : Type 0 where
     pub before : TraceState F
     pub after : TraceState F
-    pub of_pools : IsTraceOf h.pools before
+    pub of_pools : IsTraceOf h.pools h.chains before
     pub collects : Collects layout before.formats before.chains h.points h.roots h.finals (traced before h.segs m)
         (most_units h.segs.grains (length h.finals.registered)) h'.roots h'.finals (traced after h'.segs m')
     pub state : h' ≡ record h {

@@ -7,6 +7,7 @@ use Rattle.mps_base.specs.declared.refusal.Refusal.{Refusal}
 use Rattle.mps_base.specs.declared.refusal.Refusal.TheVariants as refusal
 use Rattle.mps_buffer.specs.Points.{IsMade, new_point, with_point}
 use Rattle.mps_trace.specs.AmcState.{with_pool}
+use Rattle.mps_pools.specs.Pools.{with_pool_on}
 use Rattle.mps_trace.specs.LdState.{reset_at}
 use Rattle.mps_model.specs.Checked.{Checked, ◌>>=◌, ◌>>◌, required, refuse_when}
 use Rattle.mps_model.specs.Making.{most_roots, most_slots, most_points, most_pools, most_dependencies, is_block_size, is_weak_rank, refuse_at_limit}
@@ -163,6 +164,7 @@ module _ {F : Type 0} where
     pub state : after ≡ record h {
       pools = h.pools ++ p ∷ [];
       sizes = h.sizes ++ size_of_pool p ∷ [];
+      chains = with_pool_on h.chains None;
       tails = with_pool h.tails 1;
       names = after.names;
     }

@@ -7,6 +7,7 @@ use Rattle.mps_buffer.specs.declared.point.Point.{Point}
 use Rattle.mps_buffer.specs.Points.{PointsState, point_at, run_of_held}
 use Rattle.mps_seg.specs.Buffer.{IsAtHand}
 use Rattle.mps_trace.specs.AmcState.{AmcState}
+use Rattle.mps_trace.specs.GenState.{ChainsState}
 use Rattle.mps_trace.specs.State.{FinalsState}
 use Rattle.mps_trace.specs.LdState.{EpochsState, LdState}
 use Rattle.mps_trace.specs.declared.running.Running.{Running}
@@ -33,6 +34,8 @@ pub record HeapState (F : Type 0) : Type 0 where
   pub pools : List (Pool F)
   -- the size of each pool's blocks, 0 if it has blocks of any sizes or is automatic
   pub sizes : List ℕ
+  -- the chains by their numbers, and the chain of each pool that is on one
+  pub chains : ChainsState
   -- by pool and generation, the tails to which a collection moves blocks
   pub tails : AmcState
   pub names : NamesState

@@ -18,7 +18,7 @@ use Rattle.mps_heap_spec.specs.declared.arena.Progress.TheVariants.{Idle, More}
 module _ {F : Type 0} where
   -- what the collector knows of the pools of a heap
   abbrev pub trace_in : HeapState F → TraceState F
-  trace_in h = trace_of h.pools h.tails
+  trace_in h = trace_of h.pools h.chains h.tails
 
   -- what it sees of a heap and a trail, and changes
   abbrev pub traced_in : HeapState F → Moves → Traced
@@ -27,7 +27,7 @@ module _ {F : Type 0} where
   -- what is known of the tables of each heap: those of marks have their sizes, each pool has a tail, and registrations are few
   pub record IsWhole (h : HeapState F) : Type 0 where
     pub marked : IsMarked h.segs.grains h.segs.marks h.segs.condemned h.segs.summaries
-    pub tails : IsTraceOf h.pools (trace_in h)
+    pub tails : IsTraceOf h.pools h.chains (trace_in h)
     pub few : length h.finals.registered ≤ max_finals
 
   -- each of at most n units of the collection that runs can be done when its turn comes

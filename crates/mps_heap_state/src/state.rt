@@ -58,6 +58,7 @@ impl<F: Format> Model for State<F> {
       dependencies = s.dependencies.items;
       pools = s.pools.pools;
       sizes = s.pools.sizes;
+      chains = s.pools.chains;
       tails = s.pools.tails;
       names = s.names;
       arena = s.arena;

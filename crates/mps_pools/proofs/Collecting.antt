@@ -1,5 +1,5 @@
 -- A collection of what the collector knows of the pools is one of the pools.
-use Rattle.std.proofs.Common.{ℕ, ◌≡◌, ◌∙◌, List, Option, map, ap, subst}
+use Rattle.std.proofs.Common.{ℕ, ◌≡◌, ◌∙◌, List, Option, map, ap, subst, sym}
 use Rattle.mps_base.specs.Trail.{Moves}
 use Rattle.mps_buffer.specs.Points.{PointsState}
 use Rattle.mps_final.specs.State.{FinalsState}
@@ -21,9 +21,11 @@ use Rattle.mps_pools.proofs.Sound.{is_trace}
 
 -- the pools are seen in two ways
 module _ {F : Type 0} (layout : F → Layout) (seen value : PoolsState F) (is : seen ≡ value) (t : TraceState F)
-    (sound : IsSoundTrace seen.pools t) where
-  known : IsTraceOf value.pools t
-  known = let P : PoolsState F → Type 0 = λ v. IsTraceOf v.pools t in subst P is (is_trace seen.pools t sound)
+    (chains : seen.chains ≡ t.chains) (sound : IsSoundTrace seen.pools t) where
+  known : IsTraceOf value.pools value.chains t
+  known =
+      let P : PoolsState F → Type 0 = λ v. IsTraceOf v.pools v.chains t in
+      subst P is (is_trace seen.pools seen.chains t (sym chains) sound)
 
   -- the zones of the segments of automatic pools are flipped
   pub are_flipped : (s : SegsState) (epochs epochs' : EpochsState)
@@ -34,10 +36,11 @@ module _ {F : Type 0} (layout : F → Layout) (seen value : PoolsState F) (is : 
       (moving_of formats s.segments))) known.formats
 
   module _ (points : PointsState) (roots : RootsState) (finals : FinalsState) (s : SegsState) (m : Moves) (most : ℕ) where
-    pub can_trace : CanCollectPools layout value.pools points roots finals s m most → CanCollect layout t points roots finals s m most
+    pub can_trace : CanCollectPools layout value.pools value.chains points roots finals s m most
+        → CanCollect layout t points roots finals s m most
     can_trace can = can t known
 
     pub are_collected : (roots' : RootsState) (finals' : FinalsState) (t' : TraceState F) (s' : SegsState) (m' : Moves)
         → Collects layout t.formats t.chains points roots finals (traced t s m) most roots' finals' (traced t' s' m')
-        → ArePoolsCollected layout value.pools points roots finals s m most roots' finals' s' m'
+        → ArePoolsCollected layout value.pools value.chains points roots finals s m most roots' finals' s' m'
     are_collected roots' finals' t' s' m' collects = record { before = t; after = t'; of_pools = known; collects = collects }

@@ -43,7 +43,7 @@ impl<F: Format> Model for Pools<F> {
 
     ghost Value = { PoolsState F };
 
-    ghost view = { λ p. record { pools = p.pools.items; sizes = p.manual; tails = p.trace.amc } };
+    ghost view = { λ p. record { pools = p.pools.items; sizes = p.manual; chains = p.trace.chains; tails = p.trace.amc } };
 
     ghost invariant = { λ p. IsSoundTrace p.pools.items p.trace };
 }
@@ -82,7 +82,7 @@ impl<F: Format> Pools<F> {
         &self.manual
     }
 
-    /// Makes one pool more.
+    /// Makes one pool more, on no chain.
     pub fn add(&mut self, pool: Pool<F>) -> Result<(), AllocError>
         requires { length self.old.pools < max_pools }
         ensures state { MatchResult result (λ _. self.new ≡ with_one_more self.old pool) (λ _. self.new ≡ self.old) }
@@ -112,15 +112,16 @@ impl<F: Format> Pools<F> {
     ) -> Option<Running>
         requires few_flips { points.old.flips < 2 ^ 63 }
         requires few_epochs { epochs.old.count < 2 ^ 63 }
-        requires can { CanBegin F.layout (trace_of self.old.pools self.old.tails) points.old roots.old finals.old segs.old trail.old }
-        ensures begun { IfSome result (λ run. Begins F.layout (trace_of self.old.pools self.old.tails).formats
-            (trace_of self.old.pools self.old.tails).chains Everything points.old roots.old finals.old
-            (traced (trace_of self.old.pools self.old.tails) segs.old trail.old) roots.new finals.new
-            (traced (trace_of self.new.pools self.new.tails) segs.new trail.new) run) }
-        ensures ended { IfNone result (EndsAtOnce (trace_of self.old.pools self.old.tails).formats
-            (trace_of self.old.pools self.old.tails).chains Everything points.old roots.old finals.old
-            (traced (trace_of self.old.pools self.old.tails) segs.old trail.old) roots.new finals.new
-            (traced (trace_of self.new.pools self.new.tails) segs.new trail.new)) }
+        requires can { CanBegin F.layout (trace_of self.old.pools self.old.chains self.old.tails) points.old roots.old finals.old segs.old
+            trail.old }
+        ensures begun { IfSome result (λ run. Begins F.layout (trace_of self.old.pools self.old.chains self.old.tails).formats
+            (trace_of self.old.pools self.old.chains self.old.tails).chains Everything points.old roots.old finals.old
+            (traced (trace_of self.old.pools self.old.chains self.old.tails) segs.old trail.old) roots.new finals.new
+            (traced (trace_of self.new.pools self.new.chains self.new.tails) segs.new trail.new) run) }
+        ensures ended { IfNone result (EndsAtOnce (trace_of self.old.pools self.old.chains self.old.tails).formats
+            (trace_of self.old.pools self.old.chains self.old.tails).chains Everything points.old roots.old finals.old
+            (traced (trace_of self.old.pools self.old.chains self.old.tails) segs.old trail.old) roots.new finals.new
+            (traced (trace_of self.new.pools self.new.chains self.new.tails) segs.new trail.new)) }
         ensures unchanged { self.new ≡ record self.old { tails = self.new.tails } }
         ensures points { points.new ≡ buffer.points_after_flip points.old }
         ensures epochs { epochs.new
@@ -150,10 +151,10 @@ impl<F: Format> Pools<F> {
     )
         requires few_flips { points.old.flips < 2 ^ 63 }
         requires few_epochs { epochs.old.count < 2 ^ 63 }
-        requires can { CanCollectPools F.layout self.old.pools points.old roots.old finals.old segs.old trail.old most }
+        requires can { CanCollectPools F.layout self.old.pools self.old.chains points.old roots.old finals.old segs.old trail.old most }
         ensures unchanged { self.new ≡ record self.old { tails = self.new.tails } }
-        ensures collected { ArePoolsCollected F.layout self.old.pools points.old roots.old finals.old segs.old trail.old most
-            roots.new finals.new segs.new trail.new }
+        ensures collected { ArePoolsCollected F.layout self.old.pools self.old.chains points.old roots.old finals.old segs.old trail.old
+            most roots.new finals.new segs.new trail.new }
         ensures points { points.new ≡ buffer.points_after_flip points.old }
         ensures epochs { epochs.new
             ≡ ld.epochs_after_flip epochs.old (zones_of (moving_of (map policy_of_pool self.old.pools) segs.old.segments)) }
@@ -162,9 +163,9 @@ impl<F: Format> Pools<F> {
             .collect(segs, trail, roots, points, finals, epochs, most);
     }
 
-    /// Does nothing: a caller knows that each pool has a tail for its one generation.
+    /// Does nothing: a caller knows that each pool has a tail for each generation to which its blocks move.
     pub fn tails_are_listed(&self)
-        ensures { IsTraceOf self.now.pools (trace_of self.now.pools self.now.tails) }
+        ensures { IsTraceOf self.now.pools self.now.chains (trace_of self.now.pools self.now.chains self.now.tails) }
     {
         let _ = &self.trace;
     }
@@ -177,13 +178,14 @@ impl<F: Format> Pools<F> {
         finals: &mut Finals,
         running: Running,
     ) -> Option<Running>
-        requires { CanUnit F.layout (trace_of self.old.pools self.old.tails) segs.old trail.old finals.old running }
-        ensures goes_on { IfSome result (λ next. UnitTo F.layout (trace_of self.old.pools self.old.tails).formats
-            (trace_of self.old.pools self.old.tails).chains (traced (trace_of self.old.pools self.old.tails) segs.old trail.old)
-            finals.old running (traced (trace_of self.new.pools self.new.tails) segs.new trail.new) finals.new next) }
-        ensures ended { IfNone result (LastUnitTo F.layout (trace_of self.old.pools self.old.tails).formats
-            (traced (trace_of self.old.pools self.old.tails) segs.old trail.old) running
-            (traced (trace_of self.new.pools self.new.tails) segs.new trail.new) × (finals.new ≡ finals.old)) }
+        requires { CanUnit F.layout (trace_of self.old.pools self.old.chains self.old.tails) segs.old trail.old finals.old running }
+        ensures goes_on { IfSome result (λ next. UnitTo F.layout (trace_of self.old.pools self.old.chains self.old.tails).formats
+            (trace_of self.old.pools self.old.chains self.old.tails).chains
+            (traced (trace_of self.old.pools self.old.chains self.old.tails) segs.old trail.old)
+            finals.old running (traced (trace_of self.new.pools self.new.chains self.new.tails) segs.new trail.new) finals.new next) }
+        ensures ended { IfNone result (LastUnitTo F.layout (trace_of self.old.pools self.old.chains self.old.tails).formats
+            (traced (trace_of self.old.pools self.old.chains self.old.tails) segs.old trail.old) running
+            (traced (trace_of self.new.pools self.new.chains self.new.tails) segs.new trail.new) × (finals.new ≡ finals.old)) }
         ensures unchanged { self.new ≡ record self.old { tails = self.new.tails } }
     {
         self.trace.unit(segs, trail, finals, running)
@@ -198,13 +200,16 @@ impl<F: Format> Pools<F> {
         running: Running,
         most: u64,
     ) -> Option<Running>
-        requires { AreUnitsReady F.layout (trace_of self.old.pools self.old.tails) segs.old trail.old finals.old running most }
-        ensures goes_on { IfSome result (λ next. UnitsTo F.layout (trace_of self.old.pools self.old.tails).formats
-            (trace_of self.old.pools self.old.tails).chains (traced (trace_of self.old.pools self.old.tails) segs.old trail.old)
-            finals.old running most (traced (trace_of self.new.pools self.new.tails) segs.new trail.new) finals.new next) }
-        ensures ended { IfNone result (EndsWithin F.layout (trace_of self.old.pools self.old.tails).formats
-            (trace_of self.old.pools self.old.tails).chains (traced (trace_of self.old.pools self.old.tails) segs.old trail.old)
-            finals.old running most (traced (trace_of self.new.pools self.new.tails) segs.new trail.new) finals.new) }
+        requires { AreUnitsReady F.layout (trace_of self.old.pools self.old.chains self.old.tails) segs.old trail.old finals.old running
+            most }
+        ensures goes_on { IfSome result (λ next. UnitsTo F.layout (trace_of self.old.pools self.old.chains self.old.tails).formats
+            (trace_of self.old.pools self.old.chains self.old.tails).chains
+            (traced (trace_of self.old.pools self.old.chains self.old.tails) segs.old trail.old)
+            finals.old running most (traced (trace_of self.new.pools self.new.chains self.new.tails) segs.new trail.new) finals.new next) }
+        ensures ended { IfNone result (EndsWithin F.layout (trace_of self.old.pools self.old.chains self.old.tails).formats
+            (trace_of self.old.pools self.old.chains self.old.tails).chains
+            (traced (trace_of self.old.pools self.old.chains self.old.tails) segs.old trail.old)
+            finals.old running most (traced (trace_of self.new.pools self.new.chains self.new.tails) segs.new trail.new) finals.new) }
         ensures unchanged { self.new ≡ record self.old { tails = self.new.tails } }
     {
         self.trace.finish(segs, trail, finals, running, most)
@@ -222,11 +227,12 @@ impl<F: Format> Pools<F> {
     /// The read barrier of a running collection for a block at `at`, before a reference in it is read.
     pub fn access(&mut self, segs: &mut Segs, trail: &mut Trail, band: Band, at: Addr)
         requires { (t : Segment) → segment_over segs.old.segments at.0 ≡ Some t
-            → CanAccess F.layout band (trace_of self.old.pools self.old.tails) segs.old trail.old t }
+            → CanAccess F.layout band (trace_of self.old.pools self.old.chains self.old.tails) segs.old trail.old t }
         ensures accessed { (t : Segment) → segment_over segs.old.segments at.0 ≡ Some t
-            → AccessesTo F.layout (trace_of self.old.pools self.old.tails).formats (trace_of self.old.pools self.old.tails).chains band t
-            (traced (trace_of self.old.pools self.old.tails) segs.old trail.old)
-            (traced (trace_of self.new.pools self.new.tails) segs.new trail.new) }
+            → AccessesTo F.layout (trace_of self.old.pools self.old.chains self.old.tails).formats
+            (trace_of self.old.pools self.old.chains self.old.tails).chains band t
+            (traced (trace_of self.old.pools self.old.chains self.old.tails) segs.old trail.old)
+            (traced (trace_of self.new.pools self.new.chains self.new.tails) segs.new trail.new) }
         ensures unchanged { self.new ≡ record self.old { tails = self.new.tails } }
         ensures idle { segment_over segs.old.segments at.0 ≡ None
             → (segs.new ≡ segs.old) × (trail.new ≡ trail.old) × (self.new ≡ self.old) }

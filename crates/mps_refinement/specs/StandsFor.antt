@@ -1,8 +1,9 @@
 -- When the state of a heap represents a world of the model.
-use Rattle.std.specs.Prelude.{◌≡◌, ℕ, ◌+◌, ◌-◌, ◌%◌, ◌<◌, ◌≤◌, ◌==◌, Bool, true, false, not, IsTrue, Option, Some, None, option_map, IsSome, List, [], map, length, slice_get, ◌∷◌, Contains}
+use Rattle.std.specs.Prelude.{◌≡◌, ℕ, ◌+◌, ◌-◌, ◌%◌, ◌<◌, ◌≤◌, ◌==◌, Bool, true, false, not, IsTrue, Option, Some, None, option_and_then, option_map, IsSome, List, [], map, length, slice_get, ◌∷◌, Contains}
 use Rattle.std.proofs.Common.{◌∙◌, ap, arith, lit<, refl, subst, suc, sym, zero}
 use Rattle.std.specs.Option.{option_map_or}
 use Rattle.mps_base.specs.Address.{Address, Id, Word, max_grains, word_of, grain_of}
+use Rattle.mps_base.specs.declared.names.Kind.TheVariants.{Amc}
 use Rattle.mps_base.specs.declared.names.Name.{Name}
 use Rattle.mps_base.specs.Name.{same_name}
 use Rattle.mps_extents.specs.Table.{bit}
@@ -23,7 +24,7 @@ use Rattle.mps_model.specs.Making.{live_roots, live_slots, live_points}
 use Rattle.mps_model.specs.Step.{History}
 use Rattle.mps_model.specs.History.{IsLegalHistoryOf}
 use Rattle.mps_model.specs.World as world
-use Rattle.mps_model.specs.World.{World, PointMemory, Dependency, Collected, OneSize, AnySize}
+use Rattle.mps_model.specs.World.{World, PointMemory, Dependency, Collected, OneSize, AnySize, is_copying_kind}
 use Rattle.mps_names.specs.State.{thing_named}
 use Rattle.mps_names.specs.declared.names.Thing.{Thing}
 use Rattle.mps_names.specs.declared.names.Thing.TheVariants as thing
@@ -42,6 +43,7 @@ use Rattle.mps_abstract.specs.Colours.{AreAllScanned, Colours, is_white}
 use Rattle.mps_abstract.specs.Collecting.{AreAllExamined, Collecting, Running, is_reclaiming_band}
 use Rattle.mps_abstract.specs.Collecting as abstract
 use Rattle.mps_trace.specs.AmcState.{AmcState, tail_of}
+use Rattle.mps_trace.specs.GenState.{ChainsState}
 use Rattle.mps_trace.specs.declared.running.Band.TheVariants as band
 use Rattle.mps_trace.specs.declared.running.Running.{Running as RunningState}
 use Rattle.mps_trace_laws.specs.Fix.Ranks.{AreMarksRanked}
@@ -141,7 +143,7 @@ module _ {F : Type 0} (layout : F → Layout) where
   -- a pool of the heap represents a pool of the model, where the numbers of formats mean these
   abbrev pub IsPool : (formats : ℕ → Layout) → Pool F → world.Pool → Type 0
   IsPool formats (pool.Automatic kind format) q =
-      (q ≡ record { kind = Collected kind; format = q.format; chain = None }) × (formats q.format ≡ layout format)
+      (q ≡ record { kind = Collected kind; format = q.format; chain = q.chain }) × (formats q.format ≡ layout format)
   IsPool formats (pool.OneSize words) q = q ≡ record { kind = OneSize words; format = 0; chain = None }
   IsPool formats pool.AnySize q = q ≡ record { kind = AnySize; format = 0; chain = None }
 
@@ -150,6 +152,14 @@ module _ {F : Type 0} (layout : F → Layout) where
     pub count : length numbered ≡ length pools
     pub each : (number : ℕ) (p : Pool F) → slice_get pools number ≡ Some p
         → (q : world.Pool) × (slice_get numbered number ≡ Some q) × IsPool formats p q
+
+-- the chains of the heap are those of the model, by their numbers, and each pool is on the same one. Only a pool that copies is on one.
+-- No chain is made yet: a poll flips no generation that is due
+pub record AreChains (kept : ChainsState) (chains : List (List ℕ)) (pools : List world.Pool) : Type 0 where
+  pub same : kept ≡ record { chains = chains; of_pool = map (λ (p : world.Pool). p.chain) pools }
+  pub copying : (number chain : ℕ) (p : world.Pool) → slice_get pools number ≡ Some p → p.chain ≡ Some chain
+      → IsTrue (is_copying_kind p.kind)
+  pub none : chains ≡ []
 
 -- what is kept of a dependency: its epoch and its zones
 abbrev pub kept_of : Dependency → LdState
@@ -175,9 +185,9 @@ numbered_thing past (thing.Label number) = graph.LabelThing number
 numbered_thing past (thing.Cache number) = graph.CacheThing number
 numbered_thing past (thing.Transform number) = graph.TransformThing number
 
--- a thing is there; of a label there is its name alone. A heap has no chains, caches or transforms yet
+-- a thing is there; of a label there is its name alone. A heap has no caches or transforms yet
 abbrev pub IsThere : {F : Type 0} → HeapState F → Thing → Type 0
-IsThere h (thing.Chain number) = ⊥
+IsThere h (thing.Chain number) = number < length h.chains.chains
 IsThere h (thing.Pool number) = number < length h.pools
 IsThere h (thing.Table key) = IsSome (kept h.roots.tables key)
 IsThere h (thing.Area key) = IsSome (kept h.roots.areas key)
@@ -257,11 +267,11 @@ pub record AreParts {F : Type 0} (layout : F → Layout) (past : Past) (h : Heap
   pub flips : AreFlips h.epochs w.flips
   pub point_flips : h.points.flips ≡ length w.flips
   pub dependencies : h.dependencies ≡ map kept_of w.dependencies
-  -- the formats are lawful; pools, none of which is on a chain, that no object has a dependent, names and the arena's state
+  -- the formats are lawful; pools with their chains, that no object has a dependent, names and the arena's state
   pub lawful : (number : ℕ) → IsLawful (w.formats number)
   pub pools : ArePools layout w.formats h.pools w.pools
   pub sizes : h.sizes ≡ map size_of_pool h.pools
-  pub chains : w.chains ≡ []
+  pub chains : AreChains h.chains w.chains w.pools
   pub dependents : w.graph.dependents ≡ []
   pub names : AreNamed past h w.graph.names w.graph.labels
   pub state : w.state ≡ state_of h.arena
@@ -376,6 +386,20 @@ examined_at_its_old_address are =
 pub registered_at_an_old_address : AreRegisteredAt time_at_rest now_at (0x1000 ∷ []) (0 ∷ []) → ⊥
 registered_at_an_old_address are =
     let e : ◌≡◌ {A = ℕ} 0x2000 0x1000 = ap (λ (o : Option Address). option_map_or (λ at. at) o 0) are.0 in omega (arith, e)
+
+-- a manual pool is on no chain
+pub a_manual_pool_on_a_chain : (kept : ChainsState) (chains : List (List ℕ))
+    → AreChains kept chains (record { kind = AnySize; format = 0; chain = Some 0 } ∷ []) → ⊥
+a_manual_pool_on_a_chain kept chains are =
+    let e : false ≡ true = are.copying 0 0 (record { kind = AnySize; format = 0; chain = Some 0 }) refl refl in absurd cc
+
+-- a pool that is on no chain of the heap is on none of the model
+pub a_pool_on_another_chain : (kept : ChainsState) (chains : List (List ℕ)) → kept.of_pool ≡ None ∷ []
+    → AreChains kept chains (record { kind = Collected Amc; format = 1; chain = Some 0 } ∷ []) → ⊥
+a_pool_on_another_chain kept chains none are =
+    let e : ◌≡◌ {A = List (Option ℕ)} (None ∷ []) (Some 0 ∷ []) = sym none ∙ ap (λ (c : ChainsState). c.of_pool) are.same in
+    let f : ◌≡◌ {A = Option ℕ} None (Some 0) = ap (λ (os : List (Option ℕ)). option_and_then (λ o. o) (slice_get os 0)) e in
+    absurd cc
 
 abbrev segment_at_0x1000 : Segment
 segment_at_0x1000 = record { base = 0x1000; grains = 1; pool = 0; generation = 0; rank = Exact }

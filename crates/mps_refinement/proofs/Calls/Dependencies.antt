@@ -95,6 +95,7 @@ module _ {F : Type 0} (layout : F → Layout) (h : HeapState F) (w : World) (pas
         blocks = λ n low. low;
         points = λ k some. some;
         dependencies = λ n low. omega (arith, low, longer);
+        chains = λ n low. low;
       }
 
   dependency_alike : (name : Name)
@@ -137,6 +138,7 @@ module _ {F : Type 0} (layout : F → Layout) (h : HeapState F) (w : World) (pas
           blocks = λ n low. low;
           points = λ k some. some;
           dependencies = λ n low. let same = length-set h.dependencies d.key state in omega (arith, low, same);
+          chains = λ n low. low;
         })));
   }
 

@@ -71,7 +71,7 @@ module _ {F : Type 0} (layout : F → Layout) (h : HeapState F) (w : World) (pas
       named_with past past h (record h { names = after.names }) w.graph.names w.graph.labels parts.names name (thing.Label number)
       (graph.LabelThing (length w.graph.labels)) (with_last w.graph.labels name) makes.names free
       (ap graph.LabelThing (makes.number_is ∙ parts.names.label_count)) (λ other there. refl)
-      (all_stay h (record h { names = after.names }) refl refl refl refl) tt
+      (all_stay h (record h { names = after.names }) refl refl refl refl refl) tt
       (λ m found. let low = parts.names.label_numbers m number found in
       let e : number ≡ length w.graph.labels = makes.number_is ∙ parts.names.label_count in omega (arith, low, e)) (record {
         count = ap (λ n. n + 1) parts.names.label_count ∙ sym (length-with_last w.graph.labels name);

@@ -207,6 +207,7 @@ module _ {F : Type 0} (layout : F → Layout) (h : HeapState F) (w : World) (pas
           points = λ k some. kept_more (kept h.points.points) (kept points) key makes.point.was_free
               (λ other apart. kept_other h.points.points key other (Some new) apart) k some;
           dependencies = λ n low. low;
+          chains = λ n low. low;
         }
 
     -- ---- its checks

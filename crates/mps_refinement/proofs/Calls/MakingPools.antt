@@ -1,5 +1,5 @@
 -- `pool`: a pool that is made stands for that of the model.
-use Rattle.std.proofs.Common.{◌≡◌, ◌∙◌, ℕ, ◌+◌, false, refl, sym, ap, subst, List, [], ◌∷◌, ◌++◌, length, Some, None, inl, inr, arith}
+use Rattle.std.proofs.Common.{◌≡◌, ◌∙◌, ℕ, ◌+◌, false, refl, sym, ap, subst, List, [], ◌∷◌, ◌++◌, length, map, Option, Some, None, inl, inr, arith}
 use Rattle.std.proofs.lemmas.Bool.{cases_order}
 use Rattle.std.proofs.lemmas.List.{length-append, map-append}
 use Rattle.std.proofs.lemmas.Option.{none-some, same_Some, slice_get-map}
@@ -26,6 +26,8 @@ use Rattle.mps_model.specs.World as world
 use Rattle.mps_model.specs.World.{World, Collected, OneSize, AnySize, is_copying_kind}
 use Rattle.mps_names.specs.State.{thing_named}
 use Rattle.mps_names.specs.declared.names.Thing.TheVariants as thing
+use Rattle.mps_trace.specs.GenState.{ChainsState}
+use Rattle.mps_pools.specs.Pools.{with_pool_on}
 use Rattle.mps_heap_spec.specs.Making.{IsMaking, MakesPool, check_pool, check_pool_of_size, refuse_taken}
 use Rattle.mps_heap_spec.specs.State.{HeapState}
 use Rattle.mps_format.specs.Pools.{size_of_pool}
@@ -33,7 +35,7 @@ use Rattle.mps_format.specs.declared.pool.Pool.{Pool}
 use Rattle.mps_format.specs.declared.pool.Pool.TheVariants as pool
 use Rattle.mps_refinement.proofs.Worlds.CollectorKept.{KeepsAll, one_more_kept}
 use Rattle.mps_refinement.specs.Making.{IsRightMaking, IsRightMakingIn, MeansLayout}
-use Rattle.mps_refinement.specs.StandsFor.{AreParts, ArePools, IsPool, Past, setting_at, collector_of}
+use Rattle.mps_refinement.specs.StandsFor.{AreChains, AreParts, ArePools, IsPool, Past, setting_at, collector_of}
 use Rattle.mps_refinement.proofs.Calls.MakingSteps.{MakesAlike, checks_then, first_passed, free_name, making_is_right, making_is_right_in, taken_same}
 use Rattle.mps_refinement.proofs.Lookups.PoolKinds.{same_frames}
 use Rattle.mps_refinement.proofs.Parts.Named.{ThingsStay, named_made}
@@ -47,7 +49,7 @@ use Rattle.mps_refinement.proofs.Worlds.Known.{IsKnown}
 
 module _ {F : Type 0} (layout : F → Layout) (h : HeapState F) (name : Name) (p : Pool F) where
   module _ (w : World) (past : Past) (parts : AreParts layout past h w) (known : IsKnown past.time w) (q : world.Pool)
-      (fit : IsPool layout w.formats p q) where
+      (fit : IsPool layout w.formats p q) (on_none : q.chain ≡ None) where
     abbrev pools : List world.Pool
     pools = with_last w.pools q
 
@@ -72,6 +74,24 @@ module _ {F : Type 0} (layout : F → Layout) (h : HeapState F) (name : Name) (p
                   (old.0, slice_get-kept w.pools q old.0 number old.1, old.2)
               | inr (inr high) ↦ absurd (none-some x (sym (slice_get-after_last h.pools p number high) ∙ is))
             ]
+
+    chains_fit : AreChains (with_pool_on h.chains None) w.chains pools
+    chains_fit = record {
+      same =
+          ap (λ (c : ChainsState). with_pool_on c None) parts.chains.same
+          ∙ ap (λ (of : List (Option ℕ)). let c : ChainsState = record { chains = w.chains; of_pool = of } in c)
+          (ap (λ o. map (λ (x : world.Pool). x.chain) w.pools ++ o ∷ []) (sym on_none)
+          ∙ sym (map-append (λ (x : world.Pool). x.chain) w.pools (q ∷ [])));
+      copying = λ number chain x is on.
+          elim (cases_order number (length w.pools)) [
+            | inl at_last ↦
+                let same = same_Some q x (sym (ap (slice_get pools) at_last ∙ slice_get-at_last w.pools q) ∙ is) in
+                absurd (none-some chain (sym on_none ∙ ap (λ (y : world.Pool). y.chain) same ∙ on))
+            | inr (inl low) ↦ parts.chains.copying number chain x (sym (slice_get-last w.pools q number low) ∙ is) on
+            | inr (inr high) ↦ absurd (none-some x (sym (slice_get-after_last w.pools q number high) ∙ is))
+          ];
+      none = parts.chains.none;
+    }
 
     -- whether a collection moves the blocks of a point's pool is as it was
     copying_as_before : (n : ℕ) (x : graph.Point) → entry_at w.graph.points n ≡ Some x
@@ -105,6 +125,7 @@ module _ {F : Type 0} (layout : F → Layout) (h : HeapState F) (name : Name) (p
           (with_last w.graph.names (record { name = name; thing = graph.PoolThing (length w.pools) })) (record {
             pools_are = pools_fit;
             sizes_are = ap (λ sizes. sizes ++ size_of_pool p ∷ []) parts.sizes ∙ sym (map-append size_of_pool h.pools (p ∷ []));
+            chains_are = chains_fit;
             points_are = fitting_there parts.points (λ n x y there is. record {
               pool = is.pool;
               rank = is.rank;
@@ -146,6 +167,7 @@ module _ {F : Type 0} (layout : F → Layout) (h : HeapState F) (name : Name) (p
           blocks = λ n low. low;
           points = λ k some. some;
           dependencies = λ n low. low;
+          chains = λ n low. low;
         }
 
     limit_same : Alike (refuse_at_limit (length h.pools) most_pools) (refuse_at_limit (length w.pools) most_pools)
@@ -210,7 +232,7 @@ pool_is_right layout h name kind format number result after making =
     (MeansLayout number (layout format)) refl refl
     (λ w past means parts reached.
     pool_alike layout h name (pool.Automatic kind format) w past parts reached
-    (record { kind = Collected kind; format = number; chain = None }) (refl, means) (call.Pool name kind number) refl)
+    (record { kind = Collected kind; format = number; chain = None }) (refl, means) refl (call.Pool name kind number) refl)
     result after making
 
 pub pool_mfs_is_right : {F : Type 0} (layout : F → Layout) (h : HeapState F) (name : Name) (words : ℕ) (result : Result ℕ Refusal)
@@ -220,7 +242,7 @@ pool_mfs_is_right layout h name words result after making =
     making_is_right layout h (call.PoolMfs name words) (check_pool_of_size h name words) (MakesPool h name (pool.OneSize words)) refl refl
     (λ w past parts reached.
     pool_of_size_alike layout h name (pool.OneSize words) w past parts reached
-    (record { kind = OneSize words; format = 0; chain = None }) refl words refl)
+    (record { kind = OneSize words; format = 0; chain = None }) refl refl words refl)
     result after making
 
 pub pool_mvff_is_right : {F : Type 0} (layout : F → Layout) (h : HeapState F) (name : Name) (result : Result ℕ Refusal)
@@ -229,6 +251,6 @@ pub pool_mvff_is_right : {F : Type 0} (layout : F → Layout) (h : HeapState F) 
 pool_mvff_is_right layout h name result after making =
     making_is_right layout h (call.PoolMvff name) (check_pool h name) (MakesPool h name pool.AnySize) refl refl
     (λ w past parts reached.
-    pool_alike layout h name pool.AnySize w past parts reached (record { kind = AnySize; format = 0; chain = None }) refl
+    pool_alike layout h name pool.AnySize w past parts reached (record { kind = AnySize; format = 0; chain = None }) refl refl
     (call.PoolMvff name) refl)
     result after making

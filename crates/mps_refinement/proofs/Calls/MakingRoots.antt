@@ -78,6 +78,7 @@ module _ {F : Type 0} (layout : F → Layout) (h : HeapState F) (name : Name) (s
           blocks = λ n low. subst (λ bs. n < length bs) (sym makes.table.blocks) low;
           points = λ k some. some;
           dependencies = λ n low. low;
+          chains = λ n low. low;
         }
 
         are : AreOtherRoots layout past h w parts numbers past.area_number after.roots (h.live_roots + 1) (h.live_slots + slots) after.names
@@ -147,6 +148,7 @@ module _ {F : Type 0} (layout : F → Layout) (h : HeapState F) (name : Name) (s
           blocks = λ n low. subst (λ bs. n < length bs) (sym makes.area.blocks) low;
           points = λ k some. some;
           dependencies = λ n low. low;
+          chains = λ n low. low;
         }
 
         are : AreOtherRoots layout past h w parts past.table_number numbers after.roots (h.live_roots + 1) (h.live_slots + slots)
@@ -223,6 +225,7 @@ module _ {F : Type 0} (layout : F → Layout) (h : HeapState F) (name : Name) (s
           blocks = λ n low. omega (arith, low, longer);
           points = λ k some. some;
           dependencies = λ n low. low;
+          chains = λ n low. low;
         }
 
         are : AreOtherRoots layout past h w parts past.table_number past.area_number roots (h.live_roots + 1) (h.live_slots + slots)

@@ -85,7 +85,7 @@ module _ {F : Type 0} (layout : F → Layout) (formats : ℕ → Layout) (lawful
     lawful = lawful;
     pools = record { count = refl; each = λ number p is. absurd (none-some p is) };
     sizes = refl;
-    chains = refl;
+    chains = record { same = refl; copying = λ number chain p is. absurd (none-some p is); none = refl };
     dependents = refl;
     names = record {
       named = λ name. sym (ap (option_map (numbered_thing no_past)) (none.free name));

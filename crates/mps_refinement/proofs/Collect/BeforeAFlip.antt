@@ -27,7 +27,7 @@ module _ {F : Type 0} (layout : F → Layout) (past : Past) (h : HeapState F) (w
     (marked : IsMarked h.segs.grains h.segs.marks h.segs.condemned h.segs.summaries)
     (m : Moves) (room : most_moves h.segs.grains ≤ m.spare) where
   -- whatever words are at hand for its pools
-  pub stands_before : (t : TraceState F) → IsTraceOf h.pools t → StandsBefore layout t h.segs m h.points w
+  pub stands_before : (t : TraceState F) → IsTraceOf h.pools h.chains t → StandsBefore layout t h.segs m h.points w
   stands_before t of =
       let few =
       moves_are_few layout past h w parts known.formed known.laid (blocks_in_order layout past h w parts known.laid) known.graph
@@ -35,7 +35,7 @@ module _ {F : Type 0} (layout : F → Layout) (past : Past) (h : HeapState F) (w
       record {
         objects = objects_at_rest layout past h w parts past.time known rest.none;
         segments = segments_at_rest layout past h w parts known.laid rest marked;
-        pools = pools_known layout h.pools t w parts.pools parts.chains of;
+        pools = pools_known layout h.pools h.chains t w parts.pools parts.chains of;
         reservations = reservations_are_open layout past h w parts;
         room = omega (arith, few, room);
       }

@@ -36,7 +36,7 @@ module _ {F : Type 0} (layout : F → Layout) (can_fix : RootsCanBeFixed F) (h :
     (reserved : AreReserved h.points.flips h.points.points h.segs) (k : IsBefore layout h m w) where
   -- ---- it can begin one
 
-  module _ (t : TraceState F) (of : IsTraceOf h.pools t) where
+  module _ (t : TraceState F) (of : IsTraceOf h.pools h.chains t) where
     before : StandsBefore layout t h.segs m h.points w
     before = k.stands t of
 
@@ -73,7 +73,7 @@ module _ {F : Type 0} (layout : F → Layout) (can_fix : RootsCanBeFixed F) (h :
     abbrev most : ℕ
     most = most_units h.segs.grains (length h.finals.registered)
 
-    module _ (t : TraceState F) (of : IsTraceOf h.pools t) where
+    module _ (t : TraceState F) (of : IsTraceOf h.pools h.chains t) where
       can_end : (roots' : RootsState) (finals' : FinalsState) (z : Traced) (run : Running)
           → Begins layout t.formats t.chains condemn.Everything h.points h.roots h.finals (traced t h.segs m) roots' finals' z run
           → CanEnd layout t.formats t.chains z finals' run most

@@ -1,9 +1,8 @@
 -- A `collect` is right, if what ran before it is finished: its step is legal, and the heap stands for the world after it.
 use Rattle.mps_model.specs.History.{world_after, with_client_remembered}
 use Rattle.mps_model.proofs.AtRest.{with_client_remembered-none}
-use Rattle.std.proofs.Common.{◌≡◌, ◌∙◌, ℕ, Bool, true, false, refl, sym, ap, subst, List, [], ◌∷◌, ◌++◌, length, Option, Some, None, is_some, inl, inr, arith}
-use Rattle.std.proofs.lemmas.Bool.{false≢true, or_right, true≢false}
-use Rattle.std.proofs.lemmas.Option.{same_Some, slice_get_within}
+use Rattle.std.proofs.Common.{◌≡◌, ◌∙◌, ℕ, Bool, true, false, refl, sym, ap, subst, List, [], ◌∷◌, ◌++◌, length, Option, Some, None, is_some, inl, inr}
+use Rattle.std.proofs.lemmas.Bool.{false≢true, or_right}
 use Rattle.std.specs.Prelude.{◌==◌, ◌||◌, slice_get, option_and_then}
 use Rattle.std.specs.List.{flat_map, list_all}
 use Rattle.std.specs.Option.{option_map_or}
@@ -17,7 +16,7 @@ use Rattle.mps_model.specs.Answer.{Replied}
 use Rattle.mps_model.specs.Checked.{done}
 use Rattle.mps_model.specs.Graph.{contains, ids_in_blocks, ids_of_client, targets}
 use Rattle.mps_model.specs.World as world
-use Rattle.mps_model.specs.World.{World, Pool, ids_in_pairs, is_live, is_running, live_ids}
+use Rattle.mps_model.specs.World.{World, Pool, PoolKind, Collected, OneSize, AnySize, Frames, is_automatic_kind, is_copying_kind, pool_is, ids_in_pairs, is_live, is_running, live_ids}
 use Rattle.mps_model.specs.WellFormed.{IsWellFormed}
 use Rattle.mps_model.specs.Effect.{Everything, condemned_by, is_on_chain, world_after_moves}
 use Rattle.mps_model.specs.Flip.{flip_act, is_nothing}
@@ -25,9 +24,8 @@ use Rattle.mps_model.specs.History.{HeldAreLive}
 use Rattle.mps_model.proofs.Cutting.{world_after_moves-append}
 use Rattle.mps_model.proofs.Reaching.{list_all-contains}
 use Rattle.mps_laws.proofs.Sound.HeldIds.{all-append}
+use Rattle.mps_trace.specs.GenState.{ChainsState}
 use Rattle.mps_heap_spec.specs.State.{HeapState}
-use Rattle.mps_format.specs.declared.pool.Pool as ours
-use Rattle.mps_format.specs.declared.pool.Pool.TheVariants as pool
 use Rattle.mps_abstract.specs.Colours.{AllReferredLive}
 use Rattle.mps_abstract.specs.Collecting.{Collecting}
 use Rattle.mps_abstract.specs.Units.{Ends}
@@ -40,7 +38,7 @@ use Rattle.mps_abstract.proofs.Rows.{last_units_done}
 use Rattle.mps_abstract.proofs.WholeCollections.WholeBegins.{nothing_remembered, begun_running}
 use Rattle.mps_abstract.proofs.WholeCollections.WholeEnds.{a_whole_collection}
 use Rattle.mps_refinement.specs.RightStep.{IsRightIn, step_of}
-use Rattle.mps_refinement.specs.StandsFor.{AreParts, ArePools, IsPool, IsReached, Past, Time, time_at_rest}
+use Rattle.mps_refinement.specs.StandsFor.{AreChains, AreParts, IsReached, Past, Time, time_at_rest}
 use Rattle.mps_refinement.proofs.Parts.Registered.{registered_at_the_end}
 use Rattle.mps_refinement.proofs.Worlds.Known.{IsKnown}
 use Rattle.mps_refinement.proofs.Worlds.Reached.{reached_well_formed, reached_next}
@@ -49,7 +47,6 @@ use Rattle.mps_refinement.proofs.Worlds.RestingSteps.{IsMoving, moving_step}
 use Rattle.mps_refinement.proofs.Worlds.Steps.{moved_to_rest}
 use Rattle.mps_refinement.specs.Collect.Leaving.{IsCollected, AreInPlace}
 use Rattle.mps_refinement.specs.Collect.Standing.{IsCollectedHeap, world_collected}
-use Rattle.mps_refinement.proofs.Lookups.Found.{something}
 use Rattle.mps_refinement.proofs.Collect.Finished.{HasFinished, IsFinished}
 use Rattle.mps_refinement.proofs.Collect.Leavings.{a_collection_moves_objects}
 use Rattle.mps_refinement.proofs.Collect.CollectedParts.{blocks_are_manual, flipped_parts}
@@ -74,28 +71,31 @@ all_flat p next (x ∷ xs) each =
 
 -- ---- a heap at rest may begin a collection
 
+-- a pool that copies is automatic
+copies_automatic : (kind : PoolKind) → is_copying_kind kind ≡ true → is_automatic_kind kind ≡ true
+copies_automatic (Collected kind) copies = refl
+copies_automatic (OneSize words) copies = absurd (false≢true copies)
+copies_automatic AnySize copies = absurd (false≢true copies)
+copies_automatic Frames copies = absurd (false≢true copies)
+
+-- so is one on a chain
+on_chain_automatic : (w : World) (kept : ChainsState) → AreChains kept w.chains w.pools → (chain number : ℕ)
+    → is_on_chain w chain number ≡ true → pool_is is_automatic_kind w number ≡ true
+on_chain_automatic w kept are chain number on = of_pool (slice_get w.pools number) refl on
+  where
+    of_chain : (q : Pool) → slice_get w.pools number ≡ Some q → (o : Option ℕ) → q.chain ≡ o
+        → option_map_or (λ on. on == chain) o false ≡ true → is_automatic_kind q.kind ≡ true
+    of_chain q e None none there = absurd (false≢true there)
+    of_chain q e (Some c) some there = copies_automatic q.kind (are.copying number c q e some)
+
+    of_pool : (o : Option Pool) → slice_get w.pools number ≡ o
+        → option_map_or (λ on. on == chain) (option_and_then (λ (p : Pool). p.chain) o) false ≡ true
+        → option_map_or (λ (p : Pool). is_automatic_kind p.kind) (slice_get w.pools number) false ≡ true
+    of_pool None e there = absurd (false≢true there)
+    of_pool (Some q) e there =
+        ap (λ (o : Option Pool). option_map_or (λ (p : Pool). is_automatic_kind p.kind) o false) e ∙ of_chain q e q.chain refl there
+
 module _ {F : Type 0} (layout : F → Layout) where
-  no_chain : (formats : ℕ → Layout) (p : ours.Pool F) (q : Pool) → IsPool layout formats p q → q.chain ≡ None
-  no_chain formats (pool.Automatic kind format) q is = ap (λ (x : Pool). x.chain) is.0
-  no_chain formats (pool.OneSize words) q is = ap (λ (x : Pool). x.chain) is
-  no_chain formats pool.AnySize q is = ap (λ (x : Pool). x.chain) is
-
-  not_on_chain : (w : World) (pools : List (ours.Pool F)) → ArePools layout w.formats pools w.pools → (chain number : ℕ)
-      → is_on_chain w chain number ≡ false
-  not_on_chain w pools are chain number = of_pool (slice_get w.pools number) refl
-    where
-      of_pool : (o : Option Pool) → slice_get w.pools number ≡ o
-          → option_map_or (λ on. on == chain) (option_and_then (λ (p : Pool). p.chain) o) false ≡ false
-      of_pool None e = refl
-      of_pool (Some q) e =
-          let within = slice_get_within w.pools number q e in
-          let count = are.count in
-          let p = something pools number (omega (arith, within, count)) in
-          let is = are.each number p.0 p.1 in
-          let same = same_Some is.0 q (sym is.1 ∙ e) in
-          ap (λ (o : Option ℕ). option_map_or (λ on. on == chain) o false)
-          (sym (ap (λ (x : Pool). x.chain) same) ∙ no_chain w.formats p.0 is.0 is.2)
-
   pub may_begin : (past : Past) (h : HeapState F) (w : World) → AreParts layout past h w → (t : Time) → IsKnown t w → w.collection ≡ None
       → IsAtRest w
   may_begin past h w parts t known none =
@@ -109,7 +109,7 @@ module _ {F : Type 0} (layout : F → Layout) where
         referred_live = λ id target there refers.
             list_all-contains (is_live w) (flat_map (targets w.graph) (live_ids w)) target referred
             (in_flat (targets w.graph) (live_ids w) id target (live_is_listed w id there) refers);
-        on_chains = λ chain number on. absurd (true≢false (sym on ∙ not_on_chain w h.pools parts.pools chain number));
+        on_chains = λ chain number on. on_chain_automatic w h.chains parts.chains chain number on;
       }
 
   -- ---- the call

@@ -54,7 +54,7 @@ use Rattle.mps_format.specs.declared.pool.Policy.{Policy}
 -- what has to be known of a heap that stands for a world before it collects everything: how its roots stand for those of the world, and
 -- all that a flip needs, whatever words are at hand for its pools
 pub record IsBefore {F : Type 0} (layout : F → Layout) (h : HeapState F) (m : Moves) (w : World) : Type 0 where
-  pub stands : (t : TraceState F) → IsTraceOf h.pools t → StandsBefore layout t h.segs m h.points w
+  pub stands : (t : TraceState F) → IsTraceOf h.pools h.chains t → StandsBefore layout t h.segs m h.points w
   pub rows : List (List (Option Id))
   pub roots : AreRootsHeld w h.roots h.finals rows
   pub areas : AreWordsShown (words_of_areas h.roots.areas) (area_words w)

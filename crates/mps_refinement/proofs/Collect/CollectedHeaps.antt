@@ -145,6 +145,7 @@ flipped_heap {F} layout past h h' w parts zones arena_state running is same acte
       dependencies = ap (λ (x : HeapState F). x.dependencies) is;
       pools = ap (λ (x : HeapState F). x.pools) is;
       sizes = ap (λ (x : HeapState F). x.sizes) is;
+      chains = ap (λ (x : HeapState F). x.chains) is;
       names = ap (λ (x : HeapState F). x.names) is;
     }
 

@@ -24,7 +24,8 @@ use Rattle.mps_abstract.specs.Collecting.{Collecting}
 use Rattle.mps_names.specs.State.{NamesState, thing_named}
 use Rattle.mps_heap_spec.specs.State.{HeapState}
 use Rattle.mps_format.specs.Pools.{size_of_pool}
-use Rattle.mps_refinement.specs.StandsFor.{AreParts, AreRegisteredAt, ArePools, IsPoint, Past, StandsAt, Time, address_of_id}
+use Rattle.mps_trace.specs.GenState.{ChainsState}
+use Rattle.mps_refinement.specs.StandsFor.{AreChains, AreParts, AreRegisteredAt, ArePools, IsPoint, Past, StandsAt, Time, address_of_id}
 use Rattle.mps_refinement.specs.Numbering.{AreNumbered}
 use Rattle.mps_refinement.proofs.Parts.Named.{ThingsStay, named_alike, named_at}
 use Rattle.mps_refinement.proofs.Parts.Numbering.{kept_alike}
@@ -104,6 +105,7 @@ module _ {F : Type 0} (layout : F → Layout) (past : Past) (h after : HeapState
       blocks = λ n less. subst (λ rows. n < length rows) (sym heap.blocks) less;
       points = points_stay;
       dependencies = λ n less. subst (λ ds. n < length ds) (sym heap.dependencies) less;
+      chains = λ n less. subst (λ (c : ChainsState). n < length c.chains) (sym heap.chains) less;
     }
 
     points_now : AreNumbered (IsPoint (length v.flips) (world.is_copying_pool v) v.point_memories) past.point_number (point_at after.points)
@@ -157,7 +159,7 @@ module _ {F : Type 0} (layout : F → Layout) (past : Past) (h after : HeapState
       lawful = parts.lawful;
       pools = subst (λ ps. ArePools layout w.formats ps w.pools) (sym heap.pools) parts.pools;
       sizes = heap.sizes ∙ (parts.sizes ∙ ap (map size_of_pool) (sym heap.pools));
-      chains = parts.chains;
+      chains = subst (λ (c : ChainsState). AreChains c w.chains w.pools) (sym heap.chains) parts.chains;
       dependents = left.unpaired parts.dependents;
       names =
           named_at past t after w.graph.names w.graph.labels

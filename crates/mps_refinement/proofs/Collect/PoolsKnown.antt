@@ -1,13 +1,10 @@
--- What a collector knows of the pools of a heap, where it has their policies and none is on a chain.
-use Rattle.std.proofs.Common.{◌≡◌, ◌∙◌, ℕ, true, false, refl, sym, ap, subst, List, [], length, map, replicate, Option, Some, None, is_some, arith}
+-- What a collector knows of the pools of a heap, where it has their policies, and the chains are those of the world.
+use Rattle.std.proofs.Common.{◌≡◌, ◌∙◌, ℕ, true, false, refl, sym, ap, List, length, map, Option, Some, None, is_some, arith}
 use Rattle.std.proofs.lemmas.Bool.{false≢true}
-use Rattle.std.proofs.lemmas.List.{length-replicate}
-use Rattle.std.proofs.lemmas.Option.{slice_get_within, unwrap_or-slice_get}
+use Rattle.std.proofs.lemmas.Option.{slice_get-map, slice_get_within, unwrap_or-slice_get}
 use Rattle.std.specs.Prelude.{option_map, option_and_then, slice_get}
 use Rattle.std.specs.Option.{option_map_or, unwrap_or}
-use Rattle.mps_base.specs.Generation.{target_generation}
 use Rattle.mps_format.specs.Layout.{Layout}
-use Rattle.mps_amc.specs.Amc.{HasTail}
 use Rattle.mps_trace.specs.GenState as chains
 use Rattle.mps_trace.specs.GenState.{ChainsState}
 use Rattle.mps_model.specs.World as world
@@ -22,7 +19,7 @@ use Rattle.mps_pools.specs.Collecting.{IsTraceOf}
 use Rattle.mps_format.specs.Pools.{policy_of_pool, is_copying_pool}
 use Rattle.mps_format.specs.declared.pool.Pool.{Pool}
 use Rattle.mps_format.specs.declared.pool.Pool.TheVariants as pool
-use Rattle.mps_refinement.specs.StandsFor.{ArePools}
+use Rattle.mps_refinement.specs.StandsFor.{AreChains, ArePools}
 use Rattle.mps_refinement.proofs.Lookups.PoolKinds.{copying_by_number, kind_of, kinds_alike}
 use Rattle.mps_refinement.proofs.Lookups.Policies.{AtNumber, both, neither, at_number, layout_of_policy, moves_of_policy, policy_at, policy_of_automatic}
 use Rattle.mps_format.specs.declared.pool.Policy.{Policy}
@@ -58,16 +55,17 @@ module _ {F : Type 0} where
       ap (λ (f : Option (Policy F)). option_map_or (λ (p : Policy F). p.moves) f false)
       (sym (unwrap_or-slice_get formats number None) ∙ ap (λ (x : Option (Option (Policy F))). unwrap_or x None) e)
 
--- no chain has generations where there is none
-none_on_chain : (o : Option ℕ) → option_map (λ (capacities : List ℕ). length capacities) (option_and_then (λ chain. slice_get [] chain) o)
-    ≡ None
-none_on_chain None = refl
-none_on_chain (Some chain) = refl
+-- the chain of a pool, if there is one
+chain_of_it : (o : Option world.Pool)
+    → option_and_then (λ (chain : Option ℕ). chain) (option_map (λ (p : world.Pool). p.chain) o)
+    ≡ option_and_then (λ (p : world.Pool). p.chain) o
+chain_of_it None = refl
+chain_of_it (Some p) = refl
 
 -- ---- all pools
 
-module _ {F : Type 0} (layout : F → Layout) (pools : List (Pool F)) (t : TraceState F) (w : World)
-    (are : ArePools layout w.formats pools w.pools) (none : w.chains ≡ []) (of : IsTraceOf pools t) where
+module _ {F : Type 0} (layout : F → Layout) (pools : List (Pool F)) (kept : ChainsState) (t : TraceState F) (w : World)
+    (are : ArePools layout w.formats pools w.pools) (on : AreChains kept w.chains w.pools) (of : IsTraceOf pools kept t) where
   format_at : (number : ℕ) (o : Option (Pool F)) → slice_get pools number ≡ o → slice_get t.formats number ≡ option_map policy_of_pool o
   format_at number o e =
       ap (λ (formats : List (Option (Policy F))). slice_get formats number) of.formats ∙ policy_at pools number o e
@@ -106,17 +104,15 @@ module _ {F : Type 0} (layout : F → Layout) (pools : List (Pool F)) (t : Trace
       by_cases (neither e f) =
           absurd (false≢true (sym (ap (λ (o : Option world.Pool). option_map_or (λ p. world.is_copying_kind p.kind) o false) f) ∙ copying))
 
-  -- no pool has generations
-  generations_known : (number : ℕ) → chains.generations_of t.chains number ≡ None
+  -- each pool has as many generations as in the world
+  generations_known : (number : ℕ) → chains.generations_of t.chains number ≡ generations_of w number
   generations_known number =
-      ap (λ (c : ChainsState). chains.generations_of c number) of.chains
-      ∙ none_on_chain (chains.chain_of (record { chains = []; of_pool = replicate (length pools) None }) number)
-
-  generations_there : (number : ℕ) → generations_of w number ≡ None
-  generations_there number =
-      ap (λ (cs : List (List ℕ)). option_map (λ (capacities : List ℕ). length capacities)
-      (option_and_then (λ chain. slice_get cs chain) (option_and_then (λ (p : world.Pool). p.chain) (world.pool_at w number)))) none
-      ∙ none_on_chain (option_and_then (λ (p : world.Pool). p.chain) (world.pool_at w number))
+      ap (λ (c : ChainsState). chains.generations_of c number) (of.chains_are ∙ on.same)
+      ∙ ap (λ (o : Option ℕ). option_map (λ (capacities : List ℕ). length capacities)
+      (option_and_then (λ chain. slice_get w.chains chain) o))
+      (ap (λ (o : Option (Option ℕ)). option_and_then (λ (chain : Option ℕ). chain) o)
+      (slice_get-map (λ (p : world.Pool). p.chain) w.pools number)
+      ∙ chain_of_it (world.pool_at w number))
 
   there : (number : ℕ) → slice_get t.formats number ≡ slice_get (map policy_of_pool pools) number
   there number = ap (λ (formats : List (Option (Policy F))). slice_get formats number) of.formats
@@ -131,10 +127,9 @@ module _ {F : Type 0} (layout : F → Layout) (pools : List (Pool F)) (t : Trace
     known = λ number copying.
         let m = mover number copying in
         let within = slice_get_within pools number m.0 m.1 in
-        let long : length t.chains.of_pool ≡ length pools =
-        ap (λ (c : ChainsState). length c.of_pool) of.chains ∙ length-replicate (length pools) None in
+        let long = of.count in
         omega (arith, within, long);
-    generations_are = λ number copying. generations_known number ∙ sym (generations_there number);
+    generations_are = λ number copying. generations_known number;
   }
 
   pub pools_known : ArePoolsKnown layout t w
@@ -144,6 +139,5 @@ module _ {F : Type 0} (layout : F → Layout) (pools : List (Pool F)) (t : Trace
     pools = known_pools;
     tails = λ number generation copying.
         let m = mover number copying in
-        subst (λ (o : Option ℕ). HasTail t.amc number (target_generation o generation)) (sym (generations_known number))
-        (of.tails number (slice_get_within pools number m.0 m.1));
+        of.tails number generation (slice_get_within pools number m.0 m.1);
   }

@@ -66,6 +66,7 @@ blocks_changed layout past h w segs blocks objects addresses places segments par
       blocks = λ n low. let same = are.there in omega (arith, low, same);
       points = λ key some. some;
       dependencies = λ n low. low;
+      chains = λ n low. low;
     }))
     (states_of parts)
 

@@ -27,10 +27,11 @@ pub record ThingsStay {F : Type 0} (h after : HeapState F) : Type 0 where
   pub blocks : (number : ℕ) → number < length h.roots.blocks → number < length after.roots.blocks
   pub points : (key : ℕ) → IsSome (point_at h.points key) → IsSome (point_at after.points key)
   pub dependencies : (number : ℕ) → number < length h.dependencies → number < length after.dependencies
+  pub chains : (number : ℕ) → number < length h.chains.chains → number < length after.chains.chains
 
 module _ {F : Type 0} (h after : HeapState F) where
   pub stays_there : ThingsStay h after → (t : Thing) → IsThere h t → IsThere after t
-  stays_there stay (thing.Chain number) there = there
+  stays_there stay (thing.Chain number) there = stay.chains number there
   stays_there stay (thing.Pool number) there = stay.pools number there
   stays_there stay (thing.Table key) there = stay.tables key there
   stays_there stay (thing.Area key) there = stay.areas key there

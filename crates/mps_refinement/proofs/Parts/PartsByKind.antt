@@ -11,7 +11,7 @@ use Rattle.mps_root.specs.State.{kept}
 use Rattle.mps_heap_spec.specs.State.{HeapState}
 use Rattle.mps_format.specs.Pools.{size_of_pool}
 use Rattle.mps_refinement.specs.Numbering.{AreNumbered, AreOrdered}
-use Rattle.mps_refinement.specs.StandsFor.{AreNamed, AreParts, ArePools, AreSlots, AreWords, IsArena, IsPoint, Past, address_of_id, address_of_target, kept_of, state_of, AreRegisteredAt, StandsAt}
+use Rattle.mps_refinement.specs.StandsFor.{AreChains, AreNamed, AreParts, ArePools, AreSlots, AreWords, IsArena, IsPoint, Past, address_of_id, address_of_target, kept_of, state_of, AreRegisteredAt, StandsAt}
 
 module _ {F : Type 0} (layout : F → Layout) (past : Past) (h : HeapState F) (w : World) where
   -- the arena's size, its limit and its segments
@@ -47,9 +47,9 @@ module _ {F : Type 0} (layout : F → Layout) (past : Past) (h : HeapState F) (w
   abbrev pub PoolParts : Type 0
   PoolParts =
       ((number : ℕ) → IsLawful (w.formats number)) × ArePools layout w.formats h.pools w.pools × (h.sizes ≡ map size_of_pool h.pools)
-      × (w.chains ≡ []) × (w.graph.dependents ≡ [])
+      × AreChains h.chains w.chains w.pools × (w.graph.dependents ≡ [])
 
-  -- flips, the arena's state, and that no collection runs
+  -- flips and the arena's state
   abbrev pub StateParts : Type 0
   StateParts =
       AreFlips h.epochs w.flips × (h.points.flips ≡ length w.flips) × (w.state ≡ state_of h.arena)

@@ -1,6 +1,6 @@
 -- The parts of a heap that stand for those of a world, after things were made or dropped: a lemma for each kind of thing, over the
 -- facts that change.
-use Rattle.std.proofs.Common.{◌≡◌, ℕ, ◌<◌, refl, sym, ap, subst, List, length, map, Option, IsSome}
+use Rattle.std.proofs.Common.{◌≡◌, ℕ, ◌<◌, refl, sym, ap, subst, List, length, map, Option, None, IsSome}
 use Rattle.mps_base.specs.declared.names.Name.{Name}
 use Rattle.mps_buffer.specs.declared.point.Point.{Point}
 use Rattle.mps_format.specs.Layout.{Layout}
@@ -19,21 +19,24 @@ use Rattle.mps_format.specs.Pools.{size_of_pool}
 use Rattle.mps_heap_spec.specs.declared.arena.ArenaState.{ArenaState}
 use Rattle.mps_format.specs.declared.pool.Pool.{Pool}
 use Rattle.mps_trace.specs.AmcState.{with_pool}
+use Rattle.mps_trace.specs.GenState.{ChainsState}
+use Rattle.mps_pools.specs.Pools.{with_pool_on}
 use Rattle.mps_refinement.specs.Numbering.{AreNumbered, AreOrdered}
-use Rattle.mps_refinement.specs.StandsFor.{AreNamed, AreParts, ArePools, AreSlots, AreWords, IsPoint, Past, StandsFor, address_of_target, kept_of, state_of, IsArena, IsInTime, StandsAt, collector_of}
+use Rattle.mps_refinement.specs.StandsFor.{AreChains, AreNamed, AreParts, ArePools, AreSlots, AreWords, IsPoint, Past, StandsFor, address_of_target, kept_of, state_of, IsArena, IsInTime, StandsAt, collector_of}
 use Rattle.mps_refinement.proofs.Parts.Named.{ThingsStay, named_alike}
 use Rattle.mps_refinement.proofs.Parts.PartsByKind.{parts_of_kinds, arena_of, finals_of, image_of, points_of, pools_of, roots_of, states_of}
 
 -- where the things are those of another state, all stay
 pub all_stay : {F : Type 0} (h after : HeapState F) → after.pools ≡ h.pools → after.roots ≡ h.roots → after.points ≡ h.points
-    → after.dependencies ≡ h.dependencies → ThingsStay h after
-all_stay h after pools roots points dependencies = record {
+    → after.dependencies ≡ h.dependencies → after.chains ≡ h.chains → ThingsStay h after
+all_stay h after pools roots points dependencies chains = record {
   pools = λ n low. subst (λ ps. n < length ps) (sym pools) low;
   tables = λ key some. subst (λ (r : RootsState). IsSome (kept r.tables key)) (sym roots) some;
   areas = λ key some. subst (λ (r : RootsState). IsSome (kept r.areas key)) (sym roots) some;
   blocks = λ n low. subst (λ (r : RootsState). n < length r.blocks) (sym roots) low;
   points = λ key some. subst (λ ps. IsSome (Rattle.mps_buffer.specs.Points.point_at ps key)) (sym points) some;
   dependencies = λ n low. subst (λ ds. n < length ds) (sym dependencies) low;
+  chains = λ n low. subst (λ (c : ChainsState). n < length c.chains) (sym chains) low;
 }
 
 module _ {F : Type 0} (layout : F → Layout) (past : Past) (h : HeapState F) (w : World) (parts : AreParts layout past h w) where
@@ -103,7 +106,13 @@ module _ {F : Type 0} (layout : F → Layout) (past : Past) (h : HeapState F) (w
   -- ---- pools
 
   abbrev pub state_of_pools : List (Pool F) → (sizes : List ℕ) → NamesState → HeapState F
-  state_of_pools pools sizes names = record h { pools = pools; sizes = sizes; tails = with_pool h.tails 1; names = names }
+  state_of_pools pools sizes names = record h {
+    pools = pools;
+    sizes = sizes;
+    chains = with_pool_on h.chains None;
+    tails = with_pool h.tails 1;
+    names = names;
+  }
 
   abbrev pub world_of_pools : List world.Pool → List NamedThing → World
   world_of_pools pools named = record w { graph = record w.graph { names = named }; pools = pools }
@@ -112,6 +121,7 @@ module _ {F : Type 0} (layout : F → Layout) (past : Past) (h : HeapState F) (w
       (named : List NamedThing) : Type 0 where
     pub pools_are : ArePools layout w.formats pools numbered
     pub sizes_are : sizes ≡ map size_of_pool pools
+    pub chains_are : AreChains (with_pool_on h.chains None) w.chains numbered
     pub points_are : AreNumbered (IsPoint (length w.flips) (world.is_copying_pool (world_of_pools numbered w.graph.names)) w.point_memories)
         past.point_number (kept h.points.points) w.graph.points
     pub image_stands : StandsAt past.time h.segs (world_of_pools numbered w.graph.names)
@@ -122,7 +132,7 @@ module _ {F : Type 0} (layout : F → Layout) (past : Past) (h : HeapState F) (w
       → AreParts layout past (state_of_pools pools sizes names) (world_of_pools numbered named)
   pools_changed pools sizes names numbered named are =
       parts_of_kinds (arena_of parts) (are.image_stands, parts.arena) (roots_of parts) (are.points_are, parts.points_counted)
-      (finals_of parts) parts.dependencies (parts.lawful, are.pools_are, are.sizes_are, parts.chains, parts.dependents) are.names_are
+      (finals_of parts) parts.dependencies (parts.lawful, are.pools_are, are.sizes_are, are.chains_are, parts.dependents) are.names_are
       (states_of parts)
 
   -- ---- dependencies
@@ -163,7 +173,7 @@ module _ {F : Type 0} (layout : F → Layout) (past : Past) (h : HeapState F) (w
       let after = record h { segs = record h.segs { limit = limit }; arena = arena; names = names } in
       parts_of_kinds (parts.grains, refl, parts.segments) (image_of parts) (roots_of parts) (points_of parts) (finals_of parts)
       parts.dependencies (pools_of parts)
-      (named_alike h after past w.graph.names w.graph.labels parts.names same counts (all_stay h after refl refl refl refl))
+      (named_alike h after past w.graph.names w.graph.labels parts.names same counts (all_stay h after refl refl refl refl refl))
       (parts.flips, parts.point_flips, is)
 
   -- what stands for the world stands for it with other names of the same meaning

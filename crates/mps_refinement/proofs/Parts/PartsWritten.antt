@@ -68,7 +68,7 @@ module _ {F : Type 0} (layout : F → Layout) (past : Past) (h : HeapState F) (w
       parts_of_kinds (arena_of parts) (image, parts.arena) (roots_of parts) (points_of parts) (finals_of parts) parts.dependencies
       (pools_of parts)
       (named_alike h (with_words h words) past w.graph.names w.graph.labels parts.names (λ name. refl) refl
-      (all_stay h (with_words h words) refl refl refl refl))
+      (all_stay h (with_words h words) refl refl refl refl refl))
       (states_of parts)
 
   -- other registrations and messages
@@ -79,7 +79,7 @@ module _ {F : Type 0} (layout : F → Layout) (past : Past) (h : HeapState F) (w
   finals_written finals registered messages are waiting =
       parts_of_kinds (arena_of parts) (image_of parts) (roots_of parts) (points_of parts) (are, waiting) parts.dependencies (pools_of parts)
       (named_alike h (with_finals h finals) past w.graph.names w.graph.labels parts.names (λ name. refl) refl
-      (all_stay h (with_finals h finals) refl refl refl refl))
+      (all_stay h (with_finals h finals) refl refl refl refl refl))
       (states_of parts)
 
   -- other epochs and zones of the dependencies
@@ -95,6 +95,7 @@ module _ {F : Type 0} (layout : F → Layout) (past : Past) (h : HeapState F) (w
         blocks = λ n low. low;
         points = λ key some. some;
         dependencies = λ n low. omega (arith, low, count);
+        chains = λ n low. low;
       }))
       (states_of parts)
 
@@ -123,6 +124,7 @@ module _ {F : Type 0} (layout : F → Layout) (past : Past) (h : HeapState F) (w
           blocks = λ n low. low;
           points = λ key some. some;
           dependencies = λ n low. low;
+          chains = λ n low. low;
         };
       })
 
@@ -147,5 +149,6 @@ module _ {F : Type 0} (layout : F → Layout) (past : Past) (h : HeapState F) (w
           blocks = λ n low. low;
           points = λ key some. some;
           dependencies = λ n low. low;
+          chains = λ n low. low;
         };
       })

@@ -178,6 +178,7 @@ module _ {F : Type 0} (layout : F → Layout) (past : Past) (h : HeapState F) (w
     blocks = λ n low. low;
     points = still;
     dependencies = λ n low. low;
+    chains = λ n low. low;
   }
 
   -- other segments and words, and other points

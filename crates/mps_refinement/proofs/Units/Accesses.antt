@@ -66,14 +66,14 @@ reclaim_is working.Reclaim e = refl
 
 module _ {F : Type 0} (layout : F → Layout) (past : Past) (h : HeapState F) (x : Collecting) (parts : AreParts layout past h x.world)
     (reach : IsReached x.world) (r : Runs past.time (collector_of h) x.world x)
-    (of : IsTraceOf h.pools (trace_of h.pools h.tails))
+    (of : IsTraceOf h.pools h.chains (trace_of h.pools h.chains h.tails))
     (marked : IsMarked h.segs.grains h.segs.marks h.segs.condemned h.segs.summaries)
     (m : Moves) (room : most_moves h.segs.grains ≤ m.spare) (s : Segment) (held : Contains h.segs.segments s) where
   abbrev w : World
   w = x.world
 
   abbrev t : TraceState F
-  t = trace_of h.pools h.tails
+  t = trace_of h.pools h.chains h.tails
 
   abbrev at_flip : List (Option Address)
   at_flip = past.time.at_flip

@@ -120,6 +120,7 @@ module _ {F : Type 0} (layout : F → Layout) (past : Past) (h : HeapState F) (x
           blocks = λ n low. low;
           points = λ key some. some;
           dependencies = λ n low. low;
+          chains = λ n low. low;
         }))
         (states_of parts)
 

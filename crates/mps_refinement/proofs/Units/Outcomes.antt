@@ -82,7 +82,7 @@ units_leave {F} {h = h} {h' = h'} (ends run is over state) =
 module _ {F : Type 0} (layout : F → Layout) (h : HeapState F) (whole : IsWhole h) (m : Moves)
     (room : most_moves h.segs.grains ≤ m.spare) (w : World) (st : StandsFor layout h w) where
   abbrev t : TraceState F
-  t = trace_of h.pools h.tails
+  t = trace_of h.pools h.chains h.tails
 
   abbrev ok : Answer
   ok = Replied reply.Ok

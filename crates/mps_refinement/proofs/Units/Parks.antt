@@ -34,15 +34,15 @@ use Rattle.mps_refinement.proofs.Worlds.Steps.{HasParts, moved_to_rest}
 
 module _ {F : Type 0} (layout : F → Layout) (past : Past) (h : HeapState F) (x : Collecting) (parts : AreParts layout past h x.world)
     (reach : IsReached x.world) (r : Runs past.time (collector_of h) x.world x)
-    (of : IsTraceOf h.pools (trace_of h.pools h.tails))
+    (of : IsTraceOf h.pools h.chains (trace_of h.pools h.chains h.tails))
     (marked : IsMarked h.segs.grains h.segs.marks h.segs.condemned h.segs.summaries)
     (m : Moves) (room : most_moves h.segs.grains ≤ m.spare) (most : ℕ) (z : Traced) (f : FinalsState)
-    (ends : EndsWithin layout (trace_of h.pools h.tails).formats (trace_of h.pools h.tails).chains
-    (traced (trace_of h.pools h.tails) h.segs m) h.finals r.run most z f) where
+    (ends : EndsWithin layout (trace_of h.pools h.chains h.tails).formats (trace_of h.pools h.chains h.tails).chains
+    (traced (trace_of h.pools h.chains h.tails) h.segs m) h.finals r.run most z f) where
   abbrev w : World
   w = x.world
 
-  abbrev over : AreLastTracedUnitsDone (traced (trace_of h.pools h.tails) h.segs m) x (suc ends.count) z f
+  abbrev over : AreLastTracedUnitsDone (traced (trace_of h.pools h.chains h.tails) h.segs m) x (suc ends.count) z f
   over = ended.done layout past h x parts reach r of marked m room most z f ends
 
   last : AreLastUnitsDone x (suc ends.count) over.moves

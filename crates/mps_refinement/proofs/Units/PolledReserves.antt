@@ -75,14 +75,14 @@ module _ {F : Type 0} (layout : F → Layout) (w : World) (reach : IsReached w) 
 
 module _ {F : Type 0} (layout : F → Layout) (past : Past) (h : HeapState F) (x : Collecting) (parts : AreParts layout past h x.world)
     (reach : IsReached x.world) (r : Runs past.time (collector_of h) x.world x)
-    (of : IsTraceOf h.pools (trace_of h.pools h.tails))
+    (of : IsTraceOf h.pools h.chains (trace_of h.pools h.chains h.tails))
     (marked : IsMarked h.segs.grains h.segs.marks h.segs.condemned h.segs.summaries)
     (m : Moves) (room : most_moves h.segs.grains ≤ m.spare) where
   abbrev w : World
   w = x.world
 
   abbrev here : Traced
-  here = traced (trace_of h.pools h.tails) h.segs m
+  here = traced (trace_of h.pools h.chains h.tails) h.segs m
 
   -- the model polls if the heap does
   polls_there : (name : Name) (head : ℕ) → polls_for h (check_reserve layout h name head) ≡ true → polls w (call.Reserve name head) ≡ true
@@ -92,10 +92,10 @@ module _ {F : Type 0} (layout : F → Layout) (past : Past) (h : HeapState F) (x
   -- ---- it goes on
 
   module _ (z : Traced) (f : FinalsState) (run : RunningState)
-      (units : UnitsTo layout (trace_of h.pools h.tails).formats (trace_of h.pools h.tails).chains
-      (traced (trace_of h.pools h.tails) h.segs m) h.finals r.run units_of_poll z f run) where
-    abbrev done : AreTracedUnitsDone layout (trace_of h.pools h.tails).formats (trace_of h.pools h.tails).chains past.time.at_flip here x
-        units_of_poll z f run
+      (units : UnitsTo layout (trace_of h.pools h.chains h.tails).formats (trace_of h.pools h.chains h.tails).chains
+      (traced (trace_of h.pools h.chains h.tails) h.segs m) h.finals r.run units_of_poll z f run) where
+    abbrev done : AreTracedUnitsDone layout (trace_of h.pools h.chains h.tails).formats (trace_of h.pools h.chains h.tails).chains
+        past.time.at_flip here x units_of_poll z f run
     done = going.done layout past h x parts reach r of marked m room units_of_poll z f run units
 
     abbrev later : Collecting
@@ -131,8 +131,8 @@ module _ {F : Type 0} (layout : F → Layout) (past : Past) (h : HeapState F) (x
   -- ---- it ends
 
   module _ (z : Traced) (f : FinalsState)
-      (over : EndsWithin layout (trace_of h.pools h.tails).formats (trace_of h.pools h.tails).chains
-      (traced (trace_of h.pools h.tails) h.segs m) h.finals r.run units_of_poll z f) where
+      (over : EndsWithin layout (trace_of h.pools h.chains h.tails).formats (trace_of h.pools h.chains h.tails).chains
+      (traced (trace_of h.pools h.chains h.tails) h.segs m) h.finals r.run units_of_poll z f) where
     abbrev last : AreLastTracedUnitsDone here x (suc over.count) z f
     last = ended.done layout past h x parts reach r of marked m room units_of_poll z f over
 
@@ -174,15 +174,15 @@ module _ {F : Type 0} (layout : F → Layout) (h : HeapState F) (whole : IsWhole
       subst IsReady (sym state)
       (ready_after layout g.past h g.collecting g.parts g.reached g.runs whole.tails whole.marked m enough (traced_in h' m') h'.finals
       next
-      (subst (λ q. UnitsTo layout (trace_of h.pools h.tails).formats (trace_of h.pools h.tails).chains (traced_in h m) h.finals q
-      units_of_poll (traced_in h' m') h'.finals next) (sym g.same) units))
+      (subst (λ q. UnitsTo layout (trace_of h.pools h.chains h.tails).formats (trace_of h.pools h.chains h.tails).chains
+      (traced_in h m) h.finals q units_of_poll (traced_in h' m') h'.finals next) (sym g.same) units))
   ready_then h' m' (ends run is over state) =
       let g = running_now layout h w st run is in
       subst IsReady (sym state)
       (ready_at_rest layout g.past h g.collecting g.parts g.reached g.runs whole.tails whole.marked m enough (traced_in h' m')
       h'.finals
-      (subst (λ q. EndsWithin layout (trace_of h.pools h.tails).formats (trace_of h.pools h.tails).chains (traced_in h m) h.finals q
-      units_of_poll (traced_in h' m') h'.finals) (sym g.same) over))
+      (subst (λ q. EndsWithin layout (trace_of h.pools h.chains h.tails).formats (trace_of h.pools h.chains h.tails).chains
+      (traced_in h m) h.finals q units_of_poll (traced_in h' m') h'.finals) (sym g.same) over))
 
   -- and there is room for a move
   room_then : (h' : HeapState F) (m' : Moves) → HasDoneUnits layout h m units_of_poll h' m' → 0 < m'.spare
@@ -191,15 +191,15 @@ module _ {F : Type 0} (layout : F → Layout) (h : HeapState F) (whole : IsWhole
       let g = running_now layout h w st run is in
       going.room_left layout g.past h g.collecting g.parts g.reached g.runs whole.tails whole.marked m enough units_of_poll
       (traced_in h' m') h'.finals next
-      (subst (λ q. UnitsTo layout (trace_of h.pools h.tails).formats (trace_of h.pools h.tails).chains (traced_in h m) h.finals q
-      units_of_poll (traced_in h' m') h'.finals next) (sym g.same) units)
+      (subst (λ q. UnitsTo layout (trace_of h.pools h.chains h.tails).formats (trace_of h.pools h.chains h.tails).chains
+      (traced_in h m) h.finals q units_of_poll (traced_in h' m') h'.finals next) (sym g.same) units)
   room_then h' m' (ends run is over state) =
       let g = running_now layout h w st run is in
       let more =
       more_is_left layout g.past h g.collecting g.parts g.reached g.runs whole.tails whole.marked m enough units_of_poll (traced_in h' m')
       h'.finals
-      (subst (λ q. EndsWithin layout (trace_of h.pools h.tails).formats (trace_of h.pools h.tails).chains (traced_in h m) h.finals q
-      units_of_poll (traced_in h' m') h'.finals) (sym g.same) over)
+      (subst (λ q. EndsWithin layout (trace_of h.pools h.chains h.tails).formats (trace_of h.pools h.chains h.tails).chains
+      (traced_in h m) h.finals q units_of_poll (traced_in h' m') h'.finals) (sym g.same) over)
       in
       omega (arith, more, room)
 
@@ -217,7 +217,7 @@ module _ {F : Type 0} (layout : F → Layout) (h : HeapState F) (whole : IsWhole
         → HasDoneUnits layout h m units_of_poll polled trail → IsRightAfterPoll layout w st.reached name head m.moves polled trail
     after_the_poll polled trail polling (none_runs none is same) =
         let right =
-        unpolled_is_right (no_poll_at_rest w name head (resting_now layout h w st none).none st.parts.chains)
+        unpolled_is_right (no_poll_at_rest w name head (resting_now layout h w st none).none st.parts.chains.none)
         in
         subst (λ s. IsRightAfterPoll layout w st.reached name head m.moves s trail) (sym is)
         (subst (λ u. IsRightAfterPoll layout w st.reached name head m.moves h u) (sym same) right)
@@ -226,8 +226,8 @@ module _ {F : Type 0} (layout : F → Layout) (h : HeapState F) (whole : IsWhole
         let right =
         polled_is_right layout g.past h g.collecting g.parts g.reached g.runs whole.tails whole.marked m enough
         (traced_in polled trail) polled.finals next
-        (subst (λ q. UnitsTo layout (trace_of h.pools h.tails).formats (trace_of h.pools h.tails).chains (traced_in h m) h.finals q
-        units_of_poll (traced_in polled trail) polled.finals next) (sym g.same) units) name head polling
+        (subst (λ q. UnitsTo layout (trace_of h.pools h.chains h.tails).formats (trace_of h.pools h.chains h.tails).chains
+        (traced_in h m) h.finals q units_of_poll (traced_in polled trail) polled.finals next) (sym g.same) units) name head polling
         in
         λ result after trail_after comes.
         subst (λ v. IsRightMovingIn layout v (call.Reserve name head) m.moves trail_after.moves (answer_to says_ok result) after) g.world
@@ -238,8 +238,8 @@ module _ {F : Type 0} (layout : F → Layout) (h : HeapState F) (whole : IsWhole
         let right =
         last_polled_is_right layout g.past h g.collecting g.parts g.reached g.runs whole.tails whole.marked m enough
         (traced_in polled trail) polled.finals
-        (subst (λ q. EndsWithin layout (trace_of h.pools h.tails).formats (trace_of h.pools h.tails).chains (traced_in h m) h.finals q
-        units_of_poll (traced_in polled trail) polled.finals) (sym g.same) over) name head polling
+        (subst (λ q. EndsWithin layout (trace_of h.pools h.chains h.tails).formats (trace_of h.pools h.chains h.tails).chains
+        (traced_in h m) h.finals q units_of_poll (traced_in polled trail) polled.finals) (sym g.same) over) name head polling
         in
         λ result after trail_after comes.
         subst (λ v. IsRightMovingIn layout v (call.Reserve name head) m.moves trail_after.moves (answer_to says_ok result) after) g.world

@@ -46,11 +46,11 @@ module _ {F : Type 0} (layout : F → Layout) (past : Past) (h : HeapState F) (x
       in
       omega (arith, bounded, below)
 
-  module _ (of : IsTraceOf h.pools (trace_of h.pools h.tails))
+  module _ (of : IsTraceOf h.pools h.chains (trace_of h.pools h.chains h.tails))
       (marked : IsMarked h.segs.grains h.segs.marks h.segs.condemned h.segs.summaries)
       (m : Moves) (room : most_moves h.segs.grains ≤ m.spare) where
     abbrev t : TraceState F
-    t = trace_of h.pools h.tails
+    t = trace_of h.pools h.chains h.tails
 
     stands : UnitStands layout t.formats t.chains past.time.at_flip (traced t h.segs m) h.finals r.run x
     stands = stands_for_units layout past h x parts reach r of marked m room

@@ -88,19 +88,19 @@ ok = Replied reply.Ok
 
 module _ {F : Type 0} (layout : F → Layout) (past : Past) (h : HeapState F) (w : World) (parts : AreParts layout past h w)
     (known : IsKnown past.time w) (rest : Rests past.time (collector_of h) w) (reach : IsReached w)
-    (made : WereMadeBefore h.points.flips h.points) (of : IsTraceOf h.pools (trace_of h.pools h.tails))
+    (made : WereMadeBefore h.points.flips h.points) (of : IsTraceOf h.pools h.chains (trace_of h.pools h.chains h.tails))
     (marked : IsMarked h.segs.grains h.segs.marks h.segs.condemned h.segs.summaries) (m : Moves) (room : most_moves h.segs.grains ≤ m.spare)
     (h' : HeapState F) (m' : Moves)
-    (state : h' ≡ heap_flipped h h' (zones_of (moving_of (trace_of h.pools h.tails).formats h.segs.segments)) arena.Unclamped h'.running)
-    (line : ℕ) where
+    (state : h' ≡ heap_flipped h h' (zones_of (moving_of (trace_of h.pools h.chains h.tails).formats h.segs.segments)) arena.Unclamped
+    h'.running) (line : ℕ) where
   abbrev t : TraceState F
-  t = trace_of h.pools h.tails
+  t = trace_of h.pools h.chains h.tails
 
   abbrev here : Traced
   here = traced t h.segs m
 
   abbrev z : Traced
-  z = traced (trace_of h'.pools h'.tails) h'.segs m'
+  z = traced (trace_of h'.pools h'.chains h'.tails) h'.segs m'
 
   known_before : IsBefore layout h m w
   known_before = is_before layout past h w parts known rest marked m room
@@ -320,7 +320,7 @@ module _ {F : Type 0} (layout : F → Layout) (past : Past) (h : HeapState F) (w
         live.client))
 
     left : IsLeft past w h h' w.addresses (world_after_moves w ms)
-    left = left_at_once layout past h w parts rest.time m t before h' (trace_of h'.pools h'.tails) m' ends over
+    left = left_at_once layout past h w parts rest.time m t before h' (trace_of h'.pools h'.chains h'.tails) m' ends over
 
     parts_at_rest : AreParts layout (record past { time = time_at_rest }) h' u
     parts_at_rest =
@@ -400,7 +400,7 @@ module _ {F : Type 0} (layout : F → Layout) (h : HeapState F) (whole : IsWhole
   can_start w st none =
       can_begin layout (roots_can_be_fixed flip_stands) h m w (all_reserved layout st.past h w st.parts)
       (is_before layout st.past h w st.parts (known_now st) (resting_now layout h w st none) whole.marked m room)
-      (trace_of h.pools h.tails) whole.tails
+      (trace_of h.pools h.chains h.tails) whole.tails
 
   -- and it is right in each world that the heap represented
   module _ (made : WereMadeBefore h.points.flips h.points) (h' : HeapState F) (m' : Moves) where
@@ -417,9 +417,10 @@ module _ {F : Type 0} (layout : F → Layout) (h : HeapState F) (whole : IsWhole
         of_running : (o : Option RunningState) → h'.running ≡ o → IsRightStartIn layout w m m' ok h'
         of_running (Some run) is =
             let begun =
-            subst (λ o. IfSome o (λ r. Begins layout (trace_of h.pools h.tails).formats (trace_of h.pools h.tails).chains condemn.Everything
-            h.points h.roots h.finals (traced (trace_of h.pools h.tails) h.segs m) h'.roots h'.finals
-            (traced (trace_of h'.pools h'.tails) h'.segs m') r)) is
+            subst (λ o. IfSome o (λ r. Begins layout (trace_of h.pools h.chains h.tails).formats
+            (trace_of h.pools h.chains h.tails).chains condemn.Everything
+            h.points h.roots h.finals (traced (trace_of h.pools h.chains h.tails) h.segs m) h'.roots h'.finals
+            (traced (trace_of h'.pools h'.chains h'.tails) h'.segs m') r)) is
             started.begun
             in
             record {
@@ -438,9 +439,9 @@ module _ {F : Type 0} (layout : F → Layout) (h : HeapState F) (whole : IsWhole
             }
         of_running None is =
             let ended =
-            subst (λ o. IfNone o (EndsAtOnce (trace_of h.pools h.tails).formats (trace_of h.pools h.tails).chains condemn.Everything
-            h.points h.roots h.finals (traced (trace_of h.pools h.tails) h.segs m) h'.roots h'.finals
-            (traced (trace_of h'.pools h'.tails) h'.segs m'))) is
+            subst (λ o. IfNone o (EndsAtOnce (trace_of h.pools h.chains h.tails).formats (trace_of h.pools h.chains h.tails).chains
+            condemn.Everything h.points h.roots h.finals (traced (trace_of h.pools h.chains h.tails) h.segs m) h'.roots h'.finals
+            (traced (trace_of h'.pools h'.chains h'.tails) h'.segs m'))) is
             started.ended
             in
             record {

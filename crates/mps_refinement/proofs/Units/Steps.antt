@@ -46,7 +46,7 @@ use Rattle.mps_refinement.proofs.Worlds.Reached.{reached_live, reached_sound}
 
 module _ {F : Type 0} (layout : F → Layout) (past : Past) (h : HeapState F) (x : Collecting) (parts : AreParts layout past h x.world)
     (reach : IsReached x.world) (r : Runs past.time (collector_of h) x.world x)
-    (of : IsTraceOf h.pools (trace_of h.pools h.tails))
+    (of : IsTraceOf h.pools h.chains (trace_of h.pools h.chains h.tails))
     (marked : IsMarked h.segs.grains h.segs.marks h.segs.condemned h.segs.summaries)
     (m : Moves) (room : most_moves h.segs.grains ≤ m.spare) (unclamped : is_unclamped x.world ≡ true)
     (n : ℕ) where
@@ -54,15 +54,15 @@ module _ {F : Type 0} (layout : F → Layout) (past : Past) (h : HeapState F) (x
   w = x.world
 
   abbrev here : Traced
-  here = traced (trace_of h.pools h.tails) h.segs m
+  here = traced (trace_of h.pools h.chains h.tails) h.segs m
 
   -- ---- it goes on after n units
 
   module _ (z : Traced) (f : FinalsState) (run : RunningState)
-      (units : UnitsTo layout (trace_of h.pools h.tails).formats (trace_of h.pools h.tails).chains
-      (traced (trace_of h.pools h.tails) h.segs m) h.finals r.run n z f run) where
-    abbrev done : AreTracedUnitsDone layout (trace_of h.pools h.tails).formats (trace_of h.pools h.tails).chains past.time.at_flip here x n
-        z f run
+      (units : UnitsTo layout (trace_of h.pools h.chains h.tails).formats (trace_of h.pools h.chains h.tails).chains
+      (traced (trace_of h.pools h.chains h.tails) h.segs m) h.finals r.run n z f run) where
+    abbrev done : AreTracedUnitsDone layout (trace_of h.pools h.chains h.tails).formats (trace_of h.pools h.chains h.tails).chains
+        past.time.at_flip here x n z f run
     done = going.done layout past h x parts reach r of marked m room n z f run units
 
     shown : AreUnitsDone x n done.moves done.after
@@ -144,8 +144,8 @@ module _ {F : Type 0} (layout : F → Layout) (past : Past) (h : HeapState F) (x
   -- ---- it ends in them
 
   module _ (z : Traced) (f : FinalsState)
-      (ends : EndsWithin layout (trace_of h.pools h.tails).formats (trace_of h.pools h.tails).chains
-      (traced (trace_of h.pools h.tails) h.segs m) h.finals r.run n z f) where
+      (ends : EndsWithin layout (trace_of h.pools h.chains h.tails).formats (trace_of h.pools h.chains h.tails).chains
+      (traced (trace_of h.pools h.chains h.tails) h.segs m) h.finals r.run n z f) where
     abbrev over : AreLastTracedUnitsDone here x (suc ends.count) z f
     over = ended.done layout past h x parts reach r of marked m room n z f ends
 

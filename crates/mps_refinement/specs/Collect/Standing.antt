@@ -43,6 +43,7 @@ pub record IsFlippedHeap {F : Type 0} (past : Past) (w : World) (h after : HeapS
     pub dependencies : after.dependencies ≡ h.dependencies
     pub pools : after.pools ≡ h.pools
     pub sizes : after.sizes ≡ h.sizes
+    pub chains : after.chains ≡ h.chains
     pub names : after.names ≡ h.names
 
 -- what a call has to leave whose collection has ended: words, marks and runs represent the world after the call, no segment is condemned,

@@ -16,8 +16,8 @@ unit-requires g c =
 
 pub loop-preserved : goal.loop-preserved
 loop-preserved g c =
-    let y = traced (trace_of c.loop.pools.pools c.loop.pools.tails) c.loop.segs c.loop.trail in
-    let z = traced (trace_of c.unit.new.self.pools c.unit.new.self.tails) c.unit.new.segs c.unit.new.trail in (
+    let y = traced (trace_of c.loop.pools.pools c.loop.pools.chains c.loop.pools.tails) c.loop.segs c.loop.trail in
+    let z = traced (trace_of c.unit.new.self.pools c.unit.new.self.chains c.unit.new.self.tails) c.unit.new.segs c.unit.new.trail in (
       goes_on c.loop.counter c.loop.invariant.0
           (one_more g.F.Format.layout c.args.pools.now c.loop.pools c.loop.invariant.1 y z c.loop.finals c.unit.new.finals
           c.loop.running c.in-Some.next c.in-Some.ensures.goes_on),

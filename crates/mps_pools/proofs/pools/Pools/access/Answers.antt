@@ -11,7 +11,7 @@ pub access-requires : goal.access-requires
 access-requires g c =
     let P : TraceState g.row.F.Denot → Type 0 = λ t. (u : Segment) → segment_over c.args.segs.now.segments c.args.at.0 ≡ Some u
     → CanAccess g.F.Format.layout c.args.band t c.args.segs.now c.args.trail.now u in
-    subst P (sym (trace_seen _ c.args.self.now c.self.view_is c.self.inside.trace refl c.self.invariant)) c.requires
+    subst P (sym (trace_seen _ c.args.self.now c.self.view_is c.self.inside.trace refl refl c.self.invariant)) c.requires
 
 pub invariant_of-self : goal.invariant_of-self
 invariant_of-self g c =
@@ -30,4 +30,4 @@ returns-clause-accessed g c =
     let after = traced c.access.new.self c.access.new.segs c.access.new.trail in
     let P : TraceState g.row.F.Denot → Type 0 = λ t. (u : Segment) → segment_over c.args.segs.now.segments c.args.at.0 ≡ Some u
     → AccessesTo g.F.Format.layout t.formats t.chains c.args.band u (traced t c.args.segs.now c.args.trail.now) after in
-    subst P (trace_seen _ c.args.self.now c.self.view_is c.self.inside.trace refl c.self.invariant) c.access.ensures.accessed
+    subst P (trace_seen _ c.args.self.now c.self.view_is c.self.inside.trace refl refl c.self.invariant) c.access.ensures.accessed

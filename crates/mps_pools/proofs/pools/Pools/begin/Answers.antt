@@ -16,7 +16,7 @@ pub begin-requires : goal.begin-requires
 begin-requires g c =
     let P : TraceState g.row.F.Denot → Type 0 = λ t. CanBegin g.F.Format.layout t c.args.points.now c.args.roots.now c.args.finals.now
     c.args.segs.now c.args.trail.now in
-    let can = subst P (sym (trace_seen _ c.args.self.now c.self.view_is c.self.inside.trace refl c.self.invariant)) c.requires.can in
+    let can = subst P (sym (trace_seen _ c.args.self.now c.self.view_is c.self.inside.trace refl refl c.self.invariant)) c.requires.can in
     record {
       ordered = can.ordered;
       blocks = can.blocks;
@@ -39,18 +39,18 @@ returns-clause-begun g c =
     let P : TraceState g.row.F.Denot → Type 0 = λ t. IfSome c.begin.result (λ run. Begins g.F.Format.layout t.formats t.chains Everything
     c.args.points.now c.args.roots.now c.args.finals.now (traced t c.args.segs.now c.args.trail.now) c.begin.new.roots c.begin.new.finals
     after run) in
-    subst P (trace_seen _ c.args.self.now c.self.view_is c.self.inside.trace refl c.self.invariant) c.begin.ensures.begun
+    subst P (trace_seen _ c.args.self.now c.self.view_is c.self.inside.trace refl refl c.self.invariant) c.begin.ensures.begun
 
 pub returns-clause-ended : goal.returns-clause-ended
 returns-clause-ended g c =
     let after = traced c.begin.new.self c.begin.new.segs c.begin.new.trail in
     let P : TraceState g.row.F.Denot → Type 0 = λ t. IfNone c.begin.result (EndsAtOnce t.formats t.chains Everything c.args.points.now
     c.args.roots.now c.args.finals.now (traced t c.args.segs.now c.args.trail.now) c.begin.new.roots c.begin.new.finals after) in
-    subst P (trace_seen _ c.args.self.now c.self.view_is c.self.inside.trace refl c.self.invariant) c.begin.ensures.ended
+    subst P (trace_seen _ c.args.self.now c.self.view_is c.self.inside.trace refl refl c.self.invariant) c.begin.ensures.ended
 
 pub returns-clause-epochs : goal.returns-clause-epochs
 returns-clause-epochs g c =
-    are_flipped g.F.Format.layout _ c.args.self.now c.self.view_is c.self.inside.trace c.self.invariant c.args.segs.now
+    are_flipped g.F.Format.layout _ c.args.self.now c.self.view_is c.self.inside.trace refl c.self.invariant c.args.segs.now
     c.args.epochs.now c.begin.new.epochs
     (c.begin.ensures.epochs
     ∙ ap (λ (ts : List Segment). ld.epochs_after_flip c.args.epochs.now (zones_of ts)) (all_that_moves _ c.args.segs.now.segments))

@@ -10,7 +10,7 @@ pub finish-requires : goal.finish-requires
 finish-requires g c =
     let P : TraceState g.row.F.Denot → Type 0 = λ t. AreUnitsReady g.F.Format.layout t c.args.segs.now c.args.trail.now c.args.finals.now
     c.args.running c.args.most in
-    subst P (sym (trace_seen _ c.args.self.now c.self.view_is c.self.inside.trace refl c.self.invariant)) c.requires
+    subst P (sym (trace_seen _ c.args.self.now c.self.view_is c.self.inside.trace refl refl c.self.invariant)) c.requires
 
 pub invariant_of-self : goal.invariant_of-self
 invariant_of-self g c =
@@ -24,11 +24,11 @@ returns-clause-goes_on g c =
     let after = traced c.finish.new.self c.finish.new.segs c.finish.new.trail in
     let P : TraceState g.row.F.Denot → Type 0 = λ t. IfSome c.finish.result (λ next. UnitsTo g.F.Format.layout t.formats t.chains
     (traced t c.args.segs.now c.args.trail.now) c.args.finals.now c.args.running c.args.most after c.finish.new.finals next) in
-    subst P (trace_seen _ c.args.self.now c.self.view_is c.self.inside.trace refl c.self.invariant) c.finish.ensures.goes_on
+    subst P (trace_seen _ c.args.self.now c.self.view_is c.self.inside.trace refl refl c.self.invariant) c.finish.ensures.goes_on
 
 pub returns-clause-ended : goal.returns-clause-ended
 returns-clause-ended g c =
     let after = traced c.finish.new.self c.finish.new.segs c.finish.new.trail in
     let P : TraceState g.row.F.Denot → Type 0 = λ t. IfNone c.finish.result (EndsWithin g.F.Format.layout t.formats t.chains
     (traced t c.args.segs.now c.args.trail.now) c.args.finals.now c.args.running c.args.most after c.finish.new.finals) in
-    subst P (trace_seen _ c.args.self.now c.self.view_is c.self.inside.trace refl c.self.invariant) c.finish.ensures.ended
+    subst P (trace_seen _ c.args.self.now c.self.view_is c.self.inside.trace refl refl c.self.invariant) c.finish.ensures.ended

@@ -10,7 +10,7 @@ pub unit-requires : goal.unit-requires
 unit-requires g c =
     let P : TraceState g.row.F.Denot → Type 0 = λ t. CanUnit g.F.Format.layout t c.args.segs.now c.args.trail.now c.args.finals.now
     c.args.running in
-    subst P (sym (trace_seen _ c.args.self.now c.self.view_is c.self.inside.trace refl c.self.invariant)) c.requires
+    subst P (sym (trace_seen _ c.args.self.now c.self.view_is c.self.inside.trace refl refl c.self.invariant)) c.requires
 
 pub invariant_of-self : goal.invariant_of-self
 invariant_of-self g c =
@@ -23,11 +23,11 @@ returns-clause-goes_on g c =
     let after = traced c.unit.new.self c.unit.new.segs c.unit.new.trail in
     let P : TraceState g.row.F.Denot → Type 0 = λ t. IfSome c.unit.result (λ next. UnitTo g.F.Format.layout t.formats t.chains
     (traced t c.args.segs.now c.args.trail.now) c.args.finals.now c.args.running after c.unit.new.finals next) in
-    subst P (trace_seen _ c.args.self.now c.self.view_is c.self.inside.trace refl c.self.invariant) c.unit.ensures.goes_on
+    subst P (trace_seen _ c.args.self.now c.self.view_is c.self.inside.trace refl refl c.self.invariant) c.unit.ensures.goes_on
 
 pub returns-clause-ended : goal.returns-clause-ended
 returns-clause-ended g c =
     let after = traced c.unit.new.self c.unit.new.segs c.unit.new.trail in
     let P : TraceState g.row.F.Denot → Type 0 = λ t. IfNone c.unit.result (LastUnitTo g.F.Format.layout t.formats
     (traced t c.args.segs.now c.args.trail.now) c.args.running after × (c.unit.new.finals ≡ c.args.finals.now)) in
-    subst P (trace_seen _ c.args.self.now c.self.view_is c.self.inside.trace refl c.self.invariant) c.unit.ensures.ended
+    subst P (trace_seen _ c.args.self.now c.self.view_is c.self.inside.trace refl refl c.self.invariant) c.unit.ensures.ended
