@@ -7,13 +7,13 @@ folder=$(mktemp -d)
 trap 'rm -rf "$folder"' EXIT
 cd "$folder" || exit 1
 mkdir crates
-for crate in mps_base mps_bits mps_gaps mps_arena mps_extents mps_marks mps_seg mps_manual; do
+for crate in mps_base mps_bits mps_gaps mps_arena mps_extents mps_marks mps_gen mps_seg mps_manual; do
     mkdir "crates/$crate"
     for part in src specs proofs; do
         [ -d "$home/crates/$crate/$part" ] && cp -r "$home/crates/$crate/$part" "crates/$crate/$part"
     done
 done
-grep -E '^mps_(base|bits|gaps|arena|extents|marks|seg|manual):' "$home/crates.txt" > crates.txt
+grep -E '^mps_(base|bits|gaps|arena|extents|marks|gen|seg|manual):' "$home/crates.txt" > crates.txt
 echo 'late_loan: mps_base mps_seg mps_manual' >> crates.txt
 mkdir -p crates/late_loan/src
 wrong=0

@@ -6,13 +6,13 @@ home=$(cd "$(dirname "$0")/.." && pwd)
 folder=$(mktemp -d)
 cd "$folder" || exit 1
 mkdir crates
-for crate in mps_base mps_bits mps_gaps mps_numerals mps_arena mps_extents mps_marks mps_seg mps_format mps_buffer mps_manual; do
+for crate in mps_base mps_bits mps_gaps mps_numerals mps_arena mps_extents mps_marks mps_gen mps_seg mps_format mps_buffer mps_manual; do
     mkdir "crates/$crate"
     for part in src specs proofs; do
         [ -d "$home/crates/$crate/$part" ] && cp -r "$home/crates/$crate/$part" "crates/$crate/$part"
     done
 done
-grep -E '^mps_(base|bits|gaps|numerals|arena|extents|marks|seg|format|buffer|manual):' "$home/crates.txt" > crates.txt
+grep -E '^mps_(base|bits|gaps|numerals|arena|extents|marks|gen|seg|format|buffer|manual):' "$home/crates.txt" > crates.txt
 echo 'point_times: mps_base mps_extents mps_seg mps_buffer mps_manual' >> crates.txt
 program=crates/point_times
 mkdir -p $program/src

@@ -6,13 +6,13 @@ home=$(cd "$(dirname "$0")/.." && pwd)
 folder=$(mktemp -d)
 cd "$folder" || exit 1
 mkdir crates
-for crate in mps_base mps_bits mps_gaps mps_arena mps_extents mps_marks mps_seg; do
+for crate in mps_base mps_bits mps_gaps mps_arena mps_extents mps_marks mps_gen mps_seg; do
     mkdir "crates/$crate"
     for part in src specs proofs; do
         [ -d "$home/crates/$crate/$part" ] && cp -r "$home/crates/$crate/$part" "crates/$crate/$part"
     done
 done
-grep -E '^mps_(base|bits|gaps|arena|extents|marks|seg):' "$home/crates.txt" > crates.txt
+grep -E '^mps_(base|bits|gaps|arena|extents|marks|gen|seg):' "$home/crates.txt" > crates.txt
 echo 'segment_times: mps_base mps_seg' >> crates.txt
 program=crates/segment_times
 mkdir -p $program/src $program/proofs/free_over

@@ -7,7 +7,7 @@ home=$(cd "$(dirname "$0")/.." && pwd)
 folder=$(mktemp -d)
 cd "$folder" || exit 1
 mkdir crates
-for crate in base bits address_marks gaps numerals arena extents marks seg root format sac snc dep xform neighbours; do
+for crate in base bits address_marks gaps numerals arena extents marks gen seg root format sac snc dep xform neighbours; do
     mkdir "crates/mps_$crate"
     for part in src specs proofs; do
         [ -d "$home/crates/mps_$crate/$part" ] && cp -r "$home/crates/mps_$crate/$part" "crates/mps_$crate/$part"

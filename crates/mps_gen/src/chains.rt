@@ -7,6 +7,7 @@ ghost use Rattle.mps_base.specs.Generation as spec;
 ghost use Rattle.mps_base.specs.Generation.{target_generation};
 ghost use Rattle.mps_gen.specs.State.{ChainsState, no_chains, max_chains, max_generations, max_pools, generations_of, chain_of, is_on_chain, due_in, loads};
 ghost use Rattle.mps_gen.specs.Due.{in_numbers};
+ghost use Rattle.mps_gen.specs.Inside.{IsSoundChains};
 
 use arrayvec::ArrayVec;
 use mps_base::Refusal;
@@ -90,6 +91,23 @@ impl Chains {
         let number = self.of_pool.len();
         self.of_pool.push(chain);
         number as u32
+    }
+
+    /// How many pools there are.
+    pub fn pools(&self) -> u32
+        ensures { result ≡ length self.now.of_pool }
+    {
+        self.of_pool.len() as u32
+    }
+
+    /// Does nothing: a caller knows that each chain has at most eight generations, that each pool is on a chain that there is, and that
+    /// there are at most 16 chains and 64 pools.
+    pub fn are_sound(&self)
+        ensures sound { IsSoundChains self.now.chains self.now.of_pool }
+        ensures few_chains { length self.now.chains ≤ max_chains }
+        ensures few_pools { length self.now.of_pool ≤ max_pools }
+    {
+        let _ = (self.chains.len(), self.of_pool.len());
     }
 
     /// The chain of a pool, if it is on one.

@@ -132,7 +132,7 @@ module _ (arena : ArenaMemory) (table : List Entry) (ex : ExtentLists) (held : I
   pub segment_end_fits : (grain n p g : ℕ) (r : Rank) → get_or table grain Free ≡ First n p g r → words_of_grain * (grain + n) ≤ ex.size
   segment_end_fits grain n p g r is = omega (arith, (whole_at grain (First n p g r) is).1)
 
-  free_entry : (need grain : ℕ) → 0 < need → lowest_fitting need (gaps 1 (arena.grains + 1) arena.held) ≡ Some grain
+  pub free_entry : (need grain : ℕ) → 0 < need → lowest_fitting need (gaps 1 (arena.grains + 1) arena.held) ≡ Some grain
       → get_or table grain Free ≡ Free
   free_entry need grain some lowest =
       let r : Run = record { from = grain; count = need } in

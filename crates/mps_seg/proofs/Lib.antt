@@ -2,6 +2,7 @@ pub mod BlockOver
 pub mod BoundedGaps
 pub mod CondemnedGrains
 pub mod CondemnedOver
+pub mod Counted
 pub mod Covering
 pub mod EmptySegments
 pub mod Entries

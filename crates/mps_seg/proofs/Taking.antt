@@ -1,11 +1,11 @@
 -- What is known of the tables where a new segment is taken.
-use Rattle.std.proofs.Common.{ℕ, false, ◌+◌, ◌*◌, ◌^◌, ◌<◌, ◌≤◌, ◌≡◌, Some, Ok, List, length, map, set, sym, ap, ◌∙◌, subst, arith}
-use Rattle.mps_base.specs.Run.{Run, gaps, lowest_fitting, with_run}
+use Rattle.std.proofs.Common.{ℕ, true, false, get_or, ◌+◌, ◌*◌, ◌^◌, ◌<◌, ◌≤◌, ◌≡◌, Some, Ok, List, length, map, set, sym, ap, ◌∙◌, subst, arith}
+use Rattle.mps_base.specs.Run.{Run, gaps, lowest_fitting, total, with_run}
 use Rattle.mps_base.specs.Address.{words_of_grain, grain_of, word_of, grains_needed}
 use Rattle.mps_base.specs.Placement.{Placement, NewSegment}
 use Rattle.mps_base.specs.declared.address.Addr.{Addr}
 use Rattle.mps_base.specs.declared.names.Rank.{Rank}
-use Rattle.mps_base.proofs.Runs.{in_lowest_gap}
+use Rattle.mps_base.proofs.Runs.{in_lowest_gap, total-le}
 use Rattle.mps_arena.specs.Arena.{ArenaMemory, answer_of_placement, held_after, placement_in}
 use Rattle.mps_seg.specs.declared.entry.Entry.{Entry}
 use Rattle.mps_seg.specs.declared.entry.Entry.TheVariants.{First}
@@ -13,8 +13,10 @@ use Rattle.mps_seg.specs.declared.segs.Segs.TheInside.{Inside}
 use Rattle.mps_seg.specs.Segs.{placement_for, segments_after, noted_for, IsOpenRun}
 use Rattle.mps_seg.specs.Table.{segments_in, IsHeld, AreGapsBounded}
 use Rattle.mps_seg.proofs.BoundedGaps.{Noted, bounded_after_take}
-use Rattle.mps_seg.proofs.HeldSegments.{new_is_free, segments_after_take, held_after_take}
+use Rattle.mps_seg.proofs.HeldSegments.{free_entry, new_is_free, segments_after_take, held_after_take}
 use Rattle.mps_seg.proofs.Placements.{taken_at}
+use Rattle.mps_seg.specs.Counting.{is_counted, index_for, counting_on, IsCounted}
+use Rattle.mps_seg.proofs.Counted.{counted-le, counted_after_take}
 use Rattle.mps_seg.proofs.Seen.{seen_by, IsSoundInside}
 use Rattle.mps_seg.proofs.Covering.{run_at}
 use Rattle.mps_base.specs.Segment.{grains_of_segment}
@@ -48,6 +50,10 @@ pub record Taking (s : Inside) (base words pool generation : ℕ) (rank : Rank) 
       set s.condemned (grain_of base) false ≡ noted_for (placement_for (seen_by s) words) false s.condemned
   pub summaries :
       set s.summaries.items (grain_of base) 0 ≡ noted_for (placement_for (seen_by s) words) 0 s.summaries.items
+  pub count_fits : is_counted pool generation ≡ true → get_or s.counts (index_for pool generation) 0 + grains_needed words < 2 ^ 32
+  pub counted :
+      IsCounted (counting_on pool generation (grains_needed words) s.counts)
+      (segments_in (set s.table.items (grain_of base) (new_entry words pool generation rank)))
   pub can_cover :
       IsOpenRun s.arena.grains
       (map grains_of_segment (segments_in (set s.table.items (grain_of base) (new_entry words pool generation rank)))) s.extents.covered
@@ -94,6 +100,14 @@ taking s base words pool generation rank sound nonzero answer =
           ∙ ap (λ (p : Placement). segments_after p pool generation rank (segments_in s.table.items)) (sym (seen ∙ placement_is));
       condemned = ap (λ (p : Placement). noted_for p false s.condemned) (sym (seen ∙ placement_is));
       summaries = ap (λ (p : Placement). noted_for p 0 s.summaries.items) (sym (seen ∙ placement_is));
+      count_fits = λ inside.
+          let most = counted-le s.counts s.table.items sound.3 pool generation inside in
+          let P : List Run → Type 0 = λ rs. 1 + total rs ≤ arena.grains + 1 in
+          let all = subst P sound.0.held (total-le 1 (arena.grains + 1) arena.held sound.0.ascending) in
+          omega (arith, most, all, gap.below, sound.0.at_most);
+      counted =
+          counted_after_take s.counts s.table.items sound.3 grain need pool generation rank (omega (arith, gap.below, some, sound.0.size))
+          (free_entry arena s.table.items s.extents sound.0 need grain some lowest);
       can_cover =
           subst (R words) first
           (new_is_free arena s.table.items s.extents sound.0 need grain pool generation words rank some nonzero (omega arith) lowest);

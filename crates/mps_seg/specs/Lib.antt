@@ -1,6 +1,7 @@
 pub mod Buffer
 pub mod Collecting
 pub mod Condemned
+pub mod Counting
 pub mod Lending
 pub mod Moving
 pub mod Placing

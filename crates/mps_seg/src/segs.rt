@@ -1,7 +1,7 @@
 // The segments: an arena, a table by grain, and the extents of their words.
 #![tactic(auto)]
 
-ghost use Rattle.std.specs.Prelude.{◌≡◌, ℕ, true, false, ◌+◌, ◌*◌, ◌<◌, ◌≤◌, IfOk, IfErr, OnOk, MatchResult, Contains, option_map, length};
+ghost use Rattle.std.specs.Prelude.{◌≡◌, ℕ, true, false, ◌+◌, ◌*◌, ◌<◌, ◌≤◌, IfOk, IfErr, OnOk, MatchResult, Contains, option_map, length, replicate, []};
 ghost use Rattle.mps_base.specs.Run.{Run, IsAscending, with_run, without_run, total};
 ghost use Rattle.mps_base.specs.Address.{words_of_grain, word_of, grains_needed, max_grains, max_block_words};
 ghost use Rattle.mps_base.specs.Segment.{Segment, end_of_segment, segment_over, without_segment};
@@ -11,6 +11,9 @@ ghost use Rattle.mps_extents.specs.Extents.{run_over, first_run};
 ghost use Rattle.mps_marks.specs.Marks.{without_marks};
 ghost use Rattle.mps_seg.specs.Segs.{new_segments, placement_for, segments_after, noted_for, moves_after, held_runs, at_word, base_address, IsEmptyAt, IsUsed, CanCover, LiesIn};
 ghost use Rattle.mps_seg.specs.Table.{IsMarked};
+ghost use Rattle.mps_gen.specs.State.{max_pools, max_generations};
+ghost use Rattle.mps_seg.specs.Counting.{IsCounted, grains_held_by};
+ghost use Rattle.mps_seg.specs.declared.entry.Entry.TheVariants.{Free};
 
 mod collecting;
 mod freeing;
@@ -21,6 +24,7 @@ mod words;
 use crate::SegmentInfo;
 use crate::entry::Entry;
 use crate::first_grains::{allow_any_gap, note_first};
+use crate::grain_counts::GrainCounts;
 pub use freeing::Block;
 use mps_arena::Arena;
 use mps_base::{Addr, BYTES_OF_GRAIN, BYTES_OF_WORD, Move, Rank, Refusal, Trail, WORDS_OF_GRAIN};
@@ -39,6 +43,7 @@ pub struct Segs {
     firsts: Vec<u32>,
     // For the first grain of each segment a number than which no gap of the segment is longer.
     bounds: GapBounds,
+    counts: GrainCounts,
     extents: Extents,
     marks: Marks,
     condemned: Bits,
@@ -48,7 +53,8 @@ pub struct Segs {
 impl Model for Segs {
     ghost use Rattle.mps_seg.specs.Segs.{SegsState};
     ghost use Rattle.std.specs.Prelude.{◌+◌};
-    ghost use Rattle.mps_seg.specs.Table.{segs_state, IsHeld, AreGapsBounded, IsMarked};
+    ghost use Rattle.mps_seg.specs.Table.{segs_state, segments_in, IsHeld, AreGapsBounded, IsMarked};
+    ghost use Rattle.mps_seg.specs.Counting.{IsCounted};
 
     ghost Value = { SegsState };
 
@@ -56,7 +62,32 @@ impl Model for Segs {
 
     ghost invariant = { λ s. IsHeld s.arena s.table.items s.extents
         × AreGapsBounded s.arena.held (s.arena.grains + 1) s.firsts.items s.bounds s.extents.covered
-        × IsMarked s.arena.grains s.marks s.condemned s.summaries.items };
+        × IsMarked s.arena.grains s.marks s.condemned s.summaries.items
+        × IsCounted s.counts (segments_in s.table.items) };
+}
+
+/// The tables that aren't of bits.
+#[derive(Drop)]
+struct Tables {
+    table: Vec<Entry>,
+    firsts: Vec<u32>,
+    summaries: Vec<u64>,
+    counts: GrainCounts,
+}
+
+/// Tables of n grains where no segment is held.
+fn empty_tables(alloc: Global, n: usize) -> Result<Tables, AllocError>
+    ensures table { IfOk result (λ t. t.table.items ≡ replicate n Free) }
+    ensures firsts { IfOk result (λ t. t.firsts.items ≡ replicate n 0) }
+    ensures summaries { IfOk result (λ t. t.summaries.items ≡ replicate n 0) }
+    ensures counts { IfOk result (λ t. IsCounted t.counts []) }
+{
+    Ok(Tables {
+        table: vec![in alloc; Entry::Free; n]?,
+        firsts: vec![in alloc; 0u32; n]?,
+        summaries: vec![in alloc; 0u64; n]?,
+        counts: GrainCounts::new(alloc)?,
+    })
 }
 
 impl Segs {
@@ -67,10 +98,17 @@ impl Segs {
         ensures { IfOk result (λ segs. segs ≡ new_segments grains limit) }
     {
         let size = grains as usize + 1;
+        let Tables {
+            table,
+            firsts,
+            summaries,
+            counts,
+        } = empty_tables(alloc, size)?;
         Ok(Segs {
-            table: vec![in alloc; Entry::Free; size]?,
-            firsts: vec![in alloc; 0u32; size]?,
-            summaries: vec![in alloc; 0u64; size]?,
+            table,
+            firsts,
+            summaries,
+            counts,
             condemned: Bits::new(alloc, size)?,
             bounds: GapBounds::new(alloc, size)?,
             arena: Arena::new(alloc, grains, limit)?,
@@ -116,6 +154,7 @@ impl Segs {
         self.condemned.clear(first);
         self.summaries[first] = 0;
         note_first(&mut self.firsts, first, grains as usize, first as u32);
+        self.counts.add(pool, generation, grains);
         trail.push(Move::Seg {
             base,
             grains,
@@ -133,13 +172,20 @@ impl Segs {
         ensures moves { trail.new ≡ with_move trail.old (Move.Unseg base) }
     {
         let grain = (base.0 / BYTES_OF_GRAIN) as usize;
-        let Entry::First { grains, .. } = self.table[grain] else {
+        let Entry::First {
+            grains,
+            pool,
+            generation,
+            ..
+        } = self.table[grain]
+        else {
             unreachable!()
         };
         self.arena.give_run(base, grains);
         self.table[grain] = Entry::Free;
         self.bounds.set(grain, 0);
         note_first(&mut self.firsts, grain, grains as usize, 0);
+        self.counts.subtract(pool, generation, grains);
         trail.push(Move::Unseg { base });
     }
 
@@ -338,6 +384,16 @@ impl Segs {
         ensures refuses { IfErr result (λ why. (why ≡ Refusal.BelowCommitted) × (limit < total (held_runs self.old))) }
     {
         self.arena.set_limit(limit)
+    }
+
+    /// How many grains a generation of a pool holds. No segment is looked at.
+    #[inline(always)]
+    pub fn grains_held_by(&self, pool: u32, generation: u32) -> u32
+        requires pool_numbered { pool < max_pools }
+        requires generation_numbered { generation < max_generations }
+        ensures { result ≡ grains_held_by pool generation self.now.segments }
+    {
+        self.counts.at(pool, generation)
     }
 
     /// How many grains are held.

@@ -1,5 +1,5 @@
 -- A full collection: how it begins, and all its units.
-use Rattle.std.specs.Prelude.{ℕ, ◌*◌, ◌+◌, ◌<◌, ◌≡◌, Option, List, refl}
+use Rattle.std.specs.Prelude.{ℕ, ◌*◌, ◌+◌, ◌≡◌, Option, List, refl}
 use Rattle.mps_base.specs.Address.{words_of_grain}
 use Rattle.mps_base.specs.Trail.{Moves}
 use Rattle.mps_buffer.specs.Points.{PointsState}

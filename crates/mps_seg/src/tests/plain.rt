@@ -176,9 +176,11 @@ fn count_used(table: &[u64]) -> usize {
     used
 }
 
-/// Whether both have as many blocks and as many words in them.
+/// Whether both have as many blocks, as many words in them, and as many grains that are held.
 fn agree_on_counts(plain: &Plain, segs: &Segs) -> bool {
-    segs.live_blocks() == count_used(&plain.sizes) && segs.live_words() == count_used(&plain.owners)
+    segs.live_blocks() == count_used(&plain.sizes)
+        && segs.live_words() == count_used(&plain.owners)
+        && segs.grains_held_by(7, 0) as usize == count_used(&plain.held)
 }
 
 /// Notes in both that a word refers to a zone, and says whether they agree on the summary of the grain of that word.

@@ -1,5 +1,5 @@
 -- What a state that stands has for its summaries: its blocks and reservations lie in segments, and its tails in those of their pools.
-use Rattle.std.proofs.Common.{◌≡◌, ℕ, ◌+◌, ◌-◌, sym, ap, List, ◌++◌, Option, Some, subst, arith}
+use Rattle.std.proofs.Common.{◌≡◌, ℕ, ◌-◌, sym, ap, List, ◌++◌, Option, Some, subst, arith}
 use Rattle.std.specs.List.{AllByRecursion}
 use Rattle.mps_base.specs.Address.{Address, word_of, address_of_word}
 use Rattle.mps_base.specs.Run.{Run, Covers}

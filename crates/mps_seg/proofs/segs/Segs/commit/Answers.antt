@@ -12,4 +12,5 @@ invariant_of-self c =
           (with_run (run_at c.args.at.0 c.args.words) s.extents.blocks) (without_run (word_of c.args.at.0) s.extents.reservations),
       c.self.invariant.1,
       c.self.invariant.2,
+      c.self.invariant.3,
     )

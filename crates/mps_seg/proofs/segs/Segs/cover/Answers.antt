@@ -15,4 +15,5 @@ invariant_of-self c =
       facts.held s.extents.blocks (with_run (run_at c.args.at.0 c.args.words) s.extents.reservations),
       facts.bounded,
       c.self.invariant.2,
+      c.self.invariant.3,
     )

@@ -38,6 +38,7 @@ invariant_of-self c =
           s.extents.reservations,
       facts.bounded,
       marked_without s.arena.grains s.marks s.condemned s.summaries.items c.self.invariant.2 _,
+      c.self.invariant.3,
     )
 
 pub returns-clause-free : goal.returns-clause-free

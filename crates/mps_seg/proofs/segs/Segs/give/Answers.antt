@@ -6,6 +6,7 @@ use Rattle.mps_seg.specs.declared.entry.Entry.TheVariants.{Free, First}
 use Rattle.mps_seg.specs.Segs.{SegsState}
 use Rattle.mps_seg.proofs.Seen.{seen_by}
 use Rattle.mps_seg.proofs.BoundedGaps.{Noted}
+use Rattle.mps_seg.proofs.Counted.{counted_enough, counted_after_give}
 use Rattle.mps_seg.proofs.Giving.{giving, grains_read}
 use Rattle.mps_seg.proofs.segs.Segs.give.Goals as goal
 
@@ -62,6 +63,23 @@ note_first-requires c =
     let grains = grains_read c.in-First.is read in
     omega (arith, grains, facts.in_arena, c.deref_mut.ensures.len, s.firsts.ok.0, c.self.invariant.1.firsts_size)
 
+pub subtract-requires : goal.subtract-requires
+subtract-requires c =
+    let s = c.self.inside in
+    let empty = c.requires.empty in
+    let grain = grain_of c.args.base.0 in
+    let facts = giving s c.args.self.now c.args.base.0 empty.0 c.self.invariant c.self.view_is empty.1 empty.2 in
+    let read = get_or_read s.table.items grain c.index.result.now facts.in_table c.index.ensures Free in
+    let e = c.in-First in
+    record {
+      whole = c.self.invariant.3.size;
+      held = λ inside.
+          let enough =
+          counted_enough s.counts s.table.items c.self.invariant.3 grain e.grains e.pool e.generation e.rank (sym read ∙ e.is) inside
+          in
+          omega (arith, enough);
+    }
+
 pub invariant_of-self : goal.invariant_of-self
 invariant_of-self c =
     let s = c.self.inside in
@@ -70,6 +88,11 @@ invariant_of-self c =
     let facts = giving s c.args.self.now c.args.base.0 empty.0 c.self.invariant c.self.view_is empty.1 empty.2 in
     let read = get_or_read s.table.items grain c.index.result.now facts.in_table c.index.ensures Free ∙ facts.is in
     let grains = grains_read c.in-First.is read in
+    let e = c.in-First in
+    let counted =
+    counted_after_give s.counts s.table.items c.self.invariant.3 grain e.grains e.pool e.generation e.rank
+    (sym (get_or_read s.table.items grain c.index.result.now facts.in_table c.index.ensures Free) ∙ e.is)
+    in
     let now = with_items_is s.firsts c.note_first.new.firsts (omega (arith, c.note_first.auto.firsts, c.deref_mut.ensures.len)) in
     let noted : Noted s.firsts.items c.note_first.new.firsts (record { from = grain; count = empty.0.grains }) 0 = record {
       size = c.note_first.ensures.size ∙ ap (λ (fs : List ℕ). length fs) c.deref_mut.ensures.value;
@@ -78,7 +101,12 @@ invariant_of-self c =
           let out' = subst (λ (n : ℕ). (g < grain) ⊎ (grain + n ≤ g)) (sym grains) out in
           c.note_first.ensures.unchanged g out' ∙ ap (λ (fs : List ℕ). get_or fs g 0) c.deref_mut.ensures.value;
     } in
-    rw (c.give_run.ensures, now, c.set.ensures) (facts.held, facts.bounded c.note_first.new.firsts noted, c.self.invariant.2)
+    rw (c.give_run.ensures, now, c.set.ensures, c.subtract.ensures) (
+      facts.held,
+      facts.bounded c.note_first.new.firsts noted,
+      c.self.invariant.2,
+      counted,
+    )
 
 pub returns-clause-state : goal.returns-clause-state
 returns-clause-state c =

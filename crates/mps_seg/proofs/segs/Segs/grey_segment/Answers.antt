@@ -37,6 +37,7 @@ invariant_of-self c =
       c.self.invariant.1,
       subst P (sym c.grey_blocks.ensures)
           (marked_all_grey s.arena.grains s.marks s.condemned s.summaries.items c.segment-grains.result.rank runs c.self.invariant.2),
+      c.self.invariant.3,
     )
 
 pub returns : goal.returns

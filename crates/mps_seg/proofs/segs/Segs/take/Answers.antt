@@ -68,6 +68,15 @@ note_first-requires c =
     in
     omega (arith, facts.in_firsts, c.deref_mut.ensures.len, s.firsts.ok.0)
 
+pub add-requires : goal.add-requires
+add-requires c =
+    let s = c.self.inside in
+    let a = c.args in
+    let facts =
+    taking s c.in_ok-base.base a.words a.pool a.generation a.rank c.self.invariant c.requires.nonzero c.in_ok-base.ensures.value
+    in
+    record { whole = c.self.invariant.3.size; fits = facts.count_fits }
+
 pub invariant_of-self : goal.invariant_of-self
 invariant_of-self c =
     let s = c.self.inside in
@@ -92,11 +101,12 @@ invariant_of-self-2 c =
     let marked =
     marked_taken s.arena.grains s.marks s.condemned s.summaries.items c.self.invariant.2 (grain_of c.in_ok-base.base.0)
     in
-    rw (c.take_run.ensures.state, facts.held_is, now, c.set.ensures, c.clear.ensures.state) (
+    rw (c.take_run.ensures.state, facts.held_is, now, c.set.ensures, c.clear.ensures.state, c.add.ensures) (
       facts.held,
       facts.bounded
           c.note_first.new.firsts noted,
       marked,
+      facts.counted,
     )
 
 pub returns-clause-state : goal.returns-clause-state

@@ -30,6 +30,7 @@ invariant_of-self c =
       facts.held s.extents.blocks (without_run (word_of c.args.at.0) s.extents.reservations),
       facts.bounded,
       c.self.invariant.2,
+      c.self.invariant.3,
     )
 
 pub returns-clause-free : goal.returns-clause-free
