@@ -1,0 +1,4 @@
+pub mod Adding
+pub mod Loads
+pub mod Pooled
+pub mod Table
