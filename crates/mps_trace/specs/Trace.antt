@@ -27,13 +27,17 @@ pub record TraceState (F : Type 0) : Type 0 where
 abbrev pub no_pools : {F : Type 0} → TraceState F
 no_pools = record { formats = []; amc = amc.no_pools; chains = no_chains }
 
--- one more pool, on no chain, with an empty tail for its one generation
-abbrev pub with_pool : {F : Type 0} → TraceState F → Option (Policy F) → TraceState F
-with_pool t format = record {
+-- one more pool, on a chain or on none, with an empty tail for each of these generations
+abbrev pub with_pool : {F : Type 0} → TraceState F → Option (Policy F) → (chain : Option ℕ) → (generations : ℕ) → TraceState F
+with_pool t format chain generations = record {
   formats = t.formats ++ format ∷ [];
-  amc = amc.with_pool t.amc 1;
-  chains = record t.chains { of_pool = t.chains.of_pool ++ None ∷ [] };
+  amc = amc.with_pool t.amc generations;
+  chains = record t.chains { of_pool = t.chains.of_pool ++ chain ∷ [] };
 }
+
+-- one more chain, whose generations have these capacities
+abbrev pub with_chain : {F : Type 0} → TraceState F → (capacities : List ℕ) → TraceState F
+with_chain t capacities = record t { chains = record t.chains { chains = t.chains.chains ++ capacities ∷ [] } }
 
 -- what a collection changes: the tails, the segments, and the moves that it logs
 pub record Traced : Type 0 where
@@ -109,13 +113,23 @@ pub data FixesTo {F : Type 0} (layout : F → Layout) (formats : List (Option (P
 abbrev segment_of_pool : ℕ → Segment
 segment_of_pool pool = record { base = 0x1000; grains = 1; pool = pool; generation = 0; rank = Exact }
 
-pub a_pool_with_nothing_at_hand : (with_pool {F = ℕ} no_pools (Some (record { format = 3; moves = true }))).amc.tails
+pub a_pool_with_nothing_at_hand : (with_pool {F = ℕ} no_pools (Some (record { format = 3; moves = true })) None 1).amc.tails
     ≡ (empty_buffer ∷ []) ∷ []
 a_pool_with_nothing_at_hand = refl
 
-pub a_pool_on_no_chain_has_one_generation : target_of (with_pool {F = ℕ} no_pools (Some (record { format = 3; moves = true }))).chains
-    (segment_of_pool 0) ≡ 0
+pub a_pool_on_no_chain_has_one_generation :
+    target_of (with_pool {F = ℕ} no_pools (Some (record { format = 3; moves = true })) None 1).chains (segment_of_pool 0) ≡ 0
 a_pool_on_no_chain_has_one_generation = refl
+
+-- a pool on a chain of two generations
+abbrev on_a_chain : TraceState ℕ
+on_a_chain = with_pool (with_chain no_pools (4 ∷ 8 ∷ [])) (Some (record { format = 3; moves = true })) (Some 0) 2
+
+pub blocks_of_a_pool_on_a_chain_go_one_up : target_of on_a_chain.chains (segment_of_pool 0) ≡ 1
+blocks_of_a_pool_on_a_chain_go_one_up = refl
+
+pub a_tail_for_each_generation : on_a_chain.amc.tails ≡ (empty_buffer ∷ empty_buffer ∷ []) ∷ []
+a_tail_for_each_generation = refl
 
 -- if no pool is known nothing is kept
 pub nothing_is_kept_without_a_pool : (layout : ℕ → Layout) (x y : Traced) (at answer : Addr)

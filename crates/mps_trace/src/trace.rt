@@ -1,18 +1,19 @@
 // The collector's state, and how it fixes references.
 #![tactic(auto)]
 
-ghost use Rattle.std.specs.Prelude.{◌≡◌, ℕ, ◌+◌, ◌*◌, ◌%◌, ◌<◌, ◌≤◌, true, false, IsTrue, Some, length, slice_index, slice_get, MatchResult, IfSome};
+ghost use Rattle.std.specs.Prelude.{◌≡◌, ℕ, ◌+◌, ◌*◌, ◌%◌, ◌<◌, ◌≤◌, true, false, IsTrue, Some, length, slice_index, slice_get, MatchResult, IfErr, IfSome, IsOk};
+ghost use Rattle.std.specs.Option.{ForSome};
 ghost use Rattle.mps_base.specs.Address.{word_of, bytes_of_word, words_of_grain};
 ghost use Rattle.mps_base.specs.Segment.{Segment, segment_over};
 ghost use Rattle.mps_seg.specs.Collecting.{is_condemned_at, owner_of};
 ghost use Rattle.mps_format.specs.declared.pool.Policy.{Policy};
-ghost use Rattle.mps_gen.specs.State.{max_pools};
+ghost use Rattle.mps_gen.specs.State.{max_chains, max_generations, max_pools};
 ghost use Rattle.mps_amc.specs.Amc.{tails_after_flip};
 ghost use Rattle.mps_amc.specs.Moving.{nailed};
 ghost use Rattle.mps_gen.specs.State.{is_on_chain};
 ghost use Rattle.mps_trace.specs.Flip.{is_automatic, moves_blocks};
 ghost use Rattle.mps_trace.specs.Finding.{CanFind, FindsTo};
-ghost use Rattle.mps_trace.specs.Trace.{traced, KeepsTo, FixesTo, CanKeep, CanFix, no_pools, with_pool};
+ghost use Rattle.mps_trace.specs.Trace.{traced, KeepsTo, FixesTo, CanKeep, CanFix, no_pools, with_chain, with_pool};
 ghost use Rattle.mps_base.specs.declared.address.Addr.{Addr};
 ghost use Rattle.mps_trace.specs.Reclaim.{CanReclaimAt, Reclaims};
 ghost use Rattle.mps_trace.specs.Scan.{FixesCell, CanFixCell, AreReadyIn, ScansAll, CanScan, Scanned, CanScanGrey, ScansOne, IsDrained};
@@ -20,7 +21,7 @@ ghost use Rattle.mps_trace.specs.Scan.{FixesCell, CanFixCell, AreReadyIn, ScansA
 use crate::finding::{find_in, segment_at};
 use crate::noting::note_copy;
 use mps_amc::Amc;
-use mps_base::{Addr, BYTES_OF_WORD, Rank, Trail};
+use mps_base::{Addr, BYTES_OF_WORD, Rank, Refusal, Trail};
 use mps_format::{Format, Policy};
 use mps_gen::Chains;
 use mps_mark::Mark;
@@ -56,15 +57,42 @@ impl<F: Format> Trace<F> {
         }
     }
 
-    /// One more pool, on no chain. `format` is that of its objects, None if the pool isn't collected.
-    pub fn add_pool(&mut self, alloc: Global, format: Option<Policy<F>>) -> Result<(), AllocError>
-        requires { length self.old.chains.of_pool < max_pools }
-        ensures { MatchResult result (λ _. self.new ≡ with_pool self.old format) (λ _. self.new ≡ self.old) }
+    /// Makes a chain whose generations have these capacities, in grains, and returns its number. Refuses `TooMany` if there are 16.
+    pub fn chain(&mut self, capacities: &[u32]) -> Result<u32, Refusal>
+        requires nonempty { 0 < length capacities.now }
+        requires at_most { length capacities.now ≤ max_generations }
+        ensures state { MatchResult result (λ number. (number ≡ length self.old.chains.chains)
+            × (self.new ≡ with_chain self.old capacities.now)) (λ _. self.new ≡ self.old) }
+        ensures fits { length self.old.chains.chains < max_chains → IsOk result }
+        ensures full { IfErr result (λ why. (why ≡ Refusal.TooMany max_chains) × (length self.old.chains.chains ≡ max_chains)) }
+    {
+        self.chains.chain(capacities)
+    }
+
+    /// The chains, and the chain of each pool.
+    pub fn chains(&self) -> &Chains
+        ensures { result.now ≡ self.now.chains }
+    {
+        &self.chains
+    }
+
+    /// One more pool, on a chain or on none, with an empty tail for each of n generations. `format` is that of its objects, None if the
+    /// pool isn't collected.
+    pub fn add_pool(
+        &mut self,
+        alloc: Global,
+        format: Option<Policy<F>>,
+        chain: Option<u32>,
+        generations: u32,
+    ) -> Result<(), AllocError>
+        requires few { length self.old.chains.of_pool < max_pools }
+        requires known { ForSome chain (λ number. number < length self.old.chains.chains) }
+        ensures state { MatchResult result (λ _. self.new ≡ with_pool self.old format chain generations) (λ _. self.new ≡ self.old) }
     {
         self.formats.push(format)?;
-        match self.amc.add_pool(alloc, 1) {
+        match self.amc.add_pool(alloc, generations) {
             Ok(()) => {
-                self.chains.pool(None);
+                self.chains.pool(chain);
                 Ok(())
             }
             Err(error) => {
