@@ -9,7 +9,9 @@ use Rattle.mps_seg.specs.Segs.{SegsState}
 use Rattle.mps_ld.specs.State.{EpochsState}
 use Rattle.mps_ld.specs.State as ld
 use Rattle.mps_format.specs.declared.pool.Policy.{Policy}
-use Rattle.mps_trace.specs.Flip.{moving_of, zones_of}
+use Rattle.mps_gen.specs.State.{ChainsState}
+use Rattle.mps_trace.specs.Flip.{moving_of, zones_at_flip, zones_of}
+use Rattle.mps_trace.specs.declared.condemn.Condemn.{Condemn}
 use Rattle.mps_trace.specs.Collect.{CanCollect, Collects}
 use Rattle.mps_trace.specs.Trace.{TraceState, traced}
 use Rattle.mps_pools.specs.Collecting.{IsTraceOf}
@@ -34,6 +36,16 @@ module _ {F : Type 0} (layout : F → Layout) (seen value : PoolsState F) (is : 
   are_flipped s epochs epochs' is =
       is ∙ ap (λ (formats : List (Option (Policy F))). ld.epochs_after_flip epochs (zones_of
       (moving_of formats s.segments))) known.formats
+
+  -- and those of what a flip condemns
+  pub are_flipped_by : (what : Condemn) (s : SegsState) (epochs epochs' : EpochsState)
+      → epochs' ≡ ld.epochs_after_flip epochs (zones_at_flip t.formats t.chains what s.segments)
+      → epochs' ≡ ld.epochs_after_flip epochs (zones_at_flip (map policy_of_pool value.pools) value.chains what s.segments)
+  are_flipped_by what s epochs epochs' is =
+      is ∙ ap (λ (formats : List (Option (Policy F))). ld.epochs_after_flip epochs (zones_at_flip formats t.chains what s.segments))
+      known.formats
+      ∙ ap (λ (c : ChainsState). ld.epochs_after_flip epochs (zones_at_flip (map policy_of_pool value.pools) c what s.segments))
+      known.chains_are
 
   module _ (points : PointsState) (roots : RootsState) (finals : FinalsState) (s : SegsState) (m : Moves) (most : ℕ) where
     pub can_trace : CanCollectPools layout value.pools value.chains points roots finals s m most

@@ -20,5 +20,10 @@ pub record IsSoundTrace {F : Type 0} (pools : List (Pool F)) (t : TraceState F) 
   pub tails : (number generation : ℕ) → number < length pools
       → HasTail t.amc number (target_generation (generations_of t.chains number) generation)
 
+-- what the collector knows is sound, and these are how many generations its chains have
+pub record AreSoundPools {F : Type 0} (pools : List (Pool F)) (generations : List ℕ) (t : TraceState F) : Type 0 where
+  pub trace : IsSoundTrace pools t
+  pub counted : generations ≡ map length t.chains.chains
+
 pub two_pools_of_one_generation : rows_of (record { tails = (empty_buffer ∷ []) ∷ (empty_buffer ∷ []) ∷ [] }) ≡ 1 ∷ 1 ∷ []
 two_pools_of_one_generation = refl

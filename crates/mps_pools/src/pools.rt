@@ -1,26 +1,28 @@
 // The table of pools.
 #![tactic(auto)]
 
-ghost use Rattle.std.specs.Prelude.{◌≡◌, ℕ, ◌^◌, ◌<◌, Some, None, length, map, slice_get, IfNone, IfSome, MatchResult};
+ghost use Rattle.std.specs.Prelude.{◌≡◌, ℕ, ◌^◌, ◌<◌, ◌≤◌, Some, None, length, map, slice_get, IfErr, IfNone, IfSome, IsOk, MatchResult};
+ghost use Rattle.std.specs.Option.{option_map, ForSome};
 ghost use Rattle.mps_base.specs.Segment.{Segment, segment_over};
 ghost use Rattle.mps_buffer.specs.Points as buffer;
-ghost use Rattle.mps_gen.specs.State.{max_pools};
+ghost use Rattle.mps_gen.specs.State.{max_chains, max_generations, max_pools};
 ghost use Rattle.mps_ld.specs.State as ld;
 ghost use Rattle.mps_format.specs.Pools.{policy_of_pool};
 ghost use Rattle.mps_trace.specs.Access.{CanAccess, AccessesTo};
-ghost use Rattle.mps_trace.specs.Begin.{Begins, CanBegin, EndsAtOnce};
-ghost use Rattle.mps_trace.specs.Flip.{moving_of, zones_of};
-ghost use Rattle.mps_pools.specs.Collecting.{CanCollectPools, ArePoolsCollected, IsTraceOf};
-ghost use Rattle.mps_pools.specs.Pools.{none_made, trace_of, with_one_more};
+ghost use Rattle.mps_trace.specs.Begin.{Begins, EndsAtOnce};
+ghost use Rattle.mps_trace.specs.Flip.{moving_of, zones_at_flip, zones_of};
+ghost use Rattle.mps_pools.specs.Collecting.{CanCollectPools, CanCondemn, ArePoolsCollected, IsTraceOf};
+ghost use Rattle.mps_pools.specs.Pools.{none_made, tails_on, trace_of, with_chain, with_one_more};
 ghost use Rattle.mps_trace.specs.Registration.{AreFindable, FindsRegistration};
 ghost use Rattle.mps_trace.specs.Trace.{traced};
-ghost use Rattle.mps_trace.specs.declared.condemn.Condemn.TheVariants.{Everything};
 ghost use Rattle.mps_trace.specs.Unit.{CanUnit, AreUnitsReady, UnitTo, LastUnitTo, UnitsTo, EndsWithin};
 
-use mps_base::{Addr, Trail};
+use arrayvec::ArrayVec;
+use mps_base::{Addr, Refusal, Trail};
 use mps_buffer::OpenPoints;
 use mps_final::Finals;
 use mps_format::{Format, Pool, policy_of_pool, size_of_pool};
+use mps_gen::{Chains, MAX_CHAINS};
 use mps_ld::Epochs;
 use mps_manual::Manual;
 use mps_root::Roots;
@@ -35,17 +37,19 @@ pub struct Pools<F: Format> {
     pools: Vec<Pool<F>>,
     manual: Manual,
     trace: Trace<F>,
+    // How many generations each chain has.
+    generations: ArrayVec<u32, MAX_CHAINS>,
 }
 
 impl<F: Format> Model for Pools<F> {
-    ghost use Rattle.mps_pools.specs.Inside.{IsSoundTrace};
+    ghost use Rattle.mps_pools.specs.Inside.{AreSoundPools};
     ghost use Rattle.mps_pools.specs.Pools.{PoolsState};
 
     ghost Value = { PoolsState F };
 
     ghost view = { λ p. record { pools = p.pools.items; sizes = p.manual; chains = p.trace.chains; tails = p.trace.amc } };
 
-    ghost invariant = { λ p. IsSoundTrace p.pools.items p.trace };
+    ghost invariant = { λ p. AreSoundPools p.pools.items p.generations.items p.trace };
 }
 
 impl<F: Format> Pools<F> {
@@ -57,6 +61,7 @@ impl<F: Format> Pools<F> {
             pools: Vec::new(alloc),
             manual: Manual::new(alloc),
             trace: Trace::new(alloc),
+            generations: ArrayVec::new(),
         }
     }
 
@@ -82,15 +87,69 @@ impl<F: Format> Pools<F> {
         &self.manual
     }
 
-    /// Makes one pool more, on no chain.
-    pub fn add(&mut self, pool: Pool<F>) -> Result<(), AllocError>
-        requires { length self.old.pools < max_pools }
-        ensures state { MatchResult result (λ _. self.new ≡ with_one_more self.old pool) (λ _. self.new ≡ self.old) }
+    /// The chains, and the chain of each pool.
+    pub fn chains(&self) -> &Chains
+        ensures { result.now ≡ self.now.chains }
     {
+        self.trace.chains()
+    }
+
+    /// How many chains there are.
+    pub fn chain_count(&self) -> usize
+        ensures { result ≡ length self.now.chains.chains }
+    {
+        self.generations.len()
+    }
+
+    /// How many generations a chain has; None if there is none of this number.
+    pub fn generations_on(&self, chain: u32) -> Option<u32>
+        ensures { result ≡ option_map length (slice_get self.now.chains.chains chain) }
+    {
+        self.generations.get(chain as usize).copied()
+    }
+
+    /// How many tails a pool on a chain has, or a pool on none.
+    fn tails_on(&self, chain: Option<u32>) -> u32
+        requires known { ForSome chain (λ number. number < length self.now.chains.chains) }
+        ensures { result ≡ tails_on self.now.chains chain }
+    {
+        match chain {
+            Some(number) => self.generations[number as usize],
+            None => 1,
+        }
+    }
+
+    /// Makes a chain whose generations have these capacities, in grains, and returns its number. Refuses `TooMany` if there are 16.
+    pub fn chain(&mut self, capacities: &[u32]) -> Result<u32, Refusal>
+        requires nonempty { 0 < length capacities.now }
+        requires at_most { length capacities.now ≤ max_generations }
+        ensures state { MatchResult result (λ number. (number ≡ length self.old.chains.chains)
+            × (self.new ≡ record self.old { chains = with_chain self.old.chains capacities.now })) (λ _. self.new ≡ self.old) }
+        ensures fits { length self.old.chains.chains < max_chains → IsOk result }
+        ensures full { IfErr result (λ why. (why ≡ Refusal.TooMany max_chains) × (length self.old.chains.chains ≡ max_chains)) }
+    {
+        self.trace.chains().are_sound();
+        let number = self.trace.chain(capacities)?;
+        self.trace.chains().are_sound();
+        self.generations.push(capacities.len() as u32);
+        Ok(number)
+    }
+
+    /// Makes one pool more, on a chain or on none.
+    pub fn add(&mut self, pool: Pool<F>, chain: Option<u32>) -> Result<(), AllocError>
+        requires few { length self.old.pools < max_pools }
+        requires known { ForSome chain (λ number. number < length self.old.chains.chains) }
+        ensures state { MatchResult result (λ _. self.new ≡ with_one_more self.old pool chain) (λ _. self.new ≡ self.old) }
+    {
+        self.trace.chains().are_sound();
         let alloc = *self.pools.allocator();
+        let tails = self.tails_on(chain);
         self.pools.reserve(1)?;
         self.manual.add(size_of_pool(pool))?;
-        if let Err(error) = self.trace.add_pool(alloc, policy_of_pool(pool)) {
+        if let Err(error) = self
+            .trace
+            .add_pool(alloc, policy_of_pool(pool), chain, tails)
+        {
             self.manual.remove_last();
             return Err(error);
         }
@@ -100,7 +159,8 @@ impl<F: Format> Pools<F> {
         Ok(())
     }
 
-    /// Begins a collection of everything: the flip alone, and no unit. None if nothing is condemned: the collection has ended.
+    /// Begins a collection of what is to be condemned: the flip alone, and no unit. None if nothing is condemned: the collection has
+    /// ended.
     pub fn begin(
         &mut self,
         segs: &mut Segs,
@@ -109,33 +169,27 @@ impl<F: Format> Pools<F> {
         points: &mut OpenPoints,
         finals: &mut Finals,
         epochs: &mut Epochs,
+        what: Condemn,
     ) -> Option<Running>
         requires few_flips { points.old.flips < 2 ^ 63 }
         requires few_epochs { epochs.old.count < 2 ^ 63 }
-        requires can { CanBegin F.layout (trace_of self.old.pools self.old.chains self.old.tails) points.old roots.old finals.old segs.old
-            trail.old }
+        requires can { CanCondemn F.layout (trace_of self.old.pools self.old.chains self.old.tails) what points.old roots.old finals.old
+            segs.old trail.old }
         ensures begun { IfSome result (λ run. Begins F.layout (trace_of self.old.pools self.old.chains self.old.tails).formats
-            (trace_of self.old.pools self.old.chains self.old.tails).chains Everything points.old roots.old finals.old
+            (trace_of self.old.pools self.old.chains self.old.tails).chains what points.old roots.old finals.old
             (traced (trace_of self.old.pools self.old.chains self.old.tails) segs.old trail.old) roots.new finals.new
             (traced (trace_of self.new.pools self.new.chains self.new.tails) segs.new trail.new) run) }
         ensures ended { IfNone result (EndsAtOnce (trace_of self.old.pools self.old.chains self.old.tails).formats
-            (trace_of self.old.pools self.old.chains self.old.tails).chains Everything points.old roots.old finals.old
+            (trace_of self.old.pools self.old.chains self.old.tails).chains what points.old roots.old finals.old
             (traced (trace_of self.old.pools self.old.chains self.old.tails) segs.old trail.old) roots.new finals.new
             (traced (trace_of self.new.pools self.new.chains self.new.tails) segs.new trail.new)) }
         ensures unchanged { self.new ≡ record self.old { tails = self.new.tails } }
         ensures points { points.new ≡ buffer.points_after_flip points.old }
-        ensures epochs { epochs.new
-            ≡ ld.epochs_after_flip epochs.old (zones_of (moving_of (map policy_of_pool self.old.pools) segs.old.segments)) }
+        ensures epochs { epochs.new ≡ ld.epochs_after_flip epochs.old
+            (zones_at_flip (map policy_of_pool self.old.pools) self.old.chains what segs.old.segments) }
     {
-        self.trace.begin(
-            segs,
-            trail,
-            roots,
-            points,
-            finals,
-            epochs,
-            Condemn::Everything,
-        )
+        self.trace
+            .begin(segs, trail, roots, points, finals, epochs, what)
     }
 
     /// Collects everything, from the flip to the end, within `most` units.

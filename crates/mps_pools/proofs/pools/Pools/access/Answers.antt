@@ -4,14 +4,14 @@ use Rattle.mps_trace.specs.Access.{AccessesTo, CanAccess}
 use Rattle.mps_pools.specs.Inside.{rows_of}
 use Rattle.mps_trace.specs.Trace.{TraceState, traced}
 use Rattle.mps_pools.proofs.Rows.{accessed}
-use Rattle.mps_pools.proofs.Sound.{still_sound, trace_seen}
+use Rattle.mps_pools.proofs.Sound.{are_still_sound, trace_seen}
 use Rattle.mps_pools.proofs.pools.Pools.access.Goals as goal
 
 pub access-requires : goal.access-requires
 access-requires g c =
     let P : TraceState g.row.F.Denot → Type 0 = λ t. (u : Segment) → segment_over c.args.segs.now.segments c.args.at.0 ≡ Some u
     → CanAccess g.F.Format.layout c.args.band t c.args.segs.now c.args.trail.now u in
-    subst P (sym (trace_seen _ c.args.self.now c.self.view_is c.self.inside.trace refl refl c.self.invariant)) c.requires
+    subst P (sym (trace_seen _ c.args.self.now c.self.view_is c.self.inside.trace refl refl c.self.invariant.trace)) c.requires
 
 pub invariant_of-self : goal.invariant_of-self
 invariant_of-self g c =
@@ -22,7 +22,8 @@ invariant_of-self g c =
       | Some t ↦ (λ is. accessed g.F.Format.layout c.self.inside.trace.formats c.self.inside.trace.chains c.args.band t _ _
           (c.access.ensures.accessed t (over ∙ is)))
     ] refl in
-    still_sound c.self.inside.pools.items c.self.inside.trace c.access.new.self c.self.invariant c.access.ensures.unchanged
+    are_still_sound c.self.inside.pools.items c.self.inside.generations.items c.self.inside.trace c.access.new.self c.self.invariant
+    c.access.ensures.unchanged
     (rows (segment_over c.args.segs.now.segments c.args.at.0) refl)
 
 pub returns-clause-accessed : goal.returns-clause-accessed
@@ -30,4 +31,4 @@ returns-clause-accessed g c =
     let after = traced c.access.new.self c.access.new.segs c.access.new.trail in
     let P : TraceState g.row.F.Denot → Type 0 = λ t. (u : Segment) → segment_over c.args.segs.now.segments c.args.at.0 ≡ Some u
     → AccessesTo g.F.Format.layout t.formats t.chains c.args.band u (traced t c.args.segs.now c.args.trail.now) after in
-    subst P (trace_seen _ c.args.self.now c.self.view_is c.self.inside.trace refl refl c.self.invariant) c.access.ensures.accessed
+    subst P (trace_seen _ c.args.self.now c.self.view_is c.self.inside.trace refl refl c.self.invariant.trace) c.access.ensures.accessed
