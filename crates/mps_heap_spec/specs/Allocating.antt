@@ -17,14 +17,15 @@ use Rattle.mps_seg.specs.Segs.{moves_after}
 use Rattle.mps_heap_spec.specs.State.{HeapState}
 use Rattle.mps_format.specs.Pools.{format_of_pool, is_leaf_pool}
 use Rattle.mps_heap_spec.specs.declared.found.Block.{Block}
+use Rattle.mps_heap_spec.specs.declared.found.CellFound.{CellFound}
 use Rattle.mps_heap_spec.specs.declared.found.Committed.{Committed}
 use Rattle.mps_heap_spec.specs.declared.found.Committed.TheVariants.{AsBlock, AsFlipped}
 use Rattle.mps_heap_spec.specs.declared.found.Kept.{Kept}
 use Rattle.mps_heap_spec.specs.declared.found.Reserving.{Reserving}
 use Rattle.mps_format.specs.declared.pool.Pool.{Pool}
 use Rattle.mps_heap_spec.specs.Coming.{Outcome, Moved, done}
-use Rattle.mps_heap_spec.specs.Finding.{point_named, slot_in, number_cell_at, reference_cell_at, retargeted}
-use Rattle.mps_heap_spec.specs.Objects.{with_slot, with_word}
+use Rattle.mps_heap_spec.specs.Finding.{point_named, slot_in, number_cell_at, reference_cell_at}
+use Rattle.mps_heap_spec.specs.Objects.{with_reference, with_slot, with_word}
 use Rattle.mps_base.specs.Address.{Address}
 use Rattle.mps_seg.specs.Collecting.{is_white_at, keeping}
 
@@ -76,6 +77,10 @@ module _ {F : Type 0} (layout : F → Layout) where
   abbrev pub with_reserved_word : HeapState F → Held → (word value : ℕ) → HeapState F
   with_reserved_word h held word value = if held.flips == h.points.flips then with_word h word value else h
 
+  -- a reference of a reservation refers to an address; nothing changes if a flip ended it
+  abbrev pub with_reserved_reference : HeapState F → Held → Block F → CellFound → (to : Address) → HeapState F
+  with_reserved_reference h held b cell to = if held.flips == h.points.flips then with_reference layout h b cell to else h
+
   abbrev pub number_initialised : HeapState F → Name → (k value : ℕ) → Checked (Outcome F (Unit {0}))
   number_initialised h name k value = do
     point ← point_named h name
@@ -91,7 +96,7 @@ module _ {F : Type 0} (layout : F → Layout) where
     held ← required point.value.reservation refusal.NotOpen
     block ← block_held h point.value held
     cell ← reference_cell_at layout h.segs.words block k
-    done (with_reserved_word h held cell.word (retargeted (layout block.format) cell.value from.value))
+    done (with_reserved_reference h held block cell from.value)
 
 -- ---- commit
 

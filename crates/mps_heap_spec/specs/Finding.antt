@@ -1,5 +1,5 @@
 -- What a call finds by its words, and with which refusal it finds nothing.
-use Rattle.std.specs.Prelude.{ℕ, ◌+◌, ◌%◌, ◌==◌, not, nat_le, if◌then◌else◌, Option, Some, None, option_and_then, Ok, Err, List, slice_get}
+use Rattle.std.specs.Prelude.{ℕ, ◌+◌, ◌%◌, ◌==◌, not, nat_le, if◌then◌else◌, Option, Some, None, option_and_then, option_map, Ok, Err, List, length, slice_get}
 use Rattle.mps_base.specs.Address.{Address, word_of}
 use Rattle.mps_base.specs.declared.names.Name.{Name}
 use Rattle.mps_base.specs.declared.names.Slot.{Slot}
@@ -22,6 +22,10 @@ use Rattle.mps_heap_spec.specs.declared.found.Kept.{Kept}
 use Rattle.mps_format.specs.declared.pool.Pool.{Pool}
 
 -- ---- things by name
+
+abbrev pub as_chain : Thing → Option ℕ
+as_chain (thing.Chain number) = Some number
+as_chain _ = None
 
 abbrev pub as_pool : Thing → Option ℕ
 as_pool (thing.Pool number) = Some number
@@ -62,6 +66,12 @@ module _ {F : Type 0} (h : HeapState F) where
   -- the number or the key of the thing of the wanted kind that has a name
   abbrev pub key_named : Name → (Thing → Option ℕ) → Checked ℕ
   key_named name as_wanted = required (option_and_then as_wanted (thing_named h.names name)) refusal.BadName
+
+  -- a chain, with how many generations it has
+  abbrev pub chain_named : Name → Checked (Kept ℕ)
+  chain_named name = do
+    number ← key_named name as_chain
+    under number (option_map length (slice_get h.chains.chains number))
 
   abbrev pub pool_named : Name → Checked (Kept (Pool F))
   pool_named name = do

@@ -1,5 +1,6 @@
 pub mod State
 pub mod Finding
+pub mod Referring
 pub mod Objects
 pub mod Getting
 pub mod Areas

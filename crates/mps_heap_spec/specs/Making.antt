@@ -7,10 +7,10 @@ use Rattle.mps_base.specs.declared.refusal.Refusal.{Refusal}
 use Rattle.mps_base.specs.declared.refusal.Refusal.TheVariants as refusal
 use Rattle.mps_buffer.specs.Points.{IsMade, new_point, with_point}
 use Rattle.mps_trace.specs.AmcState.{with_pool}
-use Rattle.mps_pools.specs.Pools.{with_pool_on}
+use Rattle.mps_pools.specs.Pools.{tails_on, with_chain, with_pool_on}
 use Rattle.mps_trace.specs.LdState.{reset_at}
 use Rattle.mps_model.specs.Checked.{Checked, ◌>>=◌, ◌>>◌, required, refuse_when}
-use Rattle.mps_model.specs.Making.{most_roots, most_slots, most_points, most_pools, most_dependencies, is_block_size, is_weak_rank, refuse_at_limit}
+use Rattle.mps_model.specs.Making.{most_roots, most_slots, most_chains, most_points, most_pools, most_dependencies, is_block_size, is_weak_rank, refuse_at_limit}
 use Rattle.mps_names.specs.State.{NamesState, thing_named, IsSameMap, Updates}
 use Rattle.mps_names.specs.declared.names.Thing.{Thing}
 use Rattle.mps_names.specs.declared.names.Thing.TheVariants as thing
@@ -19,7 +19,7 @@ use Rattle.mps_root.specs.declared.roots.Stored.{Stored}
 use Rattle.mps_heap_spec.specs.State.{HeapState}
 use Rattle.mps_format.specs.Pools.{is_automatic_pool, is_copying_pool, is_weak_pool, size_of_pool}
 use Rattle.mps_format.specs.declared.pool.Pool.{Pool}
-use Rattle.mps_heap_spec.specs.Finding.{pool_named, point_named}
+use Rattle.mps_heap_spec.specs.Finding.{chain_named, pool_named, point_named}
 use Rattle.mps_heap_spec.specs.declared.found.Kept.{Kept}
 
 -- whether checks were passed, or which of them refused
@@ -145,6 +145,18 @@ module _ {F : Type 0} where
     pub found : check_point h name pool at_rank ≡ Ok of
     pub makes : MakesPoint h name of at_rank key after
 
+  -- ---- chains
+
+  abbrev pub check_chain : HeapState F → Name → Checked (Unit {0})
+  check_chain h name = do
+    refuse_taken h name
+    refuse_at_limit (length h.chains.chains) most_chains
+
+  pub record MakesChain (h : HeapState F) (name : Name) (capacities : List ℕ) (number : ℕ) (after : HeapState F) : Type 0 where
+    pub number_is : number ≡ length h.chains.chains
+    pub names : Updates h.names after.names name (Some (thing.Chain number))
+    pub state : after ≡ record h { chains = with_chain h.chains capacities; names = after.names }
+
   -- ---- pools
 
   abbrev pub check_pool : HeapState F → Name → Checked (Unit {0})
@@ -152,22 +164,37 @@ module _ {F : Type 0} where
     refuse_taken h name
     refuse_at_limit (length h.pools) most_pools
 
+  -- the chain of a pool that may be made, with how many generations it has
+  abbrev pub check_pool_on_chain : HeapState F → (name chain : Name) → Checked (Kept ℕ)
+  check_pool_on_chain h name chain = do
+    refuse_taken h name
+    on ← chain_named h chain
+    refuse_at_limit (length h.pools) most_pools
+    Ok on
+
   abbrev pub check_pool_of_size : HeapState F → Name → (words : ℕ) → Checked (Unit {0})
   check_pool_of_size h name words = do
     refuse_taken h name
     refuse_when (not (is_block_size words)) refusal.BadSize
     refuse_at_limit (length h.pools) most_pools
 
-  pub record MakesPool (h : HeapState F) (name : Name) (p : Pool F) (number : ℕ) (after : HeapState F) : Type 0 where
+  -- a pool is made on a chain or on none, with an empty tail for each generation of the chain, or with one
+  pub record MakesPool (h : HeapState F) (name : Name) (p : Pool F) (chain : Option ℕ) (number : ℕ) (after : HeapState F) : Type 0 where
     pub number_is : number ≡ length h.pools
     pub names : Updates h.names after.names name (Some (thing.Pool number))
     pub state : after ≡ record h {
       pools = h.pools ++ p ∷ [];
       sizes = h.sizes ++ size_of_pool p ∷ [];
-      chains = with_pool_on h.chains None;
-      tails = with_pool h.tails 1;
+      chains = with_pool_on h.chains chain;
+      tails = with_pool h.tails (tails_on h.chains chain);
       names = after.names;
     }
+
+  -- the pool is made on the chain that the checks found
+  pub record MakesPoolOn (h : HeapState F) (name chain : Name) (p : Pool F) (number : ℕ) (after : HeapState F) : Type 0 where
+    pub on : Kept ℕ
+    pub found : check_pool_on_chain h name chain ≡ Ok on
+    pub makes : MakesPool h name p (Some on.key) number after
 
   -- ---- dependencies
 

@@ -8,7 +8,10 @@ use Rattle.mps_model.specs.Tagging.{tag_count}
 use Rattle.mps_root.specs.State.{with_item}
 use Rattle.mps_heap_spec.specs.State.{HeapState}
 use Rattle.mps_heap_spec.specs.Coming.{Outcome, done}
-use Rattle.mps_heap_spec.specs.Finding.{slot_in, object_in, object_at, number_cell_at, reference_cell_at, retagged, retargeted, with_words}
+use Rattle.mps_heap_spec.specs.Finding.{slot_in, object_in, object_at, number_cell_at, reference_cell_at, retagged, with_words}
+use Rattle.mps_heap_spec.specs.Referring.{referring}
+use Rattle.mps_heap_spec.specs.declared.found.Block.{Block}
+use Rattle.mps_heap_spec.specs.declared.found.CellFound.{CellFound}
 use Rattle.mps_heap_spec.specs.declared.found.Entry.{Entry}
 
 module _ {F : Type 0} where
@@ -75,6 +78,10 @@ module _ {F : Type 0} (layout : F → Layout) where
     cell ← reference_cell_at layout h.segs.words object k
     done (with_slot h into ((layout object.format).target cell.value))
 
+  -- a cell of a block refers to an address
+  abbrev pub with_reference : HeapState F → Block F → CellFound → (to : Address) → HeapState F
+  with_reference h b cell to = record h { segs = referring (layout b.format) h.segs b.at cell to }
+
   -- cell k of an object refers to what a slot has
   abbrev pub reference_put : HeapState F → (target : Slot) → (k : ℕ) → (source : Slot) → Checked (Outcome F (Unit {0}))
   reference_put h target k source = do
@@ -82,7 +89,7 @@ module _ {F : Type 0} (layout : F → Layout) where
     from ← slot_in h source
     object ← object_at layout h into.value
     cell ← reference_cell_at layout h.segs.words object k
-    done (with_word h cell.word (retargeted (layout object.format) cell.value from.value))
+    done (with_reference h object cell from.value)
 
   -- the tag of the reference in cell k
   abbrev pub tag_got : HeapState F → Slot → (k : ℕ) → Checked ℕ

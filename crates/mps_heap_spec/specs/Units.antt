@@ -6,6 +6,7 @@ use Rattle.mps_trace.specs.Collect.{most_units}
 use Rattle.mps_seg.specs.Table.{IsMarked}
 use Rattle.mps_pools.specs.Pools.{trace_of}
 use Rattle.mps_pools.specs.Collecting.{IsTraceOf}
+use Rattle.mps_trace.specs.GenState.{max_chains}
 use Rattle.mps_trace.specs.State.{max_finals}
 use Rattle.mps_trace.specs.Trace.{TraceState, Traced, traced}
 use Rattle.mps_trace.specs.Unit.{AreUnitsReady, EndsWithin, UnitsTo}
@@ -24,11 +25,12 @@ module _ {F : Type 0} where
   abbrev pub traced_in : HeapState F → Moves → Traced
   traced_in h m = traced (trace_in h) h.segs m
 
-  -- what is known of the tables of each heap: those of marks have their sizes, each pool has a tail, and registrations are few
+  -- what is known of the tables of each heap: those of marks have their sizes, each pool has a tail, and registrations and chains are few
   pub record IsWhole (h : HeapState F) : Type 0 where
     pub marked : IsMarked h.segs.grains h.segs.marks h.segs.condemned h.segs.summaries
     pub tails : IsTraceOf h.pools h.chains (trace_in h)
     pub few : length h.finals.registered ≤ max_finals
+    pub few_chains : length h.chains.chains ≤ max_chains
 
   -- each of at most n units of the collection that runs can be done when its turn comes
   abbrev pub CanDoUnits : (F → Layout) → HeapState F → Moves → (n : ℕ) → Type 0

@@ -6,6 +6,7 @@ ghost use Rattle.mps_base.specs.Address.{word_of};
 ghost use Rattle.mps_model.specs.Graph.{has_references};
 ghost use Rattle.mps_model.specs.Tagging.{tag_count};
 ghost use Rattle.mps_heap_spec.specs.Finding.{cell_at, number_cell_at, reference_cell_at, retagged, retargeted};
+ghost use Rattle.mps_heap_spec.specs.Referring.{referring};
 
 use crate::{Block, CellFound};
 use mps_base::{Addr, BYTES_OF_WORD, Refusal};
@@ -126,5 +127,17 @@ pub fn write_word(segs: &mut Segs, word: usize, value: u64)
     let _ = segs.grains(); // the address of a word fits
     if segs.item(word).is_some() {
         segs.set_word(Addr(BYTES_OF_WORD * word as u64), value);
+    }
+}
+
+/// Lets a reference cell of a block lead to an address, a multiple of 8. It keeps its tag, and the summary of the block's segment gains
+/// the zone of the address. Null, 0, has no zone.
+pub fn write_reference<F: Format>(segs: &mut Segs, b: &Block<F>, cell: CellFound, to: u64)
+    ensures { segs.new ≡ referring (F.layout b.now.format) segs.old b.now.at cell to }
+{
+    let word = with_target(&b.format, cell.value, to);
+    write_word(segs, cell.word, word);
+    if to != 0 {
+        segs.note_write(Addr(b.at), Addr(to));
     }
 }
