@@ -1,10 +1,10 @@
 // What a call finds by its words. What frequent calls find is inlined, so that a name is read where it stands in its call and isn't
 // copied on the way.
-ghost use Rattle.std.specs.Prelude.{◌≡◌, ◌<◌, Some, IsTrue, IfOk};
+ghost use Rattle.std.specs.Prelude.{◌≡◌, ◌<◌, Some, IsTrue, IfOk, length};
 ghost use Rattle.mps_buffer.specs.Points.{point_at};
 ghost use Rattle.mps_root.specs.State.{HasItem, HasPlace};
 ghost use Rattle.mps_heap_spec.specs.State.{pool_over, format_over};
-ghost use Rattle.mps_heap_spec.specs.Finding.{pool_named, point_named, slot_in, word_in, block_place_in, object_at, object_in};
+ghost use Rattle.mps_heap_spec.specs.Finding.{chain_named, pool_named, point_named, slot_in, word_in, block_place_in, object_at, object_in};
 
 use super::State;
 use mps_base::{Addr, Name, Refusal, Slot};
@@ -15,6 +15,17 @@ use mps_names::Thing;
 use mps_root::Stored;
 
 impl<F: Format> State<F> {
+    /// The chain that has a name, with how many generations it has.
+    pub fn chain_named(&self, name: Name) -> Result<Kept<u32>, Refusal>
+        ensures value { result ≡ chain_named self.now name }
+        ensures there { IfOk result (λ on. on.key < length self.now.chains.chains) }
+    {
+        let Some(Thing::Chain(key)) = self.names.get(name) else {
+            return Err(Refusal::BadName);
+        };
+        under(key, self.pools.generations_on(key))
+    }
+
     /// The pool that has a name.
     pub fn pool_named(&self, name: Name) -> Result<Kept<Pool<F>>, Refusal>
         ensures { result ≡ pool_named self.now name }
