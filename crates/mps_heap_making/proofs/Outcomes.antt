@@ -1,11 +1,11 @@
 -- From checks and what is made to the outcome of a call that makes something.
-use Rattle.std.proofs.Common.{ℕ, ◌≡◌, Result, Ok, Err, refl, sym, ap, subst}
+use Rattle.std.proofs.Common.{ℕ, ◌≡◌, Result, Ok, Err, Some, refl, sym, ap, subst}
 use Rattle.mps_base.specs.declared.names.Name.{Name}
 use Rattle.mps_base.specs.declared.names.Rank.{Rank}
 use Rattle.mps_base.specs.declared.refusal.Refusal.{Refusal}
 use Rattle.mps_heap_spec.specs.Checked.{Checked}
 use Rattle.mps_heap_spec.specs.State.{HeapState}
-use Rattle.mps_heap_spec.specs.Making.{IsUntouched, IsMaking, Refused, OutOfMemory, Made, MakesPoint, MakesPointIn, check_point, without_answer}
+use Rattle.mps_heap_spec.specs.Making.{IsUntouched, IsMaking, Refused, OutOfMemory, Made, MakesPoint, MakesPointIn, MakesPool, MakesPoolOn, check_point, check_pool_on_chain, without_answer}
 use Rattle.mps_heap_spec.specs.declared.found.Kept.{Kept}
 use Rattle.mps_format.specs.declared.pool.Pool.{Pool}
 use Rattle.mps_heap_making.specs.Made.{IsMade}
@@ -43,4 +43,21 @@ module _ {F : Type 0} where
         inside : (r : Result ℕ Refusal) → IsMade h (MakesPoint h name of at_rank) r after
             → IsMade h (MakesPointIn h name pool at_rank) r after
         inside (Ok key) makes = record { of = of; found = sym found; makes = makes }
+        inside (Err why) fails = fails
+
+  module _ (h : HeapState F) (name chain : Name) (p : Pool F) where
+    -- a pool on a chain is refused
+    pub no_pool_on : {why : Refusal} → Err why ≡ check_pool_on_chain h name chain
+        → IsMaking h (without_answer (check_pool_on_chain h name chain)) (MakesPoolOn h name chain p) (Err why) h
+    no_pool_on fails = is_refused (ap without_answer fails)
+
+    -- a pool is made on the chain that was found
+    pub pool_on : (on : Kept ℕ) (result : Result ℕ Refusal) (after : HeapState F) → Ok on ≡ check_pool_on_chain h name chain
+        → IsMade h (MakesPool h name p (Some on.key)) result after
+        → IsMaking h (without_answer (check_pool_on_chain h name chain)) (MakesPoolOn h name chain p) result after
+    pool_on on result after found made = is_made result after (ap without_answer found) (inside result made)
+      where
+        inside : (r : Result ℕ Refusal) → IsMade h (MakesPool h name p (Some on.key)) r after
+            → IsMade h (MakesPoolOn h name chain p) r after
+        inside (Ok number) makes = record { on = on; found = sym found; makes = makes }
         inside (Err why) fails = fails

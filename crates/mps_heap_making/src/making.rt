@@ -1,10 +1,10 @@
 // The calls that make and drop things.
-ghost use Rattle.std.specs.Prelude.{◌≡◌, ◌+◌, ◌<◌, ◌≤◌, None, Some, length, option_map, OnOk, IfErr};
-ghost use Rattle.std.specs.Option.{option_map_or};
+ghost use Rattle.std.specs.Prelude.{◌≡◌, ◌+◌, ◌<◌, ◌≤◌, None, Some, length, option_map, OnOk, IfErr, IfOk};
+ghost use Rattle.std.specs.Option.{option_map_or, ForSome};
 ghost use Rattle.mps_names.specs.State.{thing_named, room_for, Updates};
 ghost use Rattle.mps_names.specs.declared.names.Thing.TheVariants as thing;
 ghost use Rattle.mps_format.specs.declared.pool.Pool.TheVariants as kind_of_pool;
-ghost use Rattle.mps_heap_spec.specs.Making.{IsUntouched, IsMaking, IsDropping, check_root, with_root, MakesTable, MakesArea, MakesBlocks, roots_without, root_dropped, point_dropped, without_answer, check_point, MakesPoint, MakesPointIn, check_pool, check_pool_of_size, MakesPool, check_dependency, MakesDependency};
+ghost use Rattle.mps_heap_spec.specs.Making.{IsUntouched, IsMaking, IsDropping, check_root, with_root, MakesTable, MakesArea, MakesBlocks, roots_without, root_dropped, point_dropped, without_answer, check_point, MakesPoint, MakesPointIn, check_chain, MakesChain, check_pool, check_pool_on_chain, check_pool_of_size, MakesPool, MakesPoolOn, check_dependency, MakesDependency};
 ghost use Rattle.mps_heap_making.specs.Made.{IsMade};
 
 use mps_base::{Kind, Name, Rank, Refusal};
@@ -14,10 +14,12 @@ use mps_heap_state::State;
 use mps_ld::Ld;
 use mps_names::Thing;
 
-/// How many roots, slots of all roots together, points, pools and dependencies there may be.
+/// How many roots, slots of all roots together, chains, points, pools and dependencies there may be.
 const MAX_ROOTS: u32 = 256;
 
 const MAX_SLOTS: u32 = 65_536;
+
+const MAX_CHAINS: u32 = 16;
 
 const MAX_POINTS: u32 = 256;
 
@@ -250,6 +252,50 @@ pub fn drop_point<F: Format>(state: &mut State<F>, name: Name) -> Result<(), Ref
     Ok(())
 }
 
+/// Refuses a chain if its name is taken or there are 16.
+fn check_chain<F: Format>(state: &State<F>, name: Name) -> Result<(), Refusal>
+    ensures value { result ≡ check_chain state.now name }
+    ensures free { OnOk result (thing_named state.now.names name ≡ None) }
+    ensures few { OnOk result (length state.now.chains.chains < 16) }
+{
+    state.names.refuse_taken(name)?;
+    refuse_at_limit(state.pools.chain_count(), MAX_CHAINS)
+}
+
+/// Makes a chain whose generations have these capacities, in grains. Refuses `NameTaken` if its name is taken, and `TooMany` if there are
+/// 16.
+pub fn chain<F: Format>(
+    state: &mut State<F>,
+    name: Name,
+    capacities: &[u32],
+) -> Result<usize, Refusal>
+    requires nonempty { 0 < length capacities.now }
+    requires at_most { length capacities.now ≤ 8 }
+    ensures { IsMaking state.old (check_chain state.old name) (MakesChain state.old name capacities.now) result state.new }
+{
+    check_chain(state, name)?;
+    make_chain(state, name, capacities)
+}
+
+fn make_chain<F: Format>(
+    state: &mut State<F>,
+    name: Name,
+    capacities: &[u32],
+) -> Result<usize, Refusal>
+    requires free { thing_named state.old.names name ≡ None }
+    requires few { length state.old.chains.chains < 16 }
+    requires nonempty { 0 < length capacities.now }
+    requires at_most { length capacities.now ≤ 8 }
+    ensures { IsMade state.old (MakesChain state.old name capacities.now) result state.new }
+{
+    make_room(state)?;
+    let Ok(number) = state.pools.chain(capacities) else {
+        unreachable!()
+    };
+    state.names.take(name, Thing::Chain(number));
+    Ok(number as usize)
+}
+
 /// Refuses a pool if its name is taken or there are 64.
 fn check_pool<F: Format>(state: &State<F>, name: Name) -> Result<(), Refusal>
     ensures value { result ≡ check_pool state.now name }
@@ -274,51 +320,90 @@ fn check_pool_of_size<F: Format>(state: &State<F>, name: Name, words: u64) -> Re
     refuse_at_limit(state.pools.count(), MAX_POOLS)
 }
 
-/// Makes a pool.
-fn make_pool<F: Format>(state: &mut State<F>, name: Name, pool: Pool<F>) -> Result<usize, Refusal>
+/// Makes a pool on a chain, or on none.
+fn make_pool<F: Format>(
+    state: &mut State<F>,
+    name: Name,
+    pool: Pool<F>,
+    chain: Option<u32>,
+) -> Result<usize, Refusal>
     requires free { thing_named state.old.names name ≡ None }
     requires few { length state.old.pools < 64 }
-    ensures { IsMade state.old (MakesPool state.old name pool) result state.new }
+    requires known { ForSome chain (λ number. number < length state.old.chains.chains) }
+    ensures { IsMade state.old (MakesPool state.old name pool chain) result state.new }
 {
     let number = state.pools.count();
     make_room(state)?;
-    let Ok(()) = state.pools.add(pool) else {
+    let Ok(()) = state.pools.add(pool, chain) else {
         return Err(Refusal::OutOfMemory);
     };
     state.names.take(name, Thing::Pool(number as u32));
     Ok(number)
 }
 
-/// Makes an automatic pool.
+/// Makes an automatic pool on no chain.
 pub fn pool<F: Format>(
     state: &mut State<F>,
     name: Name,
     kind: Kind,
     format: F,
 ) -> Result<usize, Refusal>
-    ensures { IsMaking state.old (check_pool state.old name) (MakesPool state.old name (kind_of_pool.Automatic kind format))
+    ensures { IsMaking state.old (check_pool state.old name) (MakesPool state.old name (kind_of_pool.Automatic kind format) None)
         result state.new }
 {
     check_pool(state, name)?;
-    make_pool(state, name, Pool::Automatic { kind, format })
+    make_pool(state, name, Pool::Automatic { kind, format }, None)
+}
+
+/// The chain of a pool that may be made.
+fn check_pool_on_chain<F: Format>(
+    state: &State<F>,
+    name: Name,
+    chain: Name,
+) -> Result<Kept<u32>, Refusal>
+    ensures value { result ≡ check_pool_on_chain state.now name chain }
+    ensures free { OnOk result (thing_named state.now.names name ≡ None) }
+    ensures few { OnOk result (length state.now.pools < 64) }
+    ensures known { IfOk result (λ on. on.key < length state.now.chains.chains) }
+{
+    state.names.refuse_taken(name)?;
+    let on = state.chain_named(chain)?;
+    refuse_at_limit(state.pools.count(), MAX_POOLS)?;
+    Ok(on)
+}
+
+/// Makes an automatic pool on a chain. Refuses `NameTaken` if its name is taken, `BadName` if there is no such chain, and `TooMany` if
+/// there are 64 pools.
+pub fn pool_on_chain<F: Format>(
+    state: &mut State<F>,
+    name: Name,
+    kind: Kind,
+    format: F,
+    chain: Name,
+) -> Result<usize, Refusal>
+    ensures { IsMaking state.old (without_answer (check_pool_on_chain state.old name chain))
+        (MakesPoolOn state.old name chain (kind_of_pool.Automatic kind format)) result state.new }
+{
+    let on = check_pool_on_chain(state, name, chain)?;
+    make_pool(state, name, Pool::Automatic { kind, format }, Some(on.key))
 }
 
 /// Makes a manual pool of blocks of one size. Refuses `BadSize` if that isn't 1 to 65,536 words.
 pub fn pool_mfs<F: Format>(state: &mut State<F>, name: Name, words: u64) -> Result<usize, Refusal>
-    ensures { IsMaking state.old (check_pool_of_size state.old name words) (MakesPool state.old name (kind_of_pool.OneSize words))
+    ensures { IsMaking state.old (check_pool_of_size state.old name words) (MakesPool state.old name (kind_of_pool.OneSize words) None)
         result state.new }
 {
     check_pool_of_size(state, name, words)?;
     let words = words as u32;
-    make_pool(state, name, Pool::OneSize { words })
+    make_pool(state, name, Pool::OneSize { words }, None)
 }
 
 /// Makes a manual pool of blocks of any sizes.
 pub fn pool_mvff<F: Format>(state: &mut State<F>, name: Name) -> Result<usize, Refusal>
-    ensures { IsMaking state.old (check_pool state.old name) (MakesPool state.old name kind_of_pool.AnySize) result state.new }
+    ensures { IsMaking state.old (check_pool state.old name) (MakesPool state.old name kind_of_pool.AnySize None) result state.new }
 {
     check_pool(state, name)?;
-    make_pool(state, name, Pool::AnySize)
+    make_pool(state, name, Pool::AnySize, None)
 }
 
 /// Refuses a dependency if its name is taken or there are 256.
