@@ -9,8 +9,11 @@ ghost use Rattle.mps_heap_spec.specs.Objects.{after_copy, after_clear, are_same,
 
 use mps_base::{Addr, Refusal, Slot, Trail};
 use mps_format::Format;
-use mps_heap_spec::{number_cell_at, reference_cell_at, tag_of, with_tag, with_target, write_word};
+use mps_heap_spec::{
+    number_cell_at, reference_cell_at, tag_of, with_tag, write_reference, write_word,
+};
 use mps_heap_state::State;
+use mps_heap_state::units::is_whole;
 use mps_trace::Band;
 
 /// A slot becomes another. Refuses `BadName` and `BadIndex` of the one, and then of the other.
@@ -132,9 +135,7 @@ fn access<F: Format>(
     let _into = state.slot_in(target)?;
     let object = state.object_in(source)?;
     let _cell = reference_cell_at(&state.segs, &object, k)?;
-    state.pools.tails_are_listed();
-    state.segs.tables_are_whole();
-    state.finals.registrations_are_few();
+    is_whole(state);
     state
         .pools
         .access(&mut state.segs, trail, band, Addr(object.at));
@@ -179,7 +180,8 @@ pub fn get<F: Format>(
     }
 }
 
-/// Cell `k` of the object in a slot refers to what another slot has, and keeps its tag.
+/// Cell `k` of the object in a slot refers to what another slot has, and keeps its tag. The summary of the object's segment gains the zone
+/// of that, if it isn't null.
 pub fn put<F: Format>(
     state: &mut State<F>,
     target: Slot,
@@ -192,8 +194,7 @@ pub fn put<F: Format>(
     let from = state.slot_in(source)?;
     let object = state.object_at(into.value)?;
     let cell = reference_cell_at(&state.segs, &object, k)?;
-    let word = with_target(&object.format, cell.value, from.value);
-    write_word(&mut state.segs, cell.word, word);
+    write_reference(&mut state.segs, &object, cell, from.value);
     Ok(())
 }
 
