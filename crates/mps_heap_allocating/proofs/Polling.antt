@@ -1,6 +1,11 @@
--- The poll of a `reserve`, and what it leaves of the checks.
-use Rattle.std.proofs.Common.{◌≡◌, ◌∙◌, ℕ, ◌<◌, Bool, true, false, refl, sym, ap, subst, Option, Some, None, Ok, Err}
+-- The poll of a `reserve`, and what comes of the call where it polls, and where it doesn't.
+use Rattle.std.proofs.Common.{◌≡◌, ℕ, Bool, true, false, refl, sym, ap, subst, List, [], ◌∷◌, length, Option, Some, None, Ok, Err, is_some, arith}
+use Rattle.std.proofs.lemmas.Bool.{false≢true}
+use Rattle.std.proofs.lemmas.Option.{none-some, same_Some}
 use Rattle.std.specs.Prelude.{MatchBool, ◌&&◌, not}
+use Rattle.std.specs.Option.{option_map}
+use Rattle.mps_base.specs.Generation.{Due, due_generation}
+use Rattle.mps_base.specs.Segment.{Segment}
 use Rattle.mps_base.specs.Trail.{Moves}
 use Rattle.mps_base.specs.declared.names.Name.{Name}
 use Rattle.mps_base.specs.declared.refusal.Refusal.{Refusal}
@@ -8,85 +13,121 @@ use Rattle.mps_buffer.specs.Points.{is_place, placement_at, point_at}
 use Rattle.mps_buffer.specs.Tokens.{IsClosedAt}
 use Rattle.mps_buffer.specs.declared.point.Point.{Point}
 use Rattle.mps_format.specs.Layout.{Layout}
-use Rattle.mps_heap_spec.specs.Allocating.{check_reserve}
-use Rattle.mps_seg.specs.Segs.{SegsState}
-use Rattle.mps_trace.specs.AmcState.{AmcState}
-use Rattle.mps_trace.specs.State.{FinalsState}
+use Rattle.mps_gen.specs.Due.{in_numbers}
+use Rattle.mps_gen.specs.State.{ChainsState}
+use Rattle.mps_gen.specs.declared.chains.DueGeneration.{DueGeneration}
+use Rattle.mps_policy.specs.Due.{due_now, loads_from}
+use Rattle.mps_trace.specs.declared.condemn.Condemn.TheVariants.{Generations}
 use Rattle.mps_trace.specs.declared.running.Running.{Running}
+use Rattle.mps_heap_spec.specs.Allocating.{after_reserve, check_reserve}
 use Rattle.mps_heap_spec.specs.Checked.{Checked, ◌>>=◌}
+use Rattle.mps_heap_spec.specs.Collecting.{CanStart, IsStarted}
 use Rattle.mps_heap_spec.specs.Coming.{ComesMoving, Moved}
-use Rattle.mps_heap_spec.specs.Polling.{CanPoll, HasReserved, IsPolled, is_unclamped, polls_for, units_of_poll}
-use Rattle.mps_heap_spec.specs.State.{HeapState, IsReady}
-use Rattle.mps_heap_spec.specs.Units.{HasDoneUnits, ends, goes_on, none_runs}
+use Rattle.mps_heap_spec.specs.Polling.{HasFlipped, HasPolled, HasReserved, IsPolled, MayFlip, condemned_by, due_in, is_unclamped, polls_for, units_of_poll}
+use Rattle.mps_heap_spec.specs.State.{HeapState}
+use Rattle.mps_heap_spec.specs.Units.{HasDoneUnits}
 use Rattle.mps_heap_spec.specs.declared.found.Reserving.{Reserving}
 
+-- ---- what is due
+
+-- where there is no chain nothing is
+pub none_without_a_chain : (c : ChainsState) (ss : List Segment) → length c.chains ≡ 0 → due_now c ss ≡ None
+none_without_a_chain c ss none = of_chains c.chains none
+  where
+    of_chains : (cs : List (List ℕ)) → length cs ≡ 0 → due_generation (loads_from c ss 0 cs) ≡ None
+    of_chains [] e = refl
+    of_chains (capacities ∷ cs) e = absurd (omega (arith, e))
+
+-- the generation that a call found to be due is the one that is
+pub is_due : (o : Option Due) (found : DueGeneration) → option_map in_numbers o ≡ Some found
+    → (due : Due) × (o ≡ Some due) × (Generations found.chain found.generation ≡ condemned_by due)
+is_due None found e = absurd (none-some found e)
+is_due (Some due) found e =
+    (due, refl, ap (λ (d : DueGeneration). Generations d.chain d.generation) (sym (same_Some (in_numbers due) found e)))
+
+pub none_is_due : (o : Option Due) → option_map in_numbers o ≡ None → o ≡ None
+none_is_due None e = refl
+none_is_due (Some due) e = absurd (none-some (in_numbers due) (sym e))
+
 module _ {F : Type 0} (layout : F → Layout) (h : HeapState F) (m : Moves) where
-  -- a `reserve` that its checks refuse doesn't poll
+  -- ---- a poll
+
+  pub units_polled : (h' : HeapState F) (m' : Moves) → is_some h.running ≡ true → HasDoneUnits layout h m units_of_poll h' m'
+      → HasPolled layout h m h' m'
+  units_polled h' m' runs units =
+      subst (λ b. MatchBool b (HasDoneUnits layout h m units_of_poll h' m') (HasFlipped layout h m (due_in h) h' m')) (sym runs) units
+
+  pub nothing_polled : is_some h.running ≡ false → due_in h ≡ None → HasPolled layout h m h m
+  nothing_polled rests none =
+      subst (λ b. MatchBool b (HasDoneUnits layout h m units_of_poll h m) (HasFlipped layout h m (due_in h) h m)) (sym rests)
+      (subst (λ o. HasFlipped layout h m o h m) (sym none) (refl, refl))
+
+  pub flip_polled : (h' : HeapState F) (m' : Moves) (due : Due) → is_some h.running ≡ false → due_in h ≡ Some due
+      → IsStarted layout (condemned_by due) h m h' m' → HasPolled layout h m h' m'
+  flip_polled h' m' due rests is started =
+      subst (λ b. MatchBool b (HasDoneUnits layout h m units_of_poll h' m') (HasFlipped layout h m (due_in h) h' m')) (sym rests)
+      (subst (λ o. HasFlipped layout h m o h' m') (sym is) started)
+
+  none_runs : (o : Option Running) → is_some o ≡ false → o ≡ None
+  none_runs None e = refl
+  none_runs (Some run) e = absurd (false≢true (sym e))
+
+  -- what a generation that was found to be due may be flipped by
+  pub may_flip : (found : DueGeneration) → MayFlip layout h m → is_some h.running ≡ false → option_map in_numbers (due_in h) ≡ Some found
+      → CanStart layout (Generations found.chain found.generation) h m
+  may_flip found may rests is =
+      let due = is_due (due_in h) found is in
+      subst (λ what. CanStart layout what h m) (sym due.2) (may due.0 (none_runs h.running rests) due.1)
+
+  pub found_polled : (h' : HeapState F) (m' : Moves) (found : DueGeneration) → is_some h.running ≡ false
+      → option_map in_numbers (due_in h) ≡ Some found → IsStarted layout (Generations found.chain found.generation) h m h' m'
+      → HasPolled layout h m h' m'
+  found_polled h' m' found rests is started =
+      let due = is_due (due_in h) found is in
+      flip_polled h' m' due.0 rests due.1 (subst (λ what. IsStarted layout what h m h' m') due.2 started)
+
+  -- ---- whether a `reserve` polls
+
+  -- it does in an unclamped arena where the block has no place at hand
+  pub polls_so : (r : Reserving) → IsClosedAt h.points r.point.key r.point.value → (fits : Bool)
+      → ((p : Point) → point_at h.points r.point.key ≡ Some p → fits ≡ is_place (placement_at p h.segs r.words))
+      → (is_unclamped h.arena && not fits) ≡ polls_for h (Ok r)
+  polls_so r closed fits place = ap (λ b. is_unclamped h.arena && not b) (place r.point.value closed.there)
+
+  -- ---- the call
+
+  refused_so : {A : Type 0} (h' : HeapState F) (m' : Moves) (x : Checked A) (f : A → Checked (Moved F (Unit {0}))) (why : Refusal)
+      → x ≡ Err why → (result : Checked (Unit {0})) → result ≡ Err why → ComesMoving h' m' (x >>= f) result h' m'
+  refused_so h' m' x f why e result answered =
+      subst (λ y. ComesMoving h' m' (y >>= f) result h' m') (sym e) (record { answer = answered; state = refl; moves = refl })
+
+  -- after its poll a `reserve` may be refused by its checks
+  pub refused_after : (h' : HeapState F) (m' : Moves) (name : Name) (head : ℕ) (why : Refusal) → check_reserve layout h' name head ≡ Err why
+      → (result : Checked (Unit {0})) → result ≡ Err why
+      → ComesMoving h' m' (after_reserve layout h' m' name head) result h' m'
+  refused_after h' m' name head why is result answered = refused_so h' m' (check_reserve layout h' name head) _ why is result answered
+
+  -- one that its checks refuse doesn't poll
   pub refused_reserve : (name : Name) (head : ℕ) (why : Refusal) → check_reserve layout h name head ≡ Err why
       → (result : Checked (Unit {0})) → result ≡ Err why → HasReserved layout h m name head result h m
   refused_reserve name head why is result answered = record {
     polled = h;
     trail_polled = m;
     poll = subst (λ x. IsPolled layout h m x h m) (sym is) (refl, refl);
-    comes = refused_so (check_reserve layout h name head) _ is result answered;
+    comes = refused_after h m name head why is result answered;
   }
+
+  -- the poll of one that polls
+  pub polled_so : (h' : HeapState F) (m' : Moves) (checked : Checked Reserving) → polls_for h checked ≡ true → HasPolled layout h m h' m'
+      → IsPolled layout h m checked h' m'
+  polled_so h' m' checked polling polled =
+      subst (λ b. MatchBool b (HasPolled layout h m h' m') ((h' ≡ h) × (m' ≡ m))) (sym polling) polled
+
+  -- one that doesn't poll, or whose poll does nothing
+  pub unpolled_so : (checked : Checked Reserving) → (polls_for h checked ≡ true → HasPolled layout h m h m)
+      → IsPolled layout h m checked h m
+  unpolled_so checked nothing = of_polling (polls_for h checked) refl
     where
-      refused_so : {A : Type 0} (x : Checked A) (f : A → Checked (Moved F (Unit {0}))) → x ≡ Err why → (result : Checked (Unit {0}))
-          → result ≡ Err why → ComesMoving h m (x >>= f) result h m
-      refused_so x f e result answered =
-          subst (λ y. ComesMoving h m (y >>= f) result h m) (sym e) (record { answer = answered; state = refl; moves = refl })
-
-  module _ (h' : HeapState F) (m' : Moves) where
-    -- where the block has no place at hand in an unclamped arena, units are a poll
-    pub units_polled : (seen : HeapState F) → seen ≡ h → (r : Reserving) → IsClosedAt h.points r.point.key r.point.value
-        → (fits : Bool) → ((p : Point) → point_at seen.points r.point.key ≡ Some p → fits ≡ is_place (placement_at p seen.segs r.words))
-        → fits ≡ false → (unclamped : Bool) → unclamped ≡ is_unclamped seen.arena → unclamped ≡ true
-        → HasDoneUnits layout h m units_of_poll h' m' → IsPolled layout h m (Ok r) h' m'
-    units_polled seen is r closed fits place none unclamped state so units =
-        let there = ap (λ (g : HeapState F). point_at g.points r.point.key) is ∙ closed.there in
-        let none_there : is_place (placement_at r.point.value h.segs r.words) ≡ false =
-        ap (λ (g : HeapState F). is_place (placement_at r.point.value g.segs r.words)) (sym is)
-        ∙ sym (place r.point.value there) ∙ none
-        in
-        let unclamped_there : is_unclamped h.arena ≡ true = ap (λ (g : HeapState F). is_unclamped g.arena) (sym is) ∙ sym state ∙ so in
-        subst (λ b. MatchBool b (HasDoneUnits layout h m units_of_poll h' m') ((h' ≡ h) × (m' ≡ m)))
-        (sym (ap (λ b. b && not (is_place (placement_at r.point.value h.segs r.words))) unclamped_there ∙ ap not none_there)) units
-
-    -- ---- what it leaves
-
-    -- what units leave, a poll leaves
-    by_units : (P : HeapState F → Moves → Type 0) → ((units : HasDoneUnits layout h m units_of_poll h' m') → P h' m') → P h m
-        → (checked : Checked Reserving) → IsPolled layout h m checked h' m' → P h' m'
-    by_units P after before checked polled = of_polling (polls_for h checked) polled
-      where
-        of_polling : (b : Bool) → MatchBool b (HasDoneUnits layout h m units_of_poll h' m') ((h' ≡ h) × (m' ≡ m)) → P h' m'
-        of_polling true units = after units
-        of_polling false still = subst (λ g. P g m') (sym still.0) (subst (λ t. P h t) (sym still.1) before)
-
-    -- all that units don't change
-    after_units_same : {A : Type 0} (f : HeapState F → A) → ((s : SegsState) (tails : AmcState) (finals : FinalsState)
-        (running : Option Running) → f (record h { segs = s; tails = tails; finals = finals; running = running }) ≡ f h)
-        → HasDoneUnits layout h m units_of_poll h' m' → f h' ≡ f h
-    after_units_same f same (none_runs none is trail) = ap f is
-    after_units_same f same (goes_on run next running units is) = ap f is ∙ same h'.segs h'.tails h'.finals (Some next)
-    after_units_same f same (ends run running over is) = ap f is ∙ same h'.segs h'.tails h'.finals None
-
-    pub checked_still : (name : Name) (head : ℕ) (checked : Checked Reserving) → IsPolled layout h m checked h' m'
-        → check_reserve layout h' name head ≡ check_reserve layout h name head
-    checked_still name head =
-        by_units (λ g t. check_reserve layout g name head ≡ check_reserve layout h name head)
-        (after_units_same (λ g. check_reserve layout g name head) (λ s tails finals running. refl)) refl
-
-    pub closed_still : (r : Reserving) → IsPolled layout h m (Ok r) h' m' → IsClosedAt h.points r.point.key r.point.value
-        → IsClosedAt h'.points r.point.key r.point.value
-    closed_still r polled closed =
-        let same = by_units (λ g t. g.points ≡ h.points)
-        (after_units_same (λ (g : HeapState F). g.points) (λ s tails finals running. refl)) refl (Ok r) polled in
-        subst (λ points. IsClosedAt points r.point.key r.point.value) (sym same) closed
-
-    module _ (can : CanPoll layout h m) where
-      pub ready_still : IsReady h → (checked : Checked Reserving) → IsPolled layout h m checked h' m' → IsReady h'
-      ready_still ready = by_units (λ g t. IsReady g) (can.ready h' m') ready
-
-      pub room_still : 0 < m.spare → (checked : Checked Reserving) → IsPolled layout h m checked h' m' → 0 < m'.spare
-      room_still some = by_units (λ g t. 0 < t.spare) (can.room h' m') some
+      of_polling : (b : Bool) → polls_for h checked ≡ b → MatchBool b (HasPolled layout h m h m) ((h ≡ h) × (m ≡ m))
+      of_polling true is = nothing is
+      of_polling false is = (refl, refl)

@@ -1,23 +1,25 @@
 // The calls by which a client allocates objects.
-ghost use Rattle.std.specs.Prelude.{◌≡◌, ◌+◌, ◌*◌, ◌<◌, ◌≤◌, Ok, Some, IsTrue, IfOk};
+ghost use Rattle.std.specs.Prelude.{◌≡◌, ◌+◌, ◌*◌, ◌<◌, ◌≤◌, false, is_some, None, Ok, Some, IsTrue, IfOk};
 ghost use Rattle.mps_base.specs.Address.{max_block_words, word_of, words_of_grain};
 ghost use Rattle.mps_buffer.specs.Tokens.{IsClosedAt};
 ghost use Rattle.mps_seg.specs.Table.{IsMarked};
 ghost use Rattle.mps_heap_spec.specs.State.{IsReady};
 ghost use Rattle.mps_heap_spec.specs.Coming.{Comes, ComesMoving};
-ghost use Rattle.mps_heap_spec.specs.Polling.{CanPoll, HasReserved, IsPolled, units_of_poll};
+ghost use Rattle.mps_heap_spec.specs.Polling.{CanPoll, HasPolled, HasReserved, MayFlip, due_in, polls_for, units_of_poll};
 ghost use Rattle.mps_heap_spec.specs.Units.{CanDoUnits};
-ghost use Rattle.mps_heap_spec.specs.Allocating.{check_reserve, after_reserve, block_held, with_reserved_word, number_initialised, reference_initialised, after_commit, keeping_new};
+ghost use Rattle.mps_heap_spec.specs.Allocating.{check_reserve, after_reserve, block_held, with_reserved_word, with_reserved_reference, number_initialised, reference_initialised, after_commit, keeping_new};
 
 use mps_base::{Addr, Name, Refusal, Slot, Trail};
 use mps_buffer::{Held, Point};
 use mps_format::{Format, format_of_pool};
 use mps_heap_spec::{
-    Block, Committed, Reserving, number_cell_at, reference_cell_at, reservation_of, takes_head,
-    with_target, write_word,
+    Block, CellFound, Committed, Reserving, number_cell_at, reference_cell_at, reservation_of,
+    takes_head, write_reference, write_word,
 };
 use mps_heap_state::State;
-use mps_heap_state::units::do_units;
+use mps_heap_state::units::{begin, do_units};
+use mps_policy::due_now;
+use mps_trace::Condemn;
 
 /// How many units a poll asks of the collection that runs.
 const UNITS_OF_POLL: u64 = 64;
@@ -47,30 +49,39 @@ fn check_reserve<F: Format>(state: &State<F>, name: Name, head: u64) -> Result<R
     Ok(Reserving { point, words })
 }
 
-/// The poll of a `reserve` that passed its checks: if a collection runs in an unclamped arena, and nothing that is held has a place for
-/// the block, the collection does 64 units, or fewer if it ends in them.
+/// Whether a poll may have work: a collection runs, or there is a chain.
 #[inline(always)]
-fn poll<F: Format>(state: &mut State<F>, trail: &mut Trail, r: Reserving)
-    requires there { IsClosedAt state.old.points r.point.key r.point.value }
-    requires nonzero { 0 < r.words }
-    requires can { CanDoUnits F.layout state.old trail.old units_of_poll }
-    ensures { IsPolled F.layout state.old trail.old (Ok r) state.new trail.new }
+fn has_work<F: Format>(state: &State<F>) -> bool
+    ensures { result ≡ false → (is_some state.now.running ≡ false) × (due_in state.now ≡ None) }
 {
-    if state.running.is_some() {
-        poll_running(state, trail, r);
-    }
+    state.running.is_some() || state.pools.chain_count() != 0
 }
 
-/// The same while a collection runs. Not inlined, to keep a `reserve` small where none runs.
-#[inline(never)]
-fn poll_running<F: Format>(state: &mut State<F>, trail: &mut Trail, r: Reserving)
-    requires there { IsClosedAt state.old.points r.point.key r.point.value }
+/// Whether a `reserve` that passed its checks polls: in an unclamped arena, if nothing that is held has a place for the block.
+fn polls<F: Format>(state: &State<F>, r: Reserving) -> bool
+    requires there { IsClosedAt state.now.points r.point.key r.point.value }
     requires nonzero { 0 < r.words }
-    requires can { CanDoUnits F.layout state.old trail.old units_of_poll }
-    ensures { IsPolled F.layout state.old trail.old (Ok r) state.new trail.new }
+    ensures { result ≡ polls_for state.now (Ok r) }
 {
-    if state.arena.is_unclamped() && !state.points.fits(&state.segs, r.point.key, r.words) {
+    state.arena.is_unclamped() && !state.points.fits(&state.segs, r.point.key, r.words)
+}
+
+/// A poll: the collection that runs does 64 units, or fewer if it ends in them. If none runs, one of the generation that is due begins.
+fn poll<F: Format>(state: &mut State<F>, trail: &mut Trail)
+    requires units { CanDoUnits F.layout state.old trail.old units_of_poll }
+    requires flip { MayFlip F.layout state.old trail.old }
+    ensures { HasPolled F.layout state.old trail.old state.new trail.new }
+{
+    if state.running.is_some() {
         do_units(state, trail, UNITS_OF_POLL);
+        return;
+    }
+    if let Some(due) = due_now(state.pools.chains(), &state.segs) {
+        let what = Condemn::Generations {
+            chain: due.chain,
+            oldest: due.generation,
+        };
+        begin(state, trail, what);
     }
 }
 
@@ -97,8 +108,48 @@ fn reserve_checked<F: Format>(
     Ok(())
 }
 
+/// A `reserve` that polls: it is judged anew after the poll.
+fn reserve_after_poll<F: Format>(
+    state: &mut State<F>,
+    trail: &mut Trail,
+    name: Name,
+    head: u64,
+) -> Result<(), Refusal>
+    requires polls { IsTrue (polls_for state.old (check_reserve F.layout state.old name head)) }
+    requires can { CanPoll F.layout state.old trail.old }
+    ensures { HasReserved F.layout state.old trail.old name head result state.new trail.new }
+{
+    poll(state, trail);
+    let r = check_reserve(state, name, head)?;
+    reserve_checked(state, trail, name, head, r)
+}
+
+/// A `reserve` that passed its checks, where a poll may have work. Not inlined, to keep a `reserve` small where none has.
+#[inline(never)]
+fn reserve_with_work<F: Format>(
+    state: &mut State<F>,
+    trail: &mut Trail,
+    name: Name,
+    head: u64,
+    r: Reserving,
+) -> Result<(), Refusal>
+    requires checked { check_reserve F.layout state.old name head ≡ Ok r }
+    requires there { IsClosedAt state.old.points r.point.key r.point.value }
+    requires nonzero { 0 < r.words }
+    requires at_most { r.words ≤ max_block_words }
+    requires ready { IsReady state.old }
+    requires fits { 0 < trail.old.spare }
+    requires can { CanPoll F.layout state.old trail.old }
+    ensures { HasReserved F.layout state.old trail.old name head result state.new trail.new }
+{
+    if polls(state, r) {
+        return reserve_after_poll(state, trail, name, head);
+    }
+    reserve_checked(state, trail, name, head, r)
+}
+
 /// Reserves a block with this head at a point. Refuses `BadHead` if the pool takes no such block, `Open` if the point has an
-/// open reservation, and `CommitLimit` and `NoRun` if there is no room. It polls first, if its checks pass.
+/// open reservation, and `CommitLimit` and `NoRun` if there is no room. It polls first, if its checks pass, and is then judged anew.
 #[inline(always)]
 pub fn reserve<F: Format>(
     state: &mut State<F>,
@@ -112,7 +163,9 @@ pub fn reserve<F: Format>(
     ensures { HasReserved F.layout state.old trail.old name head result state.new trail.new }
 {
     let r = check_reserve(state, name, head)?;
-    poll(state, trail, r);
+    if has_work(state) {
+        return reserve_with_work(state, trail, name, head, r);
+    }
     reserve_checked(state, trail, name, head, r)
 }
 
@@ -143,6 +196,22 @@ fn set_reserved_word<F: Format>(state: &mut State<F>, held: Held, word: usize, v
 {
     if held.flips == state.points.flips() {
         write_word(&mut state.segs, word, value);
+    }
+}
+
+/// A reference of a reservation refers to an address, and the summary of its segment gains the zone of that, if it isn't null; nothing
+/// changes if a flip ended the reservation.
+fn set_reserved_reference<F: Format>(
+    state: &mut State<F>,
+    held: Held,
+    block: &Block<F>,
+    cell: CellFound,
+    to: u64,
+)
+    ensures { state.new ≡ with_reserved_reference F.layout state.old held block.now cell to }
+{
+    if held.flips == state.points.flips() {
+        write_reference(&mut state.segs, block, cell, to);
     }
 }
 
@@ -177,8 +246,7 @@ pub fn init_ref<F: Format>(
     let held = reservation_of(point.value)?;
     let block = block_held(state, point.value, held)?;
     let cell = reference_cell_at(&state.segs, &block, k)?;
-    let word = with_target(&block.format, cell.value, from.value);
-    set_reserved_word(state, held, cell.word, word);
+    set_reserved_reference(state, held, &block, cell, from.value);
     Ok(())
 }
 
