@@ -1,13 +1,14 @@
-// A full collection, whole or begun alone.
-ghost use Rattle.std.specs.Prelude.{◌≡◌, ◌^◌, ◌<◌, ◌≤◌, IsTrue, None};
-ghost use Rattle.mps_heap_spec.specs.Collecting.{can_collect, CanCollectAll, CanStart, IsCollected, Starts};
+// A full collection, and one that is begun alone.
+ghost use Rattle.std.specs.Prelude.{◌≡◌, ◌^◌, ◌<◌, ◌≤◌, IsTrue, IfOk};
+ghost use Rattle.mps_heap_spec.specs.Collecting.{can_collect, check_start, check_start_chain, CanCollectAll, CanStart, IsCollected, Starts};
 ghost use Rattle.mps_trace.specs.Collect.{most_moves};
 
-use mps_base::{Refusal, Trail};
+use mps_base::{Name, Refusal, Trail};
 use mps_format::Format;
 use mps_heap_spec::ArenaState;
 use mps_heap_state::State;
-use mps_trace::most_units;
+use mps_heap_state::units::begin;
+use mps_trace::{Condemn, most_units};
 
 /// The most flips that a heap counts.
 const MAX_FLIPS: u64 = 1 << 63;
@@ -50,22 +51,57 @@ pub fn collect<F: Format>(state: &mut State<F>, trail: &mut Trail)
 
 /// Begins a collection of everything: the flip alone, and no unit. The arena is unclamped then. Refuses `Running` if a collection runs.
 pub fn start<F: Format>(state: &mut State<F>, trail: &mut Trail) -> Result<(), Refusal>
-    requires few_flips { IsTrue (can_collect state.old) }
-    requires few_epochs { state.old.epochs.count < 2 ^ 63 }
-    requires can { state.old.running ≡ None → CanStart F.layout state.old trail.old }
-    ensures { Starts F.layout state.old trail.old result state.new trail.new }
+    requires can { IfOk (check_start state.old) (λ what. CanStart F.layout what state.old trail.old) }
+    ensures { Starts F.layout (check_start state.old) state.old trail.old result state.new trail.new }
 {
+    let what = check_start(state)?;
+    begin(state, trail, what);
+    Ok(())
+}
+
+/// Begins a collection of the generations of a chain up to one: the flip alone, and no unit. The arena is unclamped then. Refuses
+/// `BadName` if no chain has this name, `BadIndex` if it has no such generation, and `Running` if a collection runs.
+pub fn start_chain<F: Format>(
+    state: &mut State<F>,
+    trail: &mut Trail,
+    chain: Name,
+    oldest: u64,
+) -> Result<(), Refusal>
+    requires can { IfOk (check_start_chain state.old chain oldest) (λ what. CanStart F.layout what state.old trail.old) }
+    ensures { Starts F.layout (check_start_chain state.old chain oldest) state.old trail.old result state.new trail.new }
+{
+    let what = check_start_chain(state, chain, oldest)?;
+    begin(state, trail, what);
+    Ok(())
+}
+
+/// What a `start` of everything condemns, if it isn't refused.
+fn check_start<F: Format>(state: &State<F>) -> Result<Condemn, Refusal>
+    ensures { result ≡ check_start state.now }
+{
+    match state.running {
+        None => Ok(Condemn::Everything),
+        Some(_) => Err(Refusal::Running),
+    }
+}
+
+/// What a `start` of the generations of a chain up to one condemns, if it isn't refused.
+fn check_start_chain<F: Format>(
+    state: &State<F>,
+    chain: Name,
+    oldest: u64,
+) -> Result<Condemn, Refusal>
+    ensures { result ≡ check_start_chain state.now chain oldest }
+{
+    let on = state.chain_named(chain)?;
+    if u64::from(on.value) <= oldest {
+        return Err(Refusal::BadIndex);
+    }
     if state.running.is_some() {
         return Err(Refusal::Running);
     }
-    state.running = state.pools.begin(
-        &mut state.segs,
-        trail,
-        &mut state.roots,
-        &mut state.points,
-        &mut state.finals,
-        &mut state.epochs,
-    );
-    state.arena = ArenaState::Unclamped;
-    Ok(())
+    Ok(Condemn::Generations {
+        chain: on.key,
+        oldest: oldest as u32,
+    })
 }
