@@ -30,6 +30,7 @@ pub mod LoanSteps
 pub mod CellLoans
 pub mod MakingPoints
 pub mod MakingPools
+pub mod MakingChains
 pub mod Dependencies
 pub mod Labelling
 pub mod ArenaCalls

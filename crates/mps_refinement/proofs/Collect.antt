@@ -1,8 +1,9 @@
 -- A full collection of a heap: a legal step of its world.
-pub mod Leavings
 pub mod SameAddresses
 pub mod FlippedPoints
 pub mod CollectedParts
+pub mod FlipActs
+pub mod Leavings
 pub mod Finished
 pub mod CollectIsRight
 pub mod StrongMoving
@@ -13,13 +14,13 @@ pub mod RoomKept
 pub mod CollectedSegments
 pub mod CollectedHeaps
 pub mod CollectRight
-pub mod NullRoots
 pub mod CanCollect
 pub mod LiveIsFew
 pub mod SegmentsAtRest
 pub mod PoolsKnown
 pub mod ObjectsAtRest
 pub mod BeforeAFlip
+pub mod MayCondemn
 pub mod RootsHeld
 pub mod SameRuns
 pub mod OpenReservations

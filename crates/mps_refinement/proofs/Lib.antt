@@ -4,3 +4,4 @@ pub mod Worlds
 pub mod Parts
 pub mod Lookups
 pub mod Calls
+pub mod Summaries

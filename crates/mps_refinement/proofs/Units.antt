@@ -16,5 +16,8 @@ pub mod Ready
 pub mod Gets
 pub mod GetCalls
 pub mod Outcomes
+pub mod FlipMoves
+pub mod Flips
 pub mod Starts
+pub mod FlipPolls
 pub mod PolledReserves

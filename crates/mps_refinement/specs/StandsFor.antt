@@ -31,7 +31,7 @@ use Rattle.mps_names.specs.declared.names.Thing.TheVariants as thing
 use Rattle.mps_root.specs.State.{kept}
 use Rattle.mps_root.specs.declared.roots.Stored.{Stored}
 use Rattle.mps_heap_spec.specs.State.{HeapState}
-use Rattle.mps_format.specs.Pools.{size_of_pool}
+use Rattle.mps_format.specs.Pools.{policy_of_pool, size_of_pool}
 use Rattle.mps_heap_spec.specs.declared.arena.ArenaState.{ArenaState}
 use Rattle.mps_heap_spec.specs.declared.arena.ArenaState.TheVariants as arena
 use Rattle.mps_format.specs.declared.pool.Pool.{Pool}
@@ -48,6 +48,7 @@ use Rattle.mps_trace.specs.declared.running.Band.TheVariants as band
 use Rattle.mps_trace.specs.declared.running.Running.{Running as RunningState}
 use Rattle.mps_trace_laws.specs.Fix.Ranks.{AreMarksRanked}
 use Rattle.mps_trace_laws.specs.Image.Image.{Stands, no_colours}
+use Rattle.mps_trace_laws.specs.Summaries.Summed.{AreWordsSummed}
 use Rattle.mps_seg.specs.Segs.{SegsState}
 pub use Rattle.mps_trace_laws.specs.Units.Finals.{address_of_id}
 pub use Rattle.mps_trace_laws.specs.Units.Standing.{band_of}
@@ -154,12 +155,10 @@ module _ {F : Type 0} (layout : F → Layout) where
         → (q : world.Pool) × (slice_get numbered number ≡ Some q) × IsPool formats p q
 
 -- the chains of the heap are those of the model, by their numbers, and each pool is on the same one. Only a pool that copies is on one.
--- No chain is made yet: a poll flips no generation that is due
 pub record AreChains (kept : ChainsState) (chains : List (List ℕ)) (pools : List world.Pool) : Type 0 where
   pub same : kept ≡ record { chains = chains; of_pool = map (λ (p : world.Pool). p.chain) pools }
   pub copying : (number chain : ℕ) (p : world.Pool) → slice_get pools number ≡ Some p → p.chain ≡ Some chain
       → IsTrue (is_copying_kind p.kind)
-  pub none : chains ≡ []
 
 -- what is kept of a dependency: its epoch and its zones
 abbrev pub kept_of : Dependency → LdState
@@ -249,6 +248,8 @@ pub record AreParts {F : Type 0} (layout : F → Layout) (past : Past) (h : Heap
   pub segments : h.segs.segments ≡ w.segments
   pub image : StandsAt past.time h.segs w
   pub arena : IsArena h.segs.grains h.points
+  -- the summaries of segments have the zones of what their blocks and reservations refer to
+  pub summed : AreWordsSummed layout (map policy_of_pool h.pools) h.segs
   -- the roots, tables in the order in which they were made, and how many there are
   pub tables : AreNumbered (AreSlots w.addresses) past.table_number (kept h.roots.tables) w.graph.tables
   pub ordered : AreOrdered past.table_number h.roots.order (kept h.roots.tables) w.graph.tables

@@ -113,6 +113,7 @@ module _ {F : Type 0} (layout : F → Layout) (past : Past) (h : HeapState F) (w
         limit = refl;
         segments_are = parts.segments;
         image = image_closed doomed;
+        summed = parts.summed;
         arena =
             resting_points h.segs.grains h.points
             (with_point h.points k.key (Some (after_close k.value))) parts.arena (λ key x other e f.

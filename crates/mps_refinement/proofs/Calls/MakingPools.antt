@@ -1,5 +1,5 @@
 -- `pool`: a pool that is made stands for that of the model.
-use Rattle.std.proofs.Common.{◌≡◌, ◌∙◌, ℕ, ◌+◌, false, refl, sym, ap, subst, List, [], ◌∷◌, ◌++◌, length, map, Option, Some, None, inl, inr, arith}
+use Rattle.std.proofs.Common.{◌≡◌, ◌∙◌, ℕ, ◌+◌, false, refl, sym, ap, subst, List, [], ◌∷◌, ◌++◌, length, map, Option, Some, None, Ok, Err, IsTrue, inl, inr, arith}
 use Rattle.std.proofs.lemmas.Bool.{cases_order}
 use Rattle.std.proofs.lemmas.List.{length-append, map-append}
 use Rattle.std.proofs.lemmas.Option.{none-some, same_Some, slice_get-map}
@@ -13,10 +13,11 @@ use Rattle.mps_format.specs.Layout.{Layout}
 use Rattle.mps_trace_laws.specs.Image.Memory.{memory_in, pool_layout}
 use Rattle.mps_laws.proofs.Lookups.{entry_is_there, length-with_last, slice_get-after_last, slice_get-at_last, slice_get-kept, slice_get-last, there_is}
 use Rattle.mps_laws.proofs.Sound.PoolsThere.{IsPointPoolThere, all-at, IsPoolThere}
-use Rattle.mps_laws.proofs.Same.{Alike, same_next, same_refuse_when}
+use Rattle.mps_laws.proofs.Same.{Alike, Same, fits, same_next, same_refuse_when, same_then}
 use Rattle.mps_model.specs.declared.call.Call.{Call}
 use Rattle.mps_model.specs.declared.call.Call.TheVariants as call
-use Rattle.mps_model.specs.Checked.{Checked, ◌>>◌, done, refuse_when}
+use Rattle.mps_model.specs.Checked as models
+use Rattle.mps_model.specs.Checked.{Checked, Numbered, ◌>>=◌, ◌>>◌, done, refuse_when}
 use Rattle.mps_model.specs.Graph as graph
 use Rattle.mps_model.specs.Graph.{entry_at, with_last}
 use Rattle.mps_model.specs.Making as model
@@ -27,8 +28,10 @@ use Rattle.mps_model.specs.World.{World, Collected, OneSize, AnySize, is_copying
 use Rattle.mps_names.specs.State.{thing_named}
 use Rattle.mps_names.specs.declared.names.Thing.TheVariants as thing
 use Rattle.mps_trace.specs.GenState.{ChainsState}
-use Rattle.mps_pools.specs.Pools.{with_pool_on}
-use Rattle.mps_heap_spec.specs.Making.{IsMaking, MakesPool, check_pool, check_pool_of_size, refuse_taken}
+use Rattle.mps_pools.specs.Pools.{tails_on, with_pool_on}
+use Rattle.mps_heap_spec.specs.Finding.{chain_named}
+use Rattle.mps_heap_spec.specs.Making.{IsMaking, MakesPool, MakesPoolOn, check_pool, check_pool_on_chain, check_pool_of_size, refuse_taken, without_answer}
+use Rattle.mps_heap_spec.specs.declared.found.Kept.{Kept}
 use Rattle.mps_heap_spec.specs.State.{HeapState}
 use Rattle.mps_format.specs.Pools.{size_of_pool}
 use Rattle.mps_format.specs.declared.pool.Pool.{Pool}
@@ -37,6 +40,8 @@ use Rattle.mps_refinement.proofs.Worlds.CollectorKept.{KeepsAll, one_more_kept}
 use Rattle.mps_refinement.specs.Making.{IsRightMaking, IsRightMakingIn, MeansLayout}
 use Rattle.mps_refinement.specs.StandsFor.{AreChains, AreParts, ArePools, IsPool, Past, setting_at, collector_of}
 use Rattle.mps_refinement.proofs.Calls.MakingSteps.{MakesAlike, checks_then, first_passed, free_name, making_is_right, making_is_right_in, taken_same}
+use Rattle.mps_refinement.proofs.Calls.DroppingSteps.{ours_ok}
+use Rattle.mps_refinement.proofs.Lookups.Lookups.{IsChainFound, chain_same}
 use Rattle.mps_refinement.proofs.Lookups.PoolKinds.{same_frames}
 use Rattle.mps_refinement.proofs.Parts.Named.{ThingsStay, named_made}
 use Rattle.mps_refinement.proofs.Parts.Numbering.{fitting_there}
@@ -46,10 +51,12 @@ use Rattle.mps_refinement.proofs.Worlds.Steps.{HasParts}
 use Rattle.mps_trace_laws.specs.Image.Image.{black_cells}
 use Rattle.mps_laws.proofs.LeftByActs.{owners}
 use Rattle.mps_refinement.proofs.Worlds.Known.{IsKnown}
+use Rattle.mps_refinement.proofs.Summaries.OtherPools.{pool_made_summed}
 
 module _ {F : Type 0} (layout : F → Layout) (h : HeapState F) (name : Name) (p : Pool F) where
   module _ (w : World) (past : Past) (parts : AreParts layout past h w) (known : IsKnown past.time w) (q : world.Pool)
-      (fit : IsPool layout w.formats p q) (on_none : q.chain ≡ None) where
+      (fit : IsPool layout w.formats p q) (chain : Option ℕ) (on : q.chain ≡ chain)
+      (copies : (number : ℕ) → chain ≡ Some number → IsTrue (is_copying_kind q.kind)) where
     abbrev pools : List world.Pool
     pools = with_last w.pools q
 
@@ -75,22 +82,22 @@ module _ {F : Type 0} (layout : F → Layout) (h : HeapState F) (name : Name) (p
               | inr (inr high) ↦ absurd (none-some x (sym (slice_get-after_last h.pools p number high) ∙ is))
             ]
 
-    chains_fit : AreChains (with_pool_on h.chains None) w.chains pools
+    chains_fit : AreChains (with_pool_on h.chains chain) w.chains pools
     chains_fit = record {
       same =
-          ap (λ (c : ChainsState). with_pool_on c None) parts.chains.same
+          ap (λ (c : ChainsState). with_pool_on c chain) parts.chains.same
           ∙ ap (λ (of : List (Option ℕ)). let c : ChainsState = record { chains = w.chains; of_pool = of } in c)
-          (ap (λ o. map (λ (x : world.Pool). x.chain) w.pools ++ o ∷ []) (sym on_none)
+          (ap (λ o. map (λ (x : world.Pool). x.chain) w.pools ++ o ∷ []) (sym on)
           ∙ sym (map-append (λ (x : world.Pool). x.chain) w.pools (q ∷ [])));
-      copying = λ number chain x is on.
+      copying = λ number n x is of.
           elim (cases_order number (length w.pools)) [
             | inl at_last ↦
                 let same = same_Some q x (sym (ap (slice_get pools) at_last ∙ slice_get-at_last w.pools q) ∙ is) in
-                absurd (none-some chain (sym on_none ∙ ap (λ (y : world.Pool). y.chain) same ∙ on))
-            | inr (inl low) ↦ parts.chains.copying number chain x (sym (slice_get-last w.pools q number low) ∙ is) on
+                subst (λ (y : world.Pool). IsTrue (is_copying_kind y.kind)) same
+                (copies n (sym on ∙ ap (λ (y : world.Pool). y.chain) same ∙ of))
+            | inr (inl low) ↦ parts.chains.copying number n x (sym (slice_get-last w.pools q number low) ∙ is) of
             | inr (inr high) ↦ absurd (none-some x (sym (slice_get-after_last w.pools q number high) ∙ is))
           ];
-      none = parts.chains.none;
     }
 
     -- whether a collection moves the blocks of a point's pool is as it was
@@ -113,7 +120,7 @@ module _ {F : Type 0} (layout : F → Layout) (h : HeapState F) (name : Name) (p
         ap (λ x. w.formats (option_map_or (λ (y : world.Pool). y.format) x 0))
         (slice_get-kept w.pools q of.0 o.pool of.1 ∙ sym of.1)
 
-    pool_parts : (number : ℕ) (after : HeapState F) → thing_named h.names name ≡ None → MakesPool h name p number after
+    pool_parts : (number : ℕ) (after : HeapState F) → thing_named h.names name ≡ None → MakesPool h name p chain number after
         → HasParts layout past.time after (model.with_pool w name q)
     pool_parts number after free makes = record {
       past = past;
@@ -121,7 +128,7 @@ module _ {F : Type 0} (layout : F → Layout) (h : HeapState F) (name : Name) (p
       parts = subst (λ s. AreParts layout past s (model.with_pool w name q)) (sym makes.state)
           (subst (λ fs. AreParts layout past made (record pooled { graph = record pooled.graph { frames = fs } }))
           (sym (same_frames layout w.formats p q fit w.graph.frames (length w.pools)))
-          (pools_changed layout past h w parts (h.pools ++ p ∷ []) (h.sizes ++ size_of_pool p ∷ []) after.names pools
+          (pools_changed layout past h w parts (h.pools ++ p ∷ []) (h.sizes ++ size_of_pool p ∷ []) chain after.names pools
           (with_last w.graph.names (record { name = name; thing = graph.PoolThing (length w.pools) })) (record {
             pools_are = pools_fit;
             sizes_are = ap (λ sizes. sizes ++ size_of_pool p ∷ []) parts.sizes ∙ sym (map-append size_of_pool h.pools (p ∷ []));
@@ -137,6 +144,7 @@ module _ {F : Type 0} (layout : F → Layout) (h : HeapState F) (name : Name) (p
             });
             image_stands = other_formats_stand (setting_at past.time h.segs w) (pool_layout (record w { pools = pools })) (memory_in h.segs)
                 w.addresses past.time.colours (black_cells past.time.condemned past.time.colours) format_as_before parts.image;
+            words_summed = pool_made_summed layout past h w parts known.laid known.pools p;
             names_are = named_made past past h made w.graph.names w.graph.labels parts.names name (thing.Pool number)
                 (graph.PoolThing (length w.pools))
                 makes.names free (ap graph.PoolThing (makes.number_is ∙ sym parts.pools.count)) (λ other there. refl) stay
@@ -146,7 +154,7 @@ module _ {F : Type 0} (layout : F → Layout) (h : HeapState F) (name : Name) (p
     }
       where
         made : HeapState F
-        made = state_of_pools layout past h w parts (h.pools ++ p ∷ []) (h.sizes ++ size_of_pool p ∷ []) after.names
+        made = state_of_pools layout past h w parts (h.pools ++ p ∷ []) (h.sizes ++ size_of_pool p ∷ []) chain after.names
 
         pooled : World
         pooled = record w {
@@ -178,7 +186,7 @@ module _ {F : Type 0} (layout : F → Layout) (h : HeapState F) (name : Name) (p
     pool_alike : (c : Call)
         → act false w w c
         ≡ (model.refuse_taken w name >> (refuse_at_limit (length w.pools) most_pools >> done (model.with_pool w name q)))
-        → MakesAlike layout past h w c (check_pool h name) (MakesPool h name p)
+        → MakesAlike layout past h w c (check_pool h name) (MakesPool h name p chain)
     pool_alike c is = record {
       models = model.refuse_taken w name >> refuse_at_limit (length w.pools) most_pools;
       made = model.with_pool w name q;
@@ -187,7 +195,7 @@ module _ {F : Type 0} (layout : F → Layout) (h : HeapState F) (name : Name) (p
       alike = same_next (taken_same layout past h w parts name) limit_same;
       formats = refl;
       keeps = λ key after makes. subst (λ (s : HeapState F). KeepsAll (collector_of h) (collector_of s)) (sym makes.state)
-          (one_more_kept h);
+          (one_more_kept h (tails_on h.chains chain));
       has = λ number after ok makes.
           pool_parts number after
           (free_name h name (first_passed (refuse_taken h name) (refuse_at_limit (length h.pools) most_pools) tt ok).1) makes;
@@ -200,7 +208,7 @@ module _ {F : Type 0} (layout : F → Layout) (h : HeapState F) (name : Name) (p
         → act false w w (call.PoolMfs name words)
         ≡ (model.refuse_taken w name >> (refuse_size words
         >> (refuse_at_limit (length w.pools) most_pools >> done (model.with_pool w name q))))
-        → MakesAlike layout past h w (call.PoolMfs name words) (check_pool_of_size h name words) (MakesPool h name p)
+        → MakesAlike layout past h w (call.PoolMfs name words) (check_pool_of_size h name words) (MakesPool h name p chain)
     pool_of_size_alike words is = record {
       models = model.refuse_taken w name >> (refuse_size words >> refuse_at_limit (length w.pools) most_pools);
       made = model.with_pool w name q;
@@ -213,44 +221,123 @@ module _ {F : Type 0} (layout : F → Layout) (h : HeapState F) (name : Name) (p
           (same_next (same_refuse_when (not (is_block_size words)) (not (is_block_size words)) refusal.BadSize refl) limit_same);
       formats = refl;
       keeps = λ key after makes. subst (λ (s : HeapState F). KeepsAll (collector_of h) (collector_of s)) (sym makes.state)
-          (one_more_kept h);
+          (one_more_kept h (tails_on h.chains chain));
       has = λ number after ok makes.
           pool_parts number after
           (free_name h name (first_passed (refuse_taken h name) (refuse_size words >> refuse_at_limit (length h.pools) most_pools) tt ok).1)
           makes;
     }
 
+-- ---- a pool on a chain
+
+module _ {F : Type 0} (layout : F → Layout) (h : HeapState F) (name chain : Name) (kind : Kind) (format : F) (number : ℕ)
+    (copies : IsTrue (is_copying_kind (Collected kind))) (w : World) (past : Past) (means : w.formats number ≡ layout format)
+    (parts : AreParts layout past h w) (known : IsKnown past.time w) where
+  abbrev pool_on : (chain : ℕ) → world.Pool
+  pool_on chain = record { kind = Collected kind; format = number; chain = Some chain }
+
+  abbrev model_check : Checked (Numbered (List ℕ))
+  model_check =
+      model.refuse_taken w name >> (models.chain_named w chain >>= (λ on. refuse_at_limit (length w.pools) most_pools >> Ok on))
+
+  abbrev made_of : Checked (Numbered (List ℕ)) → World
+  made_of (Ok on) = model.with_pool w name (pool_on on.number)
+  made_of (Err why) = w
+
+  check_same : Same (IsChainFound h w) (check_pool_on_chain h name chain) model_check
+  check_same =
+      same_next (taken_same layout past h w parts name)
+      (same_then (chain_same layout past h w parts chain) (λ k n found.
+      same_next (same_refuse_when (nat_le most_pools (length h.pools)) (nat_le most_pools (length w.pools)) (refusal.TooMany most_pools)
+      (ap (nat_le most_pools) (sym parts.pools.count))) (fits found)))
+
+  comes_of : (t : Checked (Unit {0})) (y : Checked (Numbered (List ℕ))) (limit : Checked (Unit {0}))
+      → (t >> (y >>= (λ on. limit >> done (model.with_pool w name (pool_on on.number)))))
+      ≡ (without_answer (t >> (y >>= (λ on. limit >> Ok on))) >> done (made_of (t >> (y >>= (λ on. limit >> Ok on)))))
+  comes_of (Err why) y limit = refl
+  comes_of (Ok u) (Err why) limit = refl
+  comes_of (Ok u) (Ok on) (Ok v) = refl
+  comes_of (Ok u) (Ok on) (Err why) = refl
+
+  same_passed : (x : Checked (Kept ℕ)) (y : Checked (Numbered (List ℕ))) → Same (IsChainFound h w) x y
+      → Alike (without_answer x) (without_answer y)
+  same_passed x y (fits fit) = fits tt
+  same_passed x y Rattle.mps_laws.proofs.Same.refused = Rattle.mps_laws.proofs.Same.refused
+
+  pool_on_chain_alike : MakesAlike layout past h w (call.PoolOnChain name kind number chain)
+      (without_answer (check_pool_on_chain h name chain)) (MakesPoolOn h name chain (pool.Automatic kind format))
+  pool_on_chain_alike = record {
+    models = without_answer model_check;
+    made = made_of model_check;
+    comes = comes_of (model.refuse_taken w name) (models.chain_named w chain) (refuse_at_limit (length w.pools) most_pools);
+    alike = same_passed (check_pool_on_chain h name chain) model_check check_same;
+    formats = formats_of model_check;
+    keeps = λ key after m. subst (λ (s : HeapState F). KeepsAll (collector_of h) (collector_of s)) (sym m.makes.state)
+        (one_more_kept h (tails_on h.chains (Some m.on.key)));
+    has = λ key after ok m. has key after m;
+  }
+    where
+      formats_of : (x : Checked (Numbered (List ℕ))) → (made_of x).formats ≡ w.formats
+      formats_of (Ok on) = refl
+      formats_of (Err why) = refl
+
+      has : (key : ℕ) (after : HeapState F) → MakesPoolOn h name chain (pool.Automatic kind format) key after
+          → HasParts layout past.time after (made_of model_check)
+      has key after m =
+          let y = ours_ok (IsChainFound h w) (check_pool_on_chain h name chain) model_check m.on check_same m.found in
+          let free = free_name h name (first_passed (refuse_taken h name)
+          (chain_named h chain >>= (λ on. refuse_at_limit (length h.pools) most_pools >> Ok on)) m.on m.found).1 in
+          subst (λ x. HasParts layout past.time after (made_of x)) (sym y.1)
+          (pool_parts layout h name (pool.Automatic kind format) w past parts known (pool_on y.0.number) (refl, means) (Some m.on.key)
+          (ap Some y.2.number) (λ n is. copies) key after free m.makes)
+
 -- ---- the calls
+
+-- a pool on no chain is on none that there is
+on_none : {A : Type 0} (number : ℕ) → None ≡ Some number → A
+on_none number is = absurd (none-some number is)
 
 -- in each world where this number means the format
 pub pool_is_right : {F : Type 0} (layout : F → Layout) (h : HeapState F) (name : Name) (kind : Kind) (format : F) (number : ℕ)
     (result : Result ℕ Refusal) (after : HeapState F)
-    → IsMaking h (check_pool h name) (MakesPool h name (pool.Automatic kind format)) result after
+    → IsMaking h (check_pool h name) (MakesPool h name (pool.Automatic kind format) None) result after
     → IsRightMakingIn layout (MeansLayout number (layout format)) h (call.Pool name kind number) result after
 pool_is_right layout h name kind format number result after making =
-    making_is_right_in layout h (call.Pool name kind number) (check_pool h name) (MakesPool h name (pool.Automatic kind format))
+    making_is_right_in layout h (call.Pool name kind number) (check_pool h name) (MakesPool h name (pool.Automatic kind format) None)
     (MeansLayout number (layout format)) refl refl
     (λ w past means parts reached.
     pool_alike layout h name (pool.Automatic kind format) w past parts reached
-    (record { kind = Collected kind; format = number; chain = None }) (refl, means) refl (call.Pool name kind number) refl)
+    (record { kind = Collected kind; format = number; chain = None }) (refl, means) None refl on_none (call.Pool name kind number) refl)
     result after making
 
 pub pool_mfs_is_right : {F : Type 0} (layout : F → Layout) (h : HeapState F) (name : Name) (words : ℕ) (result : Result ℕ Refusal)
-    (after : HeapState F) → IsMaking h (check_pool_of_size h name words) (MakesPool h name (pool.OneSize words)) result after
+    (after : HeapState F) → IsMaking h (check_pool_of_size h name words) (MakesPool h name (pool.OneSize words) None) result after
     → IsRightMaking layout h (call.PoolMfs name words) result after
 pool_mfs_is_right layout h name words result after making =
-    making_is_right layout h (call.PoolMfs name words) (check_pool_of_size h name words) (MakesPool h name (pool.OneSize words)) refl refl
+    making_is_right layout h (call.PoolMfs name words) (check_pool_of_size h name words) (MakesPool h name (pool.OneSize words) None) refl
+    refl
     (λ w past parts reached.
     pool_of_size_alike layout h name (pool.OneSize words) w past parts reached
-    (record { kind = OneSize words; format = 0; chain = None }) refl refl words refl)
+    (record { kind = OneSize words; format = 0; chain = None }) refl None refl on_none words refl)
     result after making
 
 pub pool_mvff_is_right : {F : Type 0} (layout : F → Layout) (h : HeapState F) (name : Name) (result : Result ℕ Refusal)
-    (after : HeapState F) → IsMaking h (check_pool h name) (MakesPool h name pool.AnySize) result after
+    (after : HeapState F) → IsMaking h (check_pool h name) (MakesPool h name pool.AnySize None) result after
     → IsRightMaking layout h (call.PoolMvff name) result after
 pool_mvff_is_right layout h name result after making =
-    making_is_right layout h (call.PoolMvff name) (check_pool h name) (MakesPool h name pool.AnySize) refl refl
+    making_is_right layout h (call.PoolMvff name) (check_pool h name) (MakesPool h name pool.AnySize None) refl refl
     (λ w past parts reached.
-    pool_alike layout h name pool.AnySize w past parts reached (record { kind = AnySize; format = 0; chain = None }) refl refl
+    pool_alike layout h name pool.AnySize w past parts reached (record { kind = AnySize; format = 0; chain = None }) refl None refl on_none
     (call.PoolMvff name) refl)
+    result after making
+
+-- a copying pool on a chain
+pub pool_on_chain_is_right : {F : Type 0} (layout : F → Layout) (h : HeapState F) (name : Name) (kind : Kind) (format : F) (chain : Name)
+    (number : ℕ) → IsTrue (is_copying_kind (Collected kind)) → (result : Result ℕ Refusal) (after : HeapState F)
+    → IsMaking h (without_answer (check_pool_on_chain h name chain)) (MakesPoolOn h name chain (pool.Automatic kind format)) result after
+    → IsRightMakingIn layout (MeansLayout number (layout format)) h (call.PoolOnChain name kind number chain) result after
+pool_on_chain_is_right layout h name kind format chain number copies result after making =
+    making_is_right_in layout h (call.PoolOnChain name kind number chain) (without_answer (check_pool_on_chain h name chain))
+    (MakesPoolOn h name chain (pool.Automatic kind format)) (MeansLayout number (layout format)) refl refl
+    (λ w past means parts known. pool_on_chain_alike layout h name chain kind format number copies w past means parts known)
     result after making

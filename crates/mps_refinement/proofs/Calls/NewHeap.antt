@@ -24,6 +24,7 @@ use Rattle.mps_refinement.specs.Numbering.{AreNumbered}
 use Rattle.mps_refinement.specs.RightStep.{IsRightIn}
 use Rattle.mps_refinement.specs.StandsFor.{AreParts, Past, numbered_thing, rests, time_at_rest}
 use Rattle.mps_refinement.proofs.Worlds.RestingActs.{resting_sound}
+use Rattle.mps_refinement.proofs.Summaries.Kept.{new_summed}
 
 -- nothing is kept under any key of a row of nothing
 abbrev nothing : (A : Type 0) → (count : ℕ) → List (Option A)
@@ -69,6 +70,7 @@ module _ {F : Type 0} (layout : F → Layout) (formats : ℕ → Layout) (lawful
       within = λ key p held is. absurd (none-some p (sym (no_point key) ∙ is));
       aligned = λ key p held is. absurd (none-some p (sym (no_point key) ∙ is));
     };
+    summed = new_summed layout [] grains limit;
     tables = none_numbered (λ key. refl);
     ordered = record { numbers = refl; kept_there = tt };
     areas = none_numbered (λ key. refl);
@@ -85,7 +87,7 @@ module _ {F : Type 0} (layout : F → Layout) (formats : ℕ → Layout) (lawful
     lawful = lawful;
     pools = record { count = refl; each = λ number p is. absurd (none-some p is) };
     sizes = refl;
-    chains = record { same = refl; copying = λ number chain p is. absurd (none-some p is); none = refl };
+    chains = record { same = refl; copying = λ number chain p is. absurd (none-some p is) };
     dependents = refl;
     names = record {
       named = λ name. sym (ap (option_map (numbered_thing no_past)) (none.free name));

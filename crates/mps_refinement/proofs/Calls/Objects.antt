@@ -1,15 +1,17 @@
 -- The calls on objects are right: `head`, `addr`, `num`, `setnum`, `get`, `put`, `tag`, `settag`.
-use Rattle.std.proofs.Common.{◌≡◌, ◌∙◌, ℕ, ◌+◌, ◌%◌, ◌<◌, refl, sym, ap, subst, List, [], Option, Some, None, inl, arith}
+use Rattle.std.proofs.Common.{◌≡◌, ◌∙◌, ℕ, ◌+◌, ◌%◌, ◌<◌, refl, sym, ap, subst, List, [], map, Option, Some, None, inl, arith}
 use Rattle.std.proofs.lemmas.Option.{none-some, get_or_from_slice_get}
 use Rattle.std.specs.Prelude.{slice_get, slice_set, Bool, true, false, not, Ok}
 use Rattle.std.specs.Option.{option_map_or}
 use Rattle.mps_base.specs.Address.{Address, Id}
 use Rattle.mps_base.specs.declared.names.Slot.{Slot}
 use Rattle.mps_format.specs.Layout.{Layout, IsLawful}
+use Rattle.mps_format.specs.Pools.{policy_of_pool}
 use Rattle.mps_trace_laws.proofs.Image.CellChanged.{tag_changed, target_changed}
 use Rattle.mps_trace_laws.proofs.Image.ClientLaws.{cell_of_an_object_is_written, tag_of_an_object_is_written}
 use Rattle.mps_trace_laws.specs.Image.Image.{IsCellWord, IsFixedWord}
 use Rattle.mps_trace_laws.specs.Image.Memory.{Lies, memory_in}
+use Rattle.mps_laws.proofs.Positions.LegalMoves.{HasLayout}
 use Rattle.mps_laws.proofs.Same.{Same, fits, same_then, Alike, same_weaker}
 use Rattle.mps_laws.proofs.Sound.SoundGraph.{PassesOrNull}
 use Rattle.mps_model.specs.declared.call.Call.TheVariants as call
@@ -19,12 +21,15 @@ use Rattle.mps_model.specs.Checked.{Act, Checked, Found, Numbered, ◌>>=◌, �
 use Rattle.mps_model.specs.Graph.{Cell, NumberCell, ReferenceCell, Object, entry_at, graph_with_cells, with_tag_cell, with_target_cell}
 use Rattle.mps_model.specs.Tagging.{tag_count}
 use Rattle.mps_model.specs.World.{World, is_live}
+use Rattle.mps_seg.specs.Segs.{SegsState}
+use Rattle.mps_trace_laws.specs.Summaries.Summed.{AreWordsSummed}
 use Rattle.mps_heap_spec.specs.Coming.{Comes}
 use Rattle.mps_heap_spec.specs.Finding.{object_at, object_in, retagged, retargeted, slot_in}
+use Rattle.mps_heap_spec.specs.Referring.{noting_reference}
 use Rattle.mps_heap_spec.specs.declared.found.Block.{Block}
 use Rattle.mps_heap_spec.specs.declared.found.CellFound.{CellFound}
 use Rattle.mps_heap_spec.specs.declared.found.Entry.{Entry}
-use Rattle.mps_heap_spec.specs.Objects.{head_in, address_in, number_in, number_set, reference_got, reference_put, tag_got, tag_set, with_word}
+use Rattle.mps_heap_spec.specs.Objects.{head_in, address_in, number_in, number_set, reference_got, reference_put, tag_got, tag_set, with_reference, with_word}
 use Rattle.mps_heap_spec.specs.State.{HeapState}
 use Rattle.mps_refinement.proofs.Worlds.CollectorKept.{all_kept}
 use Rattle.mps_refinement.specs.RightStep.{IsRight}
@@ -35,6 +40,8 @@ use Rattle.mps_refinement.proofs.Worlds.Known.{IsKnown, is_kept_at}
 use Rattle.mps_refinement.proofs.Lookups.LiveObjects.{IsNumberOf, IsObject, IsReferenceOf, number_same, object_at_same, object_lawful, object_then, reference_same, tag_same, slot_may_read, target_address, fixed_reference_same}
 use Rattle.mps_refinement.proofs.Lookups.Lookups.{slot_same}
 use Rattle.mps_refinement.proofs.Parts.PartsWritten.{slot_written, words_written}
+use Rattle.mps_refinement.proofs.Summaries.CellWrites.{noting_is, noting_kept}
+use Rattle.mps_refinement.proofs.Summaries.ObjectCells.{number_keeps, reference_keeps, tag_keeps}
 use Rattle.mps_refinement.proofs.Calls.Readings.{act_reading, reading_is_right, says_ok}
 pub use Rattle.mps_refinement.specs.Answering.{says_head, says_number, says_word}
 use Rattle.mps_refinement.proofs.Worlds.Steps.{ComesToTheSame, answer_to, quiet_is_right, Leads}
@@ -61,41 +68,57 @@ target_live w (Some other) live id e =
     some_there (entry_at w.addresses id) (subst (PassesOrNull (is_live w)) e live)
 
 module _ {F : Type 0} (layout : F → Layout) (past : Past) (h : HeapState F) (w : World) (parts : AreParts layout past h w)
-    (b : Block F) (n : Numbered Object) (is : IsObject layout past h w b n) where
+    (laid : HasLayout (w.grains + 1) w) (b : Block F) (n : Numbered Object) (is : IsObject layout past h w b n) where
   -- the words stand for the objects, where a cell and its word are written
-  pub cell_written : (k word value : ℕ) (new : Cell) (change : List Cell → List Cell)
+  pub cell_written : (k word value : ℕ) (new : Cell) (change : List Cell → List Cell) (summaries : List ℕ)
       → Lies w.graph.objects w.addresses n.number k n.value word → change is.cells ≡ slice_set is.cells k new
       → IsFixedWord past.time.condemned w.addresses past.time.colours b.head new value
-      → AreParts layout past (with_word h word value) (with_graph w (graph_with_cells w.graph n.number change))
-  cell_written k word value new change lies changes fixed =
-      words_written layout past h w parts (slice_set h.segs.words word value) (graph_with_cells w.graph n.number change).objects
+      → AreWordsSummed layout (map policy_of_pool h.pools)
+      (record h.segs { words = slice_set h.segs.words word value; summaries = summaries })
+      → AreParts layout past (record h { segs = record h.segs { words = slice_set h.segs.words word value; summaries = summaries } })
+      (with_graph w (graph_with_cells w.graph n.number change))
+  cell_written k word value new change summaries lies changes fixed summed =
+      words_written layout past h w parts (slice_set h.segs.words word value) summaries (graph_with_cells w.graph n.number change).objects
       (cell_of_an_object_is_written
       (setting_at past.time h.segs w) w.graph (memory_in h.segs) w.addresses
       past.time.colours n.number k n.value b.head is.cells is.is_weak word new value change refl is.body changes parts.image lies fixed)
+      summed
 
   pub number_written : (k value : ℕ) (cell : CellFound) (number : ℕ) → IsNumberOf w n k cell number
       → AreParts layout past (with_word h cell.word value)
       (with_graph w (graph_with_cells w.graph n.number (λ cells. slice_set cells k (NumberCell value))))
   number_written k value cell number found =
-      cell_written k cell.word value (NumberCell value) (λ cells. slice_set cells k (NumberCell value)) found.lies refl
+      cell_written k cell.word value (NumberCell value) (λ cells. slice_set cells k (NumberCell value)) h.segs.summaries found.lies refl
       (record { holds = refl; not_white = λ t e. absurd (none-some t e) })
+      (number_keeps layout past h w parts laid b n is k cell.word found.lies value number found.cell)
 
   pub reference_written : (k : ℕ) (target : Option ℕ) (cell : CellFound) (old : Option ℕ) → PassesOrNull (is_live w) target
       → PassesOrNull (is_kept_at past.time) target
       → IsReferenceOf past.time h.segs.words w n k cell old
-      → AreParts layout past (with_word h cell.word (retargeted (layout b.format) cell.value (address_of_target w.addresses target)))
+      → AreParts layout past (with_reference layout h b cell (address_of_target w.addresses target))
       (with_graph w (graph_with_cells w.graph n.number (λ cells. with_target_cell cells k target)))
   reference_written k target cell old live kept found =
-      let value = retargeted (layout b.format) cell.value (address_of_target w.addresses target) in
-      cell_written k cell.word value (ReferenceCell target found.tag) (λ cells. with_target_cell cells k target) found.lies
+      let to = address_of_target w.addresses target in
+      let value = retargeted (layout b.format) cell.value to in
+      let words : SegsState = record h.segs { words = slice_set h.segs.words cell.word value } in
+      let noted = noting_is words b.at to in
+      let P : SegsState → Type 0 = λ g. AreWordsSummed layout (map policy_of_pool h.pools) g in
+      let Q : SegsState → Type 0 = λ g.
+      AreParts layout past (record h { segs = g })
+      (with_graph w (graph_with_cells w.graph n.number (λ cells. with_target_cell cells k target)))
+      in
+      subst Q (sym noted)
+      (cell_written k cell.word value (ReferenceCell target found.tag) (λ cells. with_target_cell cells k target)
+      (noting_reference words b.at to).summaries found.lies
       (target_changed is.cells k found.tag old target (ap (λ body. slice_get (cells_of_body body) k) (sym is.body) ∙ found.cell))
       (record {
         holds = reference_is_word w.addresses b.head value found.tag target (target_live w target live)
             (retargeted_is (layout b.format) lawful cell.value found.was found.tag found.low
-            found.is_target found.value (address_of_target w.addresses target)
+            found.is_target found.value to
             (target_address layout past h w parts target));
         not_white = λ t e. kept_target target kept t e;
       })
+      (subst P noted (reference_keeps layout past h w parts laid b n is k cell old found target)))
     where
       lawful : IsLawful (layout b.format)
       lawful = object_lawful layout past h w parts b n is
@@ -111,12 +134,13 @@ module _ {F : Type 0} (layout : F → Layout) (past : Past) (h : HeapState F) (w
           not_white (is_white past.time.condemned past.time.colours t) (subst (PassesOrNull (is_kept_at past.time)) e k)
 
 module _ {F : Type 0} (layout : F → Layout) (past : Past) (h : HeapState F) (w : World) (parts : AreParts layout past h w)
-    (b : Block F) (n : Numbered Object) (is : IsObject layout past h w b n) where
+    (laid : HasLayout (w.grains + 1) w) (b : Block F) (n : Numbered Object) (is : IsObject layout past h w b n) where
   -- the word of a reference with another tag stands for the cell with another tag, whichever address it has
-  pub tag_written : (k tag : ℕ) (cell : CellFound) (target : Option ℕ) → IsReferenceOf past.time h.segs.words w n k cell target
+  pub tag_written : (k tag : ℕ) (cell : CellFound) (target : Option ℕ) → tag < tag_count
+      → IsReferenceOf past.time h.segs.words w n k cell target
       → AreParts layout past (with_word h cell.word (retagged (layout b.format) cell.value tag))
       (with_graph w (graph_with_cells w.graph n.number (λ cells. with_tag_cell cells k tag)))
-  tag_written k tag cell target found =
+  tag_written k tag cell target low found =
       let there : slice_get is.cells k ≡ Some (ReferenceCell target found.tag) =
       ap (λ body. slice_get (cells_of_body body) k) (sym is.body) ∙ found.cell
       in
@@ -124,12 +148,13 @@ module _ {F : Type 0} (layout : F → Layout) (past : Past) (h : HeapState F) (w
       (with_graph w (graph_with_cells w.graph n.number (λ cells. with_tag_cell cells k tag))))
       (sym (target_is (layout b.format) (object_lawful layout past h w parts b n is) cell.value found.was found.tag found.low
       found.is_target found.value))
-      (words_written layout past h w parts (slice_set h.segs.words cell.word (found.was + tag))
+      (words_written layout past h w parts (slice_set h.segs.words cell.word (found.was + tag)) h.segs.summaries
       (graph_with_cells w.graph n.number (λ cells. with_tag_cell cells k tag)).objects
       (tag_of_an_object_is_written (setting_at past.time h.segs w) w.graph (memory_in h.segs) w.addresses past.time.colours n.number k
       n.value b.head is.cells is.is_weak cell.word target found.tag tag found.was (λ cells. with_tag_cell cells k tag) refl is.body there
       (tag_changed is.cells k found.tag tag target there) parts.image found.lies
-      (get_or_from_slice_get h.segs.words cell.word cell.value 0 found.there ∙ found.value)))
+      (get_or_from_slice_get h.segs.words cell.word cell.value 0 found.there ∙ found.value))
+      (tag_keeps layout past h w parts laid b n is k cell target found tag low))
 
 -- ---- an object that is looked up again
 
@@ -228,7 +253,11 @@ module _ {F : Type 0} (layout : F → Layout) (h : HeapState F) where
         answer = refl;
         keeps = all_kept h;
         formats = refl;
-        has = record { past = past; timed = refl; parts = number_written layout past h w parts b n is k value cell number found };
+        has = record {
+          past = past;
+          timed = refl;
+          parts = number_written layout past h w parts reached.laid b n is k value cell number found;
+        };
       })))
 
   pub number_set_right : (slot : Slot) (k value : ℕ) (result : Checked (Unit {0})) (after : HeapState F)
@@ -261,7 +290,7 @@ module _ {F : Type 0} (layout : F → Layout) (h : HeapState F) where
           timed = refl;
           parts = subst (λ m. AreParts layout past (with_word h cell.word (retagged (layout b.format) cell.value tag))
               (with_graph w (graph_with_cells w.graph n.number (λ cells. with_tag_cell cells k m)))) (sym whole)
-              (tag_written layout past h w parts b n is k tag cell target found);
+              (tag_written layout past h w parts reached.laid b n is k tag cell target low found);
         };
       })))
     where
@@ -286,14 +315,14 @@ module _ {F : Type 0} (layout : F → Layout) (h : HeapState F) where
       same_drop (reference_same layout past h w parts b n object k) (λ cell old reference.
       fits (record {
         answer = refl;
-        keeps = all_kept h;
+        keeps = noting_kept h (slice_set h.segs.words cell.word (retargeted (layout b.format) cell.value from.value)) b.at from.value;
         formats = refl;
         has = record {
           past = past;
           timed = refl;
-          parts = subst (λ at. AreParts layout past (with_word h cell.word (retargeted (layout b.format) cell.value at))
+          parts = subst (λ at. AreParts layout past (with_reference layout h b cell at)
               (with_graph w (graph_with_cells w.graph n.number (λ cells. with_target_cell cells k given.value)))) (sym has.fit.value)
-              (reference_written layout past h w parts b n object k given.value cell old
+              (reference_written layout past h w parts reached.laid b n object k given.value cell old
               (slot_may_read layout past h w parts of source.index from given has.fit).live
               (slot_may_read layout past h w parts of source.index from given has.fit).kept reference);
         };

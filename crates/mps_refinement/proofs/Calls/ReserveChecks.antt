@@ -26,6 +26,8 @@ use Rattle.mps_refinement.specs.StandsFor.{AreParts, Past}
 use Rattle.mps_refinement.proofs.Calls.MakingPoints.{held_alike}
 use Rattle.mps_refinement.proofs.Lookups.Lookups.{IsPointFound, point_same}
 use Rattle.mps_refinement.proofs.Lookups.PointPools.{IsAutomatic, pool_of}
+use Rattle.mps_trace_laws.specs.Image.Memory.{pool_layout}
+use Rattle.std.specs.Option.{option_map_or}
 
 -- as many cells as the head says
 cells_long : (f : Layout) → IsLawful f → (head : ℕ) → IsTrue (f.is_valid head) → f.size head ≡ length (new_cells f head)
@@ -82,6 +84,7 @@ module _ {F : Type 0} (layout : F → Layout) (past : Past) (h : HeapState F) (w
     pub format : Layout
     pub found : IsPointFound past h w a.point point
     pub closed : point.value.reservation ≡ None
+    pub valid : (pool_layout w point.value.pool).is_valid head ≡ true
     pub words : a.words ≡ length (new_cells format head)
     pub is : b ≡ record { point = point; cells = new_cells format head }
 
@@ -102,19 +105,23 @@ module _ {F : Type 0} (layout : F → Layout) (past : Past) (h : HeapState F) (w
       not_false false e = absurd (Rattle.std.proofs.lemmas.Bool.true≢false e)
 
   of_checks : (k : Kept Point) (n : Numbered graph.Point) (q : world.Pool) (format : F) (b c : Bool) → IsPointFound past h w k n
-      → w.formats q.format ≡ layout format → not (model.takes_head w q head) ≡ b → is_some n.value.reservation ≡ c
+      → pool_at w n.value.pool ≡ Some q → w.formats q.format ≡ layout format → not (model.takes_head w q head) ≡ b
+      → is_some n.value.reservation ≡ c
       → Same IsReserving
       (refuse_when b refusal.BadHead >> (refuse_when c refusal.Open >> Ok (record { point = k; words = (layout format).size head })))
       (refuse_when b refusal.BadHead >> (refuse_when c refusal.Open
       >> Ok (record { point = n; cells = new_cells (w.formats q.format) head })))
-  of_checks k n q format true c found means e g = same.refused
-  of_checks k n q format false true found means e g = same.refused
-  of_checks k n q format false false found means e g =
+  of_checks k n q format true c found has means e g = same.refused
+  of_checks k n q format false true found has means e g = same.refused
+  of_checks k n q format false false found has means e g =
       fits (record {
         point = n;
         format = w.formats q.format;
         found = found;
         closed = none_there n.value.reservation g;
+        valid =
+            ap (λ (o : Option world.Pool). (w.formats (option_map_or (λ (x : world.Pool). x.format) o 0)).is_valid head) has
+            ∙ valid_where q e;
         words = ap (λ (f : Layout). f.size head) (sym means)
             ∙ cells_long (w.formats q.format) (parts.lawful q.format) head (valid_where q e);
         is = refl;
@@ -169,7 +176,8 @@ module _ {F : Type 0} (layout : F → Layout) (past : Past) (h : HeapState F) (w
       >> (refuse_when (is_some n.value.reservation) refusal.Open
       >> Ok (record { point = n; cells = new_cells (model.layout_of w p.models) head }))))
       (sym (held_alike (length w.flips) found.fit.memory.reserved_at k.value.reservation n.value.reservation found.fit.reservation))
-      (of_checks k n p.models a.format (not (model.takes_head w p.models head)) (is_some n.value.reservation) found a.means refl refl)))))
+      (of_checks k n p.models a.format (not (model.takes_head w p.models head)) (is_some n.value.reservation) found p.has a.means refl
+      refl)))))
 
   pub reserve_checked : Same IsReserving (check_reserve layout h name head) (model.check_reserve w name head)
   reserve_checked = same_then (point_same layout past h w parts name) of_point

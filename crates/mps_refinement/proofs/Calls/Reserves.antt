@@ -20,7 +20,7 @@ use Rattle.mps_model.specs.World.{World, PointMemory, is_running}
 use Rattle.mps_heap_spec.specs.Allocating.{check_reserve}
 use Rattle.mps_heap_spec.specs.declared.arena.ArenaState.{ArenaState}
 use Rattle.mps_heap_spec.specs.declared.arena.ArenaState.TheVariants as arena
-use Rattle.mps_model.specs.Policy.{is_place, polls, units_of_poll}
+use Rattle.mps_model.specs.Policy.{due_in, is_place, polls, units_of_poll}
 use Rattle.mps_model.specs.World as world
 use Rattle.mps_heap_spec.specs.declared.found.Reserving.{Reserving}
 use Rattle.mps_heap_spec.specs.Polling.{is_unclamped, polls_for}
@@ -95,14 +95,14 @@ no_poll v name head none = record {
     with_false true = refl
     with_false false = refl
 
--- nor if no collection runs and no pool is on a chain
-pub no_poll_at_rest : (v : World) (name : Name) (head : ℕ) → v.collection ≡ None → v.chains ≡ [] → Polls v name head [] v
-no_poll_at_rest v name head rest unchained = record {
+-- nor if no collection runs and nothing is due
+pub no_poll_at_rest : (v : World) (name : Name) (head : ℕ) → v.collection ≡ None → due_in v ≡ None → Polls v name head [] v
+no_poll_at_rest v name head rest nothing_due = record {
   legal = tt;
-  due = resting.no_poll v rest unchained 0 name head;
+  due = resting.no_poll v rest nothing_due 0 name head;
   never_own = refl;
   units = None;
-  asks = resting.no_units v rest unchained 0 name head;
+  asks = resting.no_units v rest nothing_due 0 name head;
   leads = refl;
   judged = v.collection;
   judged_is = refl;

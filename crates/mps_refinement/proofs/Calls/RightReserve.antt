@@ -19,7 +19,7 @@ use Rattle.mps_buffer.specs.declared.point.Point.{Point}
 use Rattle.mps_buffer.specs.Points.{buffer_after, after_open, placement_at, with_place, with_point, with_reservation}
 use Rattle.mps_seg.specs.Buffer.{rest_at_hand, run_of}
 use Rattle.mps_format.specs.Layout.{Layout}
-use Rattle.mps_trace_laws.specs.Image.Memory.{is_condemned_word}
+use Rattle.mps_trace_laws.specs.Image.Memory.{is_condemned_word, pool_layout}
 use Rattle.mps_trace_laws.proofs.Image.SegmentMarks.{clear_bit}
 use Rattle.mps_laws.proofs.Positions.LegalMoves.{HasLayout, at_front}
 use Rattle.mps_laws.proofs.Positions.Occupancy.{OfBuffer, occupancy_of}
@@ -103,7 +103,7 @@ module _ {F : Type 0} (layout : F → Layout) (past : Past) (h : HeapState F) (w
   module _ (k : Kept Point) (n : Numbered graph.Point) (found : IsPointFound past h v k n) (closed : n.value.reservation ≡ None)
       (format : Layout)
       (check : model.check_reserve v name head ≡ Ok (record { point = n; cells = new_cells format head }))
-      (named : point_named v name ≡ Ok n) where
+      (named : point_named v name ≡ Ok n) (valid : (pool_layout v n.value.pool).is_valid head ≡ true) where
     abbrev size : ℕ
     size = length (new_cells format head)
 
@@ -237,7 +237,8 @@ module _ {F : Type 0} (layout : F → Layout) (past : Past) (h : HeapState F) (w
           timed = refl;
           parts = parts_after layout past h v parts k.key n.number found.number k.value n.value found.kept found.has found.fit closed format
               head (Place word) v.segments parts.segments (buffer_after k.value (Place word) size) m (hand_at_place word e)
-              (omega arith) time knows.laid after (of_copying (is_copying_pool v n.value.pool) refl);
+              (omega arith) time knows.laid after (of_copying (is_copying_pool v n.value.pool) refl)
+              valid;
         }) (reserved_sound v.segments m) (record {
           rest = λ none. none;
           not_condemned = λ not_condemned. not_condemned;
@@ -326,7 +327,7 @@ module _ {F : Type 0} (layout : F → Layout) (past : Past) (h : HeapState F) (w
               ∙ ap (λ o. bit_of (slice_set h.segs.condemned grain false) (option_map (λ (t : Segment). grain_of t.base) o)) over
               ∙ ap (bit (slice_set h.segs.condemned grain false))
               (let same : grain_of (address_of_grain grain) ≡ grain = omega arith in same)
-              ∙ clear_bit h.segs.condemned grain));
+              ∙ clear_bit h.segs.condemned grain)) valid;
         }) (reserved_sound (with_segment s v.segments) m) (record {
           rest = λ none. none;
           not_condemned = λ not_condemned at. noted_clear (NewSegment grain grains) h.segs.condemned at (not_condemned at);
@@ -372,13 +373,13 @@ module _ {F : Type 0} (layout : F → Layout) (past : Past) (h : HeapState F) (w
       let q = placement_of v (ForReserve is.point.number (length (new_cells is.format head))) in
       let check = theirs ∙ ap Ok is.is in
       let named = reserving_point check in
-      let now : after_reserve layout h trail name head ≡ outcome_at a.point is.point is.found is.closed is.format check named
+      let now : after_reserve layout h trail name head ≡ outcome_at a.point is.point is.found is.closed is.format check named is.valid
       (length (new_cells is.format head)) q =
       ap (λ x. x >>= after_checks) ours
       ∙ ap (λ words. after_checks (record { point = a.point; words = words })) is.words
-      ∙ ap (outcome_at a.point is.point is.found is.closed is.format check named (length (new_cells is.format head)))
-      (placed_alike a.point is.point is.found is.closed is.format check named) in
-      subst IsRightOutcome (sym now) (of_placement a.point is.point is.found is.closed is.format check named q refl)
+      ∙ ap (outcome_at a.point is.point is.found is.closed is.format check named is.valid (length (new_cells is.format head)))
+      (placed_alike a.point is.point is.found is.closed is.format check named is.valid) in
+      subst IsRightOutcome (sym now) (of_placement a.point is.point is.found is.closed is.format check named is.valid q refl)
     where
       reserving_point : {n : Numbered graph.Point} {cells : List graph.Cell}
           → model.check_reserve v name head ≡ Ok (record { point = n; cells = cells }) → point_named v name ≡ Ok n

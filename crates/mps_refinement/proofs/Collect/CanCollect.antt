@@ -1,17 +1,15 @@
--- A heap that stands for a world can begin a collection of everything, and do it whole, in the room that is asked for.
-use Rattle.std.proofs.Common.{ℕ, ◌+◌, ◌<◌, List, [], length, Option, inl, inr, arith}
-use Rattle.std.proofs.lemmas.Bool.{cases_Bool}
+-- A heap that stands for a world can begin a collection, and do one of everything whole, in the room that is asked for.
+use Rattle.std.proofs.Common.{ℕ, ◌+◌, ◌<◌, List, [], length, Option, arith}
 use Rattle.mps_base.specs.Address.{Address}
 use Rattle.mps_base.specs.Trail.{Moves}
 use Rattle.mps_format.specs.Layout.{Layout}
 use Rattle.mps_trace.specs.GenState.{ChainsState}
 use Rattle.mps_trace.specs.State.{FinalsState}
 use Rattle.mps_root.specs.State.{RootsState}
-use Rattle.mps_model.specs.Effect.{Everything, condemned_by}
-use Rattle.mps_model.specs.Flip.{is_nothing}
+use Rattle.mps_model.specs.Effect.{Everything}
 use Rattle.mps_model.specs.World.{World, live_ids}
 use Rattle.mps_heap_spec.specs.Collecting.{CanCollectAll}
-use Rattle.mps_pools.specs.Collecting.{IsTraceOf}
+use Rattle.mps_pools.specs.Collecting.{CanCondemn, IsTraceOf}
 use Rattle.mps_heap_spec.specs.State.{HeapState}
 use Rattle.mps_trace.specs.Begin.{marked_at_flip, Begins, CanBegin, CanFixRoots}
 use Rattle.mps_trace.specs.Collect.{CanEnd, most_units}
@@ -23,46 +21,67 @@ use Rattle.mps_trace_laws.proofs.Units.Entering.{held_in_order}
 use Rattle.mps_trace_laws.proofs.Units.Ready.{units_are_ready}
 use Rattle.mps_trace_laws.proofs.Units.Rows.{units_run_out}
 use Rattle.mps_trace_laws.specs.Begin.Before.{StandsBefore}
-use Rattle.mps_trace_laws.specs.Begin.Begun.{IsActDone, ACollectionBegins, RootsCanBeFixed, UnitsAreFew}
+use Rattle.mps_trace_laws.specs.Begin.Begun.{IsActDone, ACollectionBegins, UnitsAreFew}
 use Rattle.mps_buffer.specs.Points.{AreReserved}
 use Rattle.mps_refinement.proofs.Collect.CollectRight.{IsBefore}
-use Rattle.mps_trace_laws.specs.Begin.Condemning.{MayCondemn}
+use Rattle.mps_trace_laws.specs.Begin.Condemning.{MayCondemn, collecting_at_flip}
 use Rattle.mps_trace_laws.proofs.Begin.CondemnedIds.{everything_may}
+use Rattle.mps_trace_laws.proofs.Begin.FlipStands.{standing}
+use Rattle.mps_trace_laws.proofs.Begin.RootsHeld.{messages_as, tables_as}
+use Rattle.mps_trace_laws.proofs.Roots.Beginning.{roots_are_ready}
+use Rattle.mps_trace_laws.specs.Image.Image.{black_cells}
+use Rattle.mps_abstract.specs.Collecting.{Collecting}
+use Rattle.mps_trace.specs.declared.condemn.Condemn.{Condemn}
 use Rattle.mps_trace.specs.declared.condemn.Condemn.TheVariants as condemn
-use Rattle.mps_refinement.proofs.Collect.NullRoots.{null_roots_can_be_fixed}
 use Rattle.mps_format.specs.declared.pool.Policy.{Policy}
 
-module _ {F : Type 0} (layout : F → Layout) (can_fix : RootsCanBeFixed F) (h : HeapState F) (m : Moves) (w : World)
+-- ---- it can begin a collection, whatever may be condemned
+
+module _ {F : Type 0} (layout : F → Layout) (h : HeapState F) (m : Moves) (w : World)
+    (reserved : AreReserved h.points.flips h.points.points h.segs) (k : IsBefore layout h m w) (t : TraceState F)
+    (of : IsTraceOf h.pools h.chains t) (what : Condemn) (may : MayCondemn t h.segs w what) where
+  before : StandsBefore layout t h.segs m h.points w
+  before = k.stands t of
+
+  -- roots can be fixed after its flip, even if it condemns nothing
+  roots_ready : CanFixRoots layout t h.roots h.finals (marked_at_flip t.formats t.chains what h.points h.roots (traced t h.segs m))
+  roots_ready =
+      let y : Collecting = collecting_at_flip h.segs w what in
+      let flip = standing layout t h.segs m h.points h.roots w what before may k.areas in
+      roots_are_ready layout t w.addresses (black_cells y.running.condemned y.colours)
+      (marked_at_flip t.formats t.chains what h.points h.roots (traced t h.segs m)) y k.rows w.graph.messages h.roots h.finals
+      flip.moving.shaped flip.traces (tables_as h.segs w what h.roots h.finals k.rows k.roots)
+      (messages_as h.segs w what h.roots h.finals k.rows k.roots)
+
+  pub can_condemn : CanCondemn layout t what h.points h.roots h.finals h.segs m
+  can_condemn = record {
+    ordered = segments_are_in_order h.segs (held_in_order h.segs before.segments.held);
+    blocks = before.segments.whole.order;
+    reserved = reserved;
+    fits = let there = before.room in omega (arith, there);
+    roots_ready = roots_ready;
+  }
+
+-- ---- it can collect everything
+
+module _ {F : Type 0} (layout : F → Layout) (h : HeapState F) (m : Moves) (w : World)
     (reserved : AreReserved h.points.flips h.points.points h.segs) (k : IsBefore layout h m w) where
-  -- ---- it can begin one
-
   module _ (t : TraceState F) (of : IsTraceOf h.pools h.chains t) where
-    before : StandsBefore layout t h.segs m h.points w
-    before = k.stands t of
-
     may : MayCondemn t h.segs w condemn.Everything
-    may = everything_may layout t h.segs m h.points w before
+    may = everything_may layout t h.segs m h.points w (k.stands t of)
 
-    abbrev flipped : Traced
-    flipped = marked_at_flip t.formats t.chains condemn.Everything h.points h.roots (traced t h.segs m)
+    can_begin : CanBegin layout t h.points h.roots h.finals h.segs m
+    can_begin =
+        let can = can_condemn layout h m w reserved k t of condemn.Everything may in
+        record {
+          ordered = can.ordered;
+          blocks = can.blocks;
+          reserved = can.reserved;
+          fits = can.fits;
+          roots_ready = can.roots_ready;
+        }
 
-    roots_ready : CanFixRoots layout t h.roots h.finals flipped
-    roots_ready = elim (cases_Bool (is_nothing (condemned_by w Everything))) [
-      | inl nothing ↦
-          null_roots_can_be_fixed layout t h.roots h.finals flipped w k.rows before.objects.rest nothing k.roots
-      | inr some ↦ can_fix layout t h.segs m h.points h.roots h.finals w k.rows condemn.Everything before may k.areas k.roots some
-    ]
-
-    pub can_begin : CanBegin layout t h.points h.roots h.finals h.segs m
-    can_begin = record {
-      ordered = segments_are_in_order h.segs (held_in_order h.segs before.segments.held);
-      blocks = before.segments.whole.order;
-      reserved = reserved;
-      fits = let there = before.room in omega (arith, there);
-      roots_ready = roots_ready;
-    }
-
-  -- ---- and end it
+  -- and end it
 
   module _ (begins : ACollectionBegins F) (few : UnitsAreFew)
       (scans : (formats : List (Option (Policy F))) (of : ChainsState) (at_flip : List (Option Address))
@@ -79,7 +98,7 @@ module _ {F : Type 0} (layout : F → Layout) (can_fix : RootsCanBeFixed F) (h :
           → CanEnd layout t.formats t.chains z finals' run most
       can_end roots' finals' z run begun =
           let act : IsActDone layout t h.segs m w condemn.Everything k.rows h.roots roots' finals' z run =
-          begins layout t h.segs m h.points h.roots roots' h.finals finals' w k.rows z run condemn.Everything (before t of) (may t of)
+          begins layout t h.segs m h.points h.roots roots' h.finals finals' w k.rows z run condemn.Everything (k.stands t of) (may t of)
           k.areas k.roots begun
           in
           let those = scans t.formats t.chains w.addresses in

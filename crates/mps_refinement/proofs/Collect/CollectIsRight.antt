@@ -1,7 +1,7 @@
 -- A `collect` is right, if what ran before it is finished: its step is legal, and the heap stands for the world after it.
-use Rattle.mps_model.specs.History.{world_after, with_client_remembered}
+use Rattle.mps_model.specs.History.{world_after}
 use Rattle.mps_model.proofs.AtRest.{with_client_remembered-none}
-use Rattle.std.proofs.Common.{◌≡◌, ◌∙◌, ℕ, Bool, true, false, refl, sym, ap, subst, List, [], ◌∷◌, ◌++◌, length, Option, Some, None, is_some, inl, inr}
+use Rattle.std.proofs.Common.{◌≡◌, ◌∙◌, ℕ, Bool, true, false, refl, sym, ap, subst, List, [], ◌∷◌, ◌++◌, length, Option, Some, None, is_some, inl, inr, map}
 use Rattle.std.proofs.lemmas.Bool.{false≢true, or_right}
 use Rattle.std.specs.Prelude.{◌==◌, ◌||◌, slice_get, option_and_then}
 use Rattle.std.specs.List.{flat_map, list_all}
@@ -33,7 +33,7 @@ use Rattle.mps_abstract.specs.FlipLaws.{IsAtRest, collecting_after_flip, FixesHe
 use Rattle.mps_abstract.specs.WholeLaws.{IsCollectDone, IsWholeDone}
 use Rattle.mps_abstract.proofs.Addresses.{listed_is_live, live_is_listed}
 use Rattle.mps_abstract.proofs.Lists.{contains_cases, contains_here, contains_later, contains_left, contains_right, list_all-members}
-use Rattle.mps_abstract.proofs.FlipActs.FlipBegins.{client_of_fixed, flip_done, flip_ended}
+use Rattle.mps_abstract.proofs.FlipActs.FlipBegins.{flip_done, flip_ended}
 use Rattle.mps_abstract.proofs.Rows.{last_units_done}
 use Rattle.mps_abstract.proofs.WholeCollections.WholeBegins.{nothing_remembered, begun_running}
 use Rattle.mps_abstract.proofs.WholeCollections.WholeEnds.{a_whole_collection}
@@ -48,8 +48,11 @@ use Rattle.mps_refinement.proofs.Worlds.Steps.{moved_to_rest}
 use Rattle.mps_refinement.specs.Collect.Leaving.{IsCollected, AreInPlace}
 use Rattle.mps_refinement.specs.Collect.Standing.{IsCollectedHeap, world_collected}
 use Rattle.mps_refinement.proofs.Collect.Finished.{HasFinished, IsFinished}
+use Rattle.mps_refinement.proofs.Collect.FlipActs.{nothing_in_place}
 use Rattle.mps_refinement.proofs.Collect.Leavings.{a_collection_moves_objects}
 use Rattle.mps_refinement.proofs.Collect.CollectedParts.{blocks_are_manual, flipped_parts}
+use Rattle.mps_trace_laws.specs.Summaries.Summed.{AreWordsSummed}
+use Rattle.mps_format.specs.Pools.{policy_of_pool}
 
 -- ---- lists
 
@@ -150,7 +153,8 @@ module _ {F : Type 0} (layout : F → Layout) where
     none_runs : v.collection ≡ None
     none_runs = c.leaves.ended
 
-    module _ (heap : IsCollectedHeap past w h after acted.world.addresses v) where
+    module _ (heap : IsCollectedHeap past w h after acted.world.addresses v)
+        (summed : AreWordsSummed layout (map policy_of_pool h.pools) after.segs) where
       -- after the moves that finish what ran before
       module _ (from : World) (earlier : List Move) (finished : IsFinished from earlier w) (line : ℕ) where
         abbrev both : List Move
@@ -191,7 +195,7 @@ module _ {F : Type 0} (layout : F → Layout) where
             (record {
               past = record past { time = time_at_rest };
               timed = refl;
-              parts = flipped_parts layout past h after w parts known.formed made acted (world_after_moves w ms) c.leaves.but_collected
+              parts = flipped_parts layout past h after w parts known.formed made acted (world_after_moves w ms) _ c.leaves.but_collected
                   (world.Parked []) time_at_rest heap.flipped (record {
                     manual = c.places.manual;
                     pinned = c.places.pinned;
@@ -200,7 +204,7 @@ module _ {F : Type 0} (layout : F → Layout) where
                     held_live = c.places.held_live;
                   }) heap.image
                   (registered_at_the_end v after.finals heap.finals (reached_well_formed v reached_then).registered)
-                  heap.finals.waiting;
+                  heap.finals.waiting summed;
             })
             (record {
               none = none_runs;
@@ -235,11 +239,12 @@ module _ {F : Type 0} (layout : F → Layout) where
       (y : Collecting) (count : ℕ) (st : HasFinished layout h from earlier w) → WereMadeBefore (length w.flips) h.points
       → is_nothing (condemned_by w Everything) ≡ false → FixesHeld w (collecting_after_flip w Everything []) first y → Ends y count later
       → IsCollectedHeap st.past w h after y.world.addresses (world_collected w (flip_act w Everything ++ later))
+      → AreWordsSummed layout (map policy_of_pool h.pools) after.segs
       → IsRightIn layout from (step_of line call.Collect (earlier ++ (flip_act w Everything ++ later)) (Replied reply.Ok)) after
-  collect_is_right h after from earlier w line first later y count st made some fixed ends heap =
+  collect_is_right h after from earlier w line first later y count st made some fixed ends heap summed =
       let rest = may_begin st.past h w st.parts st.past.time st.known st.rest.none in
       collection_is_right st.past h after w st.parts st.known made y (flip_act w Everything ++ later)
-      (ends_collection w first later y count rest some fixed ends) heap from earlier st.finished line st.rest.not_running
+      (ends_collection w first later y count rest some fixed ends) heap summed from earlier st.finished line st.rest.not_running
 
   -- ---- where nothing is condemned
 
@@ -250,13 +255,7 @@ module _ {F : Type 0} (layout : F → Layout) where
       record {
         whole = a_whole_collection.1 w rest nothing;
         leaves = a_collection_moves_objects.2 w rest nothing;
-        places = subst (λ ms. AreInPlace w (collecting_after_flip w Everything []) (world_after_moves w ms)) (sym ended.act) (record {
-          manual = λ id there. refl;
-          pinned = λ id there. refl;
-          holds = λ id there. refl;
-          held = λ id there. refl;
-          held_live = λ id there. rest.held_live id (client_of_fixed w.graph id there);
-        });
+        places = nothing_in_place w Everything rest refl nothing;
         held_live = ended.held_live;
         referred_live = ended.referred_live;
       }
@@ -266,9 +265,10 @@ module _ {F : Type 0} (layout : F → Layout) where
       (st : HasFinished layout h from earlier w) → WereMadeBefore (length w.flips) h.points
       → is_nothing (condemned_by w Everything) ≡ true
       → IsCollectedHeap st.past w h after w.addresses (world_collected w (flip_act w Everything))
+      → AreWordsSummed layout (map policy_of_pool h.pools) after.segs
       → IsRightIn layout from (step_of line call.Collect (earlier ++ flip_act w Everything) (Replied reply.Ok)) after
-  collect_of_nothing_is_right h after from earlier w line st made nothing heap =
+  collect_of_nothing_is_right h after from earlier w line st made nothing heap summed =
       collection_is_right st.past h after w st.parts st.known made (collecting_after_flip w Everything [])
       (flip_act w Everything)
-      (nothing_collection w (may_begin st.past h w st.parts st.past.time st.known st.rest.none) nothing) heap from earlier st.finished
-      line st.rest.not_running
+      (nothing_collection w (may_begin st.past h w st.parts st.past.time st.known st.rest.none) nothing) heap summed from earlier
+      st.finished line st.rest.not_running

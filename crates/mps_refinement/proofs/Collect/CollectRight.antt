@@ -1,5 +1,5 @@
 -- A `collect` of a heap that has finished what ran before is right, and keeps the room of its trail.
-use Rattle.std.proofs.Common.{◌≡◌, ◌∙◌, ℕ, suc, false, refl, sym, ap, subst, List, [], ◌++◌, length, Option, IsSome, arith}
+use Rattle.std.proofs.Common.{◌≡◌, ◌∙◌, ℕ, suc, false, refl, sym, ap, subst, List, [], ◌++◌, length, Option, IsSome, arith, map}
 use Rattle.std.proofs.lemmas.List.{append_assoc}
 use Rattle.mps_base.specs.Address.{Address, Id}
 use Rattle.mps_base.specs.Trail.{Moves}
@@ -24,7 +24,6 @@ use Rattle.mps_abstract.proofs.WholeCollections.WholeBegins.{nothing_remembered}
 use Rattle.mps_trace_laws.specs.Image.AtRest.{StandsAtRest}
 use Rattle.mps_trace.specs.Begin.{Begins, EndsAtOnce, marked_at_flip}
 use Rattle.mps_trace.specs.Collect.{at_once, in_units, most_units}
-use Rattle.mps_trace.specs.Flip.{at_flip}
 use Rattle.mps_trace.specs.Trace.{TraceState, Traced, traced}
 use Rattle.mps_trace.specs.Unit.{EndsWithin}
 use Rattle.mps_trace.specs.declared.running.Running.{Running}
@@ -50,6 +49,11 @@ use Rattle.mps_refinement.proofs.Collect.RootsAfter.{tables_after}
 use Rattle.mps_trace.specs.GenState.{ChainsState}
 use Rattle.mps_trace.specs.State.{FinalsState}
 use Rattle.mps_format.specs.declared.pool.Policy.{Policy}
+use Rattle.mps_trace_laws.specs.Summaries.Summed.{AreWordsSummed}
+use Rattle.mps_format.specs.Pools.{policy_of_pool}
+use Rattle.mps_trace_laws.proofs.Summaries.UnitRows.{the_end_keeps}
+use Rattle.mps_trace_laws.proofs.Summaries.Flips.{begin_keeps}
+use Rattle.mps_refinement.proofs.Summaries.AtOnce.{at_once_summed}
 
 -- what has to be known of a heap that stands for a world before it collects everything: how its roots stand for those of the world, and
 -- all that a flip needs, whatever words are at hand for its pools
@@ -96,6 +100,16 @@ module _ {F : Type 0} (layout : F → Layout) (begins : ACollectionBegins F) (no
     made_then : WereMadeBefore (length w.flips) h.points
     made_then = subst (λ n. WereMadeBefore n h.points) st.parts.point_flips made
 
+    -- words are summed before, and with the policies that the collector knew after it
+    summed_before : AreWordsSummed layout t.formats h.segs
+    summed_before =
+        subst (λ (formats : List (Option (Policy F))). AreWordsSummed layout formats h.segs) (sym collected.of_pools.formats)
+        st.parts.summed
+
+    summed_then : AreWordsSummed layout t.formats h'.segs → AreWordsSummed layout (map policy_of_pool h.pools) h'.segs
+    summed_then =
+        subst (λ (formats : List (Option (Policy F))). AreWordsSummed layout formats h'.segs) collected.of_pools.formats
+
     -- ---- where something is condemned
 
     module _ (b : Traced) (f : FinalsState) (run : Running)
@@ -115,7 +129,7 @@ module _ {F : Type 0} (layout : F → Layout) (begins : ACollectionBegins F) (no
           (scans t.formats t.chains w.addresses) act.stands ends
 
       some : is_nothing (condemned_by w Everything) ≡ false
-      some = something_condemned layout st.past h w st.parts m t before begun.some
+      some = something_condemned layout st.past h w st.parts m t before condemn.Everything (λ u. before.pools.formats u.pool) begun.some
 
       abbrev u : World
       u = world_after_moves w (flip_act w Everything ++ last.moves)
@@ -152,6 +166,12 @@ module _ {F : Type 0} (layout : F → Layout) (begins : ACollectionBegins F) (no
             finals = subst (HasFinalsOf h'.finals) (sym leads) last.finals;
           }
 
+      summed_in_units : AreWordsSummed layout t.formats h'.segs
+      summed_in_units =
+          the_end_keeps layout t.formats t.chains w.addresses b z f h'.finals run y most act.stands
+          (begin_keeps layout t h.segs m h.points h.roots h'.roots h.finals f w known.rows b run condemn.Everything before may known.areas
+          known.roots summed_before begun) ends
+
       pub right_in_units : IsRightThere layout from earlier m m' h'
       right_in_units = record {
         moves = flip_act w Everything ++ last.moves;
@@ -161,10 +181,11 @@ module _ {F : Type 0} (layout : F → Layout) (begins : ACollectionBegins F) (no
         right = λ line.
             collect_is_right layout h h' from earlier w line act.first last.moves y (suc ends.count) st
             made_then some act.fixes last.units
-            (collected_heap layout st.past h w st.parts m h' m' collected before y.world.addresses u moved left);
+            (collected_heap layout st.past h w st.parts m h' m' collected before y.world.addresses u moved left)
+            (summed_then summed_in_units);
         room =
             units_keep_room layout t w.addresses m b z f h'.finals run y most (scans t.formats t.chains w.addresses)
-            act.stands (begin_pushes layout t h.points h.roots h'.roots h.finals f x b run begun) ends;
+            act.stands (begin_pushes layout t condemn.Everything h.points h.roots h'.roots h.finals f x b run begun) ends;
       }
 
     -- ---- where nothing is condemned
@@ -188,9 +209,11 @@ module _ {F : Type 0} (layout : F → Layout) (begins : ACollectionBegins F) (no
             collect_of_nothing_is_right layout h h' from earlier w line st made_then
             over.nothing
             (collected_heap layout st.past h w st.parts m h' m' collected before w.addresses v moved_at_once
-            (left_at_once layout st.past h w st.parts st.rest.time m t before h' collected.after m' ends over));
+            (left_at_once layout st.past h w st.parts st.rest.time m t before condemn.Everything refl h' collected.after m' ends over))
+            (summed_then (at_once_summed layout t.formats t.chains condemn.Everything h.points h.roots h'.roots h.finals h'.finals x z ends
+            summed_before));
         room =
-            at_once_keeps_room layout t h.points h.roots h'.roots h.finals h'.finals x z ends
+            at_once_keeps_room layout t condemn.Everything h.points h.roots h'.roots h.finals h'.finals x z ends
             (let room = before.room in omega (arith, room));
       }
 

@@ -1,4 +1,4 @@
--- What a collection of everything leaves of a heap, and that it is right where it does.
+-- What a flip and a collection of everything leave of a heap, and that it is right where it does.
 use Rattle.std.proofs.Common.{◌≡◌, ◌∙◌, ℕ, ◌<◌, false, refl, sym, ap, subst, List, length, Option, [], ◌∷◌, arith}
 use Rattle.mps_base.specs.Address.{Address}
 use Rattle.mps_base.specs.Segment.{Segment}
@@ -17,14 +17,16 @@ use Rattle.mps_heap_spec.specs.declared.arena.ArenaState.TheVariants as arena
 use Rattle.mps_buffer.specs.Points.{points_after_flip}
 use Rattle.mps_trace.specs.declared.running.Running.{Running}
 use Rattle.mps_trace_laws.specs.Image.AtRest.{StandsAtRest}
-use Rattle.mps_trace.specs.Flip.{at_flip, automatic_of, moving_of, zones_of}
+use Rattle.mps_trace.specs.Flip.{at_flip, condemned_of, moving_of, zones_at_flip, zones_of}
 use Rattle.mps_trace.specs.State.{FinalsState}
 use Rattle.mps_trace.specs.Begin.{EndsAtOnce}
 use Rattle.mps_trace.specs.Trace.{TraceState, traced}
 use Rattle.mps_base.specs.Segment.{Segment}
 use Rattle.mps_trace.proofs.Condemning.{all_that_moves}
-use Rattle.mps_trace_laws.specs.Flip.Condemned.{IsFlipOf}
+use Rattle.mps_trace_laws.specs.Flip.Condemned.{CondemnsAlike, IsFlipOf, condemnation}
 use Rattle.mps_trace_laws.proofs.Flip.Condemned.{flip_is_the_models}
+use Rattle.mps_abstract.specs.FlipLaws.{IsNumbered}
+use Rattle.mps_trace.specs.declared.condemn.Condemn.{Condemn}
 use Rattle.mps_trace.specs.declared.condemn.Condemn.TheVariants as condemn
 use Rattle.mps_trace_laws.specs.Units.Laws.{HasSegmentsOf, HasFinalsOf}
 use Rattle.mps_trace_laws.specs.Begin.Before.{StandsBefore}
@@ -54,54 +56,59 @@ pub record IsLeft {F : Type 0} (past : Past) (w : World) (h after : HeapState F)
 
 -- a collection that ends at once leaves it so
 pub left_at_once : {F : Type 0} (layout : F → Layout) (past : Past) (h : HeapState F) (w : World) → AreParts layout past h w
-    → past.time ≡ time_at_rest → (m : Moves) (t : TraceState F) → StandsBefore layout t h.segs m h.points w → (h' : HeapState F)
-    (t' : TraceState F) (m' : Moves)
-    → EndsAtOnce t.formats t.chains condemn.Everything h.points h.roots h.finals (traced t h.segs m) h'.roots h'.finals
+    → past.time ≡ time_at_rest → (m : Moves) (t : TraceState F) → StandsBefore layout t h.segs m h.points w → (what : Condemn)
+    → IsNumbered (condemnation what) → (h' : HeapState F) (t' : TraceState F) (m' : Moves)
+    → EndsAtOnce t.formats t.chains what h.points h.roots h.finals (traced t h.segs m) h'.roots h'.finals
     (traced t' h'.segs m')
-    → IsOverAtOnce m w condemn.Everything (traced t' h'.segs m')
-    → IsLeft past w h h' w.addresses (world_after_moves w (flip_act w Everything))
-left_at_once layout past h w parts time m t before h' t' m' ends over =
+    → IsOverAtOnce m w what (traced t' h'.segs m')
+    → IsLeft past w h h' w.addresses (world_after_moves w (flip_act w (condemnation what)))
+left_at_once layout past h w parts time m t before what numbered h' t' m' ends over =
     let x = traced t h.segs m in
     let z = traced t' h'.segs m' in
     record {
-      segments = segments_at_once t.formats t.chains h.points x z w before.segments.segments before.objects.rest over.nothing ends.over;
+      segments = segments_at_once t.formats t.chains h.points x z w what before.segments.segments before.objects.rest numbered over.nothing
+          ends.over;
       image = over.stands;
-      not_condemned = none_condemned (at_flip t.formats t.chains condemn.Everything h.points x) z ends.over;
-      not_kept = none_kept (at_flip t.formats t.chains condemn.Everything h.points x) z ends.over;
+      not_condemned = none_condemned (at_flip t.formats t.chains what h.points x) z ends.over;
+      not_kept = none_kept (at_flip t.formats t.chains what h.points x) z ends.over;
       tables =
           subst (λ (roots : RootsState). AreNumbered (AreSlots w.addresses) past.table_number (kept roots.tables) w.graph.tables)
           (sym ends.roots_are) parts.tables;
       roots = subst (AreRootsAfter h.roots) (sym ends.roots_are) (roots_stay h.roots);
       finals =
-          subst (λ (f : FinalsState). HasFinalsOf f (world_after_moves w (flip_act w Everything))) (sym ends.finals_are)
+          subst (λ (f : FinalsState). HasFinalsOf f (world_after_moves w (flip_act w (condemnation what)))) (sym ends.finals_are)
           (subst (λ ms. HasFinalsOf h.finals (world_after_moves w ms))
-          (sym (flip_ended w Everything before.objects.rest refl over.nothing).act)
+          (sym (flip_ended w (condemnation what) before.objects.rest numbered over.nothing).act)
           (record { registrations = registered_at_rest layout past h w parts time; waiting = parts.messages }));
     }
 
--- ---- what a flip of everything condemns
+-- ---- what a flip condemns
 
 module _ {F : Type 0} (layout : F → Layout) (past : Past) (h : HeapState F) (w : World) (parts : AreParts layout past h w) (m : Moves)
     (t : TraceState F) (before : StandsBefore layout t h.segs m h.points w) where
-  full : IsFlipOf condemn.Everything (automatic_of t.formats h.segs.segments)
-      (moving_of t.formats (automatic_of t.formats h.segs.segments)) w
-  full =
-      flip_is_the_models t.formats t.chains condemn.Everything h.segs.segments w parts.segments (λ u. before.pools.formats u.pool)
-      before.pools.moves
+  module _ (what : Condemn) (alike : CondemnsAlike t.formats t.chains what w) where
+    flips : IsFlipOf what (condemned_of t.formats t.chains what h.segs.segments)
+        (moving_of t.formats (condemned_of t.formats t.chains what h.segs.segments)) w
+    flips = flip_is_the_models t.formats t.chains what h.segs.segments w parts.segments alike before.pools.moves
 
-  pub same_zones : zones_of (moving_of t.formats h.segs.segments) ≡ condemned_zones w Everything
-  same_zones = sym (ap (λ (ts : List Segment). zones_of ts) (all_that_moves t.formats h.segs.segments)) ∙ full.zones
+    pub same_zones : zones_at_flip t.formats t.chains what h.segs.segments ≡ condemned_zones w (condemnation what)
+    same_zones = flips.zones
 
-  same_condemned : automatic_of t.formats h.segs.segments ≡ condemned_by w Everything
-  same_condemned = full.segments
+    -- something, if it condemns a segment
+    pub something_condemned : 0 < length (condemned_of t.formats t.chains what h.segs.segments)
+        → is_nothing (condemned_by w (condemnation what)) ≡ false
+    something_condemned some =
+        subst (λ ts. is_nothing ts ≡ false) flips.segments (some_of (condemned_of t.formats t.chains what h.segs.segments) some)
+      where
+        some_of : (ts : List Segment) → 0 < length ts → is_nothing ts ≡ false
+        some_of [] none = absurd (omega (arith, none))
+        some_of (s ∷ ts) some = refl
 
-  -- something, if it condemns a segment
-  pub something_condemned : 0 < length (automatic_of t.formats h.segs.segments) → is_nothing (condemned_by w Everything) ≡ false
-  something_condemned some = subst (λ ts. is_nothing ts ≡ false) same_condemned (some_of (automatic_of t.formats h.segs.segments) some)
-    where
-      some_of : (ts : List Segment) → 0 < length ts → is_nothing ts ≡ false
-      some_of [] none = absurd (omega (arith, none))
-      some_of (s ∷ ts) some = refl
+  -- the zones of all that moves are those of a full flip
+  pub full_zones : zones_of (moving_of t.formats h.segs.segments) ≡ condemned_zones w Everything
+  full_zones =
+      sym (ap (λ (ts : List Segment). zones_of ts) (all_that_moves t.formats h.segs.segments))
+      ∙ same_zones condemn.Everything (λ u. before.pools.formats u.pool)
 
 -- ---- a heap after it
 
@@ -121,12 +128,12 @@ heap_flipped h h' zones arena_state running = record h {
 -- it stands as a call has to leave it
 pub flipped_heap : {F : Type 0} (layout : F → Layout) (past : Past) (h h' : HeapState F) (w : World) → AreParts layout past h w
     → (zones : ℕ) (arena_state : ArenaState) (running : Option Running) → h' ≡ heap_flipped h h' zones arena_state running
-    → zones ≡ condemned_zones w Everything → (acted : List (Option Address)) (u : World)
-    → IsButCollected (world_flipped w (condemned_zones w Everything)) u → HasSegmentsOf h'.segs u → AreRootsAfter h.roots h'.roots
+    → {of_flip : ℕ} → zones ≡ of_flip → (acted : List (Option Address)) (u : World)
+    → IsButCollected (world_flipped w of_flip) u → HasSegmentsOf h'.segs u → AreRootsAfter h.roots h'.roots
     → AreNumbered (AreSlots acted) past.table_number (kept h'.roots.tables) w.graph.tables
-    → IsFlippedHeap past w h h' acted (record u { state = state_of arena_state })
-flipped_heap {F} layout past h h' w parts zones arena_state running is same acted u moved segments roots tables =
-    let size = same_size w u (condemned_zones w Everything) moved in
+    → IsFlippedHeap past w of_flip h h' acted (record u { state = state_of arena_state })
+flipped_heap {F} layout past h h' w parts zones arena_state running is {of_flip} same acted u moved segments roots tables =
+    let size = same_size w u of_flip moved in
     record {
       grains = segments.same_grains ∙ (size.0 ∙ sym parts.grains);
       limit = segments.same_limit ∙ (size.1 ∙ sym parts.limit);
@@ -160,7 +167,7 @@ collected_heap {F} layout past h w parts m h' m' collected before acted u moved 
     record {
       flipped =
           flipped_heap layout past h h' w parts (zones_of (moving_of t.formats h.segs.segments)) arena.Parked h.running collected.state
-          (same_zones layout past h w parts m t before) acted u moved left.segments left.roots left.tables;
+          (full_zones layout past h w parts m t before) acted u moved left.segments left.roots left.tables;
       image = left.image;
       not_condemned = left.not_condemned;
       not_kept = left.not_kept;

@@ -1,5 +1,5 @@
--- The parts of a heap after a flip of everything, and what follows of its collection in the same call, stand for the world after them.
-use Rattle.std.proofs.Common.{◌≡◌, ◌∙◌, ℕ, ◌+◌, ◌≤◌, ◌<◌, true, false, refl, sym, ap, subst, length, map, Option, Some, None, IsSome, is_some}
+-- The parts of a heap after a flip, and what follows of its collection in the same call, stand for the world after them.
+use Rattle.std.proofs.Common.{◌≡◌, ◌∙◌, ℕ, ◌+◌, ◌≤◌, ◌<◌, true, false, refl, sym, ap, subst, length, map, Option, Some, None, IsSome, is_some, List}
 use Rattle.std.proofs.lemmas.Bool.{false≢true}
 use Rattle.std.specs.Prelude.{Bool, option_map, not}
 use Rattle.std.specs.Option.{option_map_or}
@@ -14,16 +14,15 @@ use Rattle.mps_ld.specs.Flips.{AreFlips}
 use Rattle.mps_model.specs.Graph.{ids_in_caches, ids_in_places, Object, contains, ids_in_blocks, ids_in_slots, is_automatic, object_at}
 use Rattle.mps_model.specs.World as world
 use Rattle.mps_model.specs.World.{World, object_is}
-use Rattle.std.specs.List.{list_all}
 use Rattle.mps_model.specs.WellFormed.{IsWellFormed}
-use Rattle.mps_model.specs.Effect.{Everything, condemned_zones, world_flipped}
+use Rattle.mps_model.specs.Effect.{world_flipped}
 use Rattle.mps_model.proofs.Reaching.{list_all-contains}
 use Rattle.mps_root.specs.State.{kept}
 use Rattle.mps_abstract.proofs.Lists.{contains_left}
 use Rattle.mps_abstract.specs.Collecting.{Collecting}
 use Rattle.mps_names.specs.State.{NamesState, thing_named}
 use Rattle.mps_heap_spec.specs.State.{HeapState}
-use Rattle.mps_format.specs.Pools.{size_of_pool}
+use Rattle.mps_format.specs.Pools.{size_of_pool, policy_of_pool}
 use Rattle.mps_trace.specs.GenState.{ChainsState}
 use Rattle.mps_refinement.specs.StandsFor.{AreChains, AreParts, AreRegisteredAt, ArePools, IsPoint, Past, StandsAt, Time, address_of_id}
 use Rattle.mps_refinement.specs.Numbering.{AreNumbered}
@@ -35,6 +34,8 @@ use Rattle.mps_refinement.specs.Collect.Leaving.{AreInPlace}
 use Rattle.mps_refinement.specs.Collect.Standing.{IsFlippedHeap}
 use Rattle.mps_refinement.proofs.Collect.SameAddresses.{same_places, tables_same, areas_same}
 use Rattle.mps_refinement.proofs.Collect.FlippedPoints.{points_counted, points_flipped, one_flip_more}
+use Rattle.mps_trace_laws.specs.Summaries.Summed.{AreWordsSummed}
+use Rattle.mps_format.specs.declared.pool.Pool.{Pool}
 
 -- what is in tables of blocks is manual
 pub blocks_are_manual : (w : World) → IsWellFormed w → (id : Id) → contains (ids_in_blocks w.graph) id ≡ true
@@ -55,15 +56,15 @@ blocks_are_manual w formed id there =
 
 module _ {F : Type 0} (layout : F → Layout) (past : Past) (h after : HeapState F) (w : World) (parts : AreParts layout past h w)
     (formed : IsWellFormed w) (made : WereMadeBefore (length w.flips) h.points) (acted : Collecting) (u : World)
-    (left : IsButCollected (world_flipped w (condemned_zones w Everything)) u) (state : world.ArenaState) where
+    (zones : ℕ) (left : IsButCollected (world_flipped w zones) u) (state : world.ArenaState) where
   -- the world after it, with the arena in another state
   abbrev pub there : World
   there = record u { state = state }
 
   abbrev v : World
-  v = record (world_flipped w (condemned_zones w Everything)) {
+  v = record (world_flipped w zones) {
     graph =
-        record (world_flipped w (condemned_zones w Everything)).graph {
+        record (world_flipped w zones).graph {
           objects = left.objects;
           registered = left.registered;
           messages = left.messages;
@@ -79,12 +80,13 @@ module _ {F : Type 0} (layout : F → Layout) (past : Past) (h after : HeapState
   same : there ≡ v
   same = ap (λ (x : World). record x { state = state }) left.world
 
-  module _ (t : Time) (flipped : IsFlippedHeap past w h after acted.world.addresses there) (in_place : AreInPlace w acted there)
+  module _ (t : Time) (flipped : IsFlippedHeap past w zones h after acted.world.addresses there) (in_place : AreInPlace w acted there)
       (image : StandsAt t after.segs there)
       (registered : AreRegisteredAt t there.addresses after.finals.registered there.graph.registered)
-      (messages : after.finals.messages ≡ map (address_of_id there.addresses) there.graph.messages) where
-    heap : IsFlippedHeap past w h after acted.world.addresses v
-    heap = subst (IsFlippedHeap past w h after acted.world.addresses) same flipped
+      (messages : after.finals.messages ≡ map (address_of_id there.addresses) there.graph.messages)
+      (summed : AreWordsSummed layout (map policy_of_pool h.pools) after.segs) where
+    heap : IsFlippedHeap past w zones h after acted.world.addresses v
+    heap = subst (IsFlippedHeap past w zones h after acted.world.addresses) same flipped
 
     places : AreInPlace w acted v
     places = subst (AreInPlace w acted) same in_place
@@ -111,7 +113,7 @@ module _ {F : Type 0} (layout : F → Layout) (past : Past) (h after : HeapState
     points_now : AreNumbered (IsPoint (length v.flips) (world.is_copying_pool v) v.point_memories) past.point_number (point_at after.points)
         v.graph.points
     points_now = subst (λ n. AreNumbered (IsPoint n (world.is_copying_pool v) v.point_memories) past.point_number (point_at after.points)
-        v.graph.points) (sym (one_flip_more w.flips (condemned_zones w Everything)))
+        v.graph.points) (sym (one_flip_more w.flips zones))
         (subst (λ s. AreNumbered (IsPoint (length w.flips + 1) (world.is_copying_pool w) v.point_memories) past.point_number (point_at s)
         v.graph.points) (sym heap.points)
         (points_flipped (length w.flips) (world.is_copying_pool w) w.point_memories past.point_number h.points w.graph.points made
@@ -138,6 +140,7 @@ module _ {F : Type 0} (layout : F → Layout) (past : Past) (h after : HeapState
             let was = was_point h.points key p (sym (ap (λ s. point_at s key) heap.points) ∙ is) in
             parts.arena.aligned key was.0 held was.1 (ap (λ (q : Point). q.reservation) was.2 ∙ reserved);
       };
+      summed = subst (λ (ps : List (Pool F)). AreWordsSummed layout (map policy_of_pool ps) after.segs) (sym heap.pools) summed;
       tables = tables_same acted.world.addresses left.addresses past.table_number (kept after.roots.tables) w.graph.tables
           (λ id there. places.held id (contains_left (ids_in_slots w.graph) w.graph.messages id there)) heap.tables;
       ordered = ordered_alike parts.ordered after.roots.order heap.order heap.tables_there;
@@ -152,9 +155,9 @@ module _ {F : Type 0} (layout : F → Layout) (past : Past) (h after : HeapState
       points_counted = heap.live_points ∙ (parts.points_counted ∙ sym (points_counted w.graph.points));
       registered = subst (λ (x : World). AreRegisteredAt t x.addresses after.finals.registered x.graph.registered) same registered;
       messages = messages ∙ ap (λ (x : World). map (address_of_id x.addresses) x.graph.messages) same;
-      flips = subst (λ e. AreFlips e v.flips) (sym heap.epochs) (flips_after h.epochs w.flips (condemned_zones w Everything) parts.flips);
+      flips = subst (λ e. AreFlips e v.flips) (sym heap.epochs) (flips_after h.epochs w.flips zones parts.flips);
       point_flips = ap (λ (s : PointsState). s.flips) heap.points
-          ∙ (ap (λ n. n + 1) parts.point_flips ∙ sym (one_flip_more w.flips (condemned_zones w Everything)));
+          ∙ (ap (λ n. n + 1) parts.point_flips ∙ sym (one_flip_more w.flips zones));
       dependencies = heap.dependencies ∙ parts.dependencies;
       lawful = parts.lawful;
       pools = subst (λ ps. ArePools layout w.formats ps w.pools) (sym heap.pools) parts.pools;

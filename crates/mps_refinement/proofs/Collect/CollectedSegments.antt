@@ -5,20 +5,21 @@ use Rattle.mps_base.specs.Address.{Grain, Word}
 use Rattle.mps_base.specs.Segment.{Segment}
 use Rattle.mps_extents.specs.Table.{bit}
 use Rattle.mps_buffer.specs.Points.{PointsState, after_all_end}
-use Rattle.mps_model.specs.Effect.{Everything, condemned_by, world_flipped, world_after_moves}
+use Rattle.mps_model.specs.Effect.{condemned_by, world_flipped, world_after_moves}
 use Rattle.mps_model.specs.Flip.{flip_act, is_nothing}
 use Rattle.mps_model.specs.World.{World}
-use Rattle.mps_abstract.specs.FlipLaws.{IsAtRest}
+use Rattle.mps_abstract.specs.FlipLaws.{IsAtRest, IsNumbered}
 use Rattle.mps_abstract.proofs.FlipActs.FlipBegins.{flip_ended}
 use Rattle.mps_seg.specs.Collecting.{condemning}
 use Rattle.mps_seg.specs.Segs.{SegsState}
-use Rattle.mps_trace.specs.Flip.{automatic_of, at_flip, condemning_all}
+use Rattle.mps_trace.specs.Flip.{at_flip, condemned_of, condemning_all}
 use Rattle.mps_trace.specs.Trace.{Traced}
 use Rattle.mps_trace.specs.Unit.{traced_after_end}
 use Rattle.mps_trace.proofs.Ending.{segments_stay}
 use Rattle.mps_trace.specs.GenState.{ChainsState}
 use Rattle.mps_trace_laws.proofs.Flip.Reservations.{flip_moves_nothing}
-use Rattle.mps_trace.specs.declared.condemn.Condemn.TheVariants as condemn
+use Rattle.mps_trace.specs.declared.condemn.Condemn.{Condemn}
+use Rattle.mps_trace_laws.specs.Flip.Condemned.{condemnation}
 use Rattle.mps_trace_laws.specs.Units.Laws.{HasSegmentsOf}
 use Rattle.mps_abstract.specs.Leaving.{IsButCollected}
 use Rattle.mps_format.specs.declared.pool.Policy.{Policy}
@@ -47,17 +48,17 @@ condemning_stays [] s = refl
 condemning_stays (t ∷ ts) s = condemning_stays ts (condemning s t.base)
 
 pub segments_at_once : {F : Type 0} (formats : List (Option (Policy F))) (chains : ChainsState) (points : PointsState) (x z : Traced)
-    (w : World)
-    → HasSegmentsOf x.segs w → IsAtRest w → is_nothing (condemned_by w Everything) ≡ true
-    → z ≡ traced_after_end (at_flip formats chains condemn.Everything points x)
-    → HasSegmentsOf z.segs (world_after_moves w (flip_act w Everything))
-segments_at_once formats chains points x z w has rest nothing over =
-    let same = flip_moves_nothing formats chains condemn.Everything points x in
+    (w : World) (what : Condemn)
+    → HasSegmentsOf x.segs w → IsAtRest w → IsNumbered (condemnation what) → is_nothing (condemned_by w (condemnation what)) ≡ true
+    → z ≡ traced_after_end (at_flip formats chains what points x)
+    → HasSegmentsOf z.segs (world_after_moves w (flip_act w (condemnation what)))
+segments_at_once formats chains points x z w what has rest numbered nothing over =
+    let same = flip_moves_nothing formats chains what points x in
     let e : SegsState = after_all_end points.flips points.points x.segs in
-    let segments : (at_flip formats chains condemn.Everything points x).segs.segments ≡ x.segs.segments =
-    condemning_stays (automatic_of formats e.segments) e ∙ segments_stay points.flips points.points x.segs
+    let segments : (at_flip formats chains what points x).segs.segments ≡ x.segs.segments =
+    condemning_stays (condemned_of formats chains what e.segments) e ∙ segments_stay points.flips points.points x.segs
     in
-    subst (λ ms. HasSegmentsOf z.segs (world_after_moves w ms)) (sym (flip_ended w Everything rest refl nothing).act) (record {
+    subst (λ ms. HasSegmentsOf z.segs (world_after_moves w ms)) (sym (flip_ended w (condemnation what) rest numbered nothing).act) (record {
       same_grains = ap (λ (v : Traced). v.segs.grains) over ∙ (same.grains ∙ has.same_grains);
       same_limit = ap (λ (v : Traced). v.segs.limit) over ∙ (same.limit ∙ has.same_limit);
       same_segments = ap (λ (v : Traced). v.segs.segments) over ∙ (segments ∙ has.same_segments);

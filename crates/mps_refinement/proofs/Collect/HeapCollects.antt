@@ -10,7 +10,6 @@ use Rattle.mps_trace_laws.proofs.Units.Scanning.{scans_are_done}
 use Rattle.mps_trace_laws.proofs.Begin.Acted.{a_collection_begins}
 use Rattle.mps_trace_laws.proofs.Begin.FlipStands.{flip_stands}
 use Rattle.mps_trace_laws.proofs.Begin.OverAtOnce.{a_collection_of_nothing_ends}
-use Rattle.mps_trace_laws.proofs.Begin.RootsReady.{roots_can_be_fixed}
 use Rattle.mps_trace_laws.proofs.Begin.UnitsFew.{units_are_few}
 use Rattle.mps_heap_spec.specs.State.{HeapState}
 use Rattle.mps_refinement.specs.StandsFor.{address_of_id}
@@ -47,7 +46,7 @@ module _ {F : Type 0} (layout : F → Layout) (h : HeapState F) (m : Moves) (fro
   -- it can collect, whatever the tails of its pools are
   pub a_finished_heap_can_collect : CanCollectAll layout h m
   a_finished_heap_can_collect =
-      can_collect_all layout (roots_can_be_fixed flip_stands) h m w (all_reserved layout st.past h w st.parts) before
+      can_collect_all layout h m w (all_reserved layout st.past h w st.parts) before
       (a_collection_begins flip_stands) units_are_few (scans_are_done layout) units_few
 
   -- and then the moves of both are a `collect`

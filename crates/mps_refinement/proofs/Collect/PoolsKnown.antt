@@ -56,7 +56,7 @@ module _ {F : Type 0} where
       (sym (unwrap_or-slice_get formats number None) ∙ ap (λ (x : Option (Option (Policy F))). unwrap_or x None) e)
 
 -- the chain of a pool, if there is one
-chain_of_it : (o : Option world.Pool)
+pub chain_of_it : (o : Option world.Pool)
     → option_and_then (λ (chain : Option ℕ). chain) (option_map (λ (p : world.Pool). p.chain) o)
     ≡ option_and_then (λ (p : world.Pool). p.chain) o
 chain_of_it None = refl

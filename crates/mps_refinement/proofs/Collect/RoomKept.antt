@@ -1,4 +1,4 @@
--- A collection of everything keeps the room of its trail.
+-- A collection keeps the room of its trail.
 use Rattle.std.proofs.Common.{ℕ, ◌<◌, ◌≤◌, sym, subst, List, length, Option, arith}
 use Rattle.mps_base.specs.Address.{Address}
 use Rattle.mps_base.specs.Trail.{Moves, with_move}
@@ -6,13 +6,12 @@ use Rattle.mps_base.specs.declared.moves.Move.TheVariants.{End, Flip}
 use Rattle.mps_buffer.specs.Points.{PointsState}
 use Rattle.mps_trace.specs.State.{FinalsState}
 use Rattle.mps_format.specs.Layout.{Layout}
-use Rattle.mps_trace.specs.GenState.{max_chains}
 use Rattle.mps_root.specs.State.{RootsState}
 use Rattle.mps_refinement.specs.RightMoving.{KeepsRoom}
 use Rattle.mps_abstract.specs.Collecting.{Collecting}
 use Rattle.mps_trace.specs.Begin.{marked_at_flip, Begins, EndsAtOnce}
-use Rattle.mps_trace.specs.Flip.{automatic_of, moving_of, zones_of}
-use Rattle.mps_trace.specs.declared.condemn.Condemn.TheVariants as condemn
+use Rattle.mps_trace.specs.Flip.{chain_of, oldest_of, zones_at_flip}
+use Rattle.mps_trace.specs.declared.condemn.Condemn.{Condemn}
 use Rattle.mps_trace.specs.Trace.{TraceState, Traced}
 use Rattle.mps_trace.specs.Unit.{EndsWithin, HasRoomToEnd}
 use Rattle.mps_trace.specs.declared.running.Running.{Running}
@@ -32,13 +31,14 @@ module _ {F : Type 0} (layout : F → Layout) (t : TraceState F) where
   ]
 
   -- the begin
-  pub begin_pushes : (points : PointsState) (roots roots' : RootsState) (finals finals' : FinalsState) (x z : Traced) (run : Running)
-      → Begins layout t.formats t.chains condemn.Everything points roots finals x roots' finals' z run → IsPushed x.moves z.moves
-  begin_pushes points roots roots' finals finals' x z run b =
-      pushed_on (one_pushed x.moves (Flip (record { 0 = zones_of (moving_of t.formats (automatic_of t.formats x.segs.segments)) })
-      max_chains 0))
+  pub begin_pushes : (what : Condemn) (points : PointsState) (roots roots' : RootsState) (finals finals' : FinalsState) (x z : Traced)
+      (run : Running)
+      → Begins layout t.formats t.chains what points roots finals x roots' finals' z run → IsPushed x.moves z.moves
+  begin_pushes what points roots roots' finals finals' x z run b =
+      pushed_on (one_pushed x.moves (Flip (record { 0 = zones_at_flip t.formats t.chains what x.segs.segments })
+      (chain_of what) (oldest_of what)))
       (pushed_on
-      (tables_push layout t.formats t.chains roots (marked_at_flip t.formats t.chains condemn.Everything points roots x)
+      (tables_push layout t.formats t.chains roots (marked_at_flip t.formats t.chains what points roots x)
       (length roots.order) roots' b.before b.slots)
       (messages_push layout t.formats t.chains finals b.before (length finals.messages) finals' z b.messages))
 
@@ -66,10 +66,10 @@ module _ {F : Type 0} (layout : F → Layout) (t : TraceState F) where
       (pushed_keeps whole (omega (arith, below, left, enough, few)))
 
   -- a collection that is over at once
-  pub at_once_keeps_room : (points : PointsState) (roots roots' : RootsState) (finals finals' : FinalsState) (x z : Traced)
-      → EndsAtOnce t.formats t.chains condemn.Everything points roots finals x roots' finals' z
+  pub at_once_keeps_room : (what : Condemn) (points : PointsState) (roots roots' : RootsState) (finals finals' : FinalsState) (x z : Traced)
+      → EndsAtOnce t.formats t.chains what points roots finals x roots' finals' z
       → 2 ≤ x.moves.spare → KeepsRoom x.moves z.moves
-  at_once_keeps_room points roots roots' finals finals' x z ends room =
-      let flip = Flip (record { 0 = zones_of (moving_of t.formats (automatic_of t.formats x.segs.segments)) }) max_chains 0 in
+  at_once_keeps_room what points roots roots' finals finals' x z ends room =
+      let flip = Flip (record { 0 = zones_at_flip t.formats t.chains what x.segs.segments }) (chain_of what) (oldest_of what) in
       subst (λ (v : Traced). KeepsRoom x.moves v.moves) (sym ends.over)
       (pushed_keeps (pushed_on (one_pushed x.moves flip) (one_pushed (with_move x.moves flip) End)) room)

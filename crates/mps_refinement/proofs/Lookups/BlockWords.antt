@@ -31,6 +31,7 @@ use Rattle.mps_refinement.proofs.Parts.BlockParts.{blocks_changed}
 use Rattle.mps_refinement.proofs.Worlds.Known.{IsKnown}
 use Rattle.mps_refinement.proofs.Lookups.Lookups.{place_same}
 use Rattle.mps_refinement.proofs.Lookups.ManualBlocks.{IsBlock, IsWordOf, block_same, same_then_next, word_same, setting, lies}
+use Rattle.mps_refinement.proofs.Summaries.ManualWords.{manual_keeps}
 use Rattle.mps_refinement.proofs.Calls.Readings.{IsReading, act_reading, reading_is_right}
 use Rattle.mps_refinement.proofs.Worlds.Steps.{Leads, quiet_is_right}
 
@@ -103,6 +104,7 @@ module _ {F : Type 0} (layout : F → Layout) (h : HeapState F) where
               subst (λ m. StandsAt past.time (record h.segs { words = slice_set h.segs.words m value })
               (with_graph w (graph_with_word w.graph id k value))) (sym word.is) (image_stored at id k value b word.low);
           arena = parts.arena;
+          summed = manual_keeps layout past h w parts own.laid at id b k value n word.low word.is;
           tables = parts.tables;
           areas = parts.areas;
           blocks_are = parts.blocks;

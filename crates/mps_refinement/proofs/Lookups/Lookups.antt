@@ -1,7 +1,7 @@
 -- What a call of a heap at rest finds by its words, against what the model finds: each check of the one and the other come to the same,
 -- with the same refusals, over the parts of a heap that stands for a world (`parts`).
 --
--- pool_same, point_same, dependency_same: the thing that a name stands for, kept under a key that has its number (`IsKept`).
+-- chain_same, pool_same, point_same, dependency_same: the thing that a name stands for, kept under a key that has its number (`IsKept`).
 -- slot_same, word_same, place_same: a slot, a word of an area, a place of a table of blocks (`IsEntry`), and the equations of both rows
 -- (`AreFound`).
 use Rattle.std.proofs.Common.{◌≡◌, ◌∙◌, ℕ, ◌<◌, refl, sym, ap, subst, List, length, map, Option, Some, None, IsSome, is_some}
@@ -28,10 +28,11 @@ use Rattle.mps_names.specs.declared.names.Thing.{Thing}
 use Rattle.mps_names.specs.declared.names.Thing.TheVariants as thing
 use Rattle.mps_root.specs.State.{kept}
 use Rattle.mps_root.specs.declared.roots.Stored.{Stored}
-use Rattle.mps_heap_spec.specs.Finding.{as_pool, as_table, as_area, as_blocks, as_point, as_dependency, key_named, pool_named, point_named, dependency_named, slot_in, word_in, block_place_in}
+use Rattle.mps_heap_spec.specs.Finding.{as_chain, as_pool, as_table, as_area, as_blocks, as_point, as_dependency, key_named, chain_named, pool_named, point_named, dependency_named, slot_in, word_in, block_place_in}
 use Rattle.mps_heap_spec.specs.declared.found.Entry.{Entry}
 use Rattle.mps_heap_spec.specs.declared.found.Kept.{Kept}
 use Rattle.mps_heap_spec.specs.State.{HeapState}
+use Rattle.mps_trace.specs.GenState.{ChainsState}
 use Rattle.mps_format.specs.declared.pool.Pool.{Pool}
 use Rattle.mps_refinement.specs.StandsFor.{Past, AreParts, AreNamed, IsPoint, IsPool, IsThere, numbered_thing, address_of_target, stored_word, kept_of}
 use Rattle.mps_refinement.proofs.Lookups.Found.{AreFound, same_found, mapped_some, IsKept, AreThere, under_same, IsEntry, AreMapped, entry_same}
@@ -39,6 +40,10 @@ use Rattle.mps_refinement.proofs.Lookups.Found.{AreFound, same_found, mapped_som
 -- ---- the kinds of things
 
 module _ (past : Past) where
+  pub chains_numbered : (t : Thing) → model.as_chain (numbered_thing past t) ≡ option_map (λ (n : ℕ). n) (as_chain t)
+  chains_numbered (thing.Chain number) = refl
+  chains_numbered _ = refl
+
   pub pools_numbered : (t : Thing) → model.as_pool (numbered_thing past t) ≡ option_map (λ (n : ℕ). n) (as_pool t)
   pools_numbered (thing.Pool number) = refl
   pools_numbered _ = refl
@@ -66,7 +71,17 @@ module _ (past : Past) where
 within_some : {A : Type 0} (xs : List A) (i : ℕ) → i < length xs → IsSome (slice_get xs i)
 within_some xs i low = ap is_some (there_is xs i low).1
 
+-- how many generations a chain of a heap has
+abbrev pub generations_in : {F : Type 0} → HeapState F → (number : ℕ) → Option ℕ
+generations_in h number = option_map length (slice_get h.chains.chains number)
+
 module _ {F : Type 0} (h : HeapState F) where
+  chains_there : (t : Thing) (key : ℕ) → as_chain t ≡ Some key → IsThere h t → IsSome (generations_in h key)
+  chains_there (thing.Chain number) key e there =
+      subst (λ n. IsSome (generations_in h n)) (same_Some number key e)
+      (ap (λ (o : Option (List ℕ)). is_some (option_map length o)) (there_is h.chains.chains number there).1)
+  chains_there _ key e there = absurd (none-some key e)
+
   pools_there : (t : Thing) (key : ℕ) → as_pool t ≡ Some key → IsThere h t → IsSome (slice_get h.pools key)
   pools_there (thing.Pool number) key e there =
       subst (λ n. IsSome (slice_get h.pools n)) (same_Some number key e) (within_some h.pools number there)
@@ -138,7 +153,10 @@ own_number number = number
 
 -- ---- things, slots, words and places
 
--- what fits of pools, points and dependencies
+-- what fits of chains, pools, points and dependencies
+abbrev pub FitChains : ℕ → ℕ → List ℕ → Type 0
+FitChains number generations capacities = generations ≡ length capacities
+
 abbrev pub FitPools : {F : Type 0} (layout : F → Layout) (w : World) → ℕ → Pool F → world.Pool → Type 0
 FitPools layout w number p q = IsPool layout w.formats p q
 
@@ -147,6 +165,9 @@ FitDependencies number d e = d ≡ kept_of e
 
 abbrev pub FitPoints : (w : World) → ℕ → Point → graph.Point → Type 0
 FitPoints w = IsPoint (length w.flips) (world.is_copying_pool w) w.point_memories
+
+abbrev pub IsChainFound : {F : Type 0} → HeapState F → World → Kept ℕ → Numbered (List ℕ) → Type 0
+IsChainFound h w = IsKept FitChains own_number (generations_in h) (slice_get w.chains)
 
 abbrev pub IsPoolFound : {F : Type 0} → (layout : F → Layout) → HeapState F → World → Kept (Pool F) → Numbered world.Pool → Type 0
 IsPoolFound layout h w = IsKept (FitPools layout w) own_number (slice_get h.pools) (slice_get w.pools)
@@ -185,6 +206,18 @@ module _ {F : Type 0} (layout : F → Layout) (past : Past) (h : HeapState F) (w
       let found = mapped_some kept_of (slice_get w.dependencies key) d
       (sym (ap (λ ds. slice_get ds key) parts.dependencies ∙ slice_get-map kept_of w.dependencies key) ∙ e) in
       (found.0, found.1, sym found.2)
+
+  chains_fit : AreThere FitChains own_number (generations_in h) (slice_get w.chains)
+  chains_fit key generations e =
+      let found = mapped_some length (slice_get h.chains.chains key) generations e in
+      (found.0, sym (ap (λ (c : ChainsState). slice_get c.chains key) parts.chains.same) ∙ found.1, sym found.2)
+
+  pub chain_same : (name : Name) → Same (IsChainFound h w) (chain_named h name) (model.chain_named w name)
+  chain_same name =
+      same_then (key_same past h w parts.names as_chain model.as_chain own_number (chains_numbered past) name) (λ key number k.
+      under_same FitChains own_number (generations_in h) (slice_get w.chains) chains_fit key number k.number
+      (key_there past h w parts.names as_chain model.as_chain own_number (chains_numbered past) (λ n. IsSome (generations_in h n))
+      (chains_there h) name key k.named))
 
   pub pool_same : (name : Name) → Same (IsPoolFound layout h w) (pool_named h name) (model.pool_named w name)
   pool_same name =

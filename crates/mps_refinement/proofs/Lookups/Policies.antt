@@ -1,10 +1,10 @@
 -- What a collection knows of the pools of a heap by their numbers: their policies.
-use Rattle.std.proofs.Common.{◌≡◌, ◌∙◌, ℕ, true, false, refl, sym, ap, List, map, Option, Some, None, arith}
+use Rattle.std.proofs.Common.{◌≡◌, ◌∙◌, ℕ, true, false, refl, sym, ap, List, map, Option, Some, None, arith, subst}
 use Rattle.std.proofs.lemmas.Bool.{false≢true}
 use Rattle.std.proofs.lemmas.Option.{none-some, same_Some, slice_get-map, slice_get_within}
 use Rattle.std.specs.Prelude.{option_map, slice_get}
 use Rattle.std.specs.Option.{option_map_or}
-use Rattle.mps_format.specs.Layout.{Layout}
+use Rattle.mps_format.specs.Layout.{Layout, IsLawful}
 use Rattle.mps_format.specs.Pools.{policy_of_pool, is_copying_pool}
 use Rattle.mps_format.specs.declared.pool.Policy.{Policy}
 use Rattle.mps_format.specs.declared.pool.Pool.{Pool}
@@ -30,6 +30,11 @@ module _ {F : Type 0} where
   moves_by (pool.Automatic kind other) format e = ap (λ (x : Policy F). x.moves) (sym (same_Some _ format e))
   moves_by (pool.OneSize words) format e = absurd (none-some format e)
   moves_by pool.AnySize format e = absurd (none-some format e)
+
+  automatic_by : (p : Pool F) (format : Policy F) → policy_of_pool p ≡ Some format → is_automatic_kind (kind_of p) ≡ true
+  automatic_by (pool.Automatic kind other) format e = refl
+  automatic_by (pool.OneSize words) format e = absurd (none-some format e)
+  automatic_by pool.AnySize format e = absurd (none-some format e)
 
   layout_is : (layout : F → Layout) (formats : ℕ → Layout) (p : Pool F) (q : world.Pool) (format : Policy F) → IsPool layout formats p q
       → policy_of_pool p ≡ Some format → layout format.format ≡ formats q.format
@@ -92,6 +97,13 @@ module _ {F : Type 0} (layout : F → Layout) (pools : List (Pool F)) (w : World
           ∙ sym (ap (λ (o : Option world.Pool). w.formats (option_map_or (λ (x : world.Pool). x.format) o 0)) f)
       by_cases (neither e f) = absurd (none-some (Some format) (sym (policy_at pools number None e) ∙ there))
 
+  -- it is lawful if all formats are
+  pub lawful_of_policy : ((number : ℕ) → IsLawful (w.formats number)) → (number : ℕ) (format : Policy F)
+      → slice_get (map policy_of_pool pools) number ≡ Some (Some format) → IsLawful (layout format.format)
+  lawful_of_policy lawful number format there =
+      subst IsLawful (sym (layout_of_policy number format there))
+      (lawful (option_map_or (λ (x : world.Pool). x.format) (world.pool_at w number) 0))
+
   pub moves_of_policy : (number : ℕ) (format : Policy F) → slice_get (map policy_of_pool pools) number ≡ Some (Some format)
       → format.moves ≡ world.is_copying_pool w number
   moves_of_policy number format there = by_cases (at_number number)
@@ -100,4 +112,16 @@ module _ {F : Type 0} (layout : F → Layout) (pools : List (Pool F)) (w : World
       by_cases (both p q e f is) =
           moves_by p format (same_Some (policy_of_pool p) (Some format) (sym (policy_at pools number (Some p) e) ∙ there))
           ∙ copying_by_number layout w.formats p q is w number f
+      by_cases (neither e f) = absurd (none-some (Some format) (sym (policy_at pools number None e) ∙ there))
+
+  -- a pool with a policy is automatic
+  pub automatic_where_listed : (number : ℕ) (format : Policy F) → slice_get (map policy_of_pool pools) number ≡ Some (Some format)
+      → pool_is is_automatic_kind w number ≡ true
+  automatic_where_listed number format there = by_cases (at_number number)
+    where
+      by_cases : AtNumber number → pool_is is_automatic_kind w number ≡ true
+      by_cases (both p q e f is) =
+          ap (λ (o : Option world.Pool). option_map_or (λ x. is_automatic_kind x.kind) o false) f
+          ∙ ap is_automatic_kind (kinds_alike layout w.formats p q is)
+          ∙ automatic_by p format (same_Some (policy_of_pool p) (Some format) (sym (policy_at pools number (Some p) e) ∙ there))
       by_cases (neither e f) = absurd (none-some (Some format) (sym (policy_at pools number None e) ∙ there))

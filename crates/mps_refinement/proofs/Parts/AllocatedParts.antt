@@ -8,7 +8,7 @@ use Rattle.std.specs.Option.{option_map_or}
 use Rattle.mps_seg.specs.Arena.{cleared_words}
 use Rattle.mps_base.specs.Address.{Address, Id, Word, word_of, address_of_word, max_grains, grain_of}
 use Rattle.mps_base.specs.Placement.{Placement, Place, NewSegment, OverLimit, NoFreeRun}
-use Rattle.mps_base.specs.Run.{Run, Covers, with_run}
+use Rattle.mps_base.specs.Run.{Run, Covers, with_run, IsAscending}
 use Rattle.mps_base.specs.Segment.{Segment, grains_of_segment, segment_over}
 use Rattle.mps_base.specs.declared.names.Rank.TheVariants as rank
 use Rattle.mps_extents.specs.Table.{bit}
@@ -48,11 +48,17 @@ use Rattle.mps_refinement.proofs.Worlds.PlacesByMoves.{places_of}
 use Rattle.mps_refinement.proofs.Parts.PointWritten.{none_set}
 use Rattle.mps_refinement.proofs.Parts.ReservedImage.{block_covers, reservation_covers}
 use Rattle.mps_refinement.proofs.Parts.StillHeld.{messages_still, slots_still, words_still}
-use Rattle.mps_seg.specs.Collecting.{bit_of}
+use Rattle.mps_seg.specs.Collecting.{bit_of, summary_at}
 use Rattle.mps_refinement.proofs.Parts.SegmentsTaken.{condemned_held, condemned_same, condemned_stay, pool_same, stays, uncondemned}
 use Rattle.mps_refinement.proofs.Parts.Unforwarded.{flip_known, still_in, unmoved}
 use Rattle.mps_refinement.proofs.Parts.Registered.{as_before}
 use Rattle.mps_model.specs.WellFormed.{is_live_automatic}
+use Rattle.mps_trace_laws.specs.Summaries.Summed.{IsRunSummed, AreWordsSummed}
+use Rattle.mps_format.specs.Pools.{policy_of_pool}
+use Rattle.mps_format.specs.declared.pool.Policy.{Policy}
+use Rattle.mps_laws.proofs.Positions.Covered.{covered-shapes, covered_ascending}
+use Rattle.mps_refinement.proofs.Lookups.Policies.{lawful_of_policy}
+use Rattle.mps_refinement.proofs.Summaries.NewRuns.{new_run_summed, notes_sized, null_target, stays_held, zero_summed}
 
 -- ---- placements
 
@@ -366,6 +372,38 @@ module _ {F : Type 0} (layout : F → Layout) (past : Past) (h : HeapState F) (w
           (block_is_allocated setting_between (memory_in h.segs) w.addresses past.time.colours object at
           (cleared_words h.segs.words (word_of at) words) (memory_in h.segs).kept between allocated free at_home)
 
+      -- ---- words stay summed: those of the block are 0
+
+      abbrev policies : List (Option (Policy F))
+      policies = map policy_of_pool h.pools
+
+      abbrev new_run : Run
+      new_run = record { from = word_of at; count = words }
+
+      covered_ascend : IsAscending 0 (512 * (w.grains + 1)) (with_run new_run h.segs.covered)
+      covered_ascend =
+          subst (IsAscending 0 (512 * (w.grains + 1))) (sym (image_made.runs.covered ∙ covered-shapes v))
+          (covered_ascending (w.grains + 1) (occupancy_of v) after)
+
+      own_summed : (t : Segment) (format : Policy F) → segment_over segs.segments (address_of_word (word_of at)) ≡ Some t
+          → slice_get policies t.pool ≡ Some (Some format)
+          → IsRunSummed (layout format.format) segs.words (summary_at segs t.base) new_run
+      own_summed t format over listed =
+          let lawful = lawful_of_policy layout h.pools w parts.pools parts.lawful t.pool format listed in
+          zero_summed (layout format.format) lawful segs.words (summary_at segs t.base) new_run
+          (λ reference leads.
+          let none = ap (layout format.format).target (cleared_word h.segs.words (word_of at) words fits 0 some)
+          ∙ null_target (layout format.format) lawful in
+          omega (arith, leads, none))
+          (λ k later low. cleared_word h.segs.words (word_of at) words fits k low)
+
+      summed_made : AreWordsSummed layout policies segs
+      summed_made =
+          new_run_summed layout policies h.segs segs parts.summed new_run (512 * (w.grains + 1)) refl covered_ascend
+          (notes_sized q h.segs.summaries ∙ parts.summed.sized)
+          (λ n apart. other_word h.segs.words (word_of at) words fits n apart)
+          (stays_held layout past h w parts laid q pool 0 rank.Exact after.aligned after.ascending segs segments_are refl) own_summed
+
     -- ---- the parts
 
     -- automatic objects stay where they are
@@ -396,6 +434,7 @@ module _ {F : Type 0} (layout : F → Layout) (past : Past) (h : HeapState F) (w
           limit = refl;
           segments_are = ap (λ ss. segments_after q pool 0 rank.Exact ss) parts.segments;
           image = image_made places laid after;
+          summed = summed_made places laid after;
           arena = record {
             nonzero = parts.arena.nonzero;
             at_most = parts.arena.at_most;

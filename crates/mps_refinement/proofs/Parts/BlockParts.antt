@@ -17,6 +17,8 @@ use Rattle.mps_refinement.specs.Numbering.{AreNumbered}
 use Rattle.mps_refinement.specs.StandsFor.{Past, AreParts, AreSlots, AreWords, IsArena, address_of_id, address_of_target, StandsAt, AreRegisteredAt, state_of}
 use Rattle.mps_refinement.proofs.Parts.Named.{named_alike}
 use Rattle.mps_refinement.proofs.Parts.PartsByKind.{parts_of_kinds, points_of, pools_of, states_of}
+use Rattle.mps_trace_laws.specs.Summaries.Summed.{AreWordsSummed}
+use Rattle.mps_format.specs.Pools.{policy_of_pool}
 
 module _ {F : Type 0} (h : HeapState F) (segs : SegsState) (blocks : List (List ℕ)) where
   -- the state with these segments and places
@@ -29,13 +31,15 @@ world_with_blocks w objects addresses places segments =
     record w { graph = record w.graph { objects = objects; blocks = places }; addresses = addresses; segments = segments }
 
 -- what is shown of the change
-pub record AreBlocks {F : Type 0} (past : Past) (h : HeapState F) (w : World) (segs : SegsState) (blocks : List (List ℕ))
-    (objects : List Object) (addresses : List (Option Address)) (places : List Slots) (segments : List Segment) : Type 0 where
+pub record AreBlocks {F : Type 0} (layout : F → Layout) (past : Past) (h : HeapState F) (w : World) (segs : SegsState)
+    (blocks : List (List ℕ)) (objects : List Object) (addresses : List (Option Address)) (places : List Slots)
+    (segments : List Segment) : Type 0 where
   pub grains : segs.grains ≡ h.segs.grains
   pub limit : segs.limit ≡ h.segs.limit
   pub segments_are : segs.segments ≡ segments
   pub image : StandsAt past.time segs (world_with_blocks w objects addresses places segments)
   pub arena : IsArena segs.grains h.points
+  pub summed : AreWordsSummed layout (map policy_of_pool h.pools) segs
   pub tables : AreNumbered (AreSlots addresses) past.table_number (kept h.roots.tables) w.graph.tables
   pub areas : AreNumbered (AreWords addresses) past.area_number (kept h.roots.areas) w.graph.areas
   pub blocks_are : blocks ≡ map (map (address_of_target addresses)) places
@@ -47,10 +51,10 @@ pub record AreBlocks {F : Type 0} (past : Past) (h : HeapState F) (w : World) (s
 
 pub blocks_changed : {F : Type 0} (layout : F → Layout) (past : Past) (h : HeapState F) (w : World) (segs : SegsState)
     (blocks : List (List ℕ)) (objects : List Object) (addresses : List (Option Address)) (places : List Slots) (segments : List Segment)
-    → AreParts layout past h w → AreBlocks past h w segs blocks objects addresses places segments
+    → AreParts layout past h w → AreBlocks layout past h w segs blocks objects addresses places segments
     → AreParts layout past (with_blocks h segs blocks) (world_with_blocks w objects addresses places segments)
 blocks_changed layout past h w segs blocks objects addresses places segments parts are =
-    parts_of_kinds (are.grains ∙ parts.grains, are.limit ∙ parts.limit, are.segments_are) (are.image, are.arena) (
+    parts_of_kinds (are.grains ∙ parts.grains, are.limit ∙ parts.limit, are.segments_are) (are.image, are.arena, are.summed) (
       are.tables,
       parts.ordered,
       are.areas,
@@ -88,6 +92,7 @@ parts_with_pairs layout past h w pairs unpaired p = record {
   segments = p.segments;
   image = p.image;
   arena = p.arena;
+  summed = p.summed;
   tables = p.tables;
   ordered = p.ordered;
   areas = p.areas;
@@ -122,6 +127,7 @@ parts_with_frames layout past h w frames p = record {
   segments = p.segments;
   image = p.image;
   arena = p.arena;
+  summed = p.summed;
   tables = p.tables;
   ordered = p.ordered;
   areas = p.areas;

@@ -302,7 +302,8 @@ module _ {F : Type 0} (layout : F → Layout) (past : Past) (h : HeapState F) (w
 
   pub made_parts : AreParts layout past heap_made world_made
   made_parts =
-      parts_of_kinds (arena_of parts) (image_made, resting_made) (
+      parts_of_kinds (arena_of parts)
+      (image_made, resting_made, record { sized = parts.summed.sized; each = parts.summed.each }) (
         tables_still w.addresses at w.graph.tables known.held.slots parts.tables,
         parts.ordered,
         areas_still w.addresses at w.graph.areas known.held.holds parts.areas,

@@ -6,8 +6,8 @@ use Rattle.std.specs.Prelude.{◌==◌, ◌&&◌, ◌||◌, not, nat_le, nat_lt,
 use Rattle.std.specs.List.{list_any}
 use Rattle.std.specs.Option.{option_map_or}
 use Rattle.mps_base.specs.Address.{Address, Id, Word, word_of, address_of_word, grain_of}
-use Rattle.mps_base.specs.Run.{Run, Covers, runs_within}
-use Rattle.mps_base.specs.Segment.{Segment, end_of_segment, segment_over, without_segment, words_of_segment, is_in_segment}
+use Rattle.mps_base.specs.Run.{Run, Covers, runs_within, IsAscending}
+use Rattle.mps_base.specs.Segment.{Segment, end_of_segment, segment_over, without_segment, words_of_segment, is_in_segment, grains_of_segment}
 use Rattle.mps_format.specs.Layout.{Layout}
 use Rattle.mps_trace_laws.specs.Image.ArenaLaws.{AreSegmentsKept}
 use Rattle.mps_trace_laws.specs.Image.Image.{black_cells}
@@ -19,7 +19,7 @@ use Rattle.mps_trace_laws.proofs.Image.Shaped.{are_shaped_objects}
 use Rattle.mps_laws.proofs.Positions.LegalMoves.{HasLayout}
 use Rattle.mps_laws.proofs.Lookups.{entry_at-set_other}
 use Rattle.mps_laws.proofs.Positions.Occupancy.{OfBlock, occupancy_of, shape_of}
-use Rattle.mps_laws.proofs.Positions.Segments.{IsAligned, IsAmong, among_without, found_segment, all_without, among_aligned, among_kept, ascending_without, found_among, same_by_base}
+use Rattle.mps_laws.proofs.Positions.Segments.{IsAligned, IsAmong, among_without, found_segment, all_without, among_aligned, among_kept, ascending_without, found_among, same_by_base, AreAligned}
 use Rattle.mps_laws.proofs.Sound.SoundGraph.{IsSoundGraph, auto}
 use Rattle.mps_pools.specs.Manual.{any_size, block_removed, segs_after_free, given_back, is_none, is_unused}
 use Rattle.mps_model.specs.Graph.{Object, entry_at, is_automatic, is_automatic_body, size_of}
@@ -29,7 +29,7 @@ use Rattle.mps_model.specs.Effect.{with_address}
 use Rattle.mps_seg.specs.Segs.{SegsState}
 use Rattle.mps_heap_spec.specs.declared.found.Entry.{Entry}
 use Rattle.mps_heap_spec.specs.State.{HeapState}
-use Rattle.mps_format.specs.Pools.{size_of_pool}
+use Rattle.mps_format.specs.Pools.{size_of_pool, policy_of_pool}
 use Rattle.mps_format.specs.declared.pool.Pool.{Pool}
 use Rattle.mps_format.specs.declared.pool.Pool.TheVariants as pool
 use Rattle.mps_model.specs.Checked.{Found}
@@ -55,6 +55,8 @@ use Rattle.mps_trace_laws.specs.Fix.Ranks.{AreMarksRanked}
 use Rattle.mps_trace_laws.proofs.Fix.Ranks.{was_set}
 use Rattle.mps_seg.specs.Marks.{MarkTables}
 use Rattle.mps_extents.specs.Table.{bit}
+use Rattle.mps_trace_laws.specs.Summaries.Summed.{AreWordsSummed}
+use Rattle.mps_refinement.proofs.Summaries.FreedBlocks.{given_summed, removed_summed}
 
 -- ---- whether a segment is given back
 
@@ -317,6 +319,22 @@ module _ {F : Type 0} (layout : F → Layout) (past : Past) (h : HeapState F) (w
           }) ∙ grey.over
       over_grey n grey false segments_are = grey.over
 
+  -- words stay summed
+  segs_summed : (t : Segment) (given : Bool) → HasLayout (w.grains + 1) w
+      → AreWordsSummed layout (map policy_of_pool h.pools) (segments_freed h.segs at t given)
+  segs_summed t given laid = of_given given
+    where
+      aligned : AreAligned h.segs.segments
+      aligned = subst AreAligned (sym parts.segments) laid.aligned
+
+      ascending : IsAscending 1 (w.grains + 1) (map grains_of_segment h.segs.segments)
+      ascending =
+          subst (λ (ss : List Segment). IsAscending 1 (w.grains + 1) (map grains_of_segment ss)) (sym parts.segments) laid.ascending
+
+      of_given : (b : Bool) → AreWordsSummed layout (map policy_of_pool h.pools) (segments_freed h.segs at t b)
+      of_given true = given_summed layout (map policy_of_pool h.pools) h.segs (w.grains + 1) aligned ascending parts.summed at t.base
+      of_given false = removed_summed layout (map policy_of_pool h.pools) h.segs (w.grains + 1) aligned ascending parts.summed at
+
   pub parts_freed : (index : ℕ) (entry : Entry Address) (found : Found (Option ℕ)) → IsPlaceEntry past h w index entry found
       → found.value ≡ Some id → ArePlacedOnce (places_of w) → (t : Segment) (given : Bool) → IsAmong t w.segments
       → is_copying_pool w t.pool ≡ false
@@ -342,6 +360,7 @@ module _ {F : Type 0} (layout : F → Layout) (past : Past) (h : HeapState F) (w
         limit = segs_limit t given;
         segments_are = segs_segments t given;
         image = image_after t given v held not_copying refl refl refl laid after;
+        summed = segs_summed t given laid;
         arena = record {
           nonzero = let some = parts.arena.nonzero in let e = segs_grains t given in omega (arith, some, e);
           at_most = let most = parts.arena.at_most in let e = segs_grains t given in omega (arith, most, e);

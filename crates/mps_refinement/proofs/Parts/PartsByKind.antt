@@ -9,7 +9,8 @@ use Rattle.mps_model.specs.World as world
 use Rattle.mps_model.specs.World.{World}
 use Rattle.mps_root.specs.State.{kept}
 use Rattle.mps_heap_spec.specs.State.{HeapState}
-use Rattle.mps_format.specs.Pools.{size_of_pool}
+use Rattle.mps_format.specs.Pools.{policy_of_pool, size_of_pool}
+use Rattle.mps_trace_laws.specs.Summaries.Summed.{AreWordsSummed}
 use Rattle.mps_refinement.specs.Numbering.{AreNumbered, AreOrdered}
 use Rattle.mps_refinement.specs.StandsFor.{AreChains, AreNamed, AreParts, ArePools, AreSlots, AreWords, IsArena, IsPoint, Past, address_of_id, address_of_target, kept_of, state_of, AreRegisteredAt, StandsAt}
 
@@ -18,9 +19,10 @@ module _ {F : Type 0} (layout : F → Layout) (past : Past) (h : HeapState F) (w
   abbrev pub ArenaParts : Type 0
   ArenaParts = (h.segs.grains ≡ w.grains) × (h.segs.limit ≡ w.limit) × (h.segs.segments ≡ w.segments)
 
-  -- words, marks and runs, and that no collection left its mark
+  -- words, marks and runs, and what is summed of words
   abbrev pub ImageParts : Type 0
-  ImageParts = StandsAt past.time h.segs w × IsArena h.segs.grains h.points
+  ImageParts =
+      StandsAt past.time h.segs w × IsArena h.segs.grains h.points × AreWordsSummed layout (map policy_of_pool h.pools) h.segs
 
   abbrev pub RootParts : Type 0
   RootParts = AreNumbered (AreSlots w.addresses) past.table_number (kept h.roots.tables) w.graph.tables
@@ -65,6 +67,7 @@ module _ {F : Type 0} {layout : F → Layout} {past : Past} {h : HeapState F} {w
     segments = arena.2;
     image = image.0;
     arena = image.1;
+    summed = image.2;
     tables = roots.0;
     ordered = roots.1;
     areas = roots.2;
@@ -92,7 +95,7 @@ module _ {F : Type 0} {layout : F → Layout} {past : Past} {h : HeapState F} {w
   arena_of = (parts.grains, parts.limit, parts.segments)
 
   pub image_of : ImageParts layout past h w
-  image_of = (parts.image, parts.arena)
+  image_of = (parts.image, parts.arena, parts.summed)
 
   pub roots_of : RootParts layout past h w
   roots_of = (parts.tables, parts.ordered, parts.areas, parts.blocks, parts.roots_counted, parts.slots_counted)

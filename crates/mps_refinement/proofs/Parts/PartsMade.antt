@@ -1,6 +1,6 @@
 -- The parts of a heap that stand for those of a world, after things were made or dropped: a lemma for each kind of thing, over the
 -- facts that change.
-use Rattle.std.proofs.Common.{◌≡◌, ℕ, ◌<◌, refl, sym, ap, subst, List, length, map, Option, None, IsSome}
+use Rattle.std.proofs.Common.{◌≡◌, ℕ, ◌<◌, refl, sym, ap, subst, List, length, map, Option, IsSome}
 use Rattle.mps_base.specs.declared.names.Name.{Name}
 use Rattle.mps_buffer.specs.declared.point.Point.{Point}
 use Rattle.mps_format.specs.Layout.{Layout}
@@ -15,16 +15,17 @@ use Rattle.mps_names.specs.State.{NamesState, IsSameMap}
 use Rattle.mps_root.specs.State.{RootsState, kept}
 use Rattle.mps_heap_spec.specs.Making.{IsUntouched}
 use Rattle.mps_heap_spec.specs.State.{HeapState}
-use Rattle.mps_format.specs.Pools.{size_of_pool}
+use Rattle.mps_format.specs.Pools.{size_of_pool, policy_of_pool}
 use Rattle.mps_heap_spec.specs.declared.arena.ArenaState.{ArenaState}
 use Rattle.mps_format.specs.declared.pool.Pool.{Pool}
 use Rattle.mps_trace.specs.AmcState.{with_pool}
 use Rattle.mps_trace.specs.GenState.{ChainsState}
-use Rattle.mps_pools.specs.Pools.{with_pool_on}
+use Rattle.mps_pools.specs.Pools.{tails_on, with_pool_on}
 use Rattle.mps_refinement.specs.Numbering.{AreNumbered, AreOrdered}
 use Rattle.mps_refinement.specs.StandsFor.{AreChains, AreNamed, AreParts, ArePools, AreSlots, AreWords, IsPoint, Past, StandsFor, address_of_target, kept_of, state_of, IsArena, IsInTime, StandsAt, collector_of}
 use Rattle.mps_refinement.proofs.Parts.Named.{ThingsStay, named_alike}
 use Rattle.mps_refinement.proofs.Parts.PartsByKind.{parts_of_kinds, arena_of, finals_of, image_of, points_of, pools_of, roots_of, states_of}
+use Rattle.mps_trace_laws.specs.Summaries.Summed.{AreWordsSummed}
 
 -- where the things are those of another state, all stay
 pub all_stay : {F : Type 0} (h after : HeapState F) → after.pools ≡ h.pools → after.roots ≡ h.roots → after.points ≡ h.points
@@ -100,38 +101,55 @@ module _ {F : Type 0} (layout : F → Layout) (past : Past) (h : HeapState F) (w
       → AreParts layout (record past { point_number = point_number }) (state_of_points points points_live names)
       (world_of_points numbered memories named)
   points_changed point_number points points_live names numbered memories named are =
-      parts_of_kinds (arena_of parts) (are.image_stands, are.open_still) (roots_of parts) (are.points_are, are.points_counted)
+      parts_of_kinds (arena_of parts) (are.image_stands, are.open_still, parts.summed) (roots_of parts) (are.points_are, are.points_counted)
       (finals_of parts) parts.dependencies (pools_of parts) are.names_are (states_of parts)
+
+  -- ---- chains
+
+  abbrev pub state_of_chains : ChainsState → NamesState → HeapState F
+  state_of_chains chains names = record h { chains = chains; names = names }
+
+  abbrev pub world_of_chains : List (List ℕ) → List NamedThing → World
+  world_of_chains chains named = record w { graph = record w.graph { names = named }; chains = chains }
+
+  pub chains_changed : (kept : ChainsState) (names : NamesState) (chains : List (List ℕ)) (named : List NamedThing)
+      → AreChains kept chains w.pools → AreNamed past (state_of_chains kept names) named w.graph.labels
+      → AreParts layout past (state_of_chains kept names) (world_of_chains chains named)
+  chains_changed kept names chains named are names_are =
+      parts_of_kinds (arena_of parts) (image_of parts) (roots_of parts) (points_of parts) (finals_of parts) parts.dependencies
+      (parts.lawful, parts.pools, parts.sizes, are, parts.dependents) names_are (states_of parts)
 
   -- ---- pools
 
-  abbrev pub state_of_pools : List (Pool F) → (sizes : List ℕ) → NamesState → HeapState F
-  state_of_pools pools sizes names = record h {
+  abbrev pub state_of_pools : List (Pool F) → (sizes : List ℕ) → (chain : Option ℕ) → NamesState → HeapState F
+  state_of_pools pools sizes chain names = record h {
     pools = pools;
     sizes = sizes;
-    chains = with_pool_on h.chains None;
-    tails = with_pool h.tails 1;
+    chains = with_pool_on h.chains chain;
+    tails = with_pool h.tails (tails_on h.chains chain);
     names = names;
   }
 
   abbrev pub world_of_pools : List world.Pool → List NamedThing → World
   world_of_pools pools named = record w { graph = record w.graph { names = named }; pools = pools }
 
-  pub record AreOtherPools (pools : List (Pool F)) (sizes : List ℕ) (names : NamesState) (numbered : List world.Pool)
-      (named : List NamedThing) : Type 0 where
+  pub record AreOtherPools (pools : List (Pool F)) (sizes : List ℕ) (chain : Option ℕ) (names : NamesState)
+      (numbered : List world.Pool) (named : List NamedThing) : Type 0 where
     pub pools_are : ArePools layout w.formats pools numbered
     pub sizes_are : sizes ≡ map size_of_pool pools
-    pub chains_are : AreChains (with_pool_on h.chains None) w.chains numbered
+    pub chains_are : AreChains (with_pool_on h.chains chain) w.chains numbered
     pub points_are : AreNumbered (IsPoint (length w.flips) (world.is_copying_pool (world_of_pools numbered w.graph.names)) w.point_memories)
         past.point_number (kept h.points.points) w.graph.points
     pub image_stands : StandsAt past.time h.segs (world_of_pools numbered w.graph.names)
-    pub names_are : AreNamed past (state_of_pools pools sizes names) named w.graph.labels
+    pub words_summed : AreWordsSummed layout (map policy_of_pool pools) h.segs
+    pub names_are : AreNamed past (state_of_pools pools sizes chain names) named w.graph.labels
 
-  pub pools_changed : (pools : List (Pool F)) (sizes : List ℕ) (names : NamesState) (numbered : List world.Pool)
-      (named : List NamedThing) → AreOtherPools pools sizes names numbered named
-      → AreParts layout past (state_of_pools pools sizes names) (world_of_pools numbered named)
-  pools_changed pools sizes names numbered named are =
-      parts_of_kinds (arena_of parts) (are.image_stands, parts.arena) (roots_of parts) (are.points_are, parts.points_counted)
+  pub pools_changed : (pools : List (Pool F)) (sizes : List ℕ) (chain : Option ℕ) (names : NamesState) (numbered : List world.Pool)
+      (named : List NamedThing) → AreOtherPools pools sizes chain names numbered named
+      → AreParts layout past (state_of_pools pools sizes chain names) (world_of_pools numbered named)
+  pools_changed pools sizes chain names numbered named are =
+      parts_of_kinds (arena_of parts) (are.image_stands, parts.arena, are.words_summed) (roots_of parts)
+      (are.points_are, parts.points_counted)
       (finals_of parts) parts.dependencies (parts.lawful, are.pools_are, are.sizes_are, are.chains_are, parts.dependents) are.names_are
       (states_of parts)
 
@@ -171,7 +189,9 @@ module _ {F : Type 0} (layout : F → Layout) (past : Past) (h : HeapState F) (w
       (record w { limit = limit; state = state })
   arena_changed limit arena state names is same counts =
       let after = record h { segs = record h.segs { limit = limit }; arena = arena; names = names } in
-      parts_of_kinds (parts.grains, refl, parts.segments) (image_of parts) (roots_of parts) (points_of parts) (finals_of parts)
+      parts_of_kinds (parts.grains, refl, parts.segments)
+      (parts.image, parts.arena, record { sized = parts.summed.sized; each = parts.summed.each }) (roots_of parts) (points_of parts)
+      (finals_of parts)
       parts.dependencies (pools_of parts)
       (named_alike h after past w.graph.names w.graph.labels parts.names same counts (all_stay h after refl refl refl refl refl))
       (parts.flips, parts.point_flips, is)

@@ -4,6 +4,7 @@ use Rattle.std.specs.Prelude.{slice_set}
 use Rattle.mps_base.specs.Address.{Address, Id}
 use Rattle.mps_trace.specs.State.{FinalsState}
 use Rattle.mps_format.specs.Layout.{Layout}
+use Rattle.mps_format.specs.Pools.{policy_of_pool}
 use Rattle.mps_model.specs.Allocating.{with_slot}
 use Rattle.mps_model.specs.Checked.{Found, with_graph}
 use Rattle.mps_model.specs.Accessing.{with_word}
@@ -12,10 +13,10 @@ use Rattle.mps_model.specs.Making.{live_roots, live_slots}
 use Rattle.mps_model.specs.World.{World, Dependency}
 use Rattle.mps_ld.specs.State.{LdState}
 use Rattle.mps_root.specs.State.{RootsState, kept, with_item}
+use Rattle.mps_trace_laws.specs.Summaries.Summed.{AreWordsSummed}
 use Rattle.mps_root.specs.declared.roots.Stored.{Stored}
 use Rattle.mps_heap_spec.specs.Areas.{with_area_word}
 use Rattle.mps_heap_spec.specs.Finalizing.{with_finals}
-use Rattle.mps_heap_spec.specs.Finding.{with_words}
 use Rattle.mps_heap_spec.specs.declared.found.Entry.{Entry}
 use Rattle.mps_heap_spec.specs.Objects as ours
 use Rattle.mps_heap_spec.specs.State.{HeapState}
@@ -60,15 +61,17 @@ module _ {F : Type 0} (layout : F → Layout) (past : Past) (h : HeapState F) (w
       (named_alike h (record h { roots = roots }) past w.graph.names w.graph.labels parts.names (λ name. refl) refl are.stay)
       (states_of parts)
 
-  -- other words, and other objects where they lie
-  pub words_written : (words : List ℕ) (objects : List Object)
+  -- other words, and other objects where they lie, where what words refer to is in summaries
+  pub words_written : (words summaries : List ℕ) (objects : List Object)
       → StandsAt past.time (record h.segs { words = words }) (with_graph w (record w.graph { objects = objects }))
-      → AreParts layout past (with_words h words) (with_graph w (record w.graph { objects = objects }))
-  words_written words objects image =
-      parts_of_kinds (arena_of parts) (image, parts.arena) (roots_of parts) (points_of parts) (finals_of parts) parts.dependencies
+      → AreWordsSummed layout (map policy_of_pool h.pools) (record h.segs { words = words; summaries = summaries })
+      → AreParts layout past (record h { segs = record h.segs { words = words; summaries = summaries } })
+      (with_graph w (record w.graph { objects = objects }))
+  words_written words summaries objects image summed =
+      let after : HeapState F = record h { segs = record h.segs { words = words; summaries = summaries } } in
+      parts_of_kinds (arena_of parts) (image, parts.arena, summed) (roots_of parts) (points_of parts) (finals_of parts) parts.dependencies
       (pools_of parts)
-      (named_alike h (with_words h words) past w.graph.names w.graph.labels parts.names (λ name. refl) refl
-      (all_stay h (with_words h words) refl refl refl refl refl))
+      (named_alike h after past w.graph.names w.graph.labels parts.names (λ name. refl) refl (all_stay h after refl refl refl refl refl))
       (states_of parts)
 
   -- other registrations and messages

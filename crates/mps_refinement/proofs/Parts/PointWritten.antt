@@ -1,5 +1,5 @@
 -- The parts of a heap still stand for those of a world after a point was written in both, with what it has in the arena.
-use Rattle.std.proofs.Common.{◌≡◌, ◌∙◌, ℕ, zero, suc, Bool, false, refl, sym, ap, subst, List, [], ◌∷◌, length, Option, Some, IsSome, is_some, get_or, inl, inr}
+use Rattle.std.proofs.Common.{◌≡◌, ◌∙◌, ℕ, zero, suc, Bool, false, refl, sym, ap, subst, List, [], ◌∷◌, length, Option, Some, IsSome, is_some, get_or, inl, inr, map}
 use Rattle.std.proofs.lemmas.Bool.{cases_eq}
 use Rattle.std.proofs.lemmas.Option.{same_Some}
 use Rattle.std.specs.Prelude.{◌≢◌, slice_get, slice_set}
@@ -23,6 +23,8 @@ use Rattle.mps_refinement.specs.StandsFor.{AreHeldAlike, AreParts, IsArena, IsPo
 use Rattle.mps_refinement.proofs.Parts.Named.{ThingsStay, named_alike}
 use Rattle.mps_refinement.proofs.Parts.Numbering.{kept_other, kept_within, kept_written}
 use Rattle.mps_refinement.proofs.Parts.PartsByKind.{parts_of_kinds, finals_of, pools_of, roots_of}
+use Rattle.mps_trace_laws.specs.Summaries.Summed.{AreWordsSummed}
+use Rattle.mps_format.specs.Pools.{policy_of_pool}
 
 -- ---- points
 
@@ -189,6 +191,7 @@ module _ {F : Type 0} (layout : F → Layout) (past : Past) (h : HeapState F) (w
     pub segments_are : segs.segments ≡ segments
     pub image : StandsAt past.time segs (points_world entries segments memories)
     pub arena : IsArena segs.grains points
+    pub summed : AreWordsSummed layout (map policy_of_pool h.pools) segs
     pub are : AreNumbered (IsPoint (length w.flips) (world.is_copying_pool w) memories) past.point_number (point_at points) entries
     pub counted : live_points (record w.graph { points = entries }) ≡ live_points w.graph
     pub flips : points.flips ≡ h.points.flips
@@ -198,7 +201,7 @@ module _ {F : Type 0} (layout : F → Layout) (past : Past) (h : HeapState F) (w
       (memories : List PointMemory) → ArePointsAnew segs points entries segments memories
       → AreParts layout past (points_heap segs points) (points_world entries segments memories)
   points_anew segs points entries segments memories anew =
-      parts_of_kinds (anew.grains ∙ parts.grains, anew.limit ∙ parts.limit, anew.segments_are) (anew.image, anew.arena)
+      parts_of_kinds (anew.grains ∙ parts.grains, anew.limit ∙ parts.limit, anew.segments_are) (anew.image, anew.arena, anew.summed)
       (roots_of parts) (anew.are, parts.points_counted ∙ sym anew.counted) (finals_of parts) parts.dependencies (pools_of parts)
       (named_alike h (points_heap segs points) past w.graph.names w.graph.labels parts.names (λ name. refl) refl
       (points_stay segs points anew.there))

@@ -1,15 +1,15 @@
 -- After a `reserve` the parts of a heap stand for those of the world after it.
-use Rattle.std.proofs.Common.{◌≡◌, ◌∙◌, ◌⊎◌, ℕ, ◌+◌, ◌-◌, ◌%◌, ◌<◌, ◌≤◌, false, refl, sym, ap, subst, List, length, Some, None, inl, inr, arith, slice_index, map, Contains}
+use Rattle.std.proofs.Common.{◌≡◌, ◌∙◌, ◌⊎◌, ℕ, ◌+◌, ◌-◌, ◌%◌, ◌<◌, ◌≤◌, false, refl, sym, ap, subst, List, length, Some, None, inl, inr, arith, slice_index, map, Contains, true, Option, ◌*◌}
 use Rattle.std.proofs.lemmas.Bool.{cases_eq}
 use Rattle.std.proofs.lemmas.Option.{same_Some, slice_get_within}
-use Rattle.std.specs.Prelude.{not, slice_get, slice_set, option_map, if◌then◌else◌}
+use Rattle.std.specs.Prelude.{not, slice_get, slice_set, option_map, if◌then◌else◌, IsTrue}
 use Rattle.mps_base.specs.Address.{word_of, Word, address_of_word, grain_of, max_grains}
 use Rattle.mps_base.specs.Placement.{Placement}
 use Rattle.mps_base.specs.Segment.{Segment, grains_of_segment, segment_over}
 use Rattle.mps_seg.specs.declared.buffer.Buffer.{Buffer}
 use Rattle.mps_buffer.specs.declared.point.Held.{Held}
 use Rattle.mps_buffer.specs.declared.point.Point.{Point}
-use Rattle.mps_buffer.specs.Points.{point_at, with_point, with_place, with_reservation}
+use Rattle.mps_buffer.specs.Points.{point_at, with_point, with_place, with_reservation, run_of_held}
 use Rattle.mps_seg.specs.Buffer.{run_of}
 use Rattle.mps_format.specs.Layout.{Layout}
 use Rattle.mps_trace_laws.specs.Image.ArenaLaws.{setting_with_segments}
@@ -30,8 +30,8 @@ use Rattle.mps_refinement.proofs.Parts.ClearedWords.{reserved_head, reserved_lon
 use Rattle.mps_refinement.proofs.Parts.Counts.{reservation_written_points}
 use Rattle.mps_refinement.proofs.Parts.PointWritten.{points_anew, points_there, points_written, written_point, other_point}
 use Rattle.mps_refinement.proofs.Parts.ReservedImage.{new_cell_is_fixed, own_free, own_within, memory_now, own_begins, own_covers, shape_there}
-use Rattle.mps_base.specs.Run.{Covers, IsAscending}
-use Rattle.mps_seg.specs.Collecting.{bit_of}
+use Rattle.mps_base.specs.Run.{Covers, IsAscending, with_run}
+use Rattle.mps_seg.specs.Collecting.{bit_of, summary_at}
 use Rattle.std.specs.Option.{option_map_or}
 use Rattle.mps_refinement.proofs.Parts.CommittedParts.{aligned_otherwise, in_order_still, segment_there}
 use Rattle.mps_refinement.proofs.Parts.SegmentsTaken.{condemned_same, pool_same}
@@ -40,6 +40,12 @@ use Rattle.mps_trace_laws.specs.Image.Changes.{AreHome, IsOfNoMovedBlock}
 use Rattle.mps_trace_laws.specs.Image.SegmentWords.{AreSegmentsInOrder}
 use Rattle.mps_trace_laws.proofs.Image.SegmentWords.{segments_are_home}
 use Rattle.mps_laws.proofs.Positions.Occupancy.{OfReservation, PointShape, occupancy_of, run_of as run_of_occupant}
+use Rattle.mps_trace_laws.specs.Summaries.Summed.{IsRunSummed, AreWordsSummed}
+use Rattle.mps_format.specs.Pools.{policy_of_pool}
+use Rattle.mps_format.specs.declared.pool.Policy.{Policy}
+use Rattle.mps_laws.proofs.Positions.Covered.{covered-shapes, covered_ascending}
+use Rattle.mps_refinement.proofs.Lookups.Policies.{layout_of_policy, lawful_of_policy}
+use Rattle.mps_refinement.proofs.Summaries.NewRuns.{new_run_summed, notes_sized, stays_held, zero_summed}
 
 module _ {F : Type 0} (layout : F → Layout) (past : Past) (h : HeapState F) (w : World) (parts : AreParts layout past h w)
     (key n : ℕ) (number : n ≡ past.point_number key) (p : Point) (q : graph.Point) (at_key : point_at h.points key ≡ Some p)
@@ -77,7 +83,8 @@ module _ {F : Type 0} (layout : F → Layout) (past : Past) (h : HeapState F) (w
   }
 
   module _ (laid : HasLayout (w.grains + 1) w) (after : HasLayout (w.grains + 1) world_after)
-      (clear : (is_copying_pool w q.pool ≡ false) ⊎ (is_condemned_word segs_after (word_of m.reserved_at) ≡ false)) where
+      (clear : (is_copying_pool w q.pool ≡ false) ⊎ (is_condemned_word segs_after (word_of m.reserved_at) ≡ false))
+      (valid : (pool_layout w q.pool).is_valid head ≡ true) where
     abbrev from : ℕ
     from = word_of m.reserved_at
 
@@ -254,6 +261,43 @@ module _ {F : Type 0} (layout : F → Layout) (past : Past) (h : HeapState F) (w
       });
     }
 
+    -- ---- words stay summed: those of the reservation are 0 but for a valid head
+
+    abbrev policies : List (Option (Policy F))
+    policies = map policy_of_pool h.pools
+
+    covered_ascend : IsAscending 0 (512 * (w.grains + 1)) (with_run (run_of_held held_made) h.segs.covered)
+    covered_ascend =
+        subst (IsAscending 0 (512 * (w.grains + 1))) (sym (image_after.runs.covered ∙ covered-shapes world_after))
+        (covered_ascending (w.grains + 1) (occupancy_of world_after) after)
+
+    own_summed : (t : Segment) (format : Policy F) → segment_over segs_after.segments (address_of_word from) ≡ Some t
+        → slice_get policies t.pool ≡ Some (Some format)
+        → IsRunSummed (layout format.format) segs_after.words (summary_at segs_after t.base) (run_of_held held_made)
+    own_summed t format over listed =
+        let first : from + 0 ≡ from = omega arith in
+        let home : pool_over_word segs_after from ≡ Some q.pool = ap (pool_over_word segs_after) (sym first) ∙ at_home.over 0 some in
+        let pool : t.pool ≡ q.pool =
+        same_Some t.pool q.pool (sym (ap (option_map (λ (u : Segment). u.pool)) over) ∙ home) in
+        let of_pool = layout_of_policy layout h.pools w parts.pools t.pool format listed ∙ ap (pool_layout w) pool in
+        let lawful = lawful_of_policy layout h.pools w parts.pools parts.lawful t.pool format listed in
+        let is_valid : (layout format.format).is_valid head ≡ true =
+        subst (λ (g : Layout). g.is_valid head ≡ true) (sym of_pool) valid in
+        zero_summed (layout format.format) lawful segs_after.words (summary_at segs_after t.base) (run_of_held held_made)
+        (λ reference leads.
+        let is_head = reserved_head h.segs.words from (length cells) head some fits_words in
+        let at_head = subst (λ (n : ℕ). IsTrue ((layout format.format).is_reference n 0)) is_head reference in
+        let later = (lawful.references head 0 is_valid at_head).0 in
+        omega (arith, later))
+        (λ l later low. reserved_zero h.segs.words from (length cells) head some fits_words l later low)
+
+    summed_after : AreWordsSummed layout policies segs_after
+    summed_after =
+        new_run_summed layout policies h.segs segs_after parts.summed (run_of_held held_made) (512 * (w.grains + 1)) refl covered_ascend
+        (notes_sized place h.segs.summaries ∙ parts.summed.sized)
+        (λ x apart. reserved_others h.segs.words from (length cells) head some fits_words x apart)
+        (stays_held layout past h w parts laid place p.pool 0 p.rank aligned_now ascending_now segs_after segs_are refl) own_summed
+
     pub parts_after : AreParts layout past heap_after world_after
     parts_after =
         points_anew layout past h w parts segs_after (with_point h.points key (Some point_after))
@@ -264,6 +308,7 @@ module _ {F : Type 0} (layout : F → Layout) (past : Past) (h : HeapState F) (w
           segments_are = segments_are;
           image = image_after;
           arena = resting_after;
+          summed = summed_after;
           are = subst (λ j. Rattle.mps_refinement.specs.Numbering.AreNumbered
               (IsPoint (length w.flips) (is_copying_pool w) (slice_set w.point_memories n m)) past.point_number
               (point_at (with_point h.points key (Some point_after))) (slice_set w.graph.points j (Some entry_after))) (sym number)

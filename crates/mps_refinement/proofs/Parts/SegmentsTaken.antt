@@ -2,7 +2,7 @@
 use Rattle.std.proofs.Common.{◌≡◌, ◌∙◌, ◌⊎◌, ℕ, Bool, true, false, refl, sym, ap, subst, List, [], ◌∷◌, map, Option, Some, None, Contains, inl, inr, arith, zero, suc}
 use Rattle.std.proofs.lemmas.Bool.{true≢false, and_parts, cases_Bool, ltb-true, leb-true, eqb-true}
 use Rattle.std.proofs.lemmas.Option.{none-some}
-use Rattle.std.specs.Prelude.{◌==◌, option_map, nat_lt, nat_le, slice_set, if◌then◌else◌, IsTrue}
+use Rattle.std.specs.Prelude.{◌==◌, option_map, nat_lt, nat_le, slice_set, if◌then◌else◌, IsTrue, ◌≢◌}
 use Rattle.mps_base.specs.Address.{Address, Word, address_of_word, address_of_grain, grain_of}
 use Rattle.mps_base.specs.Placement.{Placement, Place, NewSegment, OverLimit, NoFreeRun}
 use Rattle.mps_base.specs.Run.{IsAscending, end_of}
@@ -50,6 +50,17 @@ once_more low limit s (u ∷ us) all there =
         omega (arith, some, first, is)
     of_there again up (inr later) = again later up.2
 
+-- a held segment doesn't begin at the grain of a new one
+pub new_apart : (pool generation grain grains : ℕ) (rank : Rank) (limit : ℕ) (ss : List Segment) → AreAligned ss
+    → IsAscending 1 limit (map grains_of_segment (segments_after (NewSegment grain grains) pool generation rank ss)) → (t : Segment)
+    → IsAmong t ss → grain_of t.base ≢ grain
+new_apart pool generation grain grains rank limit ss aligned up t there same =
+    let new : Segment = record { base = address_of_grain grain; grains = grains; pool = pool; generation = generation; rank = rank } in
+    let low = among_aligned t ss aligned there in
+    let one : t ≡ new =
+    same_by_base 1 limit (with_segment new ss) t new up (among_with new t ss there) (among_new new ss) (omega (arith, low, same)) in
+    once_more 1 limit new ss up (subst (λ (x : Segment). IsAmong x ss) one there)
+
 module _ (q : Placement) (pool generation : ℕ) (rank : Rank) (limit : ℕ) (ss : List Segment) (bits : List Bool)
     (aligned : AreAligned ss) (ascending : IsAscending 1 limit (map grains_of_segment ss))
     (aligned_now : AreAligned (segments_after q pool generation rank ss))
@@ -78,14 +89,7 @@ module _ (q : Placement) (pool generation : ℕ) (rank : Rank) (limit : ℕ) (ss
           → bit (noted_for x false bits) (grain_of t.base) ≡ bit bits (grain_of t.base)
       of_placement (Place word) up = refl
       of_placement (NewSegment grain grains) up =
-          let new : Segment = record { base = address_of_grain grain; grains = grains; pool = pool; generation = generation; rank = rank }
-          in
-          other_bit bits grain (grain_of t.base) false (λ same.
-          let low = among_aligned t ss aligned there in
-          let one : t ≡ new =
-          same_by_base 1 limit (with_segment new ss) t new up (among_with new t ss there) (among_new new ss)
-          (omega (arith, low, same)) in
-          once_more 1 limit new ss up (subst (λ (x : Segment). IsAmong x ss) one there))
+          other_bit bits grain (grain_of t.base) false (new_apart pool generation grain grains rank limit ss aligned up t there)
       of_placement (OverLimit committed need limit) up = refl
       of_placement (NoFreeRun need longest) up = refl
 

@@ -1,5 +1,5 @@
 -- After a cell of a live reservation was written, and its word, the parts of a heap stand for those of the world after it.
-use Rattle.std.proofs.Common.{◌≡◌, ◌∙◌, ℕ, ◌+◌, ◌<◌, false, refl, sym, ap, subst, List, [], length, Option, Some, None, is_some, inl, inr, arith, Bool, true}
+use Rattle.std.proofs.Common.{◌≡◌, ◌∙◌, ℕ, ◌+◌, ◌<◌, false, refl, sym, ap, subst, List, [], length, map, Option, Some, None, is_some, inl, inr, arith, Bool, true}
 use Rattle.std.proofs.lemmas.Option.{none-some, same_Some}
 use Rattle.std.specs.Prelude.{slice_get, slice_set, slice_index, not}
 use Rattle.std.specs.Option.{option_map_or}
@@ -8,6 +8,7 @@ use Rattle.mps_buffer.specs.declared.point.Held.{Held}
 use Rattle.mps_buffer.specs.declared.point.Point.{Point}
 use Rattle.mps_buffer.specs.Points.{point_at}
 use Rattle.mps_format.specs.Layout.{Layout}
+use Rattle.mps_format.specs.Pools.{policy_of_pool}
 use Rattle.mps_trace_laws.specs.Image.Image.{IsCellWord, IsFixedWord}
 use Rattle.mps_trace_laws.specs.Image.Memory.{live_reservation, memory_in}
 use Rattle.mps_trace_laws.proofs.Image.ClientLaws.{reservation_is_written}
@@ -18,7 +19,8 @@ use Rattle.mps_model.specs.Allocating as model
 use Rattle.mps_model.specs.Graph as graph
 use Rattle.mps_model.specs.Graph.{Cell, NumberCell, ReferenceCell, Reservation, entry_at}
 use Rattle.mps_model.specs.World.{World, is_copying_pool, is_live}
-use Rattle.mps_heap_spec.specs.Objects.{with_word}
+use Rattle.mps_seg.specs.Segs.{SegsState}
+use Rattle.mps_trace_laws.specs.Summaries.Summed.{AreWordsSummed}
 use Rattle.mps_heap_spec.specs.State.{HeapState}
 use Rattle.mps_refinement.specs.StandsFor.{AreHeldAlike, AreParts, BothHeld, IsHeld, IsPoint, Past, address_of_target, StandsAt, setting_at}
 use Rattle.mps_refinement.proofs.Lookups.Cells.{IsTargetAddress}
@@ -107,6 +109,9 @@ module _ {F : Type 0} (layout : F → Layout) (past : Past) (h : HeapState F) (w
     module _ (k : ℕ) (new : Cell) (cells : List Cell) (word value : ℕ) (cells_are : cells ≡ slice_set r.cells k new)
         (within : k < length r.cells)
         (word_is : word ≡ word_of held.at.0 + k) (fixed : IsFixedWord past.time.condemned w.addresses past.time.colours r.head new value)
+        (summaries : List ℕ)
+        (summed : AreWordsSummed layout (map policy_of_pool h.pools)
+        (record h.segs { words = slice_set h.segs.words word value; summaries = summaries }))
       where
         abbrev written : Reservation
         written = record r { cells = cells }
@@ -140,10 +145,13 @@ module _ {F : Type 0} (layout : F → Layout) (past : Past) (h : HeapState F) (w
               doomed = is.doomed;
             })))
 
-        pub reservation_parts : AreParts layout past (with_word h word value)
+        abbrev segs_written : SegsState
+        segs_written = record h.segs { words = slice_set h.segs.words word value; summaries = summaries }
+
+        pub reservation_parts : AreParts layout past (record h { segs = segs_written })
             (with_graph w (model.with_reservation w.graph n (Some written)))
         reservation_parts =
-            points_anew layout past h w parts (record h.segs { words = slice_set h.segs.words word value }) h.points
+            points_anew layout past h w parts segs_written h.points
             (slice_set w.graph.points n.number (Some entry_written)) w.segments w.point_memories
             (record {
               grains = refl;
@@ -151,6 +159,7 @@ module _ {F : Type 0} (layout : F → Layout) (past : Past) (h : HeapState F) (w
               segments_are = parts.segments;
               image = image_written;
               arena = parts.arena;
+              summed = summed;
               are = subst (λ j. Rattle.mps_refinement.specs.Numbering.AreNumbered
                   (IsPoint (length w.flips) (is_copying_pool w) w.point_memories) past.point_number (point_at h.points)
                   (slice_set w.graph.points j (Some entry_written))) (sym number)

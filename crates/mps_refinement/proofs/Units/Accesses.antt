@@ -44,6 +44,7 @@ use Rattle.mps_refinement.proofs.Units.MovedParts.{collected_heap, parts_moved}
 use Rattle.mps_refinement.proofs.Units.Registrations.{registered_so}
 use Rattle.mps_refinement.proofs.Units.ToUnits.{due, finals, stands_tracing}
 use Rattle.mps_refinement.proofs.Worlds.Reached.{reached_well_formed}
+use Rattle.mps_trace_laws.proofs.Summaries.Accesses.{access_keeps}
 
 -- a barrier of the abstract collector, by the moves of the trail, after which the heap stands for the world and the collection runs on
 pub record IsAccessed {F : Type 0} (layout : F → Layout) (past : Past) (h : HeapState F) (x : Collecting)
@@ -172,6 +173,8 @@ module _ {F : Type 0} (layout : F → Layout) (past : Past) (h : HeapState F) (x
           y.world.graph.registered
           (list_all-members (is_live y.world) y.world.graph.registered b.stands.running.examined.live_registered) lived))
           finals_after.waiting
+          (access_keeps layout t.formats t.chains at_flip r.run.band s here z x (stands_before still) r.as_far.band held parts.summed
+          accessed)
 
       runs_after : Runs time_after (collector_after z r.run) y.world y
       runs_after =

@@ -34,6 +34,8 @@ use Rattle.mps_refinement.proofs.Units.ToUnits.{stands_for_units}
 use Rattle.mps_refinement.proofs.Worlds.InSteps.{known_after_last_units, live_after_last_units}
 use Rattle.mps_refinement.proofs.Worlds.Known.{IsKnown}
 use Rattle.mps_refinement.proofs.Worlds.Reached.{reached_well_formed}
+use Rattle.mps_trace_laws.specs.Summaries.Summed.{AreWordsSummed}
+use Rattle.mps_trace_laws.proofs.Summaries.UnitRows.{the_end_keeps}
 
 -- what the collector has once its collection has ended
 abbrev pub collector_at_rest : Traced → CollectorState
@@ -93,11 +95,17 @@ module _ {F : Type 0} (layout : F → Layout) (past : Past) (h : HeapState F) (x
       known_after_last_units time_at_rest (collector_at_rest z) x (suc ends.count) done.moves reach r.invariant done.units
       (rests rests_after)
 
+  -- words stay summed
+  pub summed_after : AreWordsSummed layout t.formats z.segs
+  summed_after =
+      the_end_keeps layout t.formats t.chains at_flip here z h.finals f r.run x most
+      (stands_for_units layout past h x parts reach r of marked m room) parts.summed ends
+
   pub parts_after : AreParts layout (record past { time = time_at_rest }) heap_after v
   parts_after =
       parts_moved layout past h x parts (reached_well_formed w reach) r.invariant v left.but_collected (ends_stay r.invariant done.units)
       time_at_rest (collector_at_rest z) f done.segments done.stands
-      (registered_at_the_end v f done.finals knows_after.formed.registered) done.finals.waiting
+      (registered_at_the_end v f done.finals knows_after.formed.registered) done.finals.waiting summed_after
 
   -- and the trail keeps its room
   pub keeps_room : KeepsRoom m z.moves

@@ -1,5 +1,5 @@
 -- After units the parts of a heap stand for the world after them, and its collection runs on.
-use Rattle.std.proofs.Common.{◌≡◌, ◌∙◌, ◌-◌, ◌≤◌, Bool, true, false, refl, sym, ap, subst, List, [], length, Option, Some, Contains, arith}
+use Rattle.std.proofs.Common.{◌≡◌, ◌∙◌, ◌-◌, ◌≤◌, Bool, true, false, refl, sym, ap, subst, List, [], length, Option, Some, Contains, arith, map}
 use Rattle.std.proofs.lemmas.Bool.{false≢true}
 use Rattle.std.proofs.lemmas.List.{length-map}
 use Rattle.std.proofs.lemmas.Option.{none-some}
@@ -37,6 +37,8 @@ use Rattle.mps_heap_spec.specs.State.{HeapState}
 use Rattle.mps_refinement.specs.StandsFor.{AreCondemnedIn, AreOfFlip, AreParts, AreRegistered, AreRegisteredAt, CollectorState, Past, Runs, StandsAt, Time}
 use Rattle.mps_refinement.proofs.Units.MovedParts.{collected_heap, parts_moved}
 use Rattle.mps_refinement.proofs.Units.Registrations.{registered_so}
+use Rattle.mps_trace_laws.specs.Summaries.Summed.{AreWordsSummed}
+use Rattle.mps_format.specs.Pools.{policy_of_pool}
 
 -- what the collector has after units
 abbrev pub collector_after : Traced → RunningState → CollectorState
@@ -215,11 +217,12 @@ module _ {F : Type 0} (layout : F → Layout) (past : Past) (h : HeapState F) (x
   abbrev pub time_then : Time
   time_then = time_now layout formats of past.time.at_flip z f run y stands
 
-  pub parts_then : AreParts layout (record past { time = time_then }) (collected_heap h (collector_after z run) f) y.world
-  parts_then =
+  pub parts_then : AreWordsSummed layout (map policy_of_pool h.pools) z.segs
+      → AreParts layout (record past { time = time_then }) (collected_heap h (collector_after z run) f) y.world
+  parts_then summed =
       parts_moved layout past h x parts formed running y.world left stays.in_place time_then (collector_after z run) f
       (segments_now layout formats of past.time.at_flip z f run y stands) (image_now layout formats of past.time.at_flip z f run y stands)
-      (registered_now layout formats of past.time.at_flip z f run y stands) stands.finals.waiting
+      (registered_now layout formats of past.time.at_flip z f run y stands) stands.finals.waiting summed
 
   pub runs_then : Runs time_then (collector_after z run) y.world y
   runs_then =

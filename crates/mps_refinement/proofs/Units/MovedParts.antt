@@ -19,6 +19,8 @@ use Rattle.mps_refinement.proofs.Collect.SameAddresses.{areas_same, same_places,
 use Rattle.mps_refinement.proofs.Parts.Named.{named_alike, named_at}
 use Rattle.mps_refinement.proofs.Parts.PartsByKind.{parts_of_kinds, points_of, states_of}
 use Rattle.mps_refinement.proofs.Worlds.InSteps.{manual_not_white}
+use Rattle.mps_trace_laws.specs.Summaries.Summed.{AreWordsSummed}
+use Rattle.mps_format.specs.Pools.{policy_of_pool}
 
 -- a heap after a collector's work: other segments and tails, registrations and messages, and a collection that is further on
 abbrev pub collected_heap : {F : Type 0} → HeapState F → CollectorState → FinalsState → HeapState F
@@ -80,7 +82,8 @@ module _ {F : Type 0} (layout : F → Layout) (past : Past) (h : HeapState F) (x
 
   module _ (segments : AreSegmentsOf c.segs after.grains after.limit after.segments) (image : StandsAt t c.segs after)
       (registered : AreRegisteredAt t after.addresses finals.registered after.graph.registered)
-      (messages : finals.messages ≡ map (address_of_id after.addresses) after.graph.messages) where
+      (messages : finals.messages ≡ map (address_of_id after.addresses) after.graph.messages)
+      (summed : AreWordsSummed layout (map policy_of_pool h.pools) c.segs) where
     same_size : c.segs.grains ≡ h.segs.grains
     same_size = segments.same_grains ∙ ap (λ (u : World). u.grains) same ∙ sym parts.grains
 
@@ -99,6 +102,7 @@ module _ {F : Type 0} (layout : F → Layout) (past : Past) (h : HeapState F) (x
                 subst (λ n. word_of held.at.0 + held.words ≤ words_of_arena n) (sym same_size) (parts.arena.within key p held e f);
             aligned = parts.arena.aligned;
           },
+          summed,
         ) (
           tables_same w.addresses v.addresses past.table_number _ w.graph.tables in_slots parts.tables,
           parts.ordered,

@@ -1,11 +1,14 @@
--- A `reserve` is right, whatever its poll does: where no collection runs it does nothing, and where one runs it does 64 units, or fewer if
--- the collection ends in them. It can be done, and keeps the room of its trail.
-use Rattle.std.proofs.Common.{◌≡◌, ◌∙◌, ◌<◌, ◌≤◌, Bool, suc, true, false, refl, sym, ap, subst, List, [], ◌++◌, arith}
+-- A `reserve` is right, whatever its poll does: where a collection runs it does 64 units, or fewer if the collection ends in them. Where
+-- none runs it flips the generation that is due, if one is. It can be done, and keeps the room of its trail.
+use Rattle.std.proofs.Common.{◌≡◌, ◌∙◌, ◌<◌, ◌≤◌, Bool, suc, true, false, refl, sym, ap, subst, List, [], ◌++◌, Option, Some, None, is_some, arith}
 use Rattle.std.proofs.lemmas.List.{append-nil}
+use Rattle.std.proofs.lemmas.Option.{none-some}
 use Rattle.std.specs.Prelude.{ℕ, MatchBool}
+use Rattle.mps_base.specs.Generation.{Due}
 use Rattle.mps_base.specs.Trail.{Moves}
 use Rattle.mps_base.specs.declared.moves.Move.{Move}
 use Rattle.mps_base.specs.declared.names.Name.{Name}
+use Rattle.mps_buffer.specs.Points.{WereMadeBefore}
 use Rattle.mps_format.specs.Layout.{Layout}
 use Rattle.mps_model.specs.declared.call.Call.{Call}
 use Rattle.mps_model.specs.declared.call.Call.TheVariants as call
@@ -24,7 +27,8 @@ use Rattle.mps_abstract.specs.Collecting.{Collecting}
 use Rattle.mps_trace_laws.specs.Units.Laws.{AreLastTracedUnitsDone, AreTracedUnitsDone}
 use Rattle.mps_heap_spec.specs.Allocating.{after_reserve, check_reserve}
 use Rattle.mps_heap_spec.specs.Coming.{ComesMoving}
-use Rattle.mps_heap_spec.specs.Polling.{CanPoll, HasReserved, polls_for}
+use Rattle.mps_heap_spec.specs.Collecting.{IsStarted, most_flips}
+use Rattle.mps_heap_spec.specs.Polling.{CanPoll, HasFlipped, HasPolled, HasReserved, condemned_by, due_in, polls_for}
 use Rattle.mps_heap_spec.specs.State.{HeapState, IsReady}
 use Rattle.mps_heap_spec.specs.Units.{HasDoneUnits, IsWhole, ends, goes_on, none_runs, traced_in}
 use Rattle.mps_refinement.specs.Answering.{answer_to, says_ok}
@@ -35,6 +39,7 @@ use Rattle.mps_refinement.proofs.Calls.ReserveStep.{Polls}
 use Rattle.mps_refinement.proofs.Calls.RightReserve.{reserve_runs_on}
 use Rattle.mps_refinement.proofs.Units.Collects.{more_is_left}
 use Rattle.mps_refinement.proofs.Units.Ended as ended
+use Rattle.mps_refinement.proofs.Units.FlipPolls as flips
 use Rattle.mps_refinement.proofs.Units.FromUnits.{collector_after}
 use Rattle.mps_refinement.proofs.Units.Outcomes.{can_do_units, units_keep_room}
 use Rattle.mps_refinement.proofs.Units.Polls.{last_units_poll, units_poll}
@@ -203,78 +208,142 @@ module _ {F : Type 0} (layout : F → Layout) (h : HeapState F) (whole : IsWhole
       in
       omega (arith, more, room)
 
-  pub can_poll : CanPoll layout h m
-  can_poll = record { units = can_do_units layout h whole m enough w st units_of_poll; ready = ready_then; room = room_then }
+  -- whatever a poll does: units, a flip, or nothing
+  of_poll : (P : HeapState F → Moves → Type 0)
+      → ((run : RunningState) → h.running ≡ Some run → (h' : HeapState F) (m' : Moves) → HasDoneUnits layout h m units_of_poll h' m'
+      → P h' m')
+      → ((due : Due) → h.running ≡ None → due_in h ≡ Some due → (h' : HeapState F) (m' : Moves)
+      → IsStarted layout (condemned_by due) h m h' m' → P h' m')
+      → (h.running ≡ None → due_in h ≡ None → P h m) → (h' : HeapState F) (m' : Moves) → HasPolled layout h m h' m' → P h' m'
+  of_poll P units flip nothing h' m' = of_running h.running refl
+    where
+      of_due : (o : Option Due) → h.running ≡ None → due_in h ≡ o → HasFlipped layout h m o h' m' → P h' m'
+      of_due None none is still = subst (λ g. P g m') (sym still.0) (subst (λ t. P h t) (sym still.1) (nothing none is))
+      of_due (Some due) none is started = flip due none is h' m' started
 
-  module _ (name : Name) (head : ℕ) where
-    -- where the poll does nothing
-    unpolled_is_right : Polls w name head [] w → IsRightAfterPoll layout w st.reached name head m.moves h m
-    unpolled_is_right none =
-        judged_is_right layout w st.reached name head m.moves st.past h m [] w none st.parts (known_now st) st.time
-        (sym (append-nil m.moves))
+      of_running : (o : Option RunningState) → h.running ≡ o
+          → MatchBool (is_some o) (HasDoneUnits layout h m units_of_poll h' m') (HasFlipped layout h m (due_in h) h' m') → P h' m'
+      of_running None none polled = of_due (due_in h) none refl polled
+      of_running (Some run) runs_now done = units run runs_now h' m' done
 
-    after_the_poll : (polled : HeapState F) (trail : Moves) → polls_for h (check_reserve layout h name head) ≡ true
-        → HasDoneUnits layout h m units_of_poll polled trail → IsRightAfterPoll layout w st.reached name head m.moves polled trail
-    after_the_poll polled trail polling (none_runs none is same) =
-        let right =
-        unpolled_is_right (no_poll_at_rest w name head (resting_now layout h w st none).none st.parts.chains.none)
-        in
-        subst (λ s. IsRightAfterPoll layout w st.reached name head m.moves s trail) (sym is)
-        (subst (λ u. IsRightAfterPoll layout w st.reached name head m.moves h u) (sym same) right)
-    after_the_poll polled trail polling (goes_on run next is units state) =
-        let g = running_now layout h w st run is in
-        let right =
-        polled_is_right layout g.past h g.collecting g.parts g.reached g.runs whole.tails whole.marked m enough
-        (traced_in polled trail) polled.finals next
-        (subst (λ q. UnitsTo layout (trace_of h.pools h.chains h.tails).formats (trace_of h.pools h.chains h.tails).chains
-        (traced_in h m) h.finals q units_of_poll (traced_in polled trail) polled.finals next) (sym g.same) units) name head polling
-        in
-        λ result after trail_after comes.
-        subst (λ v. IsRightMovingIn layout v (call.Reserve name head) m.moves trail_after.moves (answer_to says_ok result) after) g.world
-        (right result after trail_after
-        (subst (λ s. ComesMoving s trail (after_reserve layout s trail name head) result after trail_after) state comes))
-    after_the_poll polled trail polling (ends run is over state) =
-        let g = running_now layout h w st run is in
-        let right =
-        last_polled_is_right layout g.past h g.collecting g.parts g.reached g.runs whole.tails whole.marked m enough
-        (traced_in polled trail) polled.finals
-        (subst (λ q. EndsWithin layout (trace_of h.pools h.chains h.tails).formats (trace_of h.pools h.chains h.tails).chains
-        (traced_in h m) h.finals q units_of_poll (traced_in polled trail) polled.finals) (sym g.same) over) name head polling
-        in
-        λ result after trail_after comes.
-        subst (λ v. IsRightMovingIn layout v (call.Reserve name head) m.moves trail_after.moves (answer_to says_ok result) after) g.world
-        (right result after trail_after
-        (subst (λ s. ComesMoving s trail (after_reserve layout s trail name head) result after trail_after) state comes))
+  module _ (made : WereMadeBefore h.points.flips h.points) where
+    ready_after_poll : (h' : HeapState F) (m' : Moves) → HasPolled layout h m h' m' → IsReady h'
+    ready_after_poll =
+        of_poll (λ g t. IsReady g) (λ run runs_now. ready_then)
+        (λ due none is h' m' started. flips.ready_then layout h whole m enough w st none due is made h' m' started)
+        (λ none is. ready layout h w st)
 
-    module _ (result : Checked (Unit {0})) (after : HeapState F) (trail_after : Moves)
-        (reserved : HasReserved layout h m name head result after trail_after) where
-      -- whether it polls or not
-      of_polling : (b : Bool) → polls_for h (check_reserve layout h name head) ≡ b
-          → MatchBool b (HasDoneUnits layout h m units_of_poll reserved.polled reserved.trail_polled)
-          ((reserved.polled ≡ h) × (reserved.trail_polled ≡ m))
-          → IsRightMovingIn layout w (call.Reserve name head) m.moves trail_after.moves (answer_to says_ok result) after
-          × KeepsRoom m trail_after
-      of_polling true is units = (
-        after_the_poll reserved.polled reserved.trail_polled is units result after trail_after reserved.comes,
-        keeps_room reserved.trail_polled reserved.polled (after_reserve layout reserved.polled reserved.trail_polled name head) result after
-            trail_after reserved.comes
-            (reserve_keeps_room layout reserved.polled reserved.trail_polled name head (room_then reserved.polled reserved.trail_polled
-            units)) ∙ units_keep_room layout h whole m enough w st units_of_poll reserved.polled reserved.trail_polled units,
-      )
-      of_polling false is still =
-          let comes =
-          subst (λ u. ComesMoving h u (after_reserve layout h u name head) result after trail_after) still.1
-          (subst (λ s. ComesMoving s reserved.trail_polled (after_reserve layout s reserved.trail_polled name head) result after
-          trail_after) still.0 reserved.comes)
-          in (
-            unpolled_is_right (no_poll w name head
-                (sym (polls_alike layout st.past h w st.parts (known_now st) name head) ∙ is)) result after trail_after comes,
-            keeps_room m h (after_reserve layout h m name head) result after trail_after comes
-                (reserve_keeps_room layout h m name head (omega (arith, room))),
-          )
+    room_after_poll : (h' : HeapState F) (m' : Moves) → HasPolled layout h m h' m' → 0 < m'.spare
+    room_after_poll =
+        of_poll (λ g t. 0 < t.spare) (λ run runs_now. room_then)
+        (λ due none is h' m' started. (flips.flipped layout h whole m enough w st none due is made h' m' started).some_left)
+        (λ none is. omega (arith, room))
 
-      -- so it is right, and the trail keeps its room
-      pub a_reserve_is_right :
-          IsRightMovingIn layout w (call.Reserve name head) m.moves trail_after.moves (answer_to says_ok result) after
-          × KeepsRoom m trail_after
-      a_reserve_is_right = of_polling (polls_for h (check_reserve layout h name head)) refl reserved.poll
+    poll_keeps_room : (h' : HeapState F) (m' : Moves) → HasPolled layout h m h' m' → KeepsRoom m m'
+    poll_keeps_room =
+        of_poll (λ g t. KeepsRoom m t) (λ run runs_now. units_keep_room layout h whole m enough w st units_of_poll)
+        (λ due none is h' m' started. (flips.flipped layout h whole m enough w st none due is made h' m' started).room)
+        (λ none is. refl)
+
+    pub can_poll : h.points.flips < most_flips → CanPoll layout h m
+    can_poll few = record {
+      units = can_do_units layout h whole m enough w st units_of_poll;
+      flip = λ due none is. flips.due_can_start layout h whole m enough w st none due is few;
+      ready = ready_after_poll;
+      room = room_after_poll;
+    }
+
+    module _ (name : Name) (head : ℕ) where
+      -- where the poll does nothing
+      unpolled_is_right : Polls w name head [] w → IsRightAfterPoll layout w st.reached name head m.moves h m
+      unpolled_is_right none =
+          judged_is_right layout w st.reached name head m.moves st.past h m [] w none st.parts (known_now st) st.time
+          (sym (append-nil m.moves))
+
+      after_units : (polled : HeapState F) (trail : Moves) → polls_for h (check_reserve layout h name head) ≡ true
+          → (some : RunningState) → h.running ≡ Some some → HasDoneUnits layout h m units_of_poll polled trail
+          → IsRightAfterPoll layout w st.reached name head m.moves polled trail
+      after_units polled trail polling some runs_now (none_runs none is same) = absurd (none-some some (sym none ∙ runs_now))
+      after_units polled trail polling some runs_now (goes_on run next is units state) =
+          let g = running_now layout h w st run is in
+          let right =
+          polled_is_right layout g.past h g.collecting g.parts g.reached g.runs whole.tails whole.marked m enough
+          (traced_in polled trail) polled.finals next
+          (subst (λ q. UnitsTo layout (trace_of h.pools h.chains h.tails).formats (trace_of h.pools h.chains h.tails).chains
+          (traced_in h m) h.finals q units_of_poll (traced_in polled trail) polled.finals next) (sym g.same) units) name head polling
+          in
+          λ result after trail_after comes.
+          subst (λ v. IsRightMovingIn layout v (call.Reserve name head) m.moves trail_after.moves (answer_to says_ok result) after) g.world
+          (right result after trail_after
+          (subst (λ s. ComesMoving s trail (after_reserve layout s trail name head) result after trail_after) state comes))
+      after_units polled trail polling some runs_now (ends run is over state) =
+          let g = running_now layout h w st run is in
+          let right =
+          last_polled_is_right layout g.past h g.collecting g.parts g.reached g.runs whole.tails whole.marked m enough
+          (traced_in polled trail) polled.finals
+          (subst (λ q. EndsWithin layout (trace_of h.pools h.chains h.tails).formats (trace_of h.pools h.chains h.tails).chains
+          (traced_in h m) h.finals q units_of_poll (traced_in polled trail) polled.finals) (sym g.same) over) name head polling
+          in
+          λ result after trail_after comes.
+          subst (λ v. IsRightMovingIn layout v (call.Reserve name head) m.moves trail_after.moves (answer_to says_ok result) after) g.world
+          (right result after trail_after
+          (subst (λ s. ComesMoving s trail (after_reserve layout s trail name head) result after trail_after) state comes))
+
+      after_flip : polls_for h (check_reserve layout h name head) ≡ true → (due : Due) → h.running ≡ None → due_in h ≡ Some due
+          → (polled : HeapState F) (trail : Moves) → IsStarted layout (condemned_by due) h m polled trail
+          → IsRightAfterPoll layout w st.reached name head m.moves polled trail
+      after_flip polling due none is polled trail started =
+          let flipped = flips.flipped layout h whole m enough w st none due is made polled trail started in
+          let unclamped = flips.unclamped_if_it_polls h (check_reserve layout h name head) polling in
+          let polling_there = sym (polls_alike layout st.past h w st.parts (known_now st) name head) ∙ polling in
+          judged_is_right layout w st.reached name head m.moves (record st.past { time = flipped.time }) polled trail
+          (flips.ms layout h whole m enough w st none due is made polled trail started)
+          (flips.v layout h whole m enough w st none due is made polled trail started)
+          (flips.flip_polls layout h whole m enough w st none due is made polled trail started unclamped name head polling_there)
+          (flips.flipped_parts layout h whole m enough w st none due is made polled trail started unclamped)
+          (flips.flipped_known layout h whole m enough w st none due is made polled trail started unclamped)
+          (flips.flipped_time layout h whole m enough w st none due is made polled trail started unclamped) flipped.appended
+
+      after_nothing : h.running ≡ None → due_in h ≡ None → IsRightAfterPoll layout w st.reached name head m.moves h m
+      after_nothing none is =
+          unpolled_is_right
+          (no_poll_at_rest w name head (resting_now layout h w st none).none (sym (flips.due_alike layout st.past h w st.parts) ∙ is))
+
+      after_the_poll : polls_for h (check_reserve layout h name head) ≡ true → (polled : HeapState F) (trail : Moves)
+          → HasPolled layout h m polled trail → IsRightAfterPoll layout w st.reached name head m.moves polled trail
+      after_the_poll polling =
+          of_poll (λ polled trail. IsRightAfterPoll layout w st.reached name head m.moves polled trail)
+          (λ some runs_now polled trail. after_units polled trail polling some runs_now) (after_flip polling) after_nothing
+
+      module _ (result : Checked (Unit {0})) (after : HeapState F) (trail_after : Moves)
+          (reserved : HasReserved layout h m name head result after trail_after) where
+        -- whether it polls or not
+        of_polling : (b : Bool) → polls_for h (check_reserve layout h name head) ≡ b
+            → MatchBool b (HasPolled layout h m reserved.polled reserved.trail_polled)
+            ((reserved.polled ≡ h) × (reserved.trail_polled ≡ m))
+            → IsRightMovingIn layout w (call.Reserve name head) m.moves trail_after.moves (answer_to says_ok result) after
+            × KeepsRoom m trail_after
+        of_polling true is polled = (
+          after_the_poll is reserved.polled reserved.trail_polled polled result after trail_after reserved.comes,
+          keeps_room reserved.trail_polled reserved.polled (after_reserve layout reserved.polled reserved.trail_polled name head) result
+              after trail_after reserved.comes
+              (reserve_keeps_room layout reserved.polled reserved.trail_polled name head (room_after_poll reserved.polled
+              reserved.trail_polled polled)) ∙ poll_keeps_room reserved.polled reserved.trail_polled polled,
+        )
+        of_polling false is still =
+            let comes =
+            subst (λ u. ComesMoving h u (after_reserve layout h u name head) result after trail_after) still.1
+            (subst (λ s. ComesMoving s reserved.trail_polled (after_reserve layout s reserved.trail_polled name head) result after
+            trail_after) still.0 reserved.comes)
+            in (
+              unpolled_is_right (no_poll w name head
+                  (sym (polls_alike layout st.past h w st.parts (known_now st) name head) ∙ is)) result after trail_after comes,
+              keeps_room m h (after_reserve layout h m name head) result after trail_after comes
+                  (reserve_keeps_room layout h m name head (omega (arith, room))),
+            )
+
+        -- so it is right, and the trail keeps its room
+        pub a_reserve_is_right :
+            IsRightMovingIn layout w (call.Reserve name head) m.moves trail_after.moves (answer_to says_ok result) after
+            × KeepsRoom m trail_after
+        a_reserve_is_right = of_polling (polls_for h (check_reserve layout h name head)) refl reserved.poll

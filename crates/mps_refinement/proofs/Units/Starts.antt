@@ -1,486 +1,371 @@
--- A `start` of a heap at rest can be done and is right: it is the flip of everything alone, after which the collection runs, or has ended
--- if nothing is condemned. It keeps the room of its trail. While a collection runs it is refused.
-use Rattle.std.proofs.Common.{◌≡◌, ◌∙◌, ℕ, ◌≤◌, true, refl, sym, ap, subst, List, [], ◌++◌, length, Option, Some, None, Ok, Err, is_some, arith}
+-- A `start` of a heap at rest, of everything or of the generations of a chain, can be done and is right: it is the flip alone, after which
+-- the collection runs, or has ended if nothing is condemned. It keeps the room of its trail. A refused one changes nothing.
+use Rattle.std.proofs.Common.{◌≡◌, ◌∙◌, ℕ, zero, suc, arith, ◌∷◌, Some, ◌<◌, ◌≤◌, true, false, refl, sym, ap, subst, List, [], length, None, Ok, Err, is_some, Option}
 use Rattle.std.proofs.lemmas.List.{append-nil}
-use Rattle.std.specs.Prelude.{IfNone, IfSome, IsTrue}
-use Rattle.std.specs.List.{list_all}
+use Rattle.std.proofs.lemmas.Option.{none-some}
+use Rattle.std.specs.Prelude.{IfOk, nat_le, option_map, slice_get}
 use Rattle.mps_base.specs.Trail.{Moves}
 use Rattle.mps_base.specs.declared.moves.Move.{Move}
+use Rattle.mps_base.specs.declared.names.Name.{Name}
 use Rattle.mps_base.specs.declared.refusal.Refusal.{Refusal}
 use Rattle.mps_base.specs.declared.refusal.Refusal.TheVariants as refusal
 use Rattle.mps_buffer.specs.Points.{WereMadeBefore}
 use Rattle.mps_format.specs.Layout.{Layout}
-use Rattle.mps_laws.proofs.WellFormedHistories.{worlds_in_steps_are_well_formed}
+use Rattle.mps_laws.proofs.Same.{Same, fits}
+use Rattle.mps_laws.proofs.Same as same
+use Rattle.mps_model.specs.declared.call.Call.{Call}
 use Rattle.mps_model.specs.declared.call.Call.TheVariants as call
 use Rattle.mps_model.specs.declared.reply.Reply.TheVariants as reply
-use Rattle.mps_model.specs.Answer.{Answer, Replied, refused}
-use Rattle.mps_model.specs.Checked.{Act, Checked, ◌>>◌, done, refuse_when}
+use Rattle.mps_model.specs.Answer.{Answer, Replied, is_block, refused}
+use Rattle.mps_model.specs.Checked.{Act, Checked, Numbered, ◌>>=◌, ◌>>◌, done, refuse_when}
+use Rattle.mps_model.specs.Checked as model
 use Rattle.mps_model.specs.Collecting.{with_state}
-use Rattle.mps_model.specs.Effect.{Everything, condemned_zones, world_flipped, world_after_moves}
+use Rattle.mps_model.specs.Effect.{Condemnation, Everything, Generations, world_after_moves}
 use Rattle.mps_model.specs.Flip.{flip_act}
-use Rattle.mps_model.specs.Graph.{contains, ids_in_blocks, ids_of_client}
-use Rattle.mps_model.specs.History.{HeldAreLive}
+use Rattle.mps_model.specs.History.{AreMovesOf, IsPossiblyMarked, flip_act_of_chain, judged_world, moved_world, moves_of_collector}
 use Rattle.mps_model.specs.LegalMove.{AreLegalMoves}
-use Rattle.mps_model.specs.WellFormed.{IsWellFormed}
-use Rattle.mps_model.specs.World.{World, Unclamped, is_live, is_running}
+use Rattle.mps_model.specs.Reply.{act}
+use Rattle.mps_model.specs.World.{World, Unclamped, is_running, is_live}
 use Rattle.mps_model.proofs.AtRest.{is_running-none}
-use Rattle.mps_model.proofs.Reaching.{list_all-contains}
-use Rattle.mps_seg.specs.Table.{IsMarked}
-use Rattle.mps_trace.specs.Begin.{Begins, EndsAtOnce, marked_at_flip}
-use Rattle.mps_trace.specs.Collect.{most_moves}
-use Rattle.mps_trace.specs.Flip.{moving_of, zones_of}
+use Rattle.mps_abstract.specs.ClientLaws.{position_taken}
+use Rattle.mps_abstract.specs.FlipLaws.{IsNumbered}
 use Rattle.mps_pools.specs.Pools.{trace_of}
-use Rattle.mps_pools.specs.Collecting.{IsTraceOf}
-use Rattle.mps_trace.specs.Trace.{TraceState, Traced, traced}
+use Rattle.mps_trace.specs.Collect.{most_moves}
+use Rattle.mps_trace.specs.declared.condemn.Condemn.{Condemn}
 use Rattle.mps_trace.specs.declared.condemn.Condemn.TheVariants as condemn
-use Rattle.mps_trace.specs.declared.running.Running.{Running as RunningState}
-use Rattle.mps_abstract.specs.Collecting.{Collecting, Running}
-use Rattle.mps_abstract.specs.FlipLaws.{IsAtRest, IsFlipDone, collecting_after_flip}
-use Rattle.mps_abstract.specs.Leaving.{IsButCollected}
-use Rattle.mps_abstract.proofs.Lists.{list_all-members}
-use Rattle.mps_abstract.proofs.FlipActs.FlipBegins.{flip_done, flip_ended}
-use Rattle.mps_abstract.proofs.WholeCollections.WholeBegins.{nothing_remembered}
-use Rattle.mps_trace_laws.proofs.Begin.Acted.{a_collection_begins}
-use Rattle.mps_trace_laws.proofs.Begin.CondemnedIds.{everything_may}
-use Rattle.mps_trace_laws.proofs.Begin.FlipStands.{flip_stands}
-use Rattle.mps_trace_laws.proofs.Begin.OverAtOnce.{a_collection_of_nothing_ends}
-use Rattle.mps_trace_laws.proofs.Begin.RootsReady.{roots_can_be_fixed}
-use Rattle.mps_trace_laws.specs.Begin.Before.{StandsBefore}
-use Rattle.mps_trace_laws.specs.Begin.Begun.{IsActDone, IsOverAtOnce}
 use Rattle.mps_trace_laws.specs.Begin.Condemning.{MayCondemn}
-use Rattle.mps_heap_spec.specs.Collecting.{CanStart, IsNotStarted, IsStarted, Starts}
+use Rattle.mps_trace_laws.specs.Flip.Condemned.{condemnation}
+use Rattle.mps_heap_spec.specs.Collecting.{CanStart, Starts, check_start, check_start_chain, most_flips}
+use Rattle.mps_heap_spec.specs.Finding.{chain_named}
 use Rattle.mps_heap_spec.specs.State.{HeapState}
 use Rattle.mps_heap_spec.specs.Units.{IsWhole}
-use Rattle.mps_heap_spec.specs.declared.arena.ArenaState.TheVariants as arena
+use Rattle.mps_heap_spec.specs.declared.found.Kept.{Kept}
 use Rattle.mps_refinement.specs.Answering.{answer_to, says_ok}
-use Rattle.mps_refinement.specs.Collect.Leaving.{AreInPlace}
-use Rattle.mps_refinement.specs.Collect.Standing.{IsFlippedHeap}
-use Rattle.mps_refinement.specs.QuietCalls.{RunsOn}
 use Rattle.mps_refinement.specs.RightMoving.{IsRightMoving, IsRightMovingIn, KeepsRoom}
 use Rattle.mps_refinement.specs.RightStep.{IsRightIn, step_of}
-use Rattle.mps_refinement.specs.StandsFor.{AreParts, IsReached, Past, Rests, Runs, StandsFor, Time, collector_of, time_at_rest}
-use Rattle.mps_refinement.proofs.Collect.ActedRoots.{tables_acted}
+use Rattle.mps_refinement.specs.StandsFor.{IsInTime, IsReached, Past, StandsFor, collector_of, rests, runs}
 use Rattle.mps_refinement.proofs.Collect.BeforeAFlip.{is_before}
-use Rattle.mps_refinement.proofs.Collect.CanCollect.{can_begin}
-use Rattle.mps_refinement.proofs.Collect.CollectIsRight.{IsCollection, live_after, nothing_collection}
-use Rattle.mps_refinement.proofs.Collect.CollectRight.{IsBefore}
-use Rattle.mps_refinement.proofs.Collect.CollectedHeaps.{IsLeft, flipped_heap, heap_flipped, left_at_once, same_zones, something_condemned}
-use Rattle.mps_refinement.proofs.Collect.CollectedParts.{blocks_are_manual, flipped_parts}
-use Rattle.mps_refinement.proofs.Collect.Leavings.{acted_moves, in_place_acted}
-use Rattle.mps_refinement.proofs.Collect.PushedMoves.{pushed_keeps, told_below}
-use Rattle.mps_refinement.proofs.Collect.RoomKept.{at_once_keeps_room, begin_pushes, has_room}
-use Rattle.mps_refinement.proofs.Collect.RootsAfter.{AreRootsAfter, tables_after}
-use Rattle.mps_refinement.proofs.Lookups.Found.{some_there}
-use Rattle.mps_refinement.proofs.Parts.Registered.{registered_at_the_end}
-use Rattle.mps_refinement.proofs.Units.FromUnits.{image_now, registered_now, runs_now, same_count, segments_now, time_now}
+use Rattle.mps_refinement.proofs.Collect.CanCollect.{can_condemn}
+use Rattle.mps_refinement.proofs.Collect.MayCondemn.{chain_numbered, may_condemn}
+use Rattle.mps_refinement.proofs.Lookups.Lookups.{IsChainFound, chain_same}
+use Rattle.mps_trace.specs.declared.running.Running.{Running as RunningState}
+use Rattle.mps_refinement.proofs.Units.Flips.{IsFlipped, flip_is_right}
 use Rattle.mps_refinement.proofs.Units.Outcomes.{right_in_each}
-use Rattle.mps_refinement.proofs.Worlds.CollectorKept.{IsRunKept}
-use Rattle.mps_refinement.proofs.Worlds.Known.{IsKnown, known_now}
+use Rattle.mps_refinement.proofs.Worlds.Known.{known_now}
 use Rattle.mps_refinement.proofs.Worlds.Reached.{reached_live}
 use Rattle.mps_refinement.proofs.Worlds.Ready.{all_reserved}
 use Rattle.mps_refinement.proofs.Worlds.RestingActs.{resting_sound}
-use Rattle.mps_refinement.proofs.Worlds.RunningNow.{resting_now, running_now}
+use Rattle.mps_refinement.proofs.Worlds.RunningNow.{resting_now}
 use Rattle.mps_refinement.proofs.Worlds.RunningSteps.{still_step_runs_on}
-use Rattle.mps_refinement.proofs.Worlds.Steps.{HasParts, keeps_still, moved_to_rest, refusal_is_right, run_kept, runs_on_is_right}
+use Rattle.mps_refinement.proofs.Worlds.Steps.{keeps_still, moved_to_rest, refusal_is_right, run_kept, runs_on_is_right}
+use Rattle.mps_changes.specs.Change.{makes_arena}
+use Rattle.std.proofs.lemmas.Bool.{true≢false}
+use Rattle.std.specs.List.{list_all}
+use Rattle.mps_model.specs.Graph.{ids_in_blocks}
 
 abbrev ok : Answer
 ok = Replied reply.Ok
 
-module _ {F : Type 0} (layout : F → Layout) (past : Past) (h : HeapState F) (w : World) (parts : AreParts layout past h w)
-    (known : IsKnown past.time w) (rest : Rests past.time (collector_of h) w) (reach : IsReached w)
-    (made : WereMadeBefore h.points.flips h.points) (of : IsTraceOf h.pools h.chains (trace_of h.pools h.chains h.tails))
-    (marked : IsMarked h.segs.grains h.segs.marks h.segs.condemned h.segs.summaries) (m : Moves) (room : most_moves h.segs.grains ≤ m.spare)
-    (h' : HeapState F) (m' : Moves)
-    (state : h' ≡ heap_flipped h h' (zones_of (moving_of (trace_of h.pools h.chains h.tails).formats h.segs.segments)) arena.Unclamped
-    h'.running) (line : ℕ) where
-  abbrev t : TraceState F
-  t = trace_of h.pools h.chains h.tails
+-- ---- the calls
 
-  abbrev here : Traced
-  here = traced t h.segs m
+-- a call that flips this, if no collection runs
+pub record IsStartOf (w : World) (c : Call) (what : Condemnation) : Type 0 where
+  pub arena : makes_arena c ≡ false
+  pub not_taken : (v : World) → position_taken v c ≡ Err refusal.NotRegistered
+  pub all_collectors : moves_of_collector c (flip_act w what) ≡ flip_act w what
+  pub due : AreMovesOf w c ok (flip_act w what)
+  pub possible : IsPossiblyMarked w c ok
+  pub comes : is_running w ≡ false → act (is_block ok) (judged_world w c (flip_act w what)) (moved_world w c (flip_act w what)) c
+      ≡ done (with_state (world_after_moves w (flip_act w what)) Unclamped)
 
-  abbrev z : Traced
-  z = traced (trace_of h'.pools h'.chains h'.tails) h'.segs m'
+-- one that is refused so
+pub record IsRefused (w : World) (c : Call) (why : Refusal) : Type 0 where
+  pub arena : makes_arena c ≡ false
+  pub not_taken : (v : World) → position_taken v c ≡ Err refusal.NotRegistered
+  pub no_moves : moves_of_collector c [] ≡ []
+  pub due : AreMovesOf w c (refused why) []
+  pub possible : IsPossiblyMarked w c (refused why)
+  pub still : moved_world w c [] ≡ w
+  pub comes : act (is_block (refused why)) (judged_world w c []) (moved_world w c []) c ≡ Err why
 
-  known_before : IsBefore layout h m w
-  known_before = is_before layout past h w parts known rest marked m room
+-- what the checks of a `start` of a heap come to is what they come to in the world
+pub data AreChecked {F : Type 0} (h : HeapState F) (w : World) (c : Call) : Checked Condemn → Type 0 where
+  accepted : {what : Condemn} → h.running ≡ None → IsNumbered (condemnation what) → IsStartOf w c (condemnation what)
+      → AreChecked h w c (Ok what)
+  not_accepted : {why : Refusal} → IsRefused w c why → AreChecked h w c (Err why)
 
-  before : StandsBefore layout t h.segs m h.points w
-  before = known_before.stands t of
+start_of_everything : (w : World) → IsStartOf w call.Start Everything
+start_of_everything w = record {
+  arena = refl;
+  not_taken = λ v. refl;
+  all_collectors = refl;
+  due = refl;
+  possible = tt;
+  comes = λ rests.
+      ap (λ b. refuse_when b refusal.Running >> done (with_state (world_after_moves w (flip_act w Everything)) Unclamped)) rests;
+}
 
-  abbrev at_rest : IsAtRest w
-  at_rest = before.objects.rest
+start_is_refused : (w : World) → is_running w ≡ true → IsRefused w call.Start refusal.Running
+start_is_refused w there = record {
+  arena = refl;
+  not_taken = λ v. refl;
+  no_moves = refl;
+  due = refl;
+  possible = tt;
+  still = refl;
+  comes = ap (λ b. refuse_when b refusal.Running >> done (with_state w Unclamped)) there;
+}
 
-  may_condemn : MayCondemn t h.segs w condemn.Everything
-  may_condemn = everything_may layout t h.segs m h.points w before
+module _ (w : World) (chain : Name) (oldest : ℕ) where
+  -- the act of the call, from the chain that it finds
+  abbrev act_from : (u : World) → Numbered (List ℕ) → Checked Act
+  act_from u on =
+      refuse_when (nat_le (length on.value) oldest) refusal.BadIndex
+      >> (refuse_when (is_running w) refusal.Running >> done (with_state u Unclamped))
 
-  made_then : WereMadeBefore (length w.flips) h.points
-  made_then = subst (λ n. WereMadeBefore n h.points) parts.point_flips made
+  start_of_generations : (on : Numbered (List ℕ)) → model.chain_named w chain ≡ Ok on → nat_le (length on.value) oldest ≡ false
+      → IsStartOf w (call.StartChain chain oldest) (Generations on.number oldest)
+  start_of_generations on found has =
+      let u = world_after_moves w (flip_act w (Generations on.number oldest)) in
+      record {
+        arena = refl;
+        not_taken = λ v. refl;
+        all_collectors = refl;
+        due = sym (ap (λ x. flip_act_of_chain w x oldest) found);
+        possible = tt;
+        comes = λ rests.
+            ap (λ x. x >>= act_from u) found
+            ∙ ap (λ b. refuse_when b refusal.BadIndex >> (refuse_when (is_running w) refusal.Running >> done (with_state u Unclamped))) has
+            ∙ ap (λ b. refuse_when b refusal.Running >> done (with_state u Unclamped)) rests;
+      }
 
-  -- ---- something is condemned
+  start_chain_is_refused : (why : Refusal) → (model.chain_named w chain >>= act_from w) ≡ Err why
+      → IsRefused w (call.StartChain chain oldest) why
+  start_chain_is_refused why comes = record {
+    arena = refl;
+    not_taken = λ v. refl;
+    no_moves = refl;
+    due = refl;
+    possible = tt;
+    still = refl;
+    comes = comes;
+  }
 
-  module _ (run : RunningState) (running : h'.running ≡ Some run)
-      (begun : Begins layout t.formats t.chains condemn.Everything h.points h.roots h.finals here h'.roots h'.finals z run) where
-    act : IsActDone layout t h.segs m w condemn.Everything known_before.rows h.roots h'.roots h'.finals z run
-    act =
-        a_collection_begins flip_stands layout t h.segs m h.points h.roots h'.roots h.finals h'.finals w known_before.rows z run
-        condemn.Everything before may_condemn known_before.areas known_before.roots begun
+-- ---- what their checks come to
 
-    abbrev y : Collecting
-    y = act.after
+listed_within : (xs : List (List ℕ)) (i n : ℕ) → option_map (λ (capacities : List ℕ). length capacities) (slice_get xs i) ≡ Some n
+    → i < length xs
+listed_within [] i n e = absurd (none-some n e)
+listed_within (x ∷ xs) zero n e = omega arith
+listed_within (x ∷ xs) (suc i) n e = let less = listed_within xs i n e in omega (arith, less)
 
-    leads : IsFlipDone w Everything act.first y
-    leads =
-        flip_done w Everything [] act.first y at_rest refl (something_condemned layout past h w parts m t before begun.some)
-        (nothing_remembered w at_rest) act.fixes
+module _ {F : Type 0} (layout : F → Layout) (h : HeapState F) (whole : IsWhole h) (w : World) (st : StandsFor layout h w) where
+  running_alike : is_some h.running ≡ is_running w
+  running_alike = of_time st.time
+    where
+      of_time : IsInTime st.past.time (collector_of h) w → is_some h.running ≡ is_running w
+      of_time (rests rest) = ap is_some rest.not_running ∙ sym (ap is_some rest.none)
+      of_time (runs x r) =
+          ap is_some r.running ∙ sym (ap is_some (ap (λ (v : World). v.collection) (sym r.world) ∙ r.invariant.runs))
 
-    moved : IsButCollected (world_flipped w (condemned_zones w Everything)) y.world
-    moved = acted_moves w act.first y at_rest (something_condemned layout past h w parts m t before begun.some) act.fixes
+  none_runs : is_some h.running ≡ false → h.running ≡ None
+  none_runs isnt = of_running h.running isnt
+    where
+      of_running : (o : Option RunningState) → is_some o ≡ false → o ≡ None
+      of_running None e = refl
+      of_running (Some r) e = absurd (true≢false e)
 
-    -- the state of the abstract collector in the unclamped arena
-    abbrev after : Collecting
-    after = record y { world = with_state y.world Unclamped }
+  pub start_checked : AreChecked h w call.Start (check_start h)
+  start_checked =
+      elim (is_some h.running) as (λ b. is_some h.running ≡ b
+      → AreChecked h w call.Start (refuse_when b refusal.Running >> Ok condemn.Everything)) [
+        | true ↦ (λ is. not_accepted (start_is_refused w (sym running_alike ∙ is)))
+        | false ↦ (λ isnt. accepted (none_runs isnt) refl (start_of_everything w))
+      ] refl
 
-    abbrev v : World
-    v = after.world
+  module _ (chain : Name) (oldest : ℕ) where
+    -- what follows the look-up of the chain
+    abbrev then : Kept ℕ → Checked Condemn
+    then on =
+        refuse_when (nat_le on.value oldest) refusal.BadIndex
+        >> (refuse_when (is_some h.running) refusal.Running >> Ok (condemn.Generations on.key oldest))
 
-    places : AreInPlace w y v
-    places =
-        let there = in_place_acted w act.first y at_rest (something_condemned layout past h w parts m t before begun.some) act.fixes in
-        record {
-          manual = there.manual;
-          pinned = there.pinned;
-          holds = there.holds;
-          held = there.held;
-          held_live = there.held_live;
-        }
+    there : (k : Kept ℕ) (n : Numbered (List ℕ)) → IsChainFound h w k n → model.chain_named w chain ≡ Ok n
+        → AreChecked h w (call.StartChain chain oldest) (then k)
+    there k n is found =
+        let same_count : nat_le (length n.value) oldest ≡ nat_le k.value oldest = sym (ap (λ c. nat_le c oldest) is.fit) in
+        elim (nat_le k.value oldest) as (λ b. nat_le k.value oldest ≡ b → AreChecked h w (call.StartChain chain oldest)
+        (refuse_when b refusal.BadIndex
+        >> (refuse_when (is_some h.running) refusal.Running >> Ok (condemn.Generations k.key oldest)))) [
+          | true ↦ (λ past. not_accepted (start_chain_is_refused w chain oldest refusal.BadIndex
+              (ap (λ x. x >>= act_from w chain oldest w) found
+              ∙ ap (λ b. refuse_when b refusal.BadIndex
+              >> (refuse_when (is_running w) refusal.Running >> done (with_state w Unclamped))) (same_count ∙ past))))
+          | false ↦ (λ has. elim (is_some h.running) as (λ b. is_some h.running ≡ b → AreChecked h w (call.StartChain chain oldest)
+              (refuse_when b refusal.Running >> Ok (condemn.Generations k.key oldest))) [
+                | true ↦ (λ runs_now. not_accepted (start_chain_is_refused w chain oldest refusal.Running
+                    (ap (λ x. x >>= act_from w chain oldest w) found
+                    ∙ ap (λ b. refuse_when b refusal.BadIndex
+                    >> (refuse_when (is_running w) refusal.Running >> done (with_state w Unclamped))) (same_count ∙ has)
+                    ∙ ap (λ b. refuse_when b refusal.Running >> done (with_state w Unclamped)) (sym running_alike ∙ runs_now))))
+                | false ↦ (λ isnt. accepted (none_runs isnt)
+                    (chain_numbered k.key oldest
+                    (let within = listed_within h.chains.chains k.key k.value is.kept in
+                    let few = whole.few_chains in
+                    omega (arith, within, few)))
+                    (subst (λ (c : ℕ). IsStartOf w (call.StartChain chain oldest) (Generations c oldest)) is.number
+                    (start_of_generations w chain oldest n found (same_count ∙ has))))
+              ] refl)
+        ] refl
 
-    roots : AreRootsAfter h.roots h'.roots
-    roots =
-        tables_after layout t.formats t.chains h.roots (marked_at_flip t.formats t.chains condemn.Everything h.points h.roots here)
-        (length h.roots.order) h'.roots begun.before begun.slots
+    of_chain : (x : Checked (Kept ℕ)) (y : Checked (Numbered (List ℕ))) → model.chain_named w chain ≡ y → Same (IsChainFound h w) x y
+        → AreChecked h w (call.StartChain chain oldest) (x >>= then)
+    of_chain _ _ found (fits {a} {b} is) = there a b is found
+    of_chain _ _ found (same.refused {why}) =
+        not_accepted (start_chain_is_refused w chain oldest why (ap (λ x. x >>= act_from w chain oldest w) found))
 
-    flipped : IsFlippedHeap past w h h' y.world.addresses v
-    flipped =
-        flipped_heap layout past h h' w parts (zones_of (moving_of t.formats h.segs.segments)) arena.Unclamped h'.running state
-        (same_zones layout past h w parts m t before) y.world.addresses y.world moved
-        (segments_now layout t.formats t.chains w.addresses z h'.finals run y act.stands) roots
-        (tables_acted w at_rest (λ id at there. (before.segments.image.placed.address id at there).not_null) past.table_number h.roots
-        h'.roots parts.tables known_before.rows known_before.roots.tables known_before.ordered roots y act.slots)
+    pub start_chain_checked : AreChecked h w (call.StartChain chain oldest) (check_start_chain h chain oldest)
+    start_chain_checked =
+        of_chain (chain_named h chain) (model.chain_named w chain) refl (chain_same layout st.past h w st.parts chain)
 
-    abbrev time_then : Time
-    time_then = time_now layout t.formats t.chains w.addresses z h'.finals run y act.stands
+-- ---- the steps
 
-    parts_then : AreParts layout (record past { time = time_then }) h' v
-    parts_then =
-        flipped_parts layout past h h' w parts known.formed made_then y y.world moved Unclamped time_then flipped places
-        (image_now layout t.formats t.chains w.addresses z h'.finals run y act.stands)
-        (registered_now layout t.formats t.chains w.addresses z h'.finals run y act.stands) act.stands.finals.waiting
-
-    invariant : Running after
-    invariant =
-        let r = act.stands.running in
-        record {
-          runs = r.runs;
-          different = r.different;
-          condemned = r.condemned;
-          coloured = r.coloured;
-          grey = r.grey;
-          settled = r.settled;
-          survivors = r.survivors;
-          examined = r.examined;
-          band = record {
-            tracing = r.band.tracing;
-            splatting = r.band.splatting;
-            drained = r.band.drained;
-            examined = r.band.examined;
-            scanned = r.band.scanned;
-            referred_live = r.band.referred_live;
-            unswept = r.band.unswept;
-          };
-          swept = r.swept;
-          units = r.units;
-        }
-
-    runs_then : Runs time_then (collector_of h') v after
-    runs_then =
-        let count = same_count w (flip_act w Everything) in
-        let same = ap (λ (u : World). length u.graph.objects) leads.leads in
-        let long = known.formed.addresses in
-        let q = runs_now layout t.formats t.chains w.addresses z h'.finals run y act.stands (omega (arith, count, same, long)) in
-        record {
-          world = refl;
-          invariant = invariant;
-          run = q.run;
-          running = running ∙ q.running;
-          as_far = record {
-            band = q.as_far.band;
-            cursor = q.as_far.cursor;
-            next = q.as_far.next;
-            registered_before = q.as_far.registered_before;
-          };
-          condemned_ids = q.condemned_ids;
-          colours = q.colours;
-          next = q.next;
-          registered_before = q.registered_before;
-          tracing = λ e. let traces = q.tracing e in record {
-            read = traces.read;
-            band = traces.band;
-            tails = traces.tails;
-            ranked = traces.ranked;
-          };
-          reclaiming = λ e. let freed = q.reclaiming e in record {
-            none_at_flip = freed.none_at_flip;
-            read = freed.read;
-            band = freed.band;
-            scanned = freed.scanned;
-            examined = freed.examined;
-          };
-          condemned = q.condemned;
-          flip = record { made = q.flip.made; still = q.flip.still };
-        }
-
-    -- the call
-    abbrev result : Checked Act
-    result = done (with_state (world_after_moves w (flip_act w Everything)) Unclamped)
-
-    leads_to : with_state (world_after_moves w (flip_act w Everything)) Unclamped ≡ v
-    leads_to = ap (λ u. with_state u Unclamped) leads.leads
-
-    blocks_live : list_all (is_live v) (ids_in_blocks v.graph) ≡ true
-    blocks_live =
-        list_all-members (is_live v) (ids_in_blocks v.graph) (λ id there.
-        let was = subst (λ (u : World). contains (ids_in_blocks u.graph) id ≡ true) moved.world there in
-        ap is_some (places.manual id (blocks_are_manual w known.formed id was))
-        ∙ list_all-contains (is_live w) (ids_in_blocks w.graph) id known.live.blocks was)
-
-    runs_on : RunsOn w after (step_of line call.Start (flip_act w Everything) ok)
-        (with_state (world_after_moves w (flip_act w Everything)) Unclamped)
-    runs_on =
-        still_step_runs_on w after line call.Start (flip_act w Everything) ok result invariant (record {
-          supported = refl;
-          legal = leads.legal;
-          due = refl;
-          possible = tt;
-          comes =
-              ap (λ b. refuse_when b refusal.Running >> result) (is_running-none w rest.none);
-          answers = refl;
-          blocks_after = subst (λ (u : World). list_all (is_live u) (ids_in_blocks u.graph) ≡ true) (sym leads_to) blocks_live;
-        }) leads_to refusal.NotRegistered refl
-
-    pub begun_is_right : IsRightIn layout w (step_of line call.Start (flip_act w Everything) ok) h'
-    begun_is_right =
-        runs_on_is_right layout time_then (collector_of h') w v after runs_then line call.Start refl (flip_act w Everything) ok h' result
-        refl reach runs_on (ap (λ (u : World). u.formats) (leads_to ∙ ap (λ u. with_state u Unclamped) moved.world))
-        (subst (HasParts layout time_then h') (sym leads_to)
-        (record { past = record past { time = time_then }; timed = refl; parts = parts_then }))
-        (subst (λ (u : World). IsRunKept (Err refusal.NotRegistered) time_then (collector_of h') (collector_of h') v u after) (sym leads_to)
-        (run_kept layout (keeps_still layout) after runs_then))
-
-    pub begun_appends : m'.moves ≡ m.moves ++ flip_act w Everything
-    begun_appends = act.trail ∙ ap (λ ms. m.moves ++ ms) (sym leads.act)
-
-    pub begun_keeps_room : KeepsRoom m m'
-    begun_keeps_room =
-        let pushed = begin_pushes layout t h.points h.roots h'.roots h.finals h'.finals here z run begun in
-        let some = has_room layout t w.addresses z h'.finals run y act.stands in
-        let told = told_below pushed some in
-        pushed_keeps pushed (omega (arith, told))
-
-  -- ---- nothing is condemned
-
-  module _ (none : h'.running ≡ None)
-      (ends : EndsAtOnce t.formats t.chains condemn.Everything h.points h.roots h.finals here h'.roots h'.finals z) where
-    over : IsOverAtOnce m w condemn.Everything z
-    over =
-        a_collection_of_nothing_ends layout t h.segs m h.points h.roots h'.roots h.finals h'.finals w z condemn.Everything before
-        may_condemn ends
-
-    abbrev acted : Collecting
-    acted = collecting_after_flip w Everything []
-
+module _ {F : Type 0} (layout : F → Layout) (w : World) (reach : IsReached w) (c : Call) (line : ℕ) where
+  -- that of an accepted one
+  module _ (past : Past) (what : Condemnation) (m : Moves) (h' : HeapState F) (m' : Moves) (none : is_running w ≡ false)
+      (starts : IsStartOf w c what) (flipped : IsFlipped layout past w what m h' m') where
     abbrev ms : List Move
-    ms = flip_act w Everything
-
-    collection : IsCollection layout w acted ms
-    collection = nothing_collection layout w at_rest over.nothing
+    ms = flip_act w what
 
     abbrev u : World
     u = with_state (world_after_moves w ms) Unclamped
 
-    live : HeldAreLive u
-    live = live_after layout w acted ms known.formed known.live collection Unclamped refl
+    legal : AreLegalMoves w None (moves_of_collector c ms)
+    legal = subst (AreLegalMoves w None) (sym starts.all_collectors) flipped.legal
 
-    formed : IsWellFormed u
-    formed =
-        subst (λ (v : World). IsWellFormed (with_state (world_after_moves v ms) Unclamped)) (sym reach.is)
-        (worlds_in_steps_are_well_formed w.formats reach.history ms reach.once reach.legal
-        (subst (λ v. AreLegalMoves v None ms) reach.is (flip_ended w Everything at_rest refl over.nothing).legal)
-        (subst (λ v. list_all (is_live (world_after_moves v ms)) (ids_of_client (world_after_moves v ms).graph) ≡ true) reach.is
-        live.client))
+    formats : u.formats ≡ w.formats
+    formats = ap (λ (v : World). v.formats) flipped.moved.world
 
-    left : IsLeft past w h h' w.addresses (world_after_moves w ms)
-    left = left_at_once layout past h w parts rest.time m t before h' (trace_of h'.pools h'.chains h'.tails) m' ends over
-
-    parts_at_rest : AreParts layout (record past { time = time_at_rest }) h' u
-    parts_at_rest =
-        flipped_parts layout past h h' w parts known.formed made_then acted (world_after_moves w ms) collection.leaves.but_collected
-        Unclamped time_at_rest
-        (flipped_heap layout past h h' w parts (zones_of (moving_of t.formats h.segs.segments)) arena.Unclamped h'.running state
-        (same_zones layout past h w parts m t before) w.addresses (world_after_moves w ms) collection.leaves.but_collected left.segments
-        left.roots left.tables)
+    of_time : IsInTime flipped.time (collector_of h') u → IsRightIn layout w (step_of line c ms ok) h'
+    of_time (rests rest) =
+        moved_to_rest layout flipped.time w line c ms ok h' (done u) starts.arena formats reach
         (record {
-          manual = collection.places.manual;
-          pinned = collection.places.pinned;
-          holds = collection.places.holds;
-          held = collection.places.held;
-          held_live = collection.places.held_live;
-        }) left.image (registered_at_the_end u h'.finals left.finals formed.registered) left.finals.waiting
-
-    pub ended_is_right : IsRightIn layout w (step_of line call.Start ms ok) h'
-    ended_is_right =
-        moved_to_rest layout time_at_rest w line call.Start ms ok h' (done u) refl
-        (ap (λ (v : World). v.formats) collection.leaves.but_collected.world) reach
-        (record {
-          legal = (flip_ended w Everything at_rest refl over.nothing).legal;
-          due = refl;
-          comes = ap (λ b. refuse_when b refusal.Running >> done u) (is_running-none w rest.none);
+          legal = legal;
+          due = starts.due;
+          comes = starts.comes none;
           answers = refl;
-          marked = tt;
+          marked = starts.possible;
           supported = refl;
-          sound = resting_sound u collection.leaves.ended live;
+          sound = resting_sound u rest.none flipped.live;
         })
-        (record { past = record past { time = time_at_rest }; timed = refl; parts = parts_at_rest })
-        (record {
-          none = collection.leaves.ended;
-          time = refl;
-          not_running = none;
-          not_condemned = left.not_condemned;
-          not_kept = left.not_kept;
-        })
+        (record { past = record past { time = flipped.time }; timed = refl; parts = flipped.parts }) rest
+    of_time (runs y r) =
+        runs_on_is_right layout flipped.time (collector_of h') w u y r line c (starts.not_taken y.world) ms ok h' (done u) starts.arena
+        reach
+        (still_step_runs_on w y line c ms ok (done u) r.invariant (record {
+          supported = refl;
+          legal = legal;
+          due = starts.due;
+          possible = starts.possible;
+          comes = starts.comes none;
+          answers = refl;
+          blocks_after = flipped.live.blocks;
+        }) (sym r.world) refusal.NotRegistered (starts.not_taken y.world)) formats
+        (record { past = record past { time = flipped.time }; timed = refl; parts = flipped.parts })
+        (run_kept layout (keeps_still layout) y r)
 
-    pub ended_appends : m'.moves ≡ m.moves ++ ms
-    ended_appends = over.trail
+    pub flip_step_is_right : IsRightIn layout w (step_of line c ms ok) h'
+    flip_step_is_right = of_time flipped.now
 
-    pub ended_keeps_room : KeepsRoom m m'
-    ended_keeps_room =
-        at_once_keeps_room layout t h.points h.roots h'.roots h.finals h'.finals here z ends
-        (let some = before.room in omega (arith, some))
+  -- and that of a refused one
+  pub refused_step_is_right : (h : HeapState F) (st : StandsFor layout h w) (why : Refusal) → IsRefused w c why
+      → IsRightIn layout w (step_of line c [] (refused why)) h
+  refused_step_is_right h st why is =
+      refusal_is_right layout st.past h w line c why is.arena reach st.parts st.time (record {
+        supported = refl;
+        legal = subst (AreLegalMoves w None) (sym is.no_moves) tt;
+        due = is.due;
+        possible = is.possible;
+        comes = is.comes;
+        answers = refl;
+        blocks_after =
+            subst (λ (u : World). list_all (is_live u) (ids_in_blocks u.graph) ≡ true) (sym is.still) (reached_live w reach).blocks;
+      }) is.still is.not_taken
 
--- ---- the call
-
--- while a collection runs it is refused
-pub start_is_refused : {F : Type 0} (layout : F → Layout) (h : HeapState F) (w : World) (line : ℕ) → StandsFor layout h w
-    → IsTrue (is_some h.running) → IsRightIn layout w (step_of line call.Start [] (refused refusal.Running)) h
-start_is_refused layout h w line st some =
-    let now = some_there h.running some in
-    let there = running_now layout h w st now.0 now.1 in
-    let running : is_running w ≡ true =
-    ap is_some (ap (λ (v : World). v.collection) (sym there.world) ∙ there.runs.invariant.runs)
-    in
-    refusal_is_right layout st.past h w line call.Start refusal.Running refl st.reached st.parts st.time (record {
-      supported = refl;
-      legal = tt;
-      due = refl;
-      possible = tt;
-      comes = ap (λ b. refuse_when b refusal.Running >> done (with_state w Unclamped)) running;
-      answers = refl;
-      blocks_after = (reached_live w st.reached).blocks;
-    }) refl (λ v. refl)
+-- ---- the calls of a heap
 
 -- what a `start` is in a world, by a heap that is this one then, with a trail that is this one
-pub record IsRightStartIn {F : Type 0} (layout : F → Layout) (w : World) (m m' : Moves) (answer : Answer) (h' : HeapState F) : Type 0 where
-  pub right : IsRightMovingIn layout w call.Start m.moves m'.moves answer h'
+pub record IsRightStartIn {F : Type 0} (layout : F → Layout) (w : World) (c : Call) (m m' : Moves) (answer : Answer) (h' : HeapState F)
+    : Type 0 where
+  pub right : IsRightMovingIn layout w c m.moves m'.moves answer h'
   pub room : KeepsRoom m m'
 
 module _ {F : Type 0} (layout : F → Layout) (h : HeapState F) (whole : IsWhole h) (m : Moves)
     (room : most_moves h.segs.grains ≤ m.spare) where
-  -- a heap at rest can be asked for one
-  pub can_start : (w : World) → StandsFor layout h w → h.running ≡ None → CanStart layout h m
-  can_start w st none =
-      can_begin layout (roots_can_be_fixed flip_stands) h m w (all_reserved layout st.past h w st.parts)
-      (is_before layout st.past h w st.parts (known_now st) (resting_now layout h w st none) whole.marked m room)
-      (trace_of h.pools h.chains h.tails) whole.tails
+  module _ (w : World) (st : StandsFor layout h w) (none : h.running ≡ None) (what : Condemn) (numbered : IsNumbered (condemnation what))
+    where
+      may : MayCondemn (trace_of h.pools h.chains h.tails) h.segs w what
+      may =
+          may_condemn layout st.past h w st.parts (trace_of h.pools h.chains h.tails) m whole.tails
+          ((is_before layout st.past h w st.parts (known_now st) (resting_now layout h w st none) whole.marked m room).stands
+          (trace_of h.pools h.chains h.tails) whole.tails) what numbered
 
-  -- and it is right in each world that the heap represented
-  module _ (made : WereMadeBefore h.points.flips h.points) (h' : HeapState F) (m' : Moves) where
-    starts_rightly : (none : h.running ≡ None) → IsStarted layout h m h' m' → (w : World) → StandsFor layout h w
-        → IsRightStartIn layout w m m' ok h'
-    starts_rightly none started w st = of_running h'.running refl
-      where
-        known : IsKnown st.past.time w
-        known = known_now st
+      -- a heap at rest can be asked for one
+      pub can_flip : h.points.flips < most_flips → CanStart layout what h m
+      can_flip few = record {
+        few_flips = few;
+        few_epochs = subst (λ n. n < most_flips) (st.parts.point_flips ∙ sym st.parts.flips.count) few;
+        begins = can_condemn layout h m w (all_reserved layout st.past h w st.parts)
+            (is_before layout st.past h w st.parts (known_now st) (resting_now layout h w st none) whole.marked m room)
+            (trace_of h.pools h.chains h.tails) whole.tails what may;
+      }
 
-        rest : Rests st.past.time (collector_of h) w
-        rest = resting_now layout h w st none
+      -- and it is the flip
+      pub flips_rightly : WereMadeBefore h.points.flips h.points → (h' : HeapState F) (m' : Moves)
+          → Rattle.mps_heap_spec.specs.Collecting.IsStarted layout what h m h' m' → IsFlipped layout st.past w (condemnation what) m h' m'
+      flips_rightly made h' m' started =
+          flip_is_right layout st.past h w st.parts (known_now st) (resting_now layout h w st none) st.reached made whole.tails whole.marked
+          m room what may h' m' started
 
-        of_running : (o : Option RunningState) → h'.running ≡ o → IsRightStartIn layout w m m' ok h'
-        of_running (Some run) is =
-            let begun =
-            subst (λ o. IfSome o (λ r. Begins layout (trace_of h.pools h.chains h.tails).formats
-            (trace_of h.pools h.chains h.tails).chains condemn.Everything
-            h.points h.roots h.finals (traced (trace_of h.pools h.chains h.tails) h.segs m) h'.roots h'.finals
-            (traced (trace_of h'.pools h'.chains h'.tails) h'.segs m') r)) is
-            started.begun
-            in
-            record {
-              right = record {
-                moves = flip_act w Everything;
-                appended =
-                    begun_appends layout st.past h w st.parts known rest st.reached made whole.tails whole.marked m room h' m' started.state
-                    0 run is begun;
-                right = λ line.
-                    begun_is_right layout st.past h w st.parts known rest st.reached made whole.tails whole.marked m room h' m'
-                    started.state line run is begun;
-              };
-              room =
-                  begun_keeps_room layout st.past h w st.parts known rest st.reached made whole.tails whole.marked m room h' m'
-                  started.state 0 run is begun;
-            }
-        of_running None is =
-            let ended =
-            subst (λ o. IfNone o (EndsAtOnce (trace_of h.pools h.chains h.tails).formats (trace_of h.pools h.chains h.tails).chains
-            condemn.Everything h.points h.roots h.finals (traced (trace_of h.pools h.chains h.tails) h.segs m) h'.roots h'.finals
-            (traced (trace_of h'.pools h'.chains h'.tails) h'.segs m'))) is
-            started.ended
-            in
-            record {
-              right = record {
-                moves = flip_act w Everything;
-                appended =
-                    ended_appends layout st.past h w st.parts known rest st.reached made whole.tails whole.marked m room h' m' started.state
-                    0 is ended;
-                right = λ line.
-                    ended_is_right layout st.past h w st.parts known rest st.reached made whole.tails whole.marked m room h' m'
-                    started.state line is ended;
-              };
-              room =
-                  ended_keeps_room layout st.past h w st.parts known rest st.reached made whole.tails whole.marked m room h' m'
-                  started.state 0 is ended;
-            }
+  pub can_start : (w : World) → StandsFor layout h w → h.points.flips < most_flips → (c : Call) (checked : Checked Condemn)
+      → AreChecked h w c checked → IfOk checked (λ what. CanStart layout what h m)
+  can_start w st few c _ (accepted {what} none numbered is) = can_flip w st none what numbered few
+  can_start w st few c _ (not_accepted is) = tt
 
-    refused_rightly : (why : Refusal) → IsNotStarted h m why h' m' → (w : World) → StandsFor layout h w
-        → IsRightStartIn layout w m m' (refused why) h'
-    refused_rightly why refusal_is w st =
-        subst (λ r. IsRightStartIn layout w m m' (refused r) h') (sym refusal_is.why_is)
-        (subst (λ s. IsRightStartIn layout w m m' (refused refusal.Running) s) (sym refusal_is.unchanged)
-        (subst (λ (n : Moves). IsRightStartIn layout w m n (refused refusal.Running) h) (sym refusal_is.unmoved) (record {
+  -- it is right in each world that the heap represented
+  module _ (made : WereMadeBefore h.points.flips h.points) (c : Call) (checked : Checked Condemn) (h' : HeapState F) (m' : Moves)
+      (result : Checked (Unit {0})) where
+    in_world : (these : Checked Condemn) (w : World) (st : StandsFor layout h w) → AreChecked h w c these
+        → Starts layout these h m result h' m'
+        → IsRightStartIn layout w c m m' (answer_to says_ok result) h'
+    in_world _ w st (accepted {what} none numbered is) starts =
+        let flipped = flips_rightly w st none what numbered made h' m' starts.1 in
+        let rests_there : is_running w ≡ false = is_running-none w (resting_now layout h w st none).none in
+        subst (λ r. IsRightStartIn layout w c m m' (answer_to says_ok r) h') (sym starts.0) (record {
+          right = record {
+            moves = flip_act w (condemnation what);
+            appended = flipped.appended;
+            right = λ line. flip_step_is_right layout w st.reached c line st.past (condemnation what) m h' m' rests_there is flipped;
+          };
+          room = flipped.room;
+        })
+    in_world _ w st (not_accepted {why} is) starts =
+        subst (λ r. IsRightStartIn layout w c m m' (answer_to says_ok r) h') (sym starts.0)
+        (subst (λ s. IsRightStartIn layout w c m m' (refused why) s) (sym starts.1)
+        (subst (λ (n : Moves). IsRightStartIn layout w c m n (refused why) h) (sym starts.2) (record {
           right = record {
             moves = [];
             appended = sym (append-nil m.moves);
-            right = λ line. start_is_refused layout h w line st refusal_is.runs;
+            right = λ line. refused_step_is_right layout w st.reached c line h st why is;
           };
           room = refl;
         })))
 
-    in_each : (result : Checked (Unit {0})) → Starts layout h m result h' m' → (w : World) → StandsFor layout h w
-        → IsRightStartIn layout w m m' (answer_to says_ok result) h'
-    in_each (Ok _) comes w st = starts_rightly comes.0 comes.1 w st
-    in_each (Err why) comes w st = refused_rightly why comes w st
-
-    pub a_start_is_right : (w : World) × StandsFor layout h w → (result : Checked (Unit {0})) → Starts layout h m result h' m'
-        → IsRightMoving layout h call.Start m.moves m'.moves (answer_to says_ok result) h' × KeepsRoom m m'
-    a_start_is_right one result comes = (
-      right_in_each layout h call.Start m.moves m'.moves (answer_to says_ok result) h' one (λ w st. (in_each result comes w st).right),
-      (in_each result comes one.0 one.1).room,
+    pub a_start_is_right : (w : World) × StandsFor layout h w → ((w : World) → StandsFor layout h w → AreChecked h w c checked)
+        → Starts layout checked h m result h' m'
+        → IsRightMoving layout h c m.moves m'.moves (answer_to says_ok result) h' × KeepsRoom m m'
+    a_start_is_right one checks starts = (
+      right_in_each layout h c m.moves m'.moves (answer_to says_ok result) h' one
+          (λ w st. (in_world checked w st (checks w st) starts).right),
+      (in_world checked one.0 one.1 (checks one.0 one.1) starts).room,
     )

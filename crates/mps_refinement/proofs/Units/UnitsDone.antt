@@ -34,6 +34,8 @@ use Rattle.mps_refinement.proofs.Units.FromUnits.{collector_after, parts_then, r
 use Rattle.mps_refinement.proofs.Units.MovedParts.{collected_heap}
 use Rattle.mps_refinement.proofs.Units.ToUnits.{stands_for_units}
 use Rattle.mps_refinement.proofs.Worlds.Reached.{reached_well_formed}
+use Rattle.mps_trace_laws.specs.Summaries.Summed.{AreWordsSummed}
+use Rattle.mps_trace_laws.proofs.Summaries.UnitRows.{units_keep}
 
 module _ {F : Type 0} (layout : F → Layout) (past : Past) (h : HeapState F) (x : Collecting) (parts : AreParts layout past h x.world)
     (reach : IsReached x.world) (r : Runs past.time (collector_of h) x.world x)
@@ -76,10 +78,16 @@ module _ {F : Type 0} (layout : F → Layout) (past : Past) (h : HeapState F) (x
   abbrev pub heap_after : HeapState F
   heap_after = collected_heap h (collector_after z run) f
 
+  -- words stay summed
+  pub summed_after : AreWordsSummed layout t.formats z.segs
+  summed_after =
+      units_keep layout t.formats t.chains at_flip here z h.finals f r.run run x n
+      (stands_for_units layout past h x parts reach r of marked m room) parts.summed units
+
   pub parts_after : AreParts layout (record past { time = time_after }) heap_after done.after.world
   parts_after =
       parts_then layout past h x parts (reached_well_formed w reach) r.invariant r.flip t.formats t.chains done.after done.moves shown.leads
-      left stays z f run done.stands
+      left stays z f run done.stands summed_after
 
   pub runs_after : Runs time_after (collector_after z run) done.after.world done.after
   runs_after =

@@ -1,7 +1,7 @@
 -- A running collection goes on as far as it was over a call of the client, but for a registration that the call takes away.
 use Rattle.std.proofs.Common.{◌≡◌, ◌∙◌, ℕ, ◌-◌, zero, suc, refl, sym, ap, List, [], ◌∷◌, ◌++◌, Option, None, Ok, Err, get_or, arith}
 use Rattle.std.proofs.lemmas.Bool.{le-ltb}
-use Rattle.std.specs.Prelude.{option_map, if◌then◌else◌}
+use Rattle.std.specs.Prelude.{option_map, if◌then◌else◌, replicate}
 use Rattle.mps_base.specs.Address.{Id, address_of_word}
 use Rattle.mps_base.specs.Segment.{Segment, segment_over}
 use Rattle.mps_base.specs.declared.refusal.Refusal.TheVariants as refusal
@@ -64,18 +64,23 @@ KeepsAll s s' = KeepsCollector (Err refusal.NotRegistered) s s'
 pub all_kept : {F : Type 0} (h : HeapState F) → KeepsAll (collector_of h) (collector_of h)
 all_kept h = (refl, refl, refl, λ pool generation. refl, refl)
 
--- a pool that is made has an empty tail
-one_more_tail : (ts : List (List Buffer)) (pool generation : ℕ)
-    → get_or (get_or (ts ++ (empty_buffer ∷ []) ∷ []) pool []) generation empty_buffer ≡ get_or (get_or ts pool []) generation empty_buffer
-one_more_tail [] zero zero = refl
-one_more_tail [] zero (suc generation) = refl
-one_more_tail [] (suc pool) generation = refl
-one_more_tail (t ∷ ts) zero generation = refl
-one_more_tail (t ∷ ts) (suc pool) generation = one_more_tail ts pool generation
+-- a pool that is made has empty tails
+empty_row : (count generation : ℕ) → get_or (replicate count empty_buffer) generation empty_buffer ≡ empty_buffer
+empty_row zero generation = refl
+empty_row (suc count) zero = refl
+empty_row (suc count) (suc generation) = empty_row count generation
 
-pub one_more_kept : {F : Type 0} (h : HeapState F)
-    → KeepsAll (collector_of h) (record { segs = h.segs; tails = with_pool h.tails 1; running = h.running })
-one_more_kept h = (refl, refl, refl, λ pool generation. one_more_tail h.tails.tails pool generation, refl)
+one_more_row : (ts : List (List Buffer)) (count pool generation : ℕ)
+    → get_or (get_or (ts ++ replicate count empty_buffer ∷ []) pool []) generation empty_buffer
+    ≡ get_or (get_or ts pool []) generation empty_buffer
+one_more_row [] count zero generation = empty_row count generation
+one_more_row [] count (suc pool) generation = refl
+one_more_row (t ∷ ts) count zero generation = refl
+one_more_row (t ∷ ts) count (suc pool) generation = one_more_row ts count pool generation
+
+pub one_more_kept : {F : Type 0} (h : HeapState F) (generations : ℕ)
+    → KeepsAll (collector_of h) (record { segs = h.segs; tails = with_pool h.tails generations; running = h.running })
+one_more_kept h generations = (refl, refl, refl, λ pool generation. one_more_row h.tails.tails generations pool generation, refl)
 
 -- the same marks over the same segments have the same ranks
 pub ranks_kept : (s s' : SegsState) → s'.marks ≡ s.marks → s'.segments ≡ s.segments → AreMarksRanked s → AreMarksRanked s'

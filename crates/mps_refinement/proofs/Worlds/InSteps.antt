@@ -106,7 +106,7 @@ live_while_running y run blocks = record {
   transforms = ap (λ o. is_some o || list_all (is_live y.world) (ids_in_pairs y.world.state)) run.runs;
 }
 
-all_flat : (p : ℕ → Bool) (next : ℕ → List ℕ) (xs : List ℕ) → ((x : ℕ) → contains xs x ≡ true → list_all p (next x) ≡ true)
+pub all_flat : (p : ℕ → Bool) (next : ℕ → List ℕ) (xs : List ℕ) → ((x : ℕ) → contains xs x ≡ true → list_all p (next x) ≡ true)
     → list_all p (flat_map next xs) ≡ true
 all_flat p next [] each = refl
 all_flat p next (x ∷ xs) each =
@@ -130,6 +130,41 @@ live_at_the_end x count ms last unparked blocks =
       transforms = or_right (is_running v) (list_all (is_live v) (ids_in_pairs v.state))
           (ap (list_all (is_live v)) (none_there v.state unparked));
     }
+
+-- ---- the world after legal moves
+
+module _ (w : World) (reach : IsReached w) (ms : List Move) (legal : AreLegalMoves w None ms) where
+  abbrev after : World
+  after = world_after_moves w ms
+
+  pub laid_by_moves : HasLayout (after.grains + 1) after
+  laid_by_moves =
+      subst (λ (n : ℕ). HasLayout (n + 1) after) (sym (moved_alone w call.Park ms).grains)
+      (moves_replayed (w.grains + 1) w None ms 0 (laid_out w reach) legal).layout
+
+  graph_by_moves : IsSoundGraph after
+  graph_by_moves = (moves_well w None ms (reached_graph w reach) legal).sound
+
+  pools_by_moves : HasPools after
+  pools_by_moves = (moves_leave_pools w ms).there (reached_has_pools w reach)
+
+  once_by_moves : ArePlacedOnce (places_of after)
+  once_by_moves = subst ArePlacedOnce (sym (moved_kept w call.Park ms)) (placed_once w reach)
+
+  -- in an arena that isn't parked then, where all that is held is live
+  module _ (unparked : is_parked after ≡ false) (live : HeldAreLive after) where
+    formed_by_moves : IsWellFormed after
+    formed_by_moves =
+        formed_again after unparked
+        (subst (λ (u : World). IsWellFormed (with_state (world_after_moves u ms) Unclamped)) (sym reach.is)
+        (worlds_in_steps_are_well_formed w.formats reach.history ms reach.once reach.legal
+        (subst (λ u. AreLegalMoves u None ms) reach.is legal)
+        (subst (λ u. list_all (is_live (world_after_moves u ms)) (ids_of_client (world_after_moves u ms).graph) ≡ true) reach.is
+        live.client)))
+
+    pub known_by_moves : (now : Time) (s : CollectorState) → IsInTime now s after → IsKnown now after
+    known_by_moves now s time =
+        known_of now s after formed_by_moves live laid_by_moves graph_by_moves pools_by_moves once_by_moves time
 
 -- ---- the world after a collector's moves
 
@@ -158,31 +193,23 @@ module _ (x : Collecting) (run : Running x) (reach : IsReached x.world) (ms : Li
       ∙ list_all-contains (is_live w) (ids_in_blocks w.graph) id (reached_live w reach).blocks there)
 
   pub laid_then : HasLayout (v.grains + 1) v
-  laid_then =
-      subst (λ (n : ℕ). HasLayout (n + 1) v) (sym (moved_alone w call.Park ms).grains)
-      (moves_replayed (w.grains + 1) w None ms 0 (laid_out w reach) legal).layout
+  laid_then = laid_by_moves w reach ms legal
 
   pub graph_then : IsSoundGraph v
-  graph_then = (moves_well w None ms (reached_graph w reach) legal).sound
+  graph_then = graph_by_moves w reach ms legal
 
   pools_then : HasPools v
-  pools_then = (moves_leave_pools w ms).there (reached_has_pools w reach)
+  pools_then = pools_by_moves w reach ms legal
 
   once_then : ArePlacedOnce (places_of v)
-  once_then = subst ArePlacedOnce (sym (moved_kept w call.Park ms)) (placed_once w reach)
+  once_then = once_by_moves w reach ms legal
 
   module _ (live : HeldAreLive v) where
     formed_then : IsWellFormed v
-    formed_then =
-        formed_again v unparked
-        (subst (λ (u : World). IsWellFormed (with_state (world_after_moves u ms) Unclamped)) (sym reach.is)
-        (worlds_in_steps_are_well_formed w.formats reach.history ms reach.once reach.legal
-        (subst (λ u. AreLegalMoves u None ms) reach.is legal)
-        (subst (λ u. list_all (is_live (world_after_moves u ms)) (ids_of_client (world_after_moves u ms).graph) ≡ true) reach.is
-        live.client)))
+    formed_then = formed_by_moves w reach ms legal unparked live
 
     pub known_then : (now : Time) (s : CollectorState) → IsInTime now s v → IsKnown now v
-    known_then now s time = known_of now s v formed_then live laid_then graph_then pools_then once_then time
+    known_then now s time = known_by_moves w reach ms legal unparked live now s time
 
     -- also once units are asked of the collection
     pub known_asked : (count : ℕ) (now : Time) (s : CollectorState) → HeldAreLive (asking (Some count) v)

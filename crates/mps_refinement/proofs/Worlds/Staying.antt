@@ -4,8 +4,6 @@ use Rattle.std.proofs.lemmas.Option.{none-some}
 use Rattle.std.specs.Prelude.{slice_get}
 use Rattle.std.specs.Option.{option_map_or}
 use Rattle.mps_base.specs.declared.moves.Move.{Move}
-use Rattle.mps_base.specs.declared.names.Kind.{Kind}
-use Rattle.mps_base.specs.declared.names.Name.{Name}
 use Rattle.mps_base.specs.declared.refusal.Refusal.{Refusal}
 use Rattle.mps_base.specs.declared.refusal.Refusal.TheVariants as refusal
 use Rattle.mps_buffer.specs.Points.{AreReserved}
@@ -16,7 +14,6 @@ use Rattle.mps_trace_laws.proofs.Image.Entries.{slice_get-last, slice_get-pushed
 use Rattle.mps_changes.specs.Change.{makes_arena}
 use Rattle.mps_laws.proofs.WellFormedHistories.{step_grains}
 use Rattle.mps_model.specs.declared.call.Call.{Call}
-use Rattle.mps_model.specs.declared.call.Call.TheVariants as call
 use Rattle.mps_model.specs.Answer.{Answer}
 use Rattle.mps_model.specs.History.{world_after}
 use Rattle.mps_model.specs.World.{World, empty_world_of}
@@ -81,12 +78,12 @@ module _ {F : Type 0} (layout : F → Layout) where
       of_result (Err refusal.OutOfMemory) is = out is
       of_result (Err _) is = answered (λ e. absurd (let f = sym is ∙ e in absurd cc))
 
-  -- a new pool has the number of the next format
-  pub pool_stays : {A : Type 0} (h after : HeapState F) (name : Name) (kind : Kind) (format : F) (result : Result A Refusal)
+  -- a new pool has the number of the next format; the call has the number that it is given
+  pub pool_stays : {A : Type 0} (h after : HeapState F) (numbered : ℕ → Call) (format : F) (result : Result A Refusal)
       → IsLawful (layout format) → StandsForSome layout h
-      → ((number : ℕ) → IsRightMakingIn layout (MeansLayout number (layout format)) h (call.Pool name kind number) result after)
+      → ((number : ℕ) → IsRightMakingIn layout (MeansLayout number (layout format)) h (numbered number) result after)
       → StandsForSome layout after
-  pool_stays {A} h after name kind format result lawful some right = record {
+  pool_stays {A} h after numbered format result lawful some right = record {
     used = some.used ++ layout format ∷ [];
     lawful = λ number l is.
         elim (slice_get-pushed some.used (layout format) number l is) [
@@ -109,7 +106,7 @@ module _ {F : Type 0} (layout : F → Layout) where
       answered other formats s means =
           let r = (right number).answered other s.world 0 (ap (λ (f : ℕ → Layout). f number) s.formats_are ∙ means) s.stands in
           record {
-            world = world_after s.world (step_of 0 (call.Pool name kind number) [] (answer_of_making result));
+            world = world_after s.world (step_of 0 (numbered number) [] (answer_of_making result));
             formats_are = r.formats ∙ s.formats_are;
             stands = r.stands;
           }
