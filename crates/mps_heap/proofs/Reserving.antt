@@ -1,5 +1,6 @@
 -- What a heap needs to reserve a block, and what it then guarantees.
-use Rattle.std.proofs.Common.{◌<◌, ℕ, arith}
+use Rattle.std.proofs.Common.{◌≡◌, ◌<◌, ℕ, true, arith}
+use Rattle.std.proofs.lemmas.Bool.{ltb-true}
 use Rattle.mps_base.specs.Trail.{Moves}
 use Rattle.mps_base.specs.declared.names.Name.{Name}
 use Rattle.mps_format.specs.Layout.{Layout}
@@ -7,6 +8,8 @@ use Rattle.mps_model.specs.World.{World}
 use Rattle.mps_model.specs.declared.call.Call.TheVariants as call
 use Rattle.mps_heap_spec.specs.Checked.{Checked}
 use Rattle.mps_heap_spec.specs.Collect.{most_moves}
+use Rattle.mps_heap_spec.specs.Collecting.{can_collect, most_flips}
+use Rattle.mps_heap_spec.specs.Points.{WereMadeBefore}
 use Rattle.mps_heap_spec.specs.Polling.{CanPoll, HasReserved}
 use Rattle.mps_heap_spec.specs.State.{HeapState}
 use Rattle.mps_heap_spec.specs.Units.{IsWhole}
@@ -26,16 +29,18 @@ module _ {F : Type 0} (layout : F → Layout) (h : HeapState F) (some : StandsFo
   pub some_room : 0 < m.spare
   some_room = omega (arith, room)
 
-  -- a poll can be done
-  pub can_poll_here : CanPoll layout h m
-  can_poll_here = can_poll layout h whole m room one.0 one.1
+  module _ (made : WereMadeBefore h.points.flips h.points) where
+    -- a poll can be done
+    pub can_poll_here : can_collect h ≡ true → CanPoll layout h m
+    can_poll_here few = can_poll layout h whole m room one.0 one.1 made (ltb-true h.points.flips most_flips few)
 
-  -- and what comes of the call is right
-  pub reserved_rightly : (name : Name) (head : ℕ) (result : Checked (Unit {0})) (after : HeapState F) (trail_after : Moves)
-      → HasReserved layout h m name head result after trail_after
-      → IsRightMoving layout h (call.Reserve name head) m.moves trail_after.moves (answer_to says_ok result) after × KeepsRoom m trail_after
-  reserved_rightly name head result after trail_after reserved = (
-    right_in_each layout h (call.Reserve name head) m.moves trail_after.moves (answer_to says_ok result) after one
-        (λ w st. (a_reserve_is_right layout h whole m room w st name head result after trail_after reserved).0),
-    (a_reserve_is_right layout h whole m room one.0 one.1 name head result after trail_after reserved).1,
-  )
+    -- and what comes of the call is right
+    pub reserved_rightly : (name : Name) (head : ℕ) (result : Checked (Unit {0})) (after : HeapState F) (trail_after : Moves)
+        → HasReserved layout h m name head result after trail_after
+        → IsRightMoving layout h (call.Reserve name head) m.moves trail_after.moves (answer_to says_ok result) after × KeepsRoom m
+        trail_after
+    reserved_rightly name head result after trail_after reserved = (
+      right_in_each layout h (call.Reserve name head) m.moves trail_after.moves (answer_to says_ok result) after one
+          (λ w st. (a_reserve_is_right layout h whole m room w st made name head result after trail_after reserved).0),
+      (a_reserve_is_right layout h whole m room one.0 one.1 made name head result after trail_after reserved).1,
+    )

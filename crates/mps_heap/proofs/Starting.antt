@@ -1,13 +1,15 @@
 -- What a heap needs to begin a collection, and what it then guarantees.
-use Rattle.std.proofs.Common.{◌≡◌, ◌∙◌, ◌<◌, ◌≤◌, ◌^◌, true, None, sym, subst}
+use Rattle.std.proofs.Common.{◌≡◌, ◌∙◌, ◌<◌, ◌≤◌, ◌^◌, ℕ, true, sym, subst}
 use Rattle.std.proofs.lemmas.Bool.{ltb-true}
+use Rattle.std.specs.Prelude.{IfOk}
 use Rattle.mps_base.specs.Trail.{Moves}
+use Rattle.mps_base.specs.declared.names.Name.{Name}
 use Rattle.mps_format.specs.Layout.{Layout}
 use Rattle.mps_model.specs.World.{World}
 use Rattle.mps_model.specs.declared.call.Call.TheVariants as call
 use Rattle.mps_heap_spec.specs.Checked.{Checked}
 use Rattle.mps_heap_spec.specs.Collect.{most_moves}
-use Rattle.mps_heap_spec.specs.Collecting.{CanStart, Starts, can_collect, most_flips}
+use Rattle.mps_heap_spec.specs.Collecting.{CanStart, Starts, can_collect, check_start, check_start_chain, most_flips}
 use Rattle.mps_heap_spec.specs.Points.{WereMadeBefore}
 use Rattle.mps_heap_spec.specs.State.{HeapState}
 use Rattle.mps_heap_spec.specs.Units.{IsWhole}
@@ -15,7 +17,7 @@ use Rattle.mps_refinement.specs.Answering.{answer_to, says_ok}
 use Rattle.mps_refinement.specs.RightMoving.{IsRightMoving, KeepsRoom}
 use Rattle.mps_refinement.specs.StandsFor.{StandsFor}
 use Rattle.mps_refinement.specs.StandsForSome.{StandsForSome}
-use Rattle.mps_refinement.proofs.Units.Starts.{a_start_is_right, can_start}
+use Rattle.mps_refinement.proofs.Units.Starts.{a_start_is_right, can_start, start_chain_checked, start_checked}
 use Rattle.mps_refinement.proofs.Worlds.Staying.{one_world}
 
 module _ {F : Type 0} (layout : F → Layout) (h : HeapState F) (some : StandsForSome layout h) (whole : IsWhole h) (m : Moves)
@@ -28,10 +30,27 @@ module _ {F : Type 0} (layout : F → Layout) (h : HeapState F) (some : StandsFo
   few_epochs can =
       subst (λ n. n < 2 ^ 63) (one.1.parts.point_flips ∙ sym one.1.parts.flips.count) (ltb-true h.points.flips most_flips can)
 
-  pub can_start_here : h.running ≡ None → CanStart layout h m
-  can_start_here = can_start layout h whole m room one.0 one.1
+  pub can_start_here : can_collect h ≡ true → IfOk (check_start h) (λ what. CanStart layout what h m)
+  can_start_here can =
+      can_start layout h whole m room one.0 one.1 (ltb-true h.points.flips most_flips can) call.Start (check_start h)
+      (start_checked layout h whole one.0 one.1)
 
   pub started_rightly : WereMadeBefore h.points.flips h.points → (h' : HeapState F) (m' : Moves) (result : Checked (Unit {0}))
-      → Starts layout h m result h' m'
+      → Starts layout (check_start h) h m result h' m'
       → IsRightMoving layout h call.Start m.moves m'.moves (answer_to says_ok result) h' × KeepsRoom m m'
-  started_rightly made h' m' result starts = a_start_is_right layout h whole m room made h' m' one result starts
+  started_rightly made h' m' result starts =
+      a_start_is_right layout h whole m room made call.Start (check_start h) h' m' result one (start_checked layout h whole) starts
+
+  -- the same of the generations of a chain
+  module _ (chain : Name) (oldest : ℕ) where
+    pub can_start_chain_here : can_collect h ≡ true → IfOk (check_start_chain h chain oldest) (λ what. CanStart layout what h m)
+    can_start_chain_here can =
+        can_start layout h whole m room one.0 one.1 (ltb-true h.points.flips most_flips can) (call.StartChain chain oldest)
+        (check_start_chain h chain oldest) (start_chain_checked layout h whole one.0 one.1 chain oldest)
+
+    pub chain_started_rightly : WereMadeBefore h.points.flips h.points → (h' : HeapState F) (m' : Moves) (result : Checked (Unit {0}))
+        → Starts layout (check_start_chain h chain oldest) h m result h' m'
+        → IsRightMoving layout h (call.StartChain chain oldest) m.moves m'.moves (answer_to says_ok result) h' × KeepsRoom m m'
+    chain_started_rightly made h' m' result starts =
+        a_start_is_right layout h whole m room made (call.StartChain chain oldest) (check_start_chain h chain oldest) h' m' result one
+        (λ w st. start_chain_checked layout h whole w st chain oldest) starts

@@ -50,13 +50,16 @@ pub fn make(heap: &mut Heap<Tail>) -> Result<(), Refusal> {
     heap.point(named(b'x'), named(b'p'), Rank::Exact)
 }
 
-/// Puts a number before the others. A trail is emptied before each call that may move, so that its whole room is spare. It is enough
-/// for a collection and one move more.
-pub fn push(heap: &mut Heap<Tail>, trail: &mut Trail, number: u64) -> Result<(), Refusal>
+/// Puts a number before the others; false, and nothing is done, if the heap can't count one flip more, as its poll may flip. A trail is
+/// emptied before each call that may move, so that its whole room is spare. It is enough for a collection and one move more.
+pub fn push(heap: &mut Heap<Tail>, trail: &mut Trail, number: u64) -> Result<bool, Refusal>
     requires room { most_moves heap.old.segs.grains < trail.old.spare + length trail.old.moves }
     ensures room { KeepsRoom trail.old trail.new }
     ensures grains { heap.new.segs.grains ≡ heap.old.segs.grains }
 {
+    if !heap.can_collect() {
+        return Ok(false);
+    }
     let point = named(b'x');
     trail.clear();
     heap.reserve(trail, point, HEAD)?;
@@ -64,7 +67,7 @@ pub fn push(heap: &mut Heap<Tail>, trail: &mut Trail, number: u64) -> Result<(),
     heap.init_ref(point, NEXT, first())?;
     trail.clear();
     let _ = heap.commit(trail, point, first())?;
-    Ok(())
+    Ok(true)
 }
 
 /// Drops the first item. The whole room of the trail is enough for a collection.

@@ -58,7 +58,7 @@ fn mark(alloc: Global, heap: &mut Heap<Tail>, most: u64) -> Result<u64, Refusal>
 }
 
 /// Pushes the numbers 1 to 5, with one trail.
-fn push_five(alloc: Global, heap: &mut Heap<Tail>) -> Result<(), Refusal> {
+fn push_five(alloc: Global, heap: &mut Heap<Tail>) -> Result<bool, Refusal> {
     let mut trail = trail_for(alloc, heap)?;
     push(heap, &mut trail, 1)?;
     push(heap, &mut trail, 2)?;
@@ -71,7 +71,7 @@ fn push_five(alloc: Global, heap: &mut Heap<Tail>) -> Result<(), Refusal> {
 fn use_list(rt: &impl Abort, alloc: Global, heap: &mut Heap<Tail>) {
     assert!(rt; make(heap).is_ok());
     assert!(rt; sum_of(alloc, heap, 10) == Ok(0));
-    assert!(rt; push_five(alloc, heap).is_ok());
+    assert!(rt; push_five(alloc, heap) == Ok(true));
     assert!(rt; sum_of(alloc, heap, 10) == Ok(15));
     assert!(rt; sum_of(alloc, heap, 2) == Ok(9));
     assert!(rt; heap.head(slot(0)) == Ok(HEAD));
@@ -125,7 +125,7 @@ fn a_heap_over_a_format_of_its_own(rt: HostRuntime) -> Result<(), AllocError> {
 }
 
 /// Pushes a number, with a trail of its own.
-fn push_one(alloc: Global, heap: &mut Heap<Tail>, number: u64) -> Result<(), Refusal> {
+fn push_one(alloc: Global, heap: &mut Heap<Tail>, number: u64) -> Result<bool, Refusal> {
     let mut trail = trail_for(alloc, heap)?;
     push(heap, &mut trail, number)
 }
@@ -133,7 +133,7 @@ fn push_one(alloc: Global, heap: &mut Heap<Tail>, number: u64) -> Result<(), Ref
 /// A runtime collects: what is in the list stays, and what was dropped is gone.
 fn collect_list(rt: &impl Abort, alloc: Global, heap: &mut Heap<Tail>) {
     assert!(rt; make(heap).is_ok());
-    assert!(rt; push_five(alloc, heap).is_ok());
+    assert!(rt; push_five(alloc, heap) == Ok(true));
     assert!(rt; mark(alloc, heap, 10) == Ok(5));
     assert!(rt; pop_one(alloc, heap) == Ok(()));
     assert!(rt; pop_one(alloc, heap) == Ok(()));
@@ -142,7 +142,7 @@ fn collect_list(rt: &impl Abort, alloc: Global, heap: &mut Heap<Tail>) {
     assert!(rt; matches!(collect(alloc, heap), Ok(true)));
     assert!(rt; sum_of(alloc, heap, 10) == Ok(6));
     assert!(rt; heap.live() == (3, 12));
-    assert!(rt; push_one(alloc, heap, 10).is_ok());
+    assert!(rt; push_one(alloc, heap, 10) == Ok(true));
     assert!(rt; sum_of(alloc, heap, 10) == Ok(16));
     assert!(rt; mark(alloc, heap, 10) == Ok(1));
 }
@@ -161,6 +161,9 @@ fn make_leaf(alloc: Global, heap: &mut Heap<Leaf>) -> Result<(), Refusal> {
     heap.table(named(b't'), 2)?;
     heap.point(named(b'x'), named(b'p'), Rank::Exact)?;
     let mut trail = trail_for(alloc, heap)?;
+    if !heap.can_collect() {
+        return Err(Refusal::NotOpen);
+    }
     heap.reserve(&mut trail, named(b'x'), 0x303)?;
     heap.init_num(named(b'x'), 1, 7)?;
     trail.clear();

@@ -1,11 +1,12 @@
 // Objects are reserved, initialised and committed.
 #![tactic(auto)]
 
-ghost use Rattle.std.specs.Prelude.{[], ◌≡◌, ◌<◌};
+ghost use Rattle.std.specs.Prelude.{[], ◌≡◌, ◌<◌, IsTrue};
 ghost use Rattle.mps_model.specs.declared.call.Call.TheVariants as call;
 ghost use Rattle.mps_refinement.specs.RightStep.{IsRight};
 ghost use Rattle.mps_refinement.specs.Answering.{answer_to, says_committed, says_ok};
 ghost use Rattle.mps_heap_spec.specs.Collect.{most_moves};
+ghost use Rattle.mps_heap_spec.specs.Collecting.{can_collect};
 ghost use Rattle.mps_refinement.specs.RightMoving.{IsRightMoving, KeepsRoom};
 
 use super::Heap;
@@ -18,10 +19,11 @@ use mps_heap_state::units;
 impl<F: Format> Heap<F> {
     /// Reserves a block with this head at a point. Its numbers are 0 and its references null. Refuses `BadHead` if the pool takes no
     /// such block, `Open` if the point has an open reservation, and `CommitLimit` and `NoRun` if there is no room. If nothing that is held
-    /// has a place for the block, a collection in progress does 64 units first, unless the arena is clamped. So the trail has room for more
-    /// than `most_moves`.
+    /// has a place for the block and the arena is unclamped, it polls first: a collection in progress does 64 units, and if none is one of
+    /// the generation that is due begins. So one flip more can be counted, and the trail has room for more than `most_moves`.
     #[inline(always)]
     pub fn reserve(&mut self, trail: &mut Trail, x: Name, head: u64) -> Result<(), Refusal>
+        requires few_flips { IsTrue (can_collect self.old) }
         requires fits { most_moves self.old.segs.grains < trail.old.spare }
         ensures right { IsRightMoving F.layout self.old (call.Reserve x head) trail.old.moves trail.new.moves
             (answer_to says_ok result) self.new }

@@ -12,7 +12,7 @@ ghost use Rattle.mps_refinement.specs.RightMoving.{IsRightMoving, KeepsRoom};
 ghost use Rattle.mps_heap_spec.specs.Collect.{most_moves};
 
 use super::Heap;
-use mps_base::{Refusal, Trail};
+use mps_base::{Name, Refusal, Trail};
 use mps_format::Format;
 use mps_heap_code::steps::{self, Steps};
 use mps_heap_code::{arena, collecting};
@@ -75,6 +75,25 @@ impl<F: Format> Heap<F> {
     {
         units::is_whole(&self.state);
         collecting::start(&mut self.state, trail)
+    }
+
+    /// Begins a collection of the generations of a chain up to one: the flip alone, as of `start`. The arena is unclamped then. Refuses
+    /// `BadName` if no chain has this name, `BadIndex` if it has no such generation, and `Running` if a collection is in progress. The
+    /// trail has room for `most_moves`.
+    pub fn start_chain(
+        &mut self,
+        trail: &mut Trail,
+        chain: Name,
+        generation: u64,
+    ) -> Result<(), Refusal>
+        requires few_flips { IsTrue (can_collect self.old) }
+        requires fits { most_moves self.old.segs.grains ≤ trail.old.spare }
+        ensures right { IsRightMoving F.layout self.old (call.StartChain chain generation) trail.old.moves trail.new.moves
+            (answer_to says_ok result) self.new }
+        ensures room { KeepsRoom trail.old trail.new }
+    {
+        units::is_whole(&self.state);
+        collecting::start_chain(&mut self.state, trail, chain, generation)
     }
 
     /// Has the collection in progress do n units, or fewer if it ends in them, and says whether one is in progress then. An arena that is

@@ -5,7 +5,8 @@ ghost use Rattle.std.specs.Prelude.{[]};
 ghost use Rattle.mps_model.specs.declared.call.Call.TheVariants as call;
 ghost use Rattle.mps_refinement.specs.RightStep.{IsRight};
 ghost use Rattle.mps_refinement.specs.Answering.{answer_to, says_ok};
-ghost use Rattle.std.specs.Prelude.{◌≡◌, ℕ};
+ghost use Rattle.std.specs.Prelude.{◌≡◌, ◌<◌, ◌≤◌, ℕ, IsTrue, List, length, take};
+ghost use Rattle.mps_model.specs.World.{Collected, is_copying_kind};
 ghost use Rattle.mps_refinement.specs.Making.{IsRightMaking, IsRightMakingIn, MeansLayout};
 
 use super::Heap;
@@ -15,6 +16,17 @@ use mps_format::Format;
 use mps_heap_making::making;
 
 impl<F: Format> Heap<F> {
+    /// Makes a chain whose generations have these capacities, in grains. Refuses `NameTaken`, `TooMany` if there are 16, and
+    /// `OutOfMemory`. The clause holds for each list of numbers that begins with the capacities, as a call of the model has them.
+    pub fn chain(&mut self, name: Name, capacities: &[u32]) -> Result<(), Refusal>
+        requires nonempty { 0 < length capacities.now }
+        requires at_most { length capacities.now ≤ 8 }
+        ensures right { (numbers : List ℕ) → take (length capacities.now) numbers ≡ capacities.now
+            → IsRightMaking F.layout self.old (call.Chain name (length capacities.now) numbers) result self.new }
+    {
+        without_key(making::chain(&mut self.state, name, capacities))
+    }
+
     /// Makes an automatic pool, whose objects have this format. Refuses `NameTaken`, `TooMany` if there are 64, and
     /// `OutOfMemory`. The clause holds for each number that means this format.
     pub fn pool(&mut self, name: Name, kind: Kind, format: F) -> Result<(), Refusal>
@@ -22,6 +34,22 @@ impl<F: Format> Heap<F> {
             result self.new }
     {
         without_key(making::pool(&mut self.state, name, kind, format))
+    }
+
+    /// Makes a copying pool on a chain, whose objects have this format. Refuses `NameTaken`, `BadName` if there is no such chain, `TooMany`
+    /// if there are 64 pools, and `OutOfMemory`. The clause holds for each number that means this format.
+    pub fn pool_on_chain(
+        &mut self,
+        name: Name,
+        kind: Kind,
+        format: F,
+        chain: Name,
+    ) -> Result<(), Refusal>
+        requires { IsTrue (is_copying_kind (Collected kind)) }
+        ensures right { (number : ℕ) → IsRightMakingIn F.layout (MeansLayout number (F.layout format)) self.old
+            (call.PoolOnChain name kind number chain) result self.new }
+    {
+        without_key(making::pool_on_chain(&mut self.state, name, kind, format, chain))
     }
 
     /// Makes a manual pool of blocks of `words` words. Refuses `BadSize` too, if that isn't 1 to 65,536.

@@ -8,8 +8,8 @@ use Rattle.mps_heap.proofs.heap.Heap.pool.Goals as goal
 
 pub invariant_of-self : goal.invariant_of-self
 invariant_of-self g c =
-    pool_stays g.F.Format.layout c.self.inside.state c.pool.new.state c.args.name c.args.kind c.args.format c.pool.result
-    (g.met.F.Format.lawful c.args.format) c.self.invariant
+    pool_stays g.F.Format.layout c.self.inside.state c.pool.new.state (λ number. call.Pool c.args.name c.args.kind number) c.args.format
+    c.pool.result (g.met.F.Format.lawful c.args.format) c.self.invariant
     (λ number. pool_is_right g.F.Format.layout c.self.inside.state c.args.name c.args.kind c.args.format number c.pool.result
     c.pool.new.state c.pool.ensures)
 

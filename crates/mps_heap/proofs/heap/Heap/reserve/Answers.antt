@@ -1,6 +1,7 @@
-use Rattle.std.proofs.Common.{◌≡◌, ◌<◌, refl, sym, subst}
+use Rattle.std.proofs.Common.{◌≡◌, ◌<◌, true, refl, sym, subst}
 use Rattle.mps_model.specs.declared.call.Call.TheVariants as call
 use Rattle.mps_heap_spec.specs.Collect.{most_moves}
+use Rattle.mps_heap_spec.specs.Collecting.{can_collect}
 use Rattle.mps_refinement.specs.Answering.{answer_to, says_ok}
 use Rattle.mps_refinement.specs.RightMoving.{IsRightMoving}
 use Rattle.mps_refinement.proofs.Worlds.Staying.{grains_stay, is_ready, stays}
@@ -16,7 +17,8 @@ reserve-requires g c =
     record {
       ready = is_ready layout h c.self.invariant;
       fits = some_room layout h c.self.invariant c.is_whole.ensures.whole m room;
-      can = can_poll_here layout h c.self.invariant c.is_whole.ensures.whole m room;
+      can = can_poll_here layout h c.self.invariant c.is_whole.ensures.whole m room c.is_whole.ensures.made_before
+          (subst (λ x. can_collect x ≡ true) (sym c.self.view_is) c.requires.few_flips);
     }
 
 pub invariant_of-self : goal.invariant_of-self
@@ -24,7 +26,8 @@ invariant_of-self g c =
     let layout = g.F.Format.layout in
     let h = c.self.inside.state in
     let room = subst (λ x. most_moves x.segs.grains < c.args.trail.now.spare) (sym c.self.view_is) c.requires.fits in
-    let moved = (reserved_rightly layout h c.self.invariant c.is_whole.ensures.whole c.args.trail.now room c.args.x c.args.head
+    let moved = (reserved_rightly layout h c.self.invariant c.is_whole.ensures.whole c.args.trail.now room c.is_whole.ensures.made_before
+    c.args.x c.args.head
     c.reserve.result c.reserve.new.state c.reserve.new.trail c.reserve.ensures).0 in
     stays layout h c.reserve.new.state (call.Reserve c.args.x c.args.head) moved.moves (answer_to says_ok c.reserve.result)
     c.self.invariant moved.right
@@ -34,7 +37,8 @@ returns g c =
     let layout = g.F.Format.layout in
     let h = c.self.inside.state in
     let room = subst (λ x. most_moves x.segs.grains < c.args.trail.now.spare) (sym c.self.view_is) c.requires.fits in
-    let came = reserved_rightly layout h c.self.invariant c.is_whole.ensures.whole c.args.trail.now room c.args.x c.args.head
+    let came = reserved_rightly layout h c.self.invariant c.is_whole.ensures.whole c.args.trail.now room c.is_whole.ensures.made_before
+    c.args.x c.args.head
     c.reserve.result c.reserve.new.state c.reserve.new.trail c.reserve.ensures in
     record {
       right = subst

@@ -5,7 +5,7 @@ use Rattle.mps_heap_spec.specs.Collecting.{can_collect}
 use Rattle.mps_refinement.specs.Answering.{answer_to, says_ok}
 use Rattle.mps_refinement.specs.RightMoving.{IsRightMoving}
 use Rattle.mps_refinement.proofs.Worlds.Staying.{stays}
-use Rattle.mps_heap.proofs.Starting.{can_start_here, few_epochs, started_rightly}
+use Rattle.mps_heap.proofs.Starting.{can_start_here, started_rightly}
 use Rattle.mps_heap.proofs.heap.Heap.start.Goals as goal
 
 pub start-requires : goal.start-requires
@@ -14,11 +14,7 @@ start-requires g c =
     let h = c.self.inside.state in
     let can = subst (λ x. can_collect x ≡ true) (sym c.self.view_is) c.requires.few_flips in
     let room = subst (λ x. most_moves x.segs.grains ≤ c.args.trail.now.spare) (sym c.self.view_is) c.requires.fits in
-    record {
-      few_flips = can;
-      few_epochs = few_epochs layout h c.self.invariant c.is_whole.ensures.whole c.args.trail.now room can;
-      can = can_start_here layout h c.self.invariant c.is_whole.ensures.whole c.args.trail.now room;
-    }
+    record { can = can_start_here layout h c.self.invariant c.is_whole.ensures.whole c.args.trail.now room can }
 
 pub invariant_of-self : goal.invariant_of-self
 invariant_of-self g c =
