@@ -1,15 +1,20 @@
 -- From what a method of the heap guarantees to what its answer does.
 use Rattle.std.proofs.Common.{◌≡◌, ◌≢◌, ◌∙◌, ℕ, Bool, true, refl, sym, ap, subst, List, [], ◌++◌, Result, Ok, Err}
-use Rattle.std.specs.Prelude.{IfOk, OnErr}
+use Rattle.std.proofs.lemmas.List.{length-take-le}
+use Rattle.std.specs.Prelude.{◌≤◌, IfOk, IsTrue, OnErr, length, take}
+use Rattle.mps_base.specs.declared.names.Name.{Name}
 use Rattle.mps_base.specs.declared.address.Addr.{Addr}
 use Rattle.mps_base.specs.declared.moves.Move.{Move}
+use Rattle.mps_base.specs.declared.names.Kind.{Kind}
+use Rattle.mps_base.specs.declared.names.Kind.TheVariants as kind
 use Rattle.mps_base.specs.declared.refusal.Refusal.{Refusal}
 use Rattle.mps_base.specs.declared.refusal.Refusal.TheVariants as refusal
 use Rattle.mps_format.specs.Any.{numbered_layout}
 use Rattle.mps_format.specs.AnyFormat.{any_layout, number_of, numbered_layout-number_of}
 use Rattle.mps_format.specs.declared.any.AnyFormat.{AnyFormat}
 use Rattle.mps_model.specs.Answer.{Answer, answer_of}
-use Rattle.mps_model.specs.World.{World}
+use Rattle.mps_commands.specs.Range.{may_be_on_chain}
+use Rattle.mps_model.specs.World.{World, Collected, is_copying_kind}
 use Rattle.mps_model.specs.declared.call.Call.{Call}
 use Rattle.mps_model.specs.declared.call.Call.TheVariants as call
 use Rattle.mps_model.specs.declared.reply.Reply.{Reply}
@@ -24,7 +29,6 @@ use Rattle.mps_cli.specs.Built.{is_answered}
 use Rattle.mps_cli.specs.Groups.{makes_thing}
 use Rattle.mps_cli.specs.Standing.{AnswersRightly, Answered, IsAnswered, HasScriptFormats, HeapStandsStill}
 use Rattle.mps_cli.specs.Told.{Tells}
-use Rattle.mps_cli.proofs.Groups.{collect_is_answered, start_is_answered}
 
 -- in a world, where the reply tells the answer
 told_right : {after : HeapState AnyFormat} {c d : Call} {moves : List Move} {given : Reply} {answer : Answer} (w : World) (line : ℕ)
@@ -57,19 +61,29 @@ module _ {h after : HeapState AnyFormat} {c d : Call} (is : c ≡ d) where
       Answered (ap makes_thing is ∙ makes) (answered tells (right.answered other))
   answered_making came (Err e) makes tells other right = tt
 
--- calls that begin a collection, or have one in progress go on or end
-module _ {h after : HeapState AnyFormat} {c : Call} {moves : List Move} {given : Reply} (collects : Bool) where
-  pub answered_collect : c ≡ call.Collect → AnswersRightly collects h call.Collect moves given after
-      → AnswersRightly (is_answered collects c) h c moves given after
-  answered_collect is right =
-      subst (λ (k : Call). AnswersRightly (is_answered collects k) h k moves given after) (sym is)
-      (subst (λ (b : Bool). AnswersRightly b h call.Collect moves given after) (sym (collect_is_answered collects)) right)
+-- a chain is made of the first of these numbers
+pub of_capacities : {h after : HeapState AnyFormat} (name : Name) (count : ℕ) (numbers given : List ℕ) {A : Type 0}
+    (came : Result A Refusal) → given ≡ take count numbers → count ≤ length numbers
+    → ((ns : List ℕ) → take (length given) ns ≡ given → IsRightMaking any_layout h (call.Chain name (length given) ns) came after)
+    → IsRightMaking any_layout h (call.Chain name count numbers) came after
+of_capacities {h} {after} name count numbers given came is fits right =
+    let long : length given ≡ count = ap length is ∙ length-take-le count numbers fits in
+    subst (λ n. IsRightMaking any_layout h (call.Chain name n numbers) came after) long
+    (right numbers (ap (λ n. take n numbers) long ∙ sym is))
 
-  pub answered_start : c ≡ call.Start → AnswersRightly collects h call.Start moves given after
+-- calls of a heap that may flip, or have a collection in progress go on or end
+module _ {h after : HeapState AnyFormat} {c : Call} {moves : List Move} {given : Reply} (collects : Bool) where
+  -- a call that is answered if one flip more can be counted
+  pub answered_flip : {d : Call} → is_answered collects d ≡ collects → c ≡ d → AnswersRightly collects h d moves given after
       → AnswersRightly (is_answered collects c) h c moves given after
-  answered_start is right =
+  answered_flip {d} same is right =
       subst (λ (k : Call). AnswersRightly (is_answered collects k) h k moves given after) (sym is)
-      (subst (λ (b : Bool). AnswersRightly b h call.Start moves given after) (sym (start_is_answered collects)) right)
+      (subst (λ (b : Bool). AnswersRightly b h d moves given after) (sym same) right)
+
+  -- a call that is always answered
+  pub answered_always : {d : Call} → is_answered collects d ≡ true → c ≡ d → IsAnswered h c moves given after
+      → AnswersRightly (is_answered collects c) h c moves given after
+  answered_always same is right = Answered (ap (is_answered collects) is ∙ same) right
 
   pub answered_park : c ≡ call.Park → IsAnswered h call.Park moves given after
       → AnswersRightly (is_answered collects c) h c moves given after
@@ -97,6 +111,12 @@ answered_pool {h} {after} {c} {d} is came (Ok given) number format numbered make
     means : (w : World) → HasScriptFormats w → MeansLayout number (any_layout format) w
     means w formats =
         ap (λ f. f number) formats ∙ ap numbered_layout (sym numbered) ∙ numbered_layout-number_of format
+
+-- a kind of pool that may stand on a chain is a copying one
+pub copies_on_a_chain : (kind : Kind) → IsTrue (may_be_on_chain kind) → IsTrue (is_copying_kind (Collected kind))
+copies_on_a_chain kind.Amc may = refl
+copies_on_a_chain kind.Amcz may = refl
+copies_on_a_chain _ may = absurd cc
 
 pub pool_unchanged : {h after : HeapState AnyFormat} {d : Call} {A : Type 0} (came : Result A Refusal) {E : Type 0} (told : Result Reply E)
     {Has : World → Type 0} → OnErr told (came ≡ Err refusal.OutOfMemory) → IsRightMakingIn any_layout Has h d came after

@@ -9,14 +9,13 @@ use Rattle.mps_model.specs.Graph.{empty_graph}
 use Rattle.mps_model.specs.World.{World, Collected, empty_world}
 use Rattle.mps_commands.specs.Built.{Built}
 
--- whether the form of a call is built: all but chains of generations, dependents, transforms, caches and frames; what flips is if one flip
--- more can be counted
+-- whether the form of a call is built: all but dependents, transforms, caches and frames; what may flip is if one flip more can be
+-- counted
 abbrev pub is_built : (collects : Bool) → Call → Bool
-is_built collects (call.Chain chain count capacities) = false
-is_built collects (call.PoolOnChain pool kind format chain) = false
 is_built collects call.Collect = collects
 is_built collects call.Start = collects
-is_built collects (call.StartChain chain generation) = false
+is_built collects (call.StartChain chain generation) = collects
+is_built collects (call.Reserve point head) = collects
 is_built collects (call.Depend holder dependent) = false
 is_built collects (call.Undepend holder) = false
 is_built collects (call.Transform transform) = false
@@ -47,7 +46,9 @@ is_unsupported_call w c = if has_arena w then not (is_answered true c) else not 
 -- whether a call takes memory: all that make something do
 abbrev pub call_takes_memory : Call → Bool
 call_takes_memory (call.Arena grains limit) = true
+call_takes_memory (call.Chain chain count capacities) = true
 call_takes_memory (call.Pool pool kind format) = true
+call_takes_memory (call.PoolOnChain pool kind format chain) = true
 call_takes_memory (call.PoolMfs pool words) = true
 call_takes_memory (call.PoolMvff pool) = true
 call_takes_memory (call.Table table length) = true
@@ -86,8 +87,14 @@ a_collection_by_steps_is = refl
 pub a_step_is : is_unsupported_call example_world (call.Step 1) ≡ false
 a_step_is = refl
 
-pub no_collection_of_a_chain_is : (chain : Name) → is_unsupported_call example_world (call.StartChain chain 0) ≡ true
-no_collection_of_a_chain_is chain = refl
+pub a_pool_on_a_chain_is : (pool chain : Name) → is_unsupported_call example_world (call.PoolOnChain pool kind.Amc 1 chain) ≡ false
+a_pool_on_a_chain_is pool chain = refl
+
+pub a_collection_of_generations_is : (chain : Name) → is_unsupported_call example_world (call.StartChain chain 0) ≡ false
+a_collection_of_generations_is chain = refl
+
+pub a_cache_is_not : (cache pool : Name) → is_unsupported_call example_world (call.Cache cache pool 0 [] []) ≡ true
+a_cache_is_not cache pool = refl
 
 pub a_collection_beside_a_pool_that_marks :
     is_unsupported_call (record example_world { pools = record { kind = Collected kind.Ams; format = 1; chain = None } ∷ [] }) call.Collect

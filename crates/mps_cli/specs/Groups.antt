@@ -6,6 +6,7 @@ use Rattle.mps_model.specs.declared.call.Call.TheVariants as call
 -- a call that begins a collection, or has one in progress go on or end
 abbrev pub is_collection : Call → Bool
 is_collection call.Start = true
+is_collection (call.StartChain chain generation) = true
 is_collection (call.Step units) = true
 is_collection call.Collect = true
 is_collection call.Park = true
@@ -78,7 +79,9 @@ is_on_arena _ = false
 
 -- a call that makes a thing in the arena
 abbrev pub makes_thing : Call → Bool
+makes_thing (call.Chain chain count capacities) = true
 makes_thing (call.Pool pool kind format) = true
+makes_thing (call.PoolOnChain pool kind format chain) = true
 makes_thing (call.PoolMfs pool words) = true
 makes_thing (call.PoolMvff pool) = true
 makes_thing (call.Table table length) = true

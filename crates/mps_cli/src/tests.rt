@@ -6,10 +6,12 @@ mod between_units;
 mod collected;
 mod desk;
 mod gathered;
+mod generations;
 mod host;
 mod long_lines;
 mod memory;
 mod played;
+mod promoted;
 mod scripts;
 mod session;
 mod stepped;
@@ -52,10 +54,10 @@ const FULL_ARENA: &[u8] =
 const FULL_ARENA_ANSWERS: &[u8] =
     b"ok\nok\nok\nok\nrefused 4\nok\nok\nrefused 10 1 1 1\nrefused 5\n";
 
-/// A command that isn't built.
-const NOT_BUILT: &[u8] = b"# x\n arena  8   9 \nchain c 1\n";
+/// Spaces around words, after a comment.
+const SPACED: &[u8] = b"# x\n arena  8   9 \nchain c 1\n start  c   1 \n";
 
-const NOT_BUILT_ANSWERS: &[u8] = b"ok\nunsupported\n";
+const SPACED_ANSWERS: &[u8] = b"ok\nok\nrefused 3\n";
 
 /// A collection moves a block from 0x1000 to 0x2000, and gives its segment back.
 const COLLECTED: &[u8] =

@@ -9,7 +9,7 @@ ghost use Rattle.mps_cli.specs.Standing.{AnswersRightly, IsAnswered};
 ghost use Rattle.mps_refinement.specs.TraceCollect.{most_moves};
 
 use crate::session::replies::{done, progress};
-use mps_base::Trail;
+use mps_base::{Name, Trail};
 use mps_format::AnyFormat;
 use mps_heap::{Heap, Steps};
 use mps_model::{Call, Reply};
@@ -30,6 +30,7 @@ pub fn answer(heap: &mut Heap<AnyFormat>, trail: &mut Trail, call: &Call) -> Opt
 {
     match *call {
         Call::Start => Some(start(heap, trail)),
+        Call::StartChain { chain, generation } => Some(start_chain(heap, trail, chain, generation)),
         Call::Collect => Some(collect(heap, trail)),
         Call::Park => Some(park(heap, trail)),
         Call::Step { units } => Some(step(heap, trail, units)),
@@ -48,6 +49,19 @@ fn start(heap: &mut Heap<AnyFormat>, trail: &mut Trail) -> Reply
         return Reply::Unsupported;
     }
     done(heap.start(trail))
+}
+
+/// Begins a collection of the generations of a chain up to one if that can be done.
+fn start_chain(heap: &mut Heap<AnyFormat>, trail: &mut Trail, chain: Name, generation: u64) -> Reply
+    requires empty { trail.old.moves ≡ [] }
+    requires fits { most_moves heap.old.segs.grains ≤ trail.old.spare }
+    ensures right { AnswersRightly (can_collect heap.old) heap.old (call.StartChain chain generation) trail.new.moves result heap.new }
+    ensures room { KeepsRoom trail.old trail.new }
+{
+    if !heap.can_collect() {
+        return Reply::Unsupported;
+    }
+    done(heap.start_chain(trail, chain, generation))
 }
 
 /// Does a full collection if that can be done.

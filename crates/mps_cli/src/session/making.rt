@@ -1,10 +1,15 @@
 // Answers the calls that make things.
-ghost use Rattle.std.specs.Prelude.{IfOk, IsTrue, OnErr, []};
-ghost use Rattle.mps_commands.specs.Range.{IsInRange};
+ghost use Rattle.std.specs.Prelude.{◌≡◌, ◌≤◌, IfOk, IsTrue, OnErr, []};
+ghost use Rattle.std.specs.List.{list_all};
+ghost use Rattle.mps_commands.specs.Range.{IsInRange, are_grains};
+ghost use Rattle.mps_format.specs.AnyFormat.{any_layout};
+ghost use Rattle.mps_model.specs.declared.call.Call.TheVariants as call;
+ghost use Rattle.mps_refinement.specs.Making.{IsRightMaking};
 ghost use Rattle.mps_cli.specs.Groups.{makes_thing};
 ghost use Rattle.mps_cli.specs.Standing.{AnswersRightly, HeapStandsStill};
 
 use crate::session::replies::made;
+use mps_base::{Name, Refusal};
 use mps_format::AnyFormat;
 use mps_heap::Heap;
 use mps_model::{Call, Reply};
@@ -30,6 +35,45 @@ pub fn answer(heap: &mut Heap<AnyFormat>, call: &Call) -> Result<Reply, AllocErr
         Call::Blocks { blocks, length } => made(heap.blocks(blocks, length as u32)),
         Call::Point { point, pool, rank } => made(heap.point(point, pool, rank)),
         Call::Dependency { dependency } => made(heap.ld(dependency)),
+        Call::PoolOnChain {
+            pool,
+            kind,
+            format,
+            chain,
+        } => made(heap.pool_on_chain(pool, kind, AnyFormat::numbered(format as u32), chain)),
+        Call::Chain {
+            chain,
+            count,
+            capacities,
+        } => made(make_chain(heap, chain, count, capacities)),
         _ => Ok(Reply::Unsupported),
     }
+}
+
+/// Makes a chain of the first of these capacities.
+fn make_chain(
+    heap: &mut Heap<AnyFormat>,
+    chain: Name,
+    count: u8,
+    capacities: [u64; 8],
+) -> Result<(), Refusal>
+    requires nonempty { 1 ≤ count }
+    requires at_most { count ≤ 8 }
+    requires grains { IsTrue (list_all are_grains capacities) }
+    ensures right { IsRightMaking any_layout heap.old (call.Chain chain count capacities) result heap.new }
+{
+    let grains = in_grains(capacities);
+    let first = &grains[..count as usize];
+    heap.chain(chain, first)
+}
+
+/// The capacities of a chain, each at most the grains of the largest arena.
+fn in_grains(capacities: [u64; 8]) -> [u32; 8]
+    requires { IsTrue (list_all are_grains capacities) }
+    ensures { result ≡ capacities }
+{
+    let [a, b, c, d, e, f, g, h] = capacities;
+    [
+        a as u32, b as u32, c as u32, d as u32, e as u32, f as u32, g as u32, h as u32,
+    ]
 }

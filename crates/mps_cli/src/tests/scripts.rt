@@ -2,7 +2,7 @@
 use super::{
     ARENA_AGAIN, COLLECTED, COLLECTED_ANSWERS, COMMENTS, Ends, FIRST, FIRST_ANSWERS, FIRST_LOG,
     FULL_ARENA, FULL_ARENA_ANSWERS, HEADER, HEADS, HEADS_ANSWERS, LABELLED, LABELLED_ANSWERS,
-    NO_ARENA_FIRST, NOT_BUILT, NOT_BUILT_ANSWERS, TAGGED, TAGGED_ANSWERS, compare, run,
+    NO_ARENA_FIRST, SPACED, SPACED_ANSWERS, TAGGED, TAGGED_ANSWERS, compare, run,
 };
 use mps_desk::{DeskCall, MemDesk};
 use std::alloc::{AllocError, Global};
@@ -188,12 +188,12 @@ const SCRIPTS: [ScriptCase; 13] = [
         log_bytes: 168,
     },
     ScriptCase {
-        script: NOT_BUILT,
+        script: SPACED,
         most: 0,
         failing: None,
         ends: Ends {
             status: 0,
-            printed: NOT_BUILT_ANSWERS,
+            printed: SPACED_ANSWERS,
             reported: b"",
         },
         log: HEADER,

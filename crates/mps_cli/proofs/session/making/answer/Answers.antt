@@ -1,5 +1,6 @@
-use Rattle.std.proofs.Common.{refl}
-use Rattle.mps_cli.proofs.Answering.{answered_making, answered_pool, pool_unchanged}
+use Rattle.std.proofs.Common.{refl, subst}
+use Rattle.mps_commands.specs.Range.{IsInRange}
+use Rattle.mps_cli.proofs.Answering.{answered_making, answered_pool, copies_on_a_chain, pool_unchanged}
 use Rattle.mps_cli.proofs.session.making.answer.Goals as goal
 
 pub returns-in-Pool-clause-right : goal.returns-in-Pool-clause-right
@@ -10,6 +11,21 @@ returns-in-Pool-clause-right c =
 pub returns-in-Pool-clause-unchanged : goal.returns-in-Pool-clause-unchanged
 returns-in-Pool-clause-unchanged c =
     pool_unchanged c.pool.result c.made.result c.made.ensures.out_of_memory (c.pool.ensures.right c.in-Pool.format)
+
+pub pool_on_chain-requires : goal.pool_on_chain-requires
+pool_on_chain-requires c =
+    copies_on_a_chain c.in-PoolOnChain.kind (subst IsInRange c.in-PoolOnChain.is c.requires.range).0
+
+pub returns-in-PoolOnChain-clause-right : goal.returns-in-PoolOnChain-clause-right
+returns-in-PoolOnChain-clause-right c =
+    answered_pool c.in-PoolOnChain.is c.pool_on_chain.result c.made-in-PoolOnChain.result c.in-PoolOnChain.format
+    c.numbered-in-PoolOnChain.result c.numbered-in-PoolOnChain.ensures refl c.made-in-PoolOnChain.ensures.told
+    c.made-in-PoolOnChain.ensures.done (c.pool_on_chain.ensures.right c.in-PoolOnChain.format)
+
+pub returns-in-PoolOnChain-clause-unchanged : goal.returns-in-PoolOnChain-clause-unchanged
+returns-in-PoolOnChain-clause-unchanged c =
+    pool_unchanged c.pool_on_chain.result c.made-in-PoolOnChain.result c.made-in-PoolOnChain.ensures.out_of_memory
+    (c.pool_on_chain.ensures.right c.in-PoolOnChain.format)
 
 pub returns-in-PoolMfs-clause-right : goal.returns-in-PoolMfs-clause-right
 returns-in-PoolMfs-clause-right c = answered_making c.in-PoolMfs.is c.pool_mfs.result c.made-in-PoolMfs.result refl
@@ -42,3 +58,8 @@ pub returns-in-Dependency-clause-right : goal.returns-in-Dependency-clause-right
 returns-in-Dependency-clause-right c = answered_making c.in-Dependency.is c.ld.result c.made-in-Dependency.result refl
     c.made-in-Dependency.ensures.told
     c.made-in-Dependency.ensures.done c.ld.ensures.right
+
+pub returns-in-Chain-clause-right : goal.returns-in-Chain-clause-right
+returns-in-Chain-clause-right c = answered_making c.in-Chain.is c.make_chain.result c.made-in-Chain.result refl
+    c.made-in-Chain.ensures.told
+    c.made-in-Chain.ensures.done c.make_chain.ensures.right
