@@ -1,5 +1,5 @@
 -- What can be reached before a `collect` is live after it, with its cells.
-use Rattle.std.proofs.Common.{◌≡◌, ◌⊎◌, inl, inr, ℕ, zero, suc, Bool, true, false, refl, sym, ◌∙◌, ap, subst, List, [], ◌∷◌, ◌++◌, map, Option, Some, None}
+use Rattle.std.proofs.Common.{◌≡◌, inl, inr, ℕ, zero, suc, Bool, true, false, refl, sym, ◌∙◌, ap, subst, List, [], ◌∷◌, ◌++◌, map, Option, Some, None}
 use Rattle.std.proofs.lemmas.Bool.{true≢false, and_from, eq-eqb, eqb-true, or_left, or_right, or_parts, or_from}
 use Rattle.std.proofs.lemmas.List.Folds.{list_any-append}
 use Rattle.std.proofs.lemmas.Option.{none-some, same_Some, slice_get-map}
@@ -27,6 +27,7 @@ use Rattle.mps_laws.proofs.Reading.{contains-append_left, contains-append_right,
 use Rattle.mps_laws.proofs.Sound.Referred.{of_live}
 use Rattle.mps_client_laws.specs.Objects.{Identity, identity_of, identity_at, cell_at, cells_nulled, cells_splatted, is_cell, reference_cell_of, moves_leave_cell}
 use Rattle.mps_client_laws.specs.Collecting.{held_ids, is_dependent, lasting_targets, CollectLeavesWhatIsReached}
+use Rattle.mps_client_laws.proofs.Contained.{either_or}
 use Rattle.mps_client_laws.proofs.WritesOfMoves.{move_leaves_objects, moves_leave_objects}
 use Rattle.mps_client_laws.proofs.ReadingBack.{accepted_is_answered}
 use Rattle.mps_laws.proofs.Parked.{collect_ends, remembered_runs}
@@ -35,10 +36,10 @@ use Rattle.mps_laws.proofs.Parked.{collect_ends, remembered_runs}
 
 -- slots and areas are as before, no message is taken, and no object becomes a dependent
 pub record LeavesRoots (before after : Graph) : Type 0 where
-  tables : after.tables ≡ before.tables
-  areas : after.areas ≡ before.areas
-  messages : (id : ℕ) → contains before.messages id ≡ true → contains after.messages id ≡ true
-  dependents : (id : ℕ) → is_dependent before id ≡ false → is_dependent after id ≡ false
+  pub tables : after.tables ≡ before.tables
+  pub areas : after.areas ≡ before.areas
+  pub messages : (id : ℕ) → contains before.messages id ≡ true → contains after.messages id ≡ true
+  pub dependents : (id : ℕ) → is_dependent before id ≡ false → is_dependent after id ≡ false
 
 roots_left : (before after : Graph) → after.tables ≡ before.tables → after.areas ≡ before.areas → after.messages ≡ before.messages
     → ((id : ℕ) → is_dependent before id ≡ false → is_dependent after id ≡ false) → LeavesRoots before after
@@ -103,7 +104,7 @@ module _ (w : World) where
   move_roots (moves.Alloc at words pool) = same_roots
   move_roots (moves.Free at) = where_one_roots (id_at w at.0) _ (λ id. free_roots id at.0 (object_is is_automatic w id))
 
-moves_roots : (w : World) (ms : List Move) → LeavesRoots w.graph (world_after_moves w ms).graph
+pub moves_roots : (w : World) (ms : List Move) → LeavesRoots w.graph (world_after_moves w ms).graph
 moves_roots w [] = roots_left w.graph w.graph refl refl refl (λ id h. h)
 moves_roots w (m ∷ ms) =
     let first = move_roots w m in
@@ -114,20 +115,6 @@ moves_roots w (m ∷ ms) =
       messages = λ id h. rest.messages id (first.messages id h);
       dependents = λ id h. rest.dependents id (first.dependents id h);
     }
-
-either_or : (xs ys : List ℕ) (id : ℕ) → contains (xs ++ ys) id ≡ true → (contains xs id ≡ true) ⊎ (contains ys id ≡ true)
-either_or [] ys id h = inr h
-either_or (x ∷ xs) ys id h = by_case (either_or xs ys id) (x == id) refl h
-  where
-    by_rest : (contains xs id ≡ true) ⊎ (contains ys id ≡ true) → (x == id) ≡ false
-        → (((x == id) || contains xs id) ≡ true) ⊎ (contains ys id ≡ true)
-    by_rest (inl e) differs = inl (or_right (x == id) (contains xs id) e)
-    by_rest (inr e) differs = inr e
-
-    by_case : (contains (xs ++ ys) id ≡ true → (contains xs id ≡ true) ⊎ (contains ys id ≡ true)) → (b : Bool) → (x == id) ≡ b
-        → (b || contains (xs ++ ys) id) ≡ true → (((x == id) || contains xs id) ≡ true) ⊎ (contains ys id ≡ true)
-    by_case later true e h = inl (or_left (x == id) (contains xs id) e)
-    by_case later false e h = by_rest (later h) e
 
 -- what is in slots, area words and messages is held by the client afterwards
 pub still_held : (before after : Graph) → LeavesRoots before after → (id : ℕ) → contains (held_ids before) id ≡ true

@@ -1,16 +1,15 @@
 -- What can't be reached at a `collect` is gone after it, and what can be reached through dependents isn't.
 use Rattle.std.proofs.Common.{◌≡◌, ℕ, Bool, true, false, refl, sym, ◌∙◌, ap, subst, List, [], ◌∷◌, ◌++◌}
-use Rattle.std.proofs.lemmas.Bool.{true≢false, and_parts, eqb-true, or_left, or_right}
+use Rattle.std.proofs.lemmas.Bool.{and_parts}
 use Rattle.std.proofs.lemmas.List.{append_cancel_left}
-use Rattle.std.specs.Prelude.{MatchBool, ◌||◌, ◌==◌, filter, if◌then◌else◌}
-use Rattle.std.specs.List.{AllByRecursion}
+use Rattle.std.specs.Prelude.{MatchBool}
 use Rattle.mps_base.specs.declared.moves.Move.{Move}
 use Rattle.mps_model.proofs.Appending.{IsLegalFrom-later}
 use Rattle.mps_model.proofs.Reaching.{PathLeads-holds}
 use Rattle.mps_model.specs.Reachable.{begins, goes_on}
 use Rattle.mps_model.specs.declared.call.Call.TheVariants as call
 use Rattle.mps_model.specs.Step.{Step}
-use Rattle.mps_model.specs.Graph.{contains, ids_of_client, is_automatic, strong_targets}
+use Rattle.mps_model.specs.Graph.{ids_of_client, is_automatic, strong_targets}
 use Rattle.mps_model.specs.World.{World, empty_world_of, ids_of_area_words, is_live, is_running, live_automatic_ids, live_ids, object_is}
 use Rattle.mps_model.specs.WellFormed.{is_live_automatic}
 use Rattle.mps_model.specs.Effect.{Everything, world_after_moves}
@@ -23,32 +22,9 @@ use Rattle.mps_laws.proofs.LegalHistories.{IsAnswered}
 use Rattle.mps_laws.proofs.Reading.{contains-append_left}
 use Rattle.mps_laws.proofs.Sound.Referred.{live_is_among}
 use Rattle.mps_client_laws.specs.Collecting.{held_ids, IsReachedByDependents, WhatDependentsReachStays, WhatIsNotReachedIsGone}
+use Rattle.mps_client_laws.proofs.Contained.{all_contained, contains_filtered}
 use Rattle.mps_client_laws.proofs.Collecting.{after_is, after_graph, move_roots, still_held}
 use Rattle.mps_client_laws.proofs.ReadingBack.{accepted_is_answered}
-
--- ---- lists
-
-contains_filtered : (test : ℕ → Bool) (ids : List ℕ) (id : ℕ) → contains ids id ≡ true → test id ≡ true
-    → contains (filter test ids) id ≡ true
-contains_filtered test [] id h passes = h
-contains_filtered test (n ∷ ns) id h passes =
-    by_test (λ e. contains_filtered test ns id e passes) (test n) refl (n == id) refl h
-  where
-    by_test : (contains ns id ≡ true → contains (filter test ns) id ≡ true) → (b : Bool) → test n ≡ b → (e : Bool) → (n == id) ≡ e
-        → (e || contains ns id) ≡ true → contains (if b then n ∷ filter test ns else filter test ns) id ≡ true
-    by_test later true passed true same h = or_left (n == id) (contains (filter test ns) id) same
-    by_test later true passed false same h = or_right (n == id) (contains (filter test ns) id) (later h)
-    by_test later false passed true same h =
-        absurd (true≢false (sym passes ∙ ap test (sym (eqb-true n id same)) ∙ passed))
-    by_test later false passed false same h = later h
-
-all_contained : (P : ℕ → Type 0) (ids : List ℕ) (id : ℕ) → AllByRecursion P ids → contains ids id ≡ true → P id
-all_contained P [] id all h = absurd (true≢false (sym h))
-all_contained P (n ∷ ns) id all h = by_first (all_contained P ns id all.1) (n == id) refl h
-  where
-    by_first : (contains ns id ≡ true → P id) → (b : Bool) → (n == id) ≡ b → (b || contains ns id) ≡ true → P id
-    by_first later true same h = subst P (eqb-true n id same) all.0
-    by_first later false same h = later h
 
 -- ---- a whole collection
 

@@ -75,10 +75,10 @@ reserve_opens formats steps later s point head legal is accepts =
 
 -- ---- init
 
-number_is_quiet : (point : Name) (cell value : ℕ) → IsQuiet (call.InitNumber point cell value)
+pub number_is_quiet : (point : Name) (cell value : ℕ) → IsQuiet (call.InitNumber point cell value)
 number_is_quiet point cell value = record { none = λ w answer ms due. due; world = λ w answer. refl; reply = λ marked w. refl }
 
-reference_is_quiet : (point : Name) (cell : ℕ) (source : Slot) → IsQuiet (call.InitReference point cell source)
+pub reference_is_quiet : (point : Name) (cell : ℕ) (source : Slot) → IsQuiet (call.InitReference point cell source)
 reference_is_quiet point cell source = record { none = λ w answer ms due. due; world = λ w answer. refl; reply = λ marked w. refl }
 
 module _ (w : World) (point : Name) (r : Reservation) (there : reservation_of w point ≡ Some r) (ended : r.is_doomed ≡ true) where

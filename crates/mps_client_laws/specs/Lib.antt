@@ -4,5 +4,7 @@ pub mod Refusals
 pub mod Addresses
 pub mod Slots
 pub mod Collecting
+pub mod Complete
 pub mod Committing
 pub mod Reservations
+pub mod Initialising

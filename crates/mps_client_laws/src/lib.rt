@@ -5,7 +5,9 @@
 ghost use Rattle.mps_client_laws.specs.Objects.{ObjectsKeepTheirIdentity, CellsStay, WordsStay};
 ghost use Rattle.mps_client_laws.specs.Addresses.{ObjectsLiveOn, AddressesStay, NoTwoHaveOneAddress};
 ghost use Rattle.mps_client_laws.specs.Collecting.{CollectLeavesWhatIsReached, WhatDependentsReachStays, WhatIsNotReachedIsGone};
+ghost use Rattle.mps_client_laws.specs.Complete.{LiveObjectsAreReached, OthersWereKeptByMoves, PinnedObjectsStay, ReachedObjectsAreLive, RegisteredObjectsAreLive, SegmentsHaveLiveBlocks, StillReachedObjectsAreLive, TargetsAreLive};
 ghost use Rattle.mps_client_laws.specs.Committing.{CommitMakesTheObject, FlippedMakesNone};
+ghost use Rattle.mps_client_laws.specs.Initialising.{InitWritesTheNumber, InitWritesTheReference};
 ghost use Rattle.mps_client_laws.specs.ReadingBack.{GetGivesWhatWasPut, NumAnswersWhatWasSet, LoadAnswersWhatWasStored};
 ghost use Rattle.mps_client_laws.specs.Refusals.{RefusalsAreListed, RefusedStepsAreListed, NoneIsOutOfMemory, RefusedStepsMakeNoMoves, RefusedStepsChangeNothing, RefusedStepsLeaveTheirMoves, RefusedPollsHaveNoPlace};
 ghost use Rattle.mps_client_laws.specs.Reservations.{ReserveOpens, ReservationsStay, InitOfDoomedLeavesTheGraph, CommitAnswersByFlips, CommitSpendsTheReservation};
@@ -81,6 +83,22 @@ pub fn what_is_reached_stays()
     ensures gone { WhatIsNotReachedIsGone }
 {}
 
+/// An accepted `collect` of a legal history is complete. Each object that is live and automatic after it is reached, from what the client
+/// holds or from an object in which an area word lies. What is reached is live: by the references that there were at the flip if no
+/// collection ran before it, and else by those that are left. Registered objects are live, and so are the targets of live ones, weak
+/// ones too. What is live of a copying pool, and had no area word at the flip, was moved since then or made to stay. An object in which an
+/// area word lay then is live, where it was. In each held segment lies a live block, but for those of pools of blocks of one size.
+pub fn a_collect_is_complete()
+    ensures live { LiveObjectsAreReached }
+    ensures reached { ReachedObjectsAreLive }
+    ensures still_reached { StillReachedObjectsAreLive }
+    ensures registered { RegisteredObjectsAreLive }
+    ensures targets { TargetsAreLive }
+    ensures moved { OthersWereKeptByMoves }
+    ensures pinned { PinnedObjectsStay }
+    ensures segments { SegmentsHaveLiveBlocks }
+{}
+
 /// An accepted `commit` makes one new object, with the head and just the cells of the reservation, and its slot refers to it. One that
 /// answers `flipped` makes none.
 pub fn a_commit_makes_the_object()
@@ -97,4 +115,11 @@ pub fn a_commit_answers_by_flips()
     ensures doomed { InitOfDoomedLeavesTheGraph }
     ensures answer { CommitAnswersByFlips }
     ensures spent { CommitSpendsTheReservation }
+{}
+
+/// An accepted `init` of a reservation that no flip ended writes its cell: the number, or the object of the slot. The other cells and the
+/// head are as before.
+pub fn an_init_writes_its_cell()
+    ensures number { InitWritesTheNumber }
+    ensures reference { InitWritesTheReference }
 {}
