@@ -2,6 +2,7 @@
 # Measures how long a collection takes that moves everything, by a runtime that holds the heap itself, with no script and no log: rings and
 # lists of 1,000, 10,000 and 100,000 objects of 3 words with one reference. A ring is collected in the order of its making, and a list
 # against it. Room for the moves is taken before the clock runs. Each is collected three times, and the shortest of these is printed.
+# Then rings of the same sizes are collected by steps of one unit each, also three times: what is printed is the time of a step.
 # It makes a program over a copy of the crates, proves it, and runs it.
 home=$(cd "$(dirname "$0")/.." && pwd)
 folder=$(mktemp -d)
@@ -35,12 +36,15 @@ cat > $program/src/main.rt <<'P'
 // How long a collection takes.
 #![tactic(auto)]
 
+ghost use Rattle.std.specs.Prelude.{◌≡◌, ◌<◌};
+
 use mps_base::{Kind, Name, Rank, Refusal, Slot, Trail};
 use mps_format::Front;
-use mps_heap::Heap;
+use mps_heap::{Heap, Progress, Steps};
 use std::alloc::{AllocError, Global};
 use std::io;
-use std::marker::Model;
+use std::marker::{Brand, Model};
+use std::sync::ledger::{Blank, Ledger};
 use std::time::Instant;
 
 /// The head of an object of 3 words, the first of which after the head is a reference.
@@ -106,6 +110,20 @@ impl Moves {
         self.commit(heap, slot(0))
     }
 
+    /// Begins a collection, if the heap can.
+    fn start(&mut self, heap: &mut Heap<Front>) -> bool {
+        self.trail.clear();
+        let _ = heap.most_moves(); // at most 2^21
+        heap.can_collect() && heap.start(&mut self.trail).is_ok()
+    }
+
+    /// Does one unit, and tells whether the collection is still in progress.
+    fn unit<L: Ledger>(&mut self, heap: &mut Heap<Front>, steps: &mut Steps<L>) -> bool {
+        self.trail.clear();
+        let _ = heap.most_moves(); // at most 2^21
+        matches!(heap.step(&mut self.trail, 1, steps), Progress::More)
+    }
+
     /// Makes an object to which the last of the ring refers, in the second slot, and which is the last from then on.
     fn append(&mut self, heap: &mut Heap<Front>) -> Result<(), Refusal> {
         self.object(heap, slot(2))?;
@@ -150,6 +168,51 @@ fn collect(rt: &HostRuntime, heap: &mut Heap<Front>) -> io::Result<Option<u128>>
     heap.collect(&mut trail);
     let took = began.elapsed(rt)?.as_nanos();
     Ok(Some(took))
+}
+
+/// Does units one by one until the collection ends, and tells how many.
+fn finish_by_units<L: Ledger>(heap: &mut Heap<Front>, moves: &mut Moves, most: u64, blank: Blank) -> u64
+    requires name { blank.name ≡ L.name }
+    requires parts { blank.parts ≡ L.parts }
+    requires nonzero { 0 < blank.parts }
+{
+    let mut steps = Steps::<L>::new(blank);
+    for count in 0..most {
+        if !moves.unit(heap, &mut steps) {
+            return count;
+        }
+    }
+    most
+}
+
+/// The most units of a collection.
+const MOST_UNITS: u64 = 1_000_000;
+
+/// How long a collection by single units takes, in nanoseconds, and how many units it has; None where none can begin.
+fn collect_by_units(
+    rt: &HostRuntime,
+    heap: &mut Heap<Front>,
+    moves: &mut Moves,
+) -> io::Result<Option<(u128, u64)>> {
+    if !moves.start(heap) {
+        return Ok(None);
+    }
+    let began = Instant::now(rt)?;
+    let units = finish_by_units::<Brand>(heap, moves, MOST_UNITS, Blank::new(1));
+    let took = began.elapsed(rt)?.as_nanos();
+    Ok(Some((took, units)))
+}
+
+/// Collects a heap by single units, and tells how long one took.
+fn show_units(rt: &HostRuntime, heap: &mut Heap<Front>, moves: &mut Moves, count: u64) -> io::Result<()> {
+    for _ in 0..TIMES {
+        let Some((took, units)) = collect_by_units(rt, heap, moves)? else {
+            return println!(rt; "refused");
+        };
+        let units = u128::from(units.max(1));
+        println!(rt; "ring of {count} by {units} units: {}.{} ns a unit", took / units, 10 * (took % units) / units)?;
+    }
+    Ok(())
 }
 
 /// The shortest of some collections.
@@ -198,6 +261,17 @@ fn time_list(rt: &HostRuntime, moves: &mut Moves, count: u64) -> io::Result<()> 
     done
 }
 
+fn time_units(rt: &HostRuntime, moves: &mut Moves, count: u64) -> io::Result<()> {
+    let mut heap = Heap::<Front>::new(rt.alloc(), 2048, 2048)?;
+    let done = if ring(&mut heap, moves, count).is_ok() {
+        show_units(rt, &mut heap, moves, count)
+    } else {
+        println!(rt; "refused")
+    };
+    heap.finish();
+    done
+}
+
 fn main(rt: HostRuntime) -> io::Result<()> {
     let mut moves = Moves::new(rt.alloc())?;
     time_ring(&rt, &mut moves, 1_000)?;
@@ -205,8 +279,19 @@ fn main(rt: HostRuntime) -> io::Result<()> {
     time_ring(&rt, &mut moves, 100_000)?;
     time_list(&rt, &mut moves, 1_000)?;
     time_list(&rt, &mut moves, 10_000)?;
-    time_list(&rt, &mut moves, 100_000)
+    time_list(&rt, &mut moves, 100_000)?;
+    time_units(&rt, &mut moves, 1_000)?;
+    time_units(&rt, &mut moves, 10_000)?;
+    time_units(&rt, &mut moves, 100_000)
 }
+P
+mkdir -p $program/proofs/collect_by_units
+cat > $program/proofs/collect_by_units/Invariants.antt <<'P'
+use Rattle.collect_times.proofs.collect_by_units.Given as goal
+
+-- the units are counted in the ledger of the blank
+abbrev pub ghosts-finish_by_units : goal.ghosts-finish_by_units
+ghosts-finish_by_units a = record { name = a.blank.name; parts = a.blank.parts }
 P
 (cd $program && rt run)
 cd / && rm -r "$folder"
