@@ -18,7 +18,7 @@ fn take(
 ) -> Result<(), Refusal> {
     let mut trail = Trail::new(alloc, 1).map_err(|_| Refusal::OutOfMemory)?;
     let words = 512 * u32::from(grains);
-    if words != 0 {
+    if words != 0 && words <= 65_536 {
         segs.take(&mut trail, pool, words, generation, Rank::Exact)?;
     }
     Ok(())
