@@ -91,6 +91,9 @@ impl Moves {
     fn reserve(&mut self, heap: &mut Heap<Front>) -> Result<(), Refusal> {
         self.trail.clear();
         let _ = heap.most_moves(); // at most 2^21
+        if !heap.can_collect() {
+            return Err(Refusal::Running);
+        }
         heap.reserve(&mut self.trail, named(b'x'), HEAD)
     }
 
