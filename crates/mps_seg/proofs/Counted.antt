@@ -1,5 +1,5 @@
 -- The table of counts has what each generation of each pool holds: this stays true where a segment is taken and given back.
-use Rattle.std.proofs.Common.{ℕ, zero, suc, ◌+◌, ◌-◌, ◌<◌, ◌≤◌, ◌≡◌, ◌≢◌, ◌⊎◌, ◌&&◌, Bool, true, false, List, [], ◌∷◌, length, get_or, set, cond, eqb, ltb, map, replicate, refl, sym, ap, ◌∙◌, subst, inl, inr, arith, length-set}
+use Rattle.std.proofs.Common.{ℕ, zero, suc, ◌+◌, ◌-◌, ◌<◌, ◌≤◌, ◌≡◌, ◌≢◌, ◌⊎◌, ◌&&◌, true, false, List, [], ◌∷◌, length, get_or, set, cond, eqb, ltb, map, replicate, refl, sym, ap, ◌∙◌, subst, inl, inr, arith, length-set}
 use Rattle.std.proofs.lemmas.Bool.{true≢false, cases_Bool, cond-true, cond-false, and_from, and_parts, and_left, and_right, eqb-true, eqb-false, eq-eqb, ne_eqb, ltb-true}
 use Rattle.std.proofs.lemmas.List.{get_or-set_same, get_or-set_other, length-replicate}
 use Rattle.std.proofs.lemmas.List.Sums.{sum_by-cons}

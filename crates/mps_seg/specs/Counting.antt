@@ -62,8 +62,10 @@ another_generation_has_its_own = refl
 pub a_pool_without_segments_holds_nothing : grains_held_by 0 0 example ≡ 0
 a_pool_without_segments_holds_nothing = refl
 
-pub a_segment_more : grains_held_by 2 0 (with_segment (record { base = 0x7000; grains = 1; pool = 2; generation = 0; rank = Exact }) example)
-    ≡ 5
+abbrev one_more : Segment
+one_more = record { base = 0x7000; grains = 1; pool = 2; generation = 0; rank = Exact }
+
+pub a_segment_more : grains_held_by 2 0 (with_segment one_more example) ≡ 5
 a_segment_more = refl
 
 pub a_segment_fewer : grains_held_by 1 0 (without_segment example 0x1000) ≡ 1
