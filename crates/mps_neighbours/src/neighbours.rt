@@ -5,7 +5,6 @@ ghost use Rattle.std.specs.Prelude.{◌≡◌, [], IfOk};
 ghost use Rattle.mps_snc.specs.State.{no_pools};
 ghost use Rattle.mps_xform.specs.State.{no_transforms};
 
-use crate::labels::Labels;
 use mps_dep::Dependents;
 use mps_sac::Caches;
 use mps_snc::Frames;
@@ -16,7 +15,6 @@ use std::alloc::{AllocError, Global};
 /// that of a pool of frames.
 #[derive(Drop)]
 pub struct Neighbours {
-    pub labels: Labels,
     pub dependents: Dependents,
     pub transforms: Transforms,
     pub caches: Caches,
@@ -26,14 +24,12 @@ pub struct Neighbours {
 impl Neighbours {
     /// Nothing stands beside the blocks.
     pub fn new(alloc: Global) -> Result<Neighbours, AllocError>
-        ensures labels { IfOk result (λ beside. beside.labels ≡ []) }
         ensures dependents { IfOk result (λ beside. beside.dependents ≡ []) }
         ensures transforms { IfOk result (λ beside. beside.transforms ≡ no_transforms) }
         ensures caches { IfOk result (λ beside. beside.caches ≡ []) }
         ensures frames { IfOk result (λ beside. beside.frames ≡ no_pools) }
     {
         Ok(Neighbours {
-            labels: Labels::new(alloc)?,
             dependents: Dependents::new(alloc)?,
             transforms: Transforms::new(alloc)?,
             caches: Caches::new(alloc)?,

@@ -1,16 +1,11 @@
 // Each call once.
 use crate::Neighbours;
-use mps_base::{Addr, Name};
+use mps_base::Addr;
 use std::alloc::AllocError;
 
 #[test]
 fn each_table_is_reached(rt: HostRuntime) -> Result<(), AllocError> {
     let mut beside = Neighbours::new(rt.alloc())?;
-    let name = Name { bytes: [97; 16] };
-    let label = beside.labels.intern(name);
-    assert_eq!(rt; label, 0);
-    assert_eq!(rt; beside.labels.count(), 1);
-    assert!(rt; beside.labels.name(label) == name);
     assert!(rt; beside.dependents.link(Addr(8), Addr(16)) == Ok(()));
     assert!(rt; beside.transforms.has_room());
     assert_eq!(rt; beside.caches.count(), 0);
