@@ -1,5 +1,5 @@
 -- What a caller sees of the caches, and the results of their calls.
-use Rattle.std.specs.Prelude.{ℕ, ◌≡◌, ◌-◌, ◌==◌, nat_lt, Bool, true, false, not, Option, Some, None, List, [], ◌∷◌, ◌++◌, length, take, map, if◌then◌else◌, slice_get, slice_index_or, slice_set, refl}
+use Rattle.std.specs.Prelude.{ℕ, ◌≡◌, ◌-◌, ◌==◌, nat_lt, Bool, true, false, not, Option, Some, None, List, [], ◌∷◌, ◌++◌, length, take, map, sum_by, if◌then◌else◌, slice_get, slice_index_or, slice_set, refl}
 use Rattle.mps_sac.specs.declared.class.ClassSize.{ClassSize}
 
 -- the most caches, the most classes of one, and the most blocks of a class
@@ -11,6 +11,10 @@ max_classes = 8
 
 abbrev pub max_cached : ℕ
 max_cached = 64
+
+-- the most blocks of a cache
+abbrev pub max_cached_in_all : ℕ
+max_cached_in_all = 512
 
 -- The size of a class in words, how many blocks it keeps at most, and the addresses of those that it has, the one cached last at the
 -- end.
@@ -31,6 +35,10 @@ new_class size = record { words = size.words; limit = size.limit; blocks = [] }
 -- a cache without blocks
 abbrev pub new_cache : (pool : ℕ) → List ClassSize → CacheState
 new_cache pool sizes = record { pool = pool; classes = map new_class sizes }
+
+-- how many blocks some classes have
+abbrev pub count_in : List ClassState → ℕ
+count_in classes = sum_by (λ (c : ClassState). length c.blocks) classes
 
 -- the last address of a list, and the rest
 abbrev pub last_of : List ℕ → Option ℕ
@@ -121,6 +129,9 @@ the_last_cached_comes_back = refl
 
 pub the_first_cached_stays : blocks_of_size (without_last_of_size example 16) 16 ≡ 8 ∷ []
 the_first_cached_stays = refl
+
+pub two_blocks_in_all : count_in example ≡ 2
+two_blocks_in_all = refl
 
 pub no_block_of_two_words : last_of (blocks_of_size example 2) ≡ None
 no_block_of_two_words = refl

@@ -4,7 +4,7 @@
 ghost use Rattle.std.specs.Prelude.{◌≡◌, ◌<◌, ◌≤◌, ◌++◌, ◌∷◌, [], None, Some, length, map, if◌then◌else◌, slice_index_or};
 ghost use Rattle.std.specs.Option.{MatchOption};
 ghost use Rattle.std.specs.List.{All, position};
-ghost use Rattle.mps_sac.specs.State.{CacheState, new_cache, max_cached, max_classes, last_of, without_last_of_size, with_last_of_size, blocks_of_size, keeps_size, next_blocks, without_next, is_of_size, has_block};
+ghost use Rattle.mps_sac.specs.State.{CacheState, new_cache, count_in, max_cached, max_cached_in_all, max_classes, last_of, without_last_of_size, with_last_of_size, blocks_of_size, keeps_size, next_blocks, without_next, is_of_size, has_block};
 
 use crate::class::{Class, ClassSize};
 use arrayvec::ArrayVec;
@@ -50,6 +50,14 @@ impl Cache {
         self.pool
     }
 
+    /// How many blocks its classes have.
+    pub(crate) fn count(&self) -> u32
+        ensures value { result ≡ count_in self.now.classes }
+        ensures few { result ≤ max_cached_in_all }
+    {
+        count_in(&self.classes)
+    }
+
     /// Takes the block cached last in the class of a size.
     pub(crate) fn take(&mut self, words: u32) -> Option<Addr>
         ensures value { MatchOption result (last_of (blocks_of_size self.old.classes words) ≡ None)
@@ -85,6 +93,19 @@ impl Cache {
         };
         self.classes[index].take()
     }
+}
+
+// How many blocks some classes have.
+fn count_in(classes: &[Class]) -> u32
+    requires { length classes.now ≤ max_classes }
+    ensures value { result ≡ count_in classes.now }
+    ensures few { result ≤ max_cached_in_all }
+{
+    let mut count = 0u32;
+    for class in classes {
+        count += class.count() as u32;
+    }
+    count
 }
 
 // The index of the first class of a size.

@@ -4,7 +4,7 @@
 ghost use Rattle.std.specs.Prelude.{◌≡◌, ◌<◌, ◌≤◌, ◌++◌, ◌∷◌, [], None, Some, length, if◌then◌else◌, slice_index_or, IfOk};
 ghost use Rattle.std.specs.Option.{MatchOption};
 ghost use Rattle.std.specs.List.{All};
-ghost use Rattle.mps_sac.specs.State.{CacheState, new_cache, max_cached, max_classes, max_caches, last_of, without_last_of_size, with_last_of_size, blocks_of_size, keeps_size, next_blocks, without_next, classes_of, with_classes, pool_of};
+ghost use Rattle.mps_sac.specs.State.{CacheState, new_cache, count_in, max_cached, max_cached_in_all, max_classes, max_caches, last_of, without_last_of_size, with_last_of_size, blocks_of_size, keeps_size, next_blocks, without_next, classes_of, with_classes, pool_of};
 
 use crate::cache::Cache;
 use crate::class::ClassSize;
@@ -70,6 +70,15 @@ impl Caches {
         ensures { result ≡ pool_of self.now number }
     {
         self.caches[number as usize].pool()
+    }
+
+    /// How many blocks a cache has.
+    pub fn cached(&self, number: u32) -> u32
+        requires { number < length self.now }
+        ensures value { result ≡ count_in (classes_of self.now number) }
+        ensures few { result ≤ max_cached_in_all }
+    {
+        self.caches[number as usize].count()
     }
 
     /// Takes the block that was cached last in a cache's class of a size, in words: None where it has no such class, or no block in it.

@@ -65,6 +65,14 @@ impl Class {
         self.blocks.is_empty()
     }
 
+    /// How many blocks it has.
+    pub(crate) fn count(&self) -> usize
+        ensures value { result ≡ length self.now.blocks }
+        ensures few { result ≤ max_cached }
+    {
+        self.blocks.len()
+    }
+
     /// Takes the block that was cached last.
     pub(crate) fn take(&mut self) -> Option<Addr>
         ensures value { MatchOption result (last_of self.old.blocks ≡ None) (λ at. last_of self.old.blocks ≡ Some at.0) }

@@ -26,6 +26,7 @@ fn the_last_cached_comes_back_first(rt: HostRuntime) -> Result<(), AllocError> {
     assert!(rt; !caches.keep(q, 3, Addr(512)));
     assert!(rt; caches.take(q, 16) == Some(Addr(256)));
     assert!(rt; caches.keep(q, 2, Addr(1024)));
+    assert_eq!(rt; caches.cached(q), 2);
     assert!(rt; caches.next(q) == Some(Addr(1024)));
     assert!(rt; caches.next(q) == Some(Addr(8)));
     assert!(rt; caches.next(q) == None);
