@@ -10,9 +10,10 @@ use Rattle.mps_trace.specs.State.{no_finals}
 use Rattle.mps_trace.specs.LdState.{no_flips}
 use Rattle.mps_model.specs.Checked.{Checked, ◌>>◌, refuse_when}
 use Rattle.mps_names.specs.State.{NamesState}
+use Rattle.mps_neighbours.specs.Beside.{nothing_beside}
 use Rattle.mps_root.specs.State.{no_roots}
 use Rattle.mps_seg.specs.Segs.{new_segments, held_runs}
-use Rattle.mps_heap_spec.specs.State.{HeapState}
+use Rattle.mps_heap_spec.specs.State.{HeapState, without_pairs}
 use Rattle.mps_heap_spec.specs.declared.arena.ArenaState.{ArenaState}
 use Rattle.mps_heap_spec.specs.declared.arena.ArenaState.TheVariants as arena
 use Rattle.mps_heap_spec.specs.Coming.{Outcome, done}
@@ -38,6 +39,7 @@ module _ {F : Type 0} where
     tails = no_pools;
     names = names;
     arena = arena.Unclamped;
+    beside = nothing_beside;
     running = None;
   }
 
@@ -52,6 +54,10 @@ module _ {F : Type 0} where
 
   abbrev pub with_arena : HeapState F → ArenaState → HeapState F
   with_arena h state = record h { arena = state }
+
+  -- the arena does this by itself, and no transform has a pair
+  abbrev pub with_arena_anew : HeapState F → ArenaState → HeapState F
+  with_arena_anew h state = record h { arena = state; beside = without_pairs h.beside }
 
   -- why no block is dumped: a collection runs, or no block begins at the address
   pub data IsNotDumped (h : HeapState F) (at : Address) : Refusal → Type 0 where

@@ -18,7 +18,7 @@ use Rattle.mps_names.specs.declared.names.Thing.TheVariants as thing
 use Rattle.mps_trace.specs.declared.condemn.Condemn.{Condemn}
 use Rattle.mps_trace.specs.declared.condemn.Condemn.TheVariants.{Everything, Generations}
 use Rattle.mps_heap_spec.specs.Finding.{chain_named}
-use Rattle.mps_heap_spec.specs.State.{HeapState}
+use Rattle.mps_heap_spec.specs.State.{HeapState, without_pairs}
 use Rattle.mps_heap_spec.specs.Units.{trace_in, traced_in}
 use Rattle.mps_heap_spec.specs.declared.arena.ArenaState.TheVariants as arena
 
@@ -37,7 +37,7 @@ module _ {F : Type 0} where
       (t : TraceState F) → IsTraceOf h.pools h.chains t
       → CanCollect layout t h.points h.roots h.finals h.segs m (most_units h.segs.grains (length h.finals.registered))
 
-  -- a full collection was done, from its flip to its end, and the arena is parked
+  -- a full collection was done, from its flip to its end. The arena is parked, and no transform has a pair
   pub record IsCollected (layout : F → Layout) (h : HeapState F) (m : Moves) (h' : HeapState F) (m' : Moves) : Type 0 where
     pub before : TraceState F
     pub after : TraceState F
@@ -52,6 +52,7 @@ module _ {F : Type 0} where
       epochs = ld.epochs_after_flip h.epochs (zones_of (moving_of before.formats h.segs.segments));
       tails = h'.tails;
       arena = arena.Parked;
+      beside = without_pairs h.beside;
     }
 
   -- ---- a collection that is begun alone
@@ -63,7 +64,7 @@ module _ {F : Type 0} where
     pub begins : CanCondemn layout (trace_in h) what h.points h.roots h.finals h.segs m
 
   -- a collection of what is to be condemned was begun by its flip, and no unit was done; where nothing is condemned it ended at once. The
-  -- arena is unclamped
+  -- arena is unclamped, and no transform has a pair
   pub record IsStarted (layout : F → Layout) (what : Condemn) (h : HeapState F) (m : Moves) (h' : HeapState F) (m' : Moves) : Type 0 where
     pub begun : IfSome h'.running (λ run. Begins layout (trace_in h).formats (trace_in h).chains what h.points h.roots h.finals
         (traced_in h m) h'.roots h'.finals (traced_in h' m') run)
@@ -77,6 +78,7 @@ module _ {F : Type 0} where
       epochs = ld.epochs_after_flip h.epochs (zones_at_flip (map policy_of_pool h.pools) h.chains what h.segs.segments);
       tails = h'.tails;
       arena = arena.Unclamped;
+      beside = without_pairs h.beside;
       running = h'.running;
     }
 

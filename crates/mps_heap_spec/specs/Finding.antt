@@ -51,6 +51,14 @@ abbrev pub as_dependency : Thing → Option ℕ
 as_dependency (thing.Dependency number) = Some number
 as_dependency _ = None
 
+abbrev pub as_cache : Thing → Option ℕ
+as_cache (thing.Cache number) = Some number
+as_cache _ = None
+
+abbrev pub as_transform : Thing → Option ℕ
+as_transform (thing.Transform number) = Some number
+as_transform _ = None
+
 -- what is kept under a key, if there is something
 abbrev pub under : {A : Type 0} → (key : ℕ) → Option A → Checked (Kept A)
 under key (Some value) = Ok (record { key = key; value = value })
@@ -87,6 +95,10 @@ module _ {F : Type 0} (h : HeapState F) where
   dependency_named name = do
     number ← key_named name as_dependency
     under number (slice_get h.dependencies number)
+
+  -- the number of the transform that has a name
+  abbrev pub transform_named : Name → Checked ℕ
+  transform_named name = key_named name as_transform
 
   -- the number of the label that has a name
   abbrev pub label_named : Name → Checked ℕ

@@ -6,6 +6,7 @@ pub mod Getting
 pub mod Areas
 pub mod Allocating
 pub mod Manual
+pub mod Caching
 pub mod Making
 pub mod Labelling
 pub mod Finalizing
@@ -14,8 +15,10 @@ pub mod Arena
 pub mod Coming
 pub mod Collecting
 pub mod Units
+pub mod Transforming
 pub mod Polling
 pub use Rattle.mps_names.specs.State as NamesState
+pub use Rattle.mps_neighbours.specs.Beside
 pub use Rattle.mps_model.specs.Checked
 pub use Rattle.mps_model.specs.Tagging
 pub use Rattle.mps_seg.specs.Table

@@ -12,6 +12,8 @@ use Rattle.mps_trace.specs.State.{FinalsState}
 use Rattle.mps_trace.specs.LdState.{EpochsState, LdState}
 use Rattle.mps_trace.specs.declared.running.Running.{Running}
 use Rattle.mps_names.specs.State.{NamesState}
+use Rattle.mps_neighbours.specs.Beside.{BesideState}
+use Rattle.mps_neighbours.specs.Transforms.{emptied}
 use Rattle.mps_root.specs.State.{RootsState}
 use Rattle.mps_seg.specs.Segs.{SegsState}
 use Rattle.mps_heap_spec.specs.declared.arena.ArenaState.{ArenaState}
@@ -40,8 +42,14 @@ pub record HeapState (F : Type 0) : Type 0 where
   pub tails : AmcState
   pub names : NamesState
   pub arena : ArenaState
+  -- what stands beside the blocks: dependents, transforms, caches and frames
+  pub beside : BesideState
   -- the collection that runs between two calls, if one does
   pub running : Option Running
+
+-- the same, where no transform has a pair
+abbrev pub without_pairs : BesideState → BesideState
+without_pairs beside = record beside { transforms = emptied beside.transforms }
 
 module _ {F : Type 0} where
   -- the pool of the segment that is held over an address

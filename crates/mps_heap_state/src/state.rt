@@ -17,6 +17,7 @@ use mps_format::Format;
 use mps_heap_spec::{ArenaState, Entry};
 use mps_ld::{Epochs, Ld};
 use mps_names::Names;
+use mps_neighbours::Neighbours;
 use mps_pools::Pools;
 use mps_root::Roots;
 use mps_seg::Segs;
@@ -38,6 +39,7 @@ pub struct State<F: Format> {
     pub pools: Pools<F>,
     pub names: Names,
     pub arena: ArenaState,
+    pub beside: Neighbours,
     pub running: Option<Running>,
 }
 
@@ -62,6 +64,12 @@ impl<F: Format> Model for State<F> {
       tails = s.pools.tails;
       names = s.names;
       arena = s.arena;
+      beside = record {
+        dependents = s.beside.dependents;
+        transforms = s.beside.transforms;
+        caches = s.beside.caches;
+        frames = s.beside.frames;
+      };
       running = s.running;
     } };
 }
@@ -77,6 +85,7 @@ impl<F: Format> State<F> {
     {
         let finals = Finals::new(alloc)?;
         let names = Names::new(alloc)?;
+        let beside = Neighbours::new(alloc)?;
         let segs = Segs::new(alloc, grains, limit)?;
         let Ok(points) = OpenPoints::new(alloc) else {
             drop(segs);
@@ -95,6 +104,7 @@ impl<F: Format> State<F> {
             pools: Pools::new(alloc),
             names,
             arena: ArenaState::Unclamped,
+            beside,
             running: None,
         })
     }
@@ -131,6 +141,7 @@ impl<F: Format> State<F> {
             pools,
             names,
             arena: _,
+            beside,
             running: _,
         } = self;
         let mut segs = segs;
@@ -141,5 +152,6 @@ impl<F: Format> State<F> {
         drop(dependencies);
         drop(pools);
         drop(names);
+        drop(beside);
     }
 }

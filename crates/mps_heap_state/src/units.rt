@@ -23,7 +23,7 @@ pub fn is_whole<F: Format>(state: &State<F>)
     state.points.reservations_are_past();
 }
 
-/// Begins a collection of what is to be condemned: the flip alone, and no unit. The arena is unclamped then.
+/// Begins a collection of what is to be condemned: the flip alone, and no unit. The arena is unclamped then, and no transform has a pair.
 pub fn begin<F: Format>(state: &mut State<F>, trail: &mut Trail, what: Condemn)
     requires { CanStart F.layout what state.old trail.old }
     ensures { IsStarted F.layout what state.old trail.old state.new trail.new }
@@ -38,6 +38,7 @@ pub fn begin<F: Format>(state: &mut State<F>, trail: &mut Trail, what: Condemn)
         what,
     );
     state.arena = ArenaState::Unclamped;
+    state.beside.transforms.empty_all();
 }
 
 /// Does n units of the collection that runs, or fewer if it ends in them.
