@@ -1,42 +1,28 @@
 -- The poll of a `reserve`, and what comes of the call where it polls, and where it doesn't.
-use Rattle.std.proofs.Common.{◌≡◌, ℕ, Bool, true, false, refl, sym, ap, subst, List, [], ◌∷◌, length, Option, Some, None, Ok, Err, is_some, arith}
+use Rattle.std.proofs.Common.{◌≡◌, ℕ, Bool, true, false, refl, sym, ap, subst, Option, Some, None, Err, is_some}
 use Rattle.std.proofs.lemmas.Bool.{false≢true}
 use Rattle.std.proofs.lemmas.Option.{none-some, same_Some}
-use Rattle.std.specs.Prelude.{MatchBool, ◌&&◌, not}
+use Rattle.std.specs.Prelude.{MatchBool}
 use Rattle.std.specs.Option.{option_map}
-use Rattle.mps_base.specs.Generation.{Due, due_generation}
-use Rattle.mps_base.specs.Segment.{Segment}
+use Rattle.mps_base.specs.Generation.{Due}
 use Rattle.mps_base.specs.Trail.{Moves}
 use Rattle.mps_base.specs.declared.names.Name.{Name}
 use Rattle.mps_base.specs.declared.refusal.Refusal.{Refusal}
-use Rattle.mps_buffer.specs.Points.{is_place, placement_at, point_at}
-use Rattle.mps_buffer.specs.Tokens.{IsClosedAt}
-use Rattle.mps_buffer.specs.declared.point.Point.{Point}
 use Rattle.mps_format.specs.Layout.{Layout}
 use Rattle.mps_gen.specs.Due.{in_numbers}
-use Rattle.mps_gen.specs.State.{ChainsState}
 use Rattle.mps_gen.specs.declared.chains.DueGeneration.{DueGeneration}
-use Rattle.mps_policy.specs.Due.{due_now, loads_from}
 use Rattle.mps_trace.specs.declared.condemn.Condemn.TheVariants.{Generations}
 use Rattle.mps_trace.specs.declared.running.Running.{Running}
 use Rattle.mps_heap_spec.specs.Allocating.{after_reserve, check_reserve}
 use Rattle.mps_heap_spec.specs.Checked.{Checked, ◌>>=◌}
 use Rattle.mps_heap_spec.specs.Collecting.{CanStart, IsStarted}
 use Rattle.mps_heap_spec.specs.Coming.{ComesMoving, Moved}
-use Rattle.mps_heap_spec.specs.Polling.{HasFlipped, HasPolled, HasReserved, IsPolled, MayFlip, condemned_by, due_in, is_unclamped, polls_for, units_of_poll}
+use Rattle.mps_heap_spec.specs.Polling.{HasFlipped, HasPolled, HasReserved, IsPolled, MayFlip, condemned_by, due_in, polls_for, units_of_poll}
 use Rattle.mps_heap_spec.specs.State.{HeapState}
 use Rattle.mps_heap_spec.specs.Units.{HasDoneUnits}
 use Rattle.mps_heap_spec.specs.declared.found.Reserving.{Reserving}
 
 -- ---- what is due
-
--- where there is no chain nothing is
-pub none_without_a_chain : (c : ChainsState) (ss : List Segment) → length c.chains ≡ 0 → due_now c ss ≡ None
-none_without_a_chain c ss none = of_chains c.chains none
-  where
-    of_chains : (cs : List (List ℕ)) → length cs ≡ 0 → due_generation (loads_from c ss 0 cs) ≡ None
-    of_chains [] e = refl
-    of_chains (capacities ∷ cs) e = absurd (omega (arith, e))
 
 -- the generation that a call found to be due is the one that is
 pub is_due : (o : Option Due) (found : DueGeneration) → option_map in_numbers o ≡ Some found
@@ -78,21 +64,6 @@ module _ {F : Type 0} (layout : F → Layout) (h : HeapState F) (m : Moves) wher
   may_flip found may rests is =
       let due = is_due (due_in h) found is in
       subst (λ what. CanStart layout what h m) (sym due.2) (may due.0 (none_runs h.running rests) due.1)
-
-  pub found_polled : (h' : HeapState F) (m' : Moves) (found : DueGeneration) → is_some h.running ≡ false
-      → option_map in_numbers (due_in h) ≡ Some found → IsStarted layout (Generations found.chain found.generation) h m h' m'
-      → HasPolled layout h m h' m'
-  found_polled h' m' found rests is started =
-      let due = is_due (due_in h) found is in
-      flip_polled h' m' due.0 rests due.1 (subst (λ what. IsStarted layout what h m h' m') due.2 started)
-
-  -- ---- whether a `reserve` polls
-
-  -- it does in an unclamped arena where the block has no place at hand
-  pub polls_so : (r : Reserving) → IsClosedAt h.points r.point.key r.point.value → (fits : Bool)
-      → ((p : Point) → point_at h.points r.point.key ≡ Some p → fits ≡ is_place (placement_at p h.segs r.words))
-      → (is_unclamped h.arena && not fits) ≡ polls_for h (Ok r)
-  polls_so r closed fits place = ap (λ b. is_unclamped h.arena && not b) (place r.point.value closed.there)
 
   -- ---- the call
 

@@ -57,6 +57,13 @@ fn has_work<F: Format>(state: &State<F>) -> bool
     state.running.is_some() || state.pools.chain_count() != 0
 }
 
+/// Whether a poll does nothing: no collection runs, and no generation is due.
+fn is_idle<F: Format>(state: &State<F>) -> bool
+    ensures { IsTrue result → (is_some state.now.running ≡ false) × (due_in state.now ≡ None) }
+{
+    state.running.is_none() && due_now(state.pools.chains(), &state.segs).is_none()
+}
+
 /// Whether a `reserve` that passed its checks polls: in an unclamped arena, if nothing that is held has a place for the block.
 fn polls<F: Format>(state: &State<F>, r: Reserving) -> bool
     requires there { IsClosedAt state.now.points r.point.key r.point.value }
@@ -124,6 +131,30 @@ fn reserve_after_poll<F: Format>(
     reserve_checked(state, trail, name, head, r)
 }
 
+/// A `reserve` that passed its checks and polls. Where the poll does nothing the checks need not be made again.
+fn reserve_polling<F: Format>(
+    state: &mut State<F>,
+    trail: &mut Trail,
+    name: Name,
+    head: u64,
+    r: Reserving,
+) -> Result<(), Refusal>
+    requires checked { check_reserve F.layout state.old name head ≡ Ok r }
+    requires polls { IsTrue (polls_for state.old (Ok r)) }
+    requires there { IsClosedAt state.old.points r.point.key r.point.value }
+    requires nonzero { 0 < r.words }
+    requires at_most { r.words ≤ max_block_words }
+    requires ready { IsReady state.old }
+    requires fits { 0 < trail.old.spare }
+    requires can { CanPoll F.layout state.old trail.old }
+    ensures { HasReserved F.layout state.old trail.old name head result state.new trail.new }
+{
+    if is_idle(state) {
+        return reserve_checked(state, trail, name, head, r);
+    }
+    reserve_after_poll(state, trail, name, head)
+}
+
 /// A `reserve` that passed its checks, where a poll may have work. Not inlined, to keep a `reserve` small where none has.
 #[inline(never)]
 fn reserve_with_work<F: Format>(
@@ -143,7 +174,7 @@ fn reserve_with_work<F: Format>(
     ensures { HasReserved F.layout state.old trail.old name head result state.new trail.new }
 {
     if polls(state, r) {
-        return reserve_after_poll(state, trail, name, head);
+        return reserve_polling(state, trail, name, head, r);
     }
     reserve_checked(state, trail, name, head, r)
 }

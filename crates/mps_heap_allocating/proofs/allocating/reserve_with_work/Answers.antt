@@ -1,12 +1,11 @@
-use Rattle.std.proofs.Common.{◌∙◌, Ok, true, sym, ap, subst}
+use Rattle.std.proofs.Common.{◌∙◌, Ok, true, sym, subst}
 use Rattle.std.proofs.lemmas.Bool.{true≢false}
-use Rattle.mps_heap_spec.specs.Polling.{IsPolled, polls_for}
+use Rattle.mps_heap_spec.specs.Polling.{IsPolled}
 use Rattle.mps_heap_allocating.proofs.Polling.{unpolled_so}
 use Rattle.mps_heap_allocating.proofs.allocating.reserve_with_work.Goals as goal
 
-pub reserve_after_poll-requires-clause-polls : goal.reserve_after_poll-requires-clause-polls
-reserve_after_poll-requires-clause-polls g c =
-    ap (polls_for c.args.state.now) c.requires.checked ∙ (sym c.polls.ensures ∙ c.if-polls.true)
+pub reserve_polling-requires-clause-polls : goal.reserve_polling-requires-clause-polls
+reserve_polling-requires-clause-polls g c = sym c.polls.ensures ∙ c.if-polls.true
 
 pub returns : goal.returns
 returns g c =
