@@ -15,7 +15,7 @@ use mps_heap_state::State;
 const MAX_BLOCK_WORDS: u64 = 65_536;
 
 /// Writes a place of a table of blocks that was found.
-fn set_place<F: Format>(state: &mut State<F>, place: Entry<u64>, at: u64)
+pub fn set_place<F: Format>(state: &mut State<F>, place: Entry<u64>, at: u64)
     requires { HasPlace state.old.roots.blocks place.key place.index }
     ensures { state.new ≡ with_block_place state.old place at }
 {
@@ -71,7 +71,7 @@ fn alloc_into<F: Format>(
 }
 
 /// The address of the manual block in a place.
-fn block_in<F: Format>(state: &State<F>, place: Entry<u64>) -> Result<u64, Refusal>
+pub fn block_in<F: Format>(state: &State<F>, place: Entry<u64>) -> Result<u64, Refusal>
     ensures value { result ≡ block_in state.now place }
     ensures block { IfOk result (λ at. (words : ℕ) × Contains state.now.segs.blocks (record { from = word_of at; count = words })) }
 {
