@@ -7,7 +7,7 @@ use Rattle.mps_ld.specs.State as ld
 use Rattle.mps_trace.specs.Collect.{most_units}
 use Rattle.mps_trace.specs.Flip.{moving_of, zones_of}
 use Rattle.mps_heap_spec.specs.Collecting.{CanCollectAll, IsCollected}
-use Rattle.mps_heap_spec.specs.State.{HeapState}
+use Rattle.mps_heap_spec.specs.State.{HeapState, without_pairs}
 use Rattle.mps_format.specs.Pools.{policy_of_pool}
 use Rattle.mps_heap_spec.specs.declared.arena.ArenaState.TheVariants as arena
 use Rattle.mps_pools.specs.Collecting.{CanCollectPools, ArePoolsCollected}
@@ -33,6 +33,7 @@ module _ {F : Type 0} (layout : F → Layout) (h : HeapState F) (m : Moves) wher
     epochs = ld.epochs_after_flip seen.epochs (zones_of (moving_of formats seen.segs.segments));
     tails = h'.tails;
     arena = arena.Parked;
+    beside = without_pairs seen.beside;
   }
 
   pub collected : (seen h' : HeapState F) (m' : Moves) (most : ℕ) → seen ≡ h

@@ -1,3 +1,4 @@
 pub mod Collected
 pub mod CountedUnits
+pub mod Messages
 pub mod Unregistering

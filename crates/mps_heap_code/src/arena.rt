@@ -3,7 +3,7 @@ ghost use Rattle.std.specs.Prelude.{◌≡◌, length, false, is_some, MatchResu
 ghost use Rattle.mps_base.specs.Run.{total};
 ghost use Rattle.mps_heap_spec.specs.declared.arena.ArenaState.TheVariants as arena;
 ghost use Rattle.mps_heap_spec.specs.Coming.{Comes};
-ghost use Rattle.mps_heap_spec.specs.Arena.{held_grains, limit_set, with_arena, BlockBegins, IsNotDumped};
+ghost use Rattle.mps_heap_spec.specs.Arena.{held_grains, limit_set, with_arena, with_arena_anew, BlockBegins, IsNotDumped};
 
 use mps_base::{Addr, Refusal};
 use mps_format::Format;
@@ -24,25 +24,33 @@ pub fn committed<F: Format>(state: &State<F>) -> u32
     state.segs.committed()
 }
 
-/// The arena is clamped: it does nothing by itself.
-pub fn clamp<F: Format>(state: &mut State<F>)
-    ensures { state.new ≡ with_arena state.old arena.Clamped }
+/// The arena does this by itself, and no transform has a pair any more.
+fn set_arena<F: Format>(state: &mut State<F>, arena: ArenaState)
+    ensures { state.new ≡ with_arena_anew state.old arena }
 {
-    state.arena = ArenaState::Clamped;
+    state.arena = arena;
+    state.beside.transforms.empty_all();
 }
 
-/// The arena is parked: it has no collection in progress, and does nothing by itself.
+/// The arena is clamped: it does nothing by itself. No transform has a pair any more.
+pub fn clamp<F: Format>(state: &mut State<F>)
+    ensures { state.new ≡ with_arena_anew state.old arena.Clamped }
+{
+    set_arena(state, ArenaState::Clamped);
+}
+
+/// The arena is parked: it has no collection in progress, and does nothing by itself. Transforms keep their pairs.
 pub fn park<F: Format>(state: &mut State<F>)
     ensures { state.new ≡ with_arena state.old arena.Parked }
 {
     state.arena = ArenaState::Parked;
 }
 
-/// The arena is unclamped.
+/// The arena is unclamped. No transform has a pair any more.
 pub fn release<F: Format>(state: &mut State<F>)
-    ensures { state.new ≡ with_arena state.old arena.Unclamped }
+    ensures { state.new ≡ with_arena_anew state.old arena.Unclamped }
 {
-    state.arena = ArenaState::Unclamped;
+    set_arena(state, ArenaState::Unclamped);
 }
 
 /// How many blocks there are, and how many words they have together.

@@ -28,7 +28,7 @@ pub fn most_moves<F: Format>(state: &State<F>) -> u32
     mps_trace::most_moves(state.segs.grains())
 }
 
-/// Collects everything, from the flip to the end, and parks the arena.
+/// Collects everything, from the flip to the end, parks the arena, and takes all pairs from its transforms.
 pub fn collect<F: Format>(state: &mut State<F>, trail: &mut Trail)
     requires built { IsTrue (can_collect state.old) }
     requires few_epochs { state.old.epochs.count < 2 ^ 63 }
@@ -47,6 +47,7 @@ pub fn collect<F: Format>(state: &mut State<F>, trail: &mut Trail)
         most,
     );
     state.arena = ArenaState::Parked;
+    state.beside.transforms.empty_all();
 }
 
 /// Begins a collection of everything: the flip alone, and no unit. The arena is unclamped then. Refuses `Running` if a collection runs.

@@ -1,0 +1,4 @@
+//! The calls of a heap on transforms.
+#![tactic(auto)]
+
+pub mod transforming;
