@@ -27,12 +27,17 @@ pub mod RightCommit
 pub mod AllocatingStep
 pub mod Allocs
 pub mod LoanSteps
+pub mod CacheMaking
+pub mod CacheAllocs
+pub mod CacheFrees
 pub mod CellLoans
 pub mod MakingPoints
 pub mod MakingPools
 pub mod MakingChains
 pub mod Dependencies
 pub mod Labelling
+pub mod Transforming
+pub mod TransformPairs
 pub mod ArenaCalls
 pub mod LiveBlocks
 pub mod NewHeap

@@ -5,3 +5,4 @@ pub mod Parts
 pub mod Lookups
 pub mod Calls
 pub mod Summaries
+pub mod Left

@@ -6,6 +6,12 @@ pub mod Resting
 pub mod Ordering
 pub mod EntryWritten
 pub mod PartsByKind
+pub mod BesideParts
+pub mod CachesStill
+pub mod TransformParts
+pub mod ObjectKinds
+pub mod TransformCounts
+pub mod TransformChanges
 pub mod PartsWritten
 pub mod BlockParts
 pub mod ClearedWords
@@ -16,6 +22,9 @@ pub mod Unforwarded
 pub mod ReservedImage
 pub mod ReservedParts
 pub mod BlockPlaces
+pub mod CachesWritten
+pub mod PlaceWritten
+pub mod BlockWritten
 pub mod StillHeld
 pub mod FreedParts
 pub mod Named

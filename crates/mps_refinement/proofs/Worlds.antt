@@ -24,3 +24,7 @@ pub mod Room
 pub mod Unreserved
 pub mod InSteps
 pub mod CollectorKept
+pub mod BlockMade
+pub mod CachedBlocks
+pub mod ZeroedWords
+pub mod CachingTrails

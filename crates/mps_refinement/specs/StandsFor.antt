@@ -24,7 +24,7 @@ use Rattle.mps_model.specs.Making.{live_roots, live_slots, live_points}
 use Rattle.mps_model.specs.Step.{History}
 use Rattle.mps_model.specs.History.{IsLegalHistoryOf}
 use Rattle.mps_model.specs.World as world
-use Rattle.mps_model.specs.World.{World, PointMemory, Dependency, Collected, OneSize, AnySize, is_copying_kind}
+use Rattle.mps_model.specs.World.{World, PointMemory, Dependency, TransformPair, Collected, OneSize, AnySize, is_copying_kind}
 use Rattle.mps_names.specs.State.{thing_named}
 use Rattle.mps_names.specs.declared.names.Thing.{Thing}
 use Rattle.mps_names.specs.declared.names.Thing.TheVariants as thing
@@ -37,6 +37,9 @@ use Rattle.mps_heap_spec.specs.declared.arena.ArenaState.TheVariants as arena
 use Rattle.mps_format.specs.declared.pool.Pool.{Pool}
 use Rattle.mps_format.specs.declared.pool.Pool.TheVariants as pool
 use Rattle.mps_refinement.specs.Numbering.{AreNumbered, AreOrdered}
+use Rattle.mps_refinement.specs.Beside.{IsBeside}
+use Rattle.mps_refinement.specs.Transforms.{AreTransforms, live_count}
+use Rattle.mps_neighbours.specs.Transforms.{is_live}
 use Rattle.mps_base.specs.Segment.{Segment}
 use Rattle.mps_base.specs.declared.names.Rank.TheVariants.{Exact}
 use Rattle.mps_abstract.specs.Colours.{AreAllScanned, Colours, is_white}
@@ -93,6 +96,7 @@ pub record Past : Type 0 where
   pub table_number : ℕ → ℕ
   pub area_number : ℕ → ℕ
   pub point_number : ℕ → ℕ
+  pub transform_number : ℕ → ℕ
 
 -- ---- what slots and words of areas hold
 
@@ -164,10 +168,11 @@ pub record AreChains (kept : ChainsState) (chains : List (List ℕ)) (pools : Li
 abbrev pub kept_of : Dependency → LdState
 kept_of d = record { epoch = d.epoch; zones = d.zones }
 
-abbrev pub state_of : ArenaState → world.ArenaState
-state_of arena.Unclamped = world.Unclamped
-state_of arena.Clamped = world.Clamped
-state_of arena.Parked = world.Parked []
+-- the state of an arena, if transforms have these pairs where it is parked
+abbrev pub state_of : ArenaState → List TransformPair → world.ArenaState
+state_of arena.Unclamped pairs = world.Unclamped
+state_of arena.Clamped pairs = world.Clamped
+state_of arena.Parked pairs = world.Parked pairs
 
 -- ---- names
 
@@ -182,9 +187,9 @@ numbered_thing past (thing.Point key) = graph.PointThing (past.point_number key)
 numbered_thing past (thing.Dependency number) = graph.DependencyThing number
 numbered_thing past (thing.Label number) = graph.LabelThing number
 numbered_thing past (thing.Cache number) = graph.CacheThing number
-numbered_thing past (thing.Transform number) = graph.TransformThing number
+numbered_thing past (thing.Transform key) = graph.TransformThing (past.transform_number key)
 
--- a thing is there; of a label there is its name alone. A heap has no caches or transforms yet
+-- a thing is there; of a label there is its name alone
 abbrev pub IsThere : {F : Type 0} → HeapState F → Thing → Type 0
 IsThere h (thing.Chain number) = number < length h.chains.chains
 IsThere h (thing.Pool number) = number < length h.pools
@@ -194,11 +199,11 @@ IsThere h (thing.Blocks number) = number < length h.roots.blocks
 IsThere h (thing.Point key) = IsSome (point_at h.points key)
 IsThere h (thing.Dependency number) = number < length h.dependencies
 IsThere h (thing.Label number) = Unit {0}
-IsThere h (thing.Cache number) = ⊥
-IsThere h (thing.Transform number) = ⊥
+IsThere h (thing.Cache number) = number < length h.beside.caches
+IsThere h (thing.Transform key) = is_live h.beside.transforms key ≡ true
 
 -- names represent the same things in both, each for one that is there, and no two for the same. As many labels have names as there
--- are, each with a number of one of them
+-- are, each with a number of one of them, as many transforms, and no more caches than there are
 pub record AreNamed {F : Type 0} (past : Past) (h : HeapState F) (names : List graph.NamedThing) (labels : List Name) : Type 0 where
   pub named : (name : Name) → thing_in names name ≡ option_map (numbered_thing past) (thing_named h.names name)
   pub there : (name : Name) (thing : Thing) → thing_named h.names name ≡ Some thing → IsThere h thing
@@ -206,7 +211,9 @@ pub record AreNamed {F : Type 0} (past : Past) (h : HeapState F) (names : List g
       → same_name name other ≡ true
   pub once : AreTakenOnce names
   pub label_count : h.names.counts.labels ≡ length labels
+  pub cache_count : h.names.counts.caches ≤ length h.beside.caches
   pub label_numbers : (name : Name) (number : ℕ) → thing_named h.names name ≡ Some (thing.Label number) → number < length labels
+  pub transform_count : h.names.counts.transforms ≡ live_count h.beside.transforms.live
 
 -- ---- the arena
 
@@ -275,7 +282,11 @@ pub record AreParts {F : Type 0} (layout : F → Layout) (past : Past) (h : Heap
   pub chains : AreChains h.chains w.chains w.pools
   pub dependents : w.graph.dependents ≡ []
   pub names : AreNamed past h w.graph.names w.graph.labels
-  pub state : w.state ≡ state_of h.arena
+  pub state : w.state ≡ state_of h.arena (world.pairs_in w.state)
+  -- what stands beside the blocks
+  pub beside : IsBeside h.beside w.addresses w.graph.transforms (world.pairs_in w.state) w.graph.caches w.graph.frames
+  pub transforms : AreTransforms past.transform_number (world.is_copying_object w) w.addresses h.beside.transforms w.graph.transforms
+      (world.pairs_in w.state)
 
 -- ---- what is known of the collection that runs, if one does
 

@@ -4,6 +4,7 @@
 
 ghost use Rattle.mps_refinement.specs.Collect.Collecting.{ACollectIsRight};
 ghost use Rattle.mps_refinement.specs.QuietCalls.{QuietCallsRunOn};
+ghost use Rattle.mps_refinement.specs.UnitsLeft.{UnitsStayWithin};
 
 /// What it does is the call `collect`: its step is legal in each world for which the heap stood, the heap stands for the world after it,
 /// and its trail keeps its room.
@@ -14,4 +15,10 @@ pub fn a_collect_is_right<F>()
 /// While a collection runs, each call that makes no moves is a legal step, and preserves the invariant of the abstract collector.
 pub fn quiet_calls_run_on()
     ensures { QuietCallsRunOn }
+{}
+
+/// Whatever calls came since the flip of a collection, the units that were asked of it and those that a heap has left of it are no more
+/// than it may take.
+pub fn units_stay_within<F>()
+    ensures { UnitsStayWithin F }
 {}

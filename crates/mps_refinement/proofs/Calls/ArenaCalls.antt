@@ -16,7 +16,8 @@ use Rattle.mps_model.specs.Collecting.{with_state}
 use Rattle.mps_model.specs.Reply.{act}
 use Rattle.mps_model.specs.World as world
 use Rattle.mps_model.specs.World.{World, committed}
-use Rattle.mps_heap_spec.specs.Arena.{held_grains, limit_set, with_arena}
+use Rattle.mps_heap_spec.specs.Arena.{held_grains, limit_set, with_arena, with_arena_anew}
+use Rattle.mps_neighbours.specs.Transforms.{emptied}
 use Rattle.mps_heap_spec.specs.Coming as ours
 use Rattle.mps_heap_spec.specs.Coming.{Comes}
 use Rattle.mps_heap_spec.specs.State.{HeapState}
@@ -31,6 +32,7 @@ use Rattle.mps_refinement.proofs.Worlds.Steps.{HasParts, Leads, answer_is_right,
 use Rattle.mps_refinement.proofs.Worlds.RunningActs.{is_plain}
 use Rattle.mps_refinement.specs.QuietCalls.{never_moves}
 use Rattle.mps_refinement.proofs.Parts.BlockParts.{unpaired}
+use Rattle.mps_refinement.proofs.Parts.TransformParts.{transforms_emptied}
 
 -- ---- the grains that are held
 
@@ -56,16 +58,34 @@ module _ {F : Type 0} (layout : F → Layout) (h : HeapState F) (w : World) (pas
         has = record {
           past = past;
           timed = refl;
-          parts = arena_changed layout past h w parts limit h.arena w.state h.names parts.state (λ n. refl) refl;
+          parts = arena_changed layout past h w parts limit h.arena h.beside.transforms w.state h.names parts.state parts.transforms refl
+              (λ n. refl) refl;
         };
       }))
 
-  pub state_has : (arena : ArenaState) → HasParts layout past.time (with_arena h arena) (with_state w (state_of arena))
-  state_has arena = record {
+  -- a parked arena keeps the pairs of transforms
+  pub parked_has : HasParts layout past.time (with_arena h arena.Parked) (with_state w (world.Parked (world.pairs_in w.state)))
+  parked_has = record {
     past = past;
     timed = refl;
-    parts = subst (λ (l : ℕ). AreParts layout past (with_arena h arena) (record w { limit = l; state = state_of arena })) parts.limit
-        (arena_changed layout past h w parts h.segs.limit arena (state_of arena) h.names refl (λ n. refl) refl);
+    parts = subst (λ (l : ℕ). AreParts layout past (with_arena h arena.Parked)
+        (record w { limit = l; state = world.Parked (world.pairs_in w.state) })) parts.limit
+        (arena_changed layout past h w parts h.segs.limit arena.Parked h.beside.transforms (world.Parked (world.pairs_in w.state)) h.names
+        refl parts.transforms refl (λ n. refl) refl);
+  }
+
+  -- and any other has none
+  pub anew_has : (arena : ArenaState) → HasParts layout past.time (with_arena_anew h arena) (with_state w (state_of arena []))
+  anew_has arena = record {
+    past = past;
+    timed = refl;
+    parts = subst (λ (l : ℕ). AreParts layout past (with_arena_anew h arena)
+        (record w { limit = l; state = state_of arena [] })) parts.limit
+        (arena_changed layout past h w parts h.segs.limit arena (emptied h.beside.transforms) (state_of arena []) h.names
+        (ap (state_of arena) (sym (unpaired arena)))
+        (transforms_emptied past.transform_number (world.is_copying_object w) (world.is_copying_object w) w.addresses w.addresses
+        h.beside.transforms w.graph.transforms (world.pairs_in w.state) (world.pairs_in (state_of arena [])) (unpaired arena)
+        parts.transforms) refl (λ n. refl) refl);
   }
 
 module _ {F : Type 0} (layout : F → Layout) (h : HeapState F) where
@@ -81,22 +101,23 @@ module _ {F : Type 0} (layout : F → Layout) (h : HeapState F) where
       (λ w past parts reached.
       fits (record { answer = ap says_number (sym (held_grains_are layout h w past parts)); world = refl })) (ap Ok is)
 
-  -- the arena's state
+  -- the arena's state, without pairs of transforms
   state_is_right : (c : Call) (arena : ArenaState) (after : HeapState F) → never_moves c ≡ true
       → is_plain c ≡ true
-      → ((w : World) → act false w w c ≡ done (with_state w (state_of arena))) → after ≡ with_arena h arena
+      → ((w : World) → act false w w c ≡ done (with_state w (state_of arena []))) → after ≡ with_arena_anew h arena
       → IsRight layout h c [] (Replied reply.Ok) after
   state_is_right c arena after quiet once acts is =
-      quiet_is_right layout says_ok h c quiet once (λ a. refl) (ours.done (with_arena h arena)) (Ok tt) after
+      quiet_is_right layout says_ok h c quiet once (λ a. refl) (ours.done (with_arena_anew h arena)) (Ok tt) after
       (λ w past parts reached.
-      subst (λ x. Same (Leads layout says_ok h past w) (ours.done (with_arena h arena)) x) (sym (acts w))
-      (fits (record { answer = refl; keeps = all_kept h; formats = refl; has = state_has layout h w past parts arena })))
+      subst (λ x. Same (Leads layout says_ok h past w) (ours.done (with_arena_anew h arena)) x) (sym (acts w))
+      (fits (record { answer = refl; keeps = all_kept h; formats = refl; has = anew_has layout h w past parts arena })))
       (record { answer = refl; state = is })
 
-  pub clamp_is_right : (after : HeapState F) → after ≡ with_arena h arena.Clamped → IsRight layout h call.Clamp [] (Replied reply.Ok) after
+  pub clamp_is_right : (after : HeapState F) → after ≡ with_arena_anew h arena.Clamped
+      → IsRight layout h call.Clamp [] (Replied reply.Ok) after
   clamp_is_right after is = state_is_right call.Clamp arena.Clamped after refl refl (λ w. refl) is
 
-  pub release_is_right : (after : HeapState F) → after ≡ with_arena h arena.Unclamped
+  pub release_is_right : (after : HeapState F) → after ≡ with_arena_anew h arena.Unclamped
       → IsRight layout h call.Release [] (Replied reply.Ok) after
   release_is_right after is = state_is_right call.Release arena.Unclamped after refl refl (λ w. refl) is
 
@@ -105,7 +126,5 @@ module _ {F : Type 0} (layout : F → Layout) (h : HeapState F) where
       → IsRightIn layout w (step_of line call.Park [] (Replied reply.Ok)) (with_arena h arena.Parked)
   resting_park_is_right w st rest line =
       resting_is_right layout w line call.Park (Replied reply.Ok) refl refl refl st.reached
-      (Err refusal.NotRegistered) st.past.time (collector_of h) (done (with_state w (state_of arena.Parked))) (with_arena h arena.Parked)
-      rest (all_kept h)
-      (ap (λ pairs. done (with_state w (world.Parked pairs))) (ap world.pairs_in st.parts.state ∙ unpaired h.arena)) refl
-      (state_has layout h w st.past st.parts arena.Parked)
+      (Err refusal.NotRegistered) st.past.time (collector_of h) (done (with_state w (world.Parked (world.pairs_in w.state))))
+      (with_arena h arena.Parked) rest (all_kept h) refl refl (parked_has layout h w st.past st.parts)

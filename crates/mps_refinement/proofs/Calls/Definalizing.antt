@@ -138,7 +138,7 @@ module _ {F : Type 0} (layout : F → Layout) (h : HeapState F) (slot : Slot) (f
           parts.dependencies (pools_of parts)
           (named_at past (time_after (Ok position) past.time) (without_registered h ours) w.graph.names w.graph.labels
           (named_alike h (without_registered h ours) past w.graph.names w.graph.labels parts.names (λ name. refl) refl
-          (all_stay h (without_registered h ours) refl refl refl refl refl)))
+          (all_stay h (without_registered h ours) refl refl refl refl refl refl)))
           (states_of parts);
     }
 

@@ -72,7 +72,7 @@ module _ {F : Type 0} (layout : F → Layout) (h : HeapState F) (w : World) (pas
         makes.names free
         (ap graph.DependencyThing (makes.number_is ∙ count_is)) (λ other there. refl) stay
         (let e = makes.number_is in omega (arith, e, longer))
-        (λ there. let e = makes.number_is in omega (arith, e, there)) refl));
+        (λ there. let e = makes.number_is in omega (arith, e, there)) refl refl));
   }
     where
       count : ℕ
@@ -90,12 +90,14 @@ module _ {F : Type 0} (layout : F → Layout) (h : HeapState F) (w : World) (pas
       stay : ThingsStay h made
       stay = record {
         pools = λ n low. low;
+        caches = omega arith;
         tables = λ k some. some;
         areas = λ k some. some;
         blocks = λ n low. low;
         points = λ k some. some;
         dependencies = λ n low. omega (arith, low, longer);
         chains = λ n low. low;
+        transforms = refl;
       }
 
   dependency_alike : (name : Name)
@@ -133,12 +135,14 @@ module _ {F : Type 0} (layout : F → Layout) (h : HeapState F) (w : World) (pas
         ∙ sym (map-slice_set kept_of w.dependencies d.key new))
         (named_alike h (with_dependency h d.key state) past w.graph.names w.graph.labels parts.names (λ n. refl) refl (record {
           pools = λ n low. low;
+          caches = omega arith;
           tables = λ k some. some;
           areas = λ k some. some;
           blocks = λ n low. low;
           points = λ k some. some;
           dependencies = λ n low. let same = length-set h.dependencies d.key state in omega (arith, low, same);
           chains = λ n low. low;
+          transforms = refl;
         })));
   }
 

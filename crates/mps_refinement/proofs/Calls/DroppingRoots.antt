@@ -1,5 +1,5 @@
 -- `droproot`: what is left of the roots stands for what the model leaves.
-use Rattle.std.proofs.Common.{◌≡◌, ◌≢◌, ◌∙◌, ℕ, ◌-◌, refl, sym, ap, subst, List, [], length, Option, Some, None, Ok, IsSome}
+use Rattle.std.proofs.Common.{◌≡◌, ◌≢◌, ◌∙◌, ℕ, ◌-◌, refl, sym, ap, subst, List, [], length, Option, Some, None, Ok, IsSome, arith}
 use Rattle.std.proofs.lemmas.List.{length-map}
 use Rattle.std.specs.Prelude.{Result, option_map, slice_set}
 use Rattle.mps_base.specs.Address.{Address}
@@ -65,7 +65,7 @@ module _ {F : Type 0} (layout : F → Layout) (h : HeapState F) (name : Name) (w
               ∙ sym (table_dropped_slots w.graph (past.table_number key) found.0 found.1);
           names_are = named_dropped past h (without_root h roots names (length items)) w.graph.names w.graph.labels parts.names name
               (thing.Table key) was
-              updates stay refl;
+              updates stay refl (omega arith) parts.names.transform_count;
         });
   }
     where
@@ -117,7 +117,7 @@ module _ {F : Type 0} (layout : F → Layout) (h : HeapState F) (name : Name) (w
               ∙ sym (area_dropped_slots w.graph (past.area_number key) found.0 found.1);
           names_are = named_dropped past h (without_root h roots names (length items)) w.graph.names w.graph.labels parts.names name
               (thing.Area key) was
-              updates stay refl;
+              updates stay refl (omega arith) parts.names.transform_count;
         });
   }
     where

@@ -1,6 +1,6 @@
 -- A `free` where no collection runs: a legal step, whose moves free the block, and give its segment back where nothing is left in it.
-use Rattle.std.proofs.Common.{◌≡◌, ◌∙◌, ℕ, zero, suc, Bool, true, false, refl, sym, ap, List, [], ◌∷◌, Option, Some, None, Ok, inl, inr, arith, true≢false}
-use Rattle.std.proofs.lemmas.Bool.{eq-eqb, ne_eqb, and_from, and_parts}
+use Rattle.std.proofs.Common.{◌≡◌, ◌∙◌, ℕ, zero, suc, Bool, true, false, refl, sym, ap, List, [], ◌∷◌, Option, Some, None, Ok, inl, inr}
+use Rattle.std.proofs.lemmas.Bool.{ne_eqb, and_from, and_parts}
 use Rattle.std.proofs.lemmas.Option.{none-some}
 use Rattle.std.specs.Prelude.{◌==◌, ◌&&◌, not, slice_get, if◌then◌else◌, option_map}
 use Rattle.std.specs.List.{flat_map, list_all}
@@ -19,8 +19,8 @@ use Rattle.mps_laws.proofs.Sound.SoundGraph.{IsSoundGraph, all-both, auto}
 use Rattle.mps_model.proofs.AtRest.{with_collection-none}
 use Rattle.mps_model.specs.declared.reply.Reply.TheVariants as reply
 use Rattle.mps_model.specs.Answer.{Answer, Replied}
-use Rattle.mps_model.specs.Graph.{Slots, entries, entry_at, ids_in_blocks, contains, without_first, ids_in_caches, ids_in_places, occurrences}
-use Rattle.mps_model.specs.World.{World, is_any_size_kind, is_empty_segment, has_frames, pool_is, pool_of, segment_of, is_live, ids_of_pair, pairs_in}
+use Rattle.mps_model.specs.Graph.{Slots, entries, entry_at, ids_in_blocks, contains, without_first, ids_in_caches, ids_in_places}
+use Rattle.mps_model.specs.World.{World, is_any_size_kind, is_empty_segment, has_frames, pool_is, pool_of, segment_of, is_live, ids_in_pairs}
 use Rattle.mps_model.specs.Checked.{Found, ◌>>=◌, ◌>>◌, block_place_in, done, with_graph, refuse_when, required}
 use Rattle.mps_model.specs.Allocating.{act_free, block_in, with_block_place}
 use Rattle.mps_model.specs.Accessing.{address_or_null}
@@ -33,6 +33,7 @@ use Rattle.mps_refinement.proofs.Parts.StillHeld.{held_others, target_others}
 use Rattle.mps_base.specs.declared.refusal.Refusal.TheVariants as refusal
 use Rattle.mps_laws.proofs.Positions.Segments.{IsAmong, found_among}
 use Rattle.mps_model.specs.Collection.{Collection}
+use Rattle.mps_refinement.proofs.Parts.CachesStill.{none_equal}
 
 abbrev ok : Answer
 ok = Replied reply.Ok
@@ -52,20 +53,6 @@ all_in_places test (row ∷ rows) each =
     in_row (Some id ∷ xs) f =
         and_from (test id) (list_all test (entries xs)) (f zero id refl)
         (in_row xs (λ i j e. f (suc i) j e))
-
--- what stands nowhere in a list is other than all in it
-none_equal : (id : ℕ) (ids : List ℕ) → occurrences ids id ≡ 0 → All (λ j. not (id == j)) ids
-none_equal id [] none = refl
-none_equal id (j ∷ js) none = of_test (j == id) refl (λ rest. none_equal id js rest)
-  where
-    of_test : (b : Bool) → (j == id) ≡ b → (occurrences js id ≡ 0 → All (λ k. not (id == k)) js) → All (λ k. not (id == k)) (j ∷ js)
-    of_test true e later =
-        let one : ◌≡◌ {A = ℕ} (if j == id then 1 else 0) 1 = ap (λ b. if b then 1 else 0) e in absurd (omega (arith, one, none))
-    of_test false e later =
-        let first : ◌≡◌ {A = ℕ} (if j == id then 1 else 0) 0 = ap (λ b. if b then 1 else 0) e in
-        and_from (not (id == j)) (list_all (λ k. not (id == k)) js)
-        (ap not (ne_eqb id j (λ same. true≢false (sym (eq-eqb j id (sym same)) ∙ e))))
-        (later (omega (arith, first, none)))
 
 module _ (w : World) (outside : (c : Collection) → w.collection ≡ Some c → (t : Segment) → IsAmong t w.segments
     → pool_is is_any_size_kind w t.pool ≡ true → contains c.condemned_segments t.base ≡ false)
@@ -157,14 +144,14 @@ module _ (w : World) (outside : (c : Collection) → w.collection ≡ Some c →
       ])) (none_equal id (ids_in_caches w.graph) (once.not_cached found.number found.index id
       (record { row = found.list; table = has; entry = entry ∙ ap Some value })))
 
-  pub sound_freed : pairs_in w.state ≡ [] → w.collection ≡ None → IsSound world_freed
-  sound_freed none rest =
+  pub sound_freed : list_all (λ j. not (id == j)) (ids_in_pairs w.state) ≡ true → w.collection ≡ None → IsSound world_freed
+  sound_freed apart rest =
       let placed = with_graph w (with_block_place w.graph found None) in
       let emptied = place_sound w (sound rest) found None has tt in
       let gone = gone_sound placed id emptied
       (held_again (λ j. not (id == j)) w.graph placed.graph refl refl refl refl (held_others w graph id manual)) place_others
       (λ r j live. target_others w graph id manual j)
-      (λ r. ap (λ ps. list_all (λ j. not (id == j)) (flat_map ids_of_pair ps)) none) in
+      (λ r. apart) in
       let unlinked = record (with_address placed id None) { graph = world_freed.graph } in
       let kept : IsSound unlinked = record {
         live = record {

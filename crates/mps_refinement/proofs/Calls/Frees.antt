@@ -23,7 +23,7 @@ use Rattle.mps_model.specs.declared.call.Call.TheVariants as call
 use Rattle.mps_model.specs.Checked as checked
 use Rattle.mps_model.specs.Checked.{Checked, Found, ◌>>=◌, ◌>>◌, done, refuse_when, required}
 use Rattle.mps_model.specs.Effect.{with_address, world_after_moves}
-use Rattle.mps_model.specs.World.{World, Pool, is_any_size_kind, is_empty_segment, pool_is, is_automatic_kind, is_copying_pool, pairs_in, object_is, has_frames, pool_of}
+use Rattle.mps_model.specs.World.{World, Pool, is_any_size_kind, is_empty_segment, pool_is, is_automatic_kind, is_copying_pool, object_is, has_frames, pool_of}
 use Rattle.mps_heap_spec.specs.Coming.{ComesMoving, Moved}
 use Rattle.mps_heap_spec.specs.Finding.{block_place_in}
 use Rattle.mps_heap_spec.specs.declared.found.Entry.{Entry}
@@ -69,9 +69,10 @@ use Rattle.mps_refinement.proofs.Worlds.RestingActs.{resting_sound}
 use Rattle.mps_refinement.proofs.Calls.RightOwn.{IsOwn, IsRightOutcome, done_is_right, outcome_is_right, refusal_is_right}
 use Rattle.mps_refinement.proofs.Parts.BlockParts.{parts_with_pairs, world_with_blocks, unpaired}
 use Rattle.mps_abstract.specs.Colours.{is_grey}
+use Rattle.mps_refinement.proofs.Parts.ObjectKinds.{manual_unpaired}
 
 -- the moves of a free, where the trail had none
-moves_are : (size : ℕ) (s : SegsState) (trail : Moves) (at : Address) (t : Segment) → trail.moves ≡ []
+pub moves_are : (size : ℕ) (s : SegsState) (trail : Moves) (at : Address) (t : Segment) → trail.moves ≡ []
     → segment_over s.segments at ≡ Some t
     → (moves_freed size s trail (record { 0 = at })).moves
     ≡ moves.Free (record { 0 = at })
@@ -119,7 +120,7 @@ module _ {F : Type 0} (layout : F → Layout) (h : HeapState F) (trail : Moves) 
     sound rest = resting_sound w rest own.live
 
     -- no segment that may be given back is condemned
-    outside : (c : Collection) → w.collection ≡ Some c → (t : Segment) → IsAmong t w.segments
+    pub outside : (c : Collection) → w.collection ≡ Some c → (t : Segment) → IsAmong t w.segments
         → pool_is is_any_size_kind w t.pool ≡ true → contains c.condemned_segments t.base ≡ false
     outside c e t there any = of_time past.time time
       where
@@ -160,28 +161,28 @@ module _ {F : Type 0} (layout : F → Layout) (h : HeapState F) (trail : Moves) 
         (place_is : checked.block_place_in w place ≡ Ok found) (at : Address) (id : Id) (b : IsBlock w at id) (value : found.value
         ≡ Some id)
       where
-        live : IsLiveBlock layout h w id at b.object
+        pub live : IsLiveBlock layout h w id at b.object
         live =
             let x = live_block layout past h w parts own id at b.address in
             subst (IsLiveBlock layout h w id at)
             (same_Some x.0 b.object (sym x.1.object ∙ b.there)) x.1
 
-        abbrev t : Segment
+        abbrev pub t : Segment
         t = live.segment
 
-        size : ℕ
+        pub size : ℕ
         size = size_of_pool live.pool
 
-        size_is : slice_get h.sizes t.pool ≡ Some size
+        pub size_is : slice_get h.sizes t.pool ≡ Some size
         unfolding size
         size_is =
             ap (λ xs. slice_get xs t.pool) parts.sizes ∙ slice_get-map size_of_pool h.pools t.pool
             ∙ ap (λ n. option_map size_of_pool (slice_get h.pools n)) live.of ∙ ap (option_map size_of_pool) live.kept
 
-        abbrev given : Bool
+        abbrev pub given : Bool
         given = size == any_size && is_unused (block_removed h.segs at).covered t
 
-        any_size_is : (size == any_size) ≡ pool_is is_any_size_kind w t.pool
+        pub any_size_is : (size == any_size) ≡ pool_is is_any_size_kind w t.pool
         unfolding size
         any_size_is =
             let models = ap (λ o. option_map_or (λ (q : Pool). is_any_size_kind q.kind) o false)
@@ -193,17 +194,17 @@ module _ {F : Type 0} (layout : F → Layout) (h : HeapState F) (trail : Moves) 
             (all-at (λ (q : Pool). is_sized q.kind ≡ true) w.pools b.object.pool live.models own.once.sized live.has)
             ∙ sym models
 
-        over : segment_over w.segments at ≡ Some t
+        pub over : segment_over w.segments at ≡ Some t
         over = ap (λ ss. segment_over ss at) (sym parts.segments) ∙ live.over
 
-        is_given : (pool_is is_any_size_kind w t.pool && is_empty_segment (with_address w id None) t) ≡ given
+        pub is_given : (pool_is is_any_size_kind w t.pool && is_empty_segment (with_address w id None) t) ≡ given
         is_given =
             let laid = own.laid in
             let aligned = among_aligned t w.segments laid.aligned (found_among (λ s. is_in_segment s at) w.segments t over).0 in
             ap (λ c. c && is_empty_segment (with_address w id None) t) (sym any_size_is)
             ∙ ap (λ c. (size == any_size) && c) (sym (unused_is layout past h w parts own own.graph at id b time t aligned))
 
-        entry_there : slice_get found.list found.index ≡ Some found.value
+        pub entry_there : slice_get found.list found.index ≡ Some found.value
         entry_there = ap (slice_get found.list) is.found_index ∙ is.there
 
         outcome_is : from_block entry at ≡ Ok (record {
@@ -268,10 +269,10 @@ module _ {F : Type 0} (layout : F → Layout) (h : HeapState F) (trail : Moves) 
             subst (IsLaidOut (w.grains + 1)) (remembered_kept v)
             (subst (λ x. HasLayout (w.grains + 1) (with_client_remembered (world_from (world_after_moves w ms) x))) comes r.layout)
 
-        among : IsAmong t w.segments
+        pub among : IsAmong t w.segments
         among = (found_among (λ s. is_in_segment s at) w.segments t over).0
 
-        not_copying : is_copying_pool w t.pool ≡ false
+        pub not_copying : is_copying_pool w t.pool ≡ false
         not_copying =
             manual_not_copying w.pools t.pool b.pool (ap (slice_get w.pools) live.of ∙ b.of) b.right.kind
 
@@ -291,7 +292,7 @@ module _ {F : Type 0} (layout : F → Layout) (h : HeapState F) (trail : Moves) 
               comes = comes;
               sound =
                   freeing.sound_freed w outside graph sound own.live.blocks once place found place_is is.has entry_there id at value
-                  b.address manual differ t over given is_given (ap pairs_in parts.state ∙ unpaired h.arena);
+                  b.address manual differ t over given is_given (manual_unpaired w own.formed id manual);
               blocks =
                   freeing.blocks_freed w outside graph sound own.live.blocks once place found place_is is.has entry_there id at value
                   b.address manual differ t over given is_given;

@@ -39,7 +39,7 @@ use Rattle.mps_refinement.proofs.Calls.Readings.{act_reading, reading_is_right}
 use Rattle.mps_refinement.proofs.Lookups.Found.{same_of}
 use Rattle.mps_refinement.proofs.Lookups.LiveObjects.{object_then}
 use Rattle.mps_refinement.proofs.Lookups.Lookups.{key_same, own_number}
-use Rattle.mps_refinement.proofs.Parts.Named.{named_with}
+use Rattle.mps_refinement.proofs.Parts.Named.{named_with, stays_there}
 use Rattle.mps_refinement.proofs.Parts.PartsMade.{all_stay, labels_changed}
 use Rattle.mps_refinement.proofs.Worlds.CollectorKept.{KeepsAll, all_kept}
 use Rattle.mps_refinement.proofs.Worlds.Steps.{HasParts, plain_is_right}
@@ -71,12 +71,15 @@ module _ {F : Type 0} (layout : F → Layout) (h : HeapState F) (w : World) (pas
       named_with past past h (record h { names = after.names }) w.graph.names w.graph.labels parts.names name (thing.Label number)
       (graph.LabelThing (length w.graph.labels)) (with_last w.graph.labels name) makes.names free
       (ap graph.LabelThing (makes.number_is ∙ parts.names.label_count)) (λ other there. refl)
-      (all_stay h (record h { names = after.names }) refl refl refl refl refl) tt
+      (stays_there h (record h { names = after.names })
+      (all_stay h (record h { names = after.names }) refl refl refl refl refl refl)) tt
       (λ m found. let low = parts.names.label_numbers m number found in
-      let e : number ≡ length w.graph.labels = makes.number_is ∙ parts.names.label_count in omega (arith, low, e)) (record {
+      let e : number ≡ length w.graph.labels = makes.number_is ∙ parts.names.label_count in omega (arith, low, e)) parts.names.cache_count
+      (record {
         count = ap (λ n. n + 1) parts.names.label_count ∙ sym (length-with_last w.graph.labels name);
         no_fewer = let e = length-with_last w.graph.labels name in omega (arith, e);
         one = λ k same. its_number k same;
+        transforms = parts.names.transform_count;
       })
     where
       its_number : (k : ℕ) → thing.Label number ≡ thing.Label k → k < length (with_last w.graph.labels name)

@@ -54,7 +54,7 @@ module _ {F : Type 0} (layout : F → Layout) (h : HeapState F) (name : Name) (c
         (named_made past past h made w.graph.names w.graph.labels parts.names name (thing.Chain number)
         (graph.ChainThing (length w.chains)) makes.names free (ap graph.ChainThing (makes.number_is ∙ count_is)) (λ other there. refl) stay
         (let e = makes.number_is in omega (arith, e, longer))
-        (λ there. let e = makes.number_is in omega (arith, e, there)) refl));
+        (λ there. let e = makes.number_is in omega (arith, e, there)) refl refl));
   }
     where
       made : HeapState F
@@ -66,12 +66,14 @@ module _ {F : Type 0} (layout : F → Layout) (h : HeapState F) (name : Name) (c
       stay : ThingsStay h made
       stay = record {
         pools = λ n low. low;
+        caches = omega arith;
         tables = λ k some. some;
         areas = λ k some. some;
         blocks = λ n low. low;
         points = λ k some. some;
         dependencies = λ n low. low;
         chains = λ n low. omega (arith, low, longer);
+        transforms = refl;
       }
 
   chain_alike : (count : ℕ) (numbers : List ℕ) → take count numbers ≡ capacities

@@ -1,5 +1,5 @@
 -- `ap` and `dropap`: points that are made and dropped stand for those of the model.
-use Rattle.std.proofs.Common.{◌≡◌, ◌≢◌, ◌∙◌, ℕ, ◌+◌, ◌-◌, Bool, true, false, refl, sym, ap, subst, List, [], length, Option, Some, None, Ok, Err, IsSome, is_some, inl, inr}
+use Rattle.std.proofs.Common.{◌≡◌, ◌≢◌, ◌∙◌, ℕ, ◌+◌, ◌-◌, Bool, true, false, refl, sym, ap, subst, List, [], length, Option, Some, None, Ok, Err, IsSome, is_some, inl, inr, arith}
 use Rattle.std.proofs.lemmas.Bool.{cases_eq}
 use Rattle.std.proofs.lemmas.Option.{none-some, same_Some}
 use Rattle.std.specs.Prelude.{Result, nat_le, not, option_and_then, slice_get, slice_set}
@@ -151,7 +151,7 @@ module _ {F : Type 0} (layout : F → Layout) (h : HeapState F) (w : World) (pas
                 (thing.Point key)
                 (graph.PointThing count) makes.names free (ap graph.PointThing (renumbered_here past.point_number key count))
                 (points_renumbered past h key count makes.point.was_free) stay (ap is_some now)
-                (nothing_there (point_at h.points key) makes.point.was_free) refl;
+                (nothing_there (point_at h.points key) makes.point.was_free) refl refl;
           }));
     }
       where
@@ -201,6 +201,7 @@ module _ {F : Type 0} (layout : F → Layout) (h : HeapState F) (w : World) (pas
         stay : ThingsStay h made
         stay = record {
           pools = λ n low. low;
+          caches = omega arith;
           tables = λ k some. some;
           areas = λ k some. some;
           blocks = λ n low. low;
@@ -208,6 +209,7 @@ module _ {F : Type 0} (layout : F → Layout) (h : HeapState F) (w : World) (pas
               (λ other apart. kept_other h.points.points key other (Some new) apart) k some;
           dependencies = λ n low. low;
           chains = λ n low. low;
+          transforms = refl;
         }
 
     -- ---- its checks
@@ -330,7 +332,9 @@ module _ {F : Type 0} (layout : F → Layout) (h : HeapState F) (w : World) (pas
                   points = record h.points { points = points };
                   live_points = h.live_points - 1;
                   names = names;
-                }) w.graph.names w.graph.labels parts.names name (thing.Point p.key) (point_name h name p named) updates stay refl;
+                }) w.graph.names w.graph.labels parts.names name (thing.Point p.key)
+                    (point_name h name p named) updates stay refl (omega arith)
+                    parts.names.transform_count;
               });
         })
       where

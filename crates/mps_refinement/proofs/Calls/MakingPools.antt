@@ -52,6 +52,7 @@ use Rattle.mps_trace_laws.specs.Image.Image.{black_cells}
 use Rattle.mps_laws.proofs.LeftByActs.{owners}
 use Rattle.mps_refinement.proofs.Worlds.Known.{IsKnown}
 use Rattle.mps_refinement.proofs.Summaries.OtherPools.{pool_made_summed}
+use Rattle.mps_refinement.proofs.Parts.TransformParts.{transforms_still}
 
 module _ {F : Type 0} (layout : F → Layout) (h : HeapState F) (name : Name) (p : Pool F) where
   module _ (w : World) (past : Past) (parts : AreParts layout past h w) (known : IsKnown past.time w) (q : world.Pool)
@@ -110,6 +111,21 @@ module _ {F : Type 0} (layout : F → Layout) (h : HeapState F) (name : Name) (p
         ap (λ o. option_map_or (λ (y : world.Pool). is_copying_kind y.kind) o false)
         (slice_get-kept w.pools q of.0 x.pool of.1 ∙ sym of.1)
 
+    -- so is whether it moves an object
+    moved_as_before : (id at : ℕ) → entry_at w.addresses id ≡ Some at
+        → world.is_copying_object (record w { pools = pools }) id ≡ world.is_copying_object w id
+    moved_as_before id at there =
+        let o = parts.image.placed.exists id at there in
+        let low = all-at (IsPoolThere w.pools) (owners w.graph) id o.0.pool known.pools.of_objects
+        (slice_get-map (λ (x : graph.Object). x.pool) w.graph.objects id ∙ ap (option_map (λ (x : graph.Object). x.pool)) o.1) in
+        let of = there_is w.pools o.0.pool low in
+        let same : world.is_copying_pool (record w { pools = pools }) o.0.pool ≡ world.is_copying_pool w o.0.pool =
+        ap (λ x. option_map_or (λ (y : world.Pool). is_copying_kind y.kind) x false)
+        (slice_get-kept w.pools q of.0 o.0.pool of.1 ∙ sym of.1)
+        in
+        ap (λ x. option_map_or (λ (y : graph.Object). world.is_copying_pool (record w { pools = pools }) y.pool) x false) o.1
+        ∙ same ∙ sym (ap (λ x. option_map_or (λ (y : graph.Object). world.is_copying_pool w y.pool) x false) o.1)
+
     -- so are the formats of the pools that objects have
     format_as_before : (id : ℕ) (o : graph.Object) → slice_get w.graph.objects id ≡ Some o
         → pool_layout (record w { pools = pools }) o.pool ≡ pool_layout w o.pool
@@ -145,11 +161,14 @@ module _ {F : Type 0} (layout : F → Layout) (h : HeapState F) (name : Name) (p
             image_stands = other_formats_stand (setting_at past.time h.segs w) (pool_layout (record w { pools = pools })) (memory_in h.segs)
                 w.addresses past.time.colours (black_cells past.time.condemned past.time.colours) format_as_before parts.image;
             words_summed = pool_made_summed layout past h w parts known.laid known.pools p;
+            transforms_are = transforms_still past.transform_number (world.is_copying_object w)
+                (world.is_copying_object (record w { pools = pools })) w.addresses w.addresses h.beside.transforms w.graph.transforms
+                (world.pairs_in w.state) (λ id at paired there. (there, moved_as_before id at there)) parts.transforms;
             names_are = named_made past past h made w.graph.names w.graph.labels parts.names name (thing.Pool number)
                 (graph.PoolThing (length w.pools))
                 makes.names free (ap graph.PoolThing (makes.number_is ∙ sym parts.pools.count)) (λ other there. refl) stay
                 (let e = makes.number_is in omega (arith, e, longer))
-                (λ there. let e = makes.number_is in omega (arith, e, there)) refl;
+                (λ there. let e = makes.number_is in omega (arith, e, there)) refl refl;
           })));
     }
       where
@@ -170,12 +189,14 @@ module _ {F : Type 0} (layout : F → Layout) (h : HeapState F) (name : Name) (p
         stay : ThingsStay h made
         stay = record {
           pools = λ n low. omega (arith, low, longer);
+          caches = omega arith;
           tables = λ k some. some;
           areas = λ k some. some;
           blocks = λ n low. low;
           points = λ k some. some;
           dependencies = λ n low. low;
           chains = λ n low. low;
+          transforms = refl;
         }
 
     limit_same : Alike (refuse_at_limit (length h.pools) most_pools) (refuse_at_limit (length w.pools) most_pools)

@@ -72,6 +72,7 @@ module _ {F : Type 0} (layout : F → Layout) (h : HeapState F) (name : Name) (s
         stay : ThingsStay h made
         stay = record {
           pools = λ n low. low;
+          caches = omega arith;
           tables = λ k some. kept_more (kept h.roots.tables) (kept after.roots.tables) key makes.table.tables.free
               makes.table.tables.others k some;
           areas = λ k some. subst (λ rows. IsSome (kept rows k)) (sym makes.table.areas) some;
@@ -79,6 +80,7 @@ module _ {F : Type 0} (layout : F → Layout) (h : HeapState F) (name : Name) (s
           points = λ k some. some;
           dependencies = λ n low. low;
           chains = λ n low. low;
+          transforms = refl;
         }
 
         are : AreOtherRoots layout past h w parts numbers past.area_number after.roots (h.live_roots + 1) (h.live_slots + slots) after.names
@@ -99,7 +101,7 @@ module _ {F : Type 0} (layout : F → Layout) (h : HeapState F) (name : Name) (s
               (thing.Table key) (graph.TableThing number) makes.names (free_root passed)
               (ap graph.TableThing (renumbered_here past.table_number key number))
               (tables_renumbered past h key number makes.table.tables.free) stay (ap is_some makes.table.tables.made)
-              (nothing_there (kept h.roots.tables key) makes.table.tables.free) refl;
+              (nothing_there (kept h.roots.tables key) makes.table.tables.free) refl refl;
         }
 
     table_alike : MakesAlike layout past h w (call.Table name slots) (check_root h name slots) (MakesTable h name slots)
@@ -142,6 +144,7 @@ module _ {F : Type 0} (layout : F → Layout) (h : HeapState F) (name : Name) (s
         stay : ThingsStay h made
         stay = record {
           pools = λ n low. low;
+          caches = omega arith;
           tables = λ k some. subst (λ ts. IsSome (kept ts k)) (sym makes.area.tables) some;
           areas = λ k some. kept_more (kept h.roots.areas) (kept after.roots.areas) key makes.area.areas.free
               makes.area.areas.others k some;
@@ -149,6 +152,7 @@ module _ {F : Type 0} (layout : F → Layout) (h : HeapState F) (name : Name) (s
           points = λ k some. some;
           dependencies = λ n low. low;
           chains = λ n low. low;
+          transforms = refl;
         }
 
         are : AreOtherRoots layout past h w parts past.table_number numbers after.roots (h.live_roots + 1) (h.live_slots + slots)
@@ -169,7 +173,7 @@ module _ {F : Type 0} (layout : F → Layout) (h : HeapState F) (name : Name) (s
               (thing.Area key) (graph.AreaThing number) makes.names (free_root passed)
               (ap graph.AreaThing (renumbered_here past.area_number key number))
               (areas_renumbered past h key number makes.area.areas.free) stay (ap is_some makes.area.areas.made)
-              (nothing_there (kept h.roots.areas key) makes.area.areas.free) refl;
+              (nothing_there (kept h.roots.areas key) makes.area.areas.free) refl refl;
         }
 
     area_alike : MakesAlike layout past h w (call.Area name slots) (check_root h name slots) (MakesArea h name slots)
@@ -220,12 +224,14 @@ module _ {F : Type 0} (layout : F → Layout) (h : HeapState F) (name : Name) (s
         stay : ThingsStay h made
         stay = record {
           pools = λ n low. low;
+          caches = omega arith;
           tables = λ k some. some;
           areas = λ k some. some;
           blocks = λ n low. omega (arith, low, longer);
           points = λ k some. some;
           dependencies = λ n low. low;
           chains = λ n low. low;
+          transforms = refl;
         }
 
         are : AreOtherRoots layout past h w parts past.table_number past.area_number roots (h.live_roots + 1) (h.live_slots + slots)
@@ -246,7 +252,7 @@ module _ {F : Type 0} (layout : F → Layout) (h : HeapState F) (name : Name) (s
               (graph.BlocksThing count)
               makes.names (free_root passed) (ap graph.BlocksThing same_count) (λ other there. refl) stay
               (let e = makes.number_is in omega (arith, e, longer))
-              (λ there. let e = makes.number_is in omega (arith, e, there)) refl;
+              (λ there. let e = makes.number_is in omega (arith, e, there)) refl refl;
         }
 
     blocks_alike : MakesAlike layout past h w (call.Blocks name slots) (check_root h name slots) (MakesBlocks h name slots)

@@ -15,11 +15,13 @@ use Rattle.mps_ld.specs.Flips.{none_yet}
 use Rattle.mps_model.specs.declared.call.Call.TheVariants as call
 use Rattle.mps_model.specs.declared.reply.Reply.TheVariants as reply
 use Rattle.mps_model.specs.Answer.{Replied}
-use Rattle.mps_model.specs.World.{World, empty_world_of}
+use Rattle.mps_model.specs.World.{World, empty_world_of, is_copying_object}
 use Rattle.mps_names.specs.State.{NamesState}
 use Rattle.mps_names.specs.declared.names.Thing.TheVariants as thing
 use Rattle.mps_heap_spec.specs.Arena.{new_heap}
 use Rattle.mps_refinement.specs.NewHeap.{NoNames, arena_step, new_world}
+use Rattle.mps_refinement.specs.Beside.{nothing_is_beside}
+use Rattle.mps_refinement.proofs.Parts.TransformParts.{no_transforms_yet}
 use Rattle.mps_refinement.specs.Numbering.{AreNumbered}
 use Rattle.mps_refinement.specs.RightStep.{IsRightIn}
 use Rattle.mps_refinement.specs.StandsFor.{AreParts, Past, numbered_thing, rests, time_at_rest}
@@ -53,7 +55,13 @@ module _ {F : Type 0} (layout : F → Layout) (formats : ℕ → Layout) (lawful
 
   -- nothing has a number yet
   abbrev no_past : Past
-  no_past = record { time = time_at_rest; table_number = λ key. key; area_number = λ key. key; point_number = λ key. key }
+  no_past = record {
+    time = time_at_rest;
+    table_number = λ key. key;
+    area_number = λ key. key;
+    point_number = λ key. key;
+    transform_number = λ key. key;
+  }
 
   no_point : (key : ℕ) → point_at no_points key ≡ None
   no_point key = none_kept Point max_points key
@@ -95,9 +103,13 @@ module _ {F : Type 0} (layout : F → Layout) (formats : ℕ → Layout) (lawful
       unique = λ name other t is. absurd (none-some t (sym (none.free name) ∙ is));
       once = tt;
       label_count = none.no_label;
+      cache_count = let no_cache = none.no_cache in omega (arith, no_cache);
       label_numbers = λ name number is. absurd (none-some (thing.Label number) (sym (none.free name) ∙ is));
+      transform_count = none.no_transform;
     };
     state = refl;
+    beside = nothing_is_beside;
+    transforms = no_transforms_yet (λ key. key) (is_copying_object world_then) [];
   }
 
   -- the step of `arena` is legal, and what the world after it is

@@ -46,7 +46,7 @@ place_alike (NoFreeRun need longest) = refl
 
 module _ {F : Type 0} (layout : F → Layout) (past : Past) (h : HeapState F) (w : World) (parts : AreParts layout past h w)
     (knows : IsKnown past.time w) (name : Name) (head : ℕ) where
-  same_state : (a : ArenaState) → state_of a ≡ w.state → is_unclamped a ≡ world.is_unclamped w
+  same_state : (a : ArenaState) → state_of a (world.pairs_in w.state) ≡ w.state → is_unclamped a ≡ world.is_unclamped w
   same_state arena.Unclamped e = ap world.is_unclamped_state e
   same_state arena.Clamped e = ap world.is_unclamped_state e
   same_state arena.Parked e = ap world.is_unclamped_state e

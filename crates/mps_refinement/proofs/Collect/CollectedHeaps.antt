@@ -11,7 +11,7 @@ use Rattle.mps_model.specs.Flip.{flip_act, is_nothing}
 use Rattle.mps_model.specs.World.{World, Parked}
 use Rattle.mps_root.specs.State.{RootsState, kept}
 use Rattle.mps_heap_spec.specs.Collecting.{IsCollected}
-use Rattle.mps_heap_spec.specs.State.{HeapState}
+use Rattle.mps_heap_spec.specs.State.{HeapState, without_pairs}
 use Rattle.mps_heap_spec.specs.declared.arena.ArenaState.{ArenaState}
 use Rattle.mps_heap_spec.specs.declared.arena.ArenaState.TheVariants as arena
 use Rattle.mps_buffer.specs.Points.{points_after_flip}
@@ -122,6 +122,7 @@ heap_flipped h h' zones arena_state running = record h {
   epochs = ld.epochs_after_flip h.epochs zones;
   tails = h'.tails;
   arena = arena_state;
+  beside = without_pairs h.beside;
   running = running;
 }
 
@@ -131,7 +132,7 @@ pub flipped_heap : {F : Type 0} (layout : F → Layout) (past : Past) (h h' : He
     → {of_flip : ℕ} → zones ≡ of_flip → (acted : List (Option Address)) (u : World)
     → IsButCollected (world_flipped w of_flip) u → HasSegmentsOf h'.segs u → AreRootsAfter h.roots h'.roots
     → AreNumbered (AreSlots acted) past.table_number (kept h'.roots.tables) w.graph.tables
-    → IsFlippedHeap past w of_flip h h' acted (record u { state = state_of arena_state })
+    → IsFlippedHeap past w of_flip h h' acted (record u { state = state_of arena_state [] })
 flipped_heap {F} layout past h h' w parts zones arena_state running is {of_flip} same acted u moved segments roots tables =
     let size = same_size w u of_flip moved in
     record {
@@ -143,7 +144,7 @@ flipped_heap {F} layout past h h' w parts zones arena_state running is {of_flip}
       tables_there = still_there h.roots h'.roots roots;
       points = ap (λ (x : HeapState F). x.points) is;
       epochs = ap (λ (x : HeapState F). x.epochs) is ∙ ap (ld.epochs_after_flip h.epochs) same;
-      state = ap state_of (sym (ap (λ (x : HeapState F). x.arena) is));
+      state = ap (λ a. state_of a []) (sym (ap (λ (x : HeapState F). x.arena) is));
       areas = roots.areas;
       blocks = roots.blocks;
       live_roots = ap (λ (x : HeapState F). x.live_roots) is;
@@ -154,6 +155,7 @@ flipped_heap {F} layout past h h' w parts zones arena_state running is {of_flip}
       sizes = ap (λ (x : HeapState F). x.sizes) is;
       chains = ap (λ (x : HeapState F). x.chains) is;
       names = ap (λ (x : HeapState F). x.names) is;
+      beside = ap (λ (x : HeapState F). x.beside) is;
     }
 
 -- and where the collection has ended

@@ -1,5 +1,5 @@
 -- The parts of a heap after a flip, and what follows of its collection in the same call, stand for the world after them.
-use Rattle.std.proofs.Common.{◌≡◌, ◌∙◌, ℕ, ◌+◌, ◌≤◌, ◌<◌, true, false, refl, sym, ap, subst, length, map, Option, Some, None, IsSome, is_some, List}
+use Rattle.std.proofs.Common.{◌≡◌, ◌∙◌, ℕ, ◌+◌, ◌≤◌, ◌<◌, true, false, refl, sym, ap, subst, length, map, Option, Some, None, IsSome, is_some, List, [], arith}
 use Rattle.std.proofs.lemmas.Bool.{false≢true}
 use Rattle.std.specs.Prelude.{Bool, option_map, not}
 use Rattle.std.specs.Option.{option_map_or}
@@ -13,18 +13,25 @@ use Rattle.mps_ld.proofs.Flips.{flips_after}
 use Rattle.mps_ld.specs.Flips.{AreFlips}
 use Rattle.mps_model.specs.Graph.{ids_in_caches, ids_in_places, Object, contains, ids_in_blocks, ids_in_slots, is_automatic, object_at}
 use Rattle.mps_model.specs.World as world
-use Rattle.mps_model.specs.World.{World, object_is}
+use Rattle.mps_model.specs.World.{World, object_is, pairs_in}
 use Rattle.mps_model.specs.WellFormed.{IsWellFormed}
 use Rattle.mps_model.specs.Effect.{world_flipped}
 use Rattle.mps_model.proofs.Reaching.{list_all-contains}
 use Rattle.mps_root.specs.State.{kept}
-use Rattle.mps_abstract.proofs.Lists.{contains_left}
+use Rattle.mps_abstract.proofs.Lists.{contains_left, contains_right}
 use Rattle.mps_abstract.specs.Collecting.{Collecting}
 use Rattle.mps_names.specs.State.{NamesState, thing_named}
 use Rattle.mps_heap_spec.specs.State.{HeapState}
 use Rattle.mps_format.specs.Pools.{size_of_pool, policy_of_pool}
 use Rattle.mps_trace.specs.GenState.{ChainsState}
-use Rattle.mps_refinement.specs.StandsFor.{AreChains, AreParts, AreRegisteredAt, ArePools, IsPoint, Past, StandsAt, Time, address_of_id}
+use Rattle.mps_refinement.specs.StandsFor.{AreChains, AreParts, AreRegisteredAt, ArePools, IsPoint, Past, StandsAt, Time, address_of_id, state_of}
+use Rattle.mps_refinement.specs.Transforms.{AreTransforms}
+use Rattle.mps_neighbours.specs.Beside.{BesideState}
+use Rattle.mps_refinement.specs.Beside.{IsBeside}
+use Rattle.mps_refinement.proofs.Parts.BesideParts.{beside_others, beside_still}
+use Rattle.mps_neighbours.specs.Transforms.{emptied}
+use Rattle.mps_refinement.proofs.Parts.BlockParts.{unpaired}
+use Rattle.mps_refinement.proofs.Parts.TransformParts.{transforms_emptied}
 use Rattle.mps_refinement.specs.Numbering.{AreNumbered}
 use Rattle.mps_refinement.proofs.Parts.Named.{ThingsStay, named_alike, named_at}
 use Rattle.mps_refinement.proofs.Parts.Numbering.{kept_alike}
@@ -36,6 +43,7 @@ use Rattle.mps_refinement.proofs.Collect.SameAddresses.{same_places, tables_same
 use Rattle.mps_refinement.proofs.Collect.FlippedPoints.{points_counted, points_flipped, one_flip_more}
 use Rattle.mps_trace_laws.specs.Summaries.Summed.{AreWordsSummed}
 use Rattle.mps_format.specs.declared.pool.Pool.{Pool}
+use Rattle.mps_refinement.proofs.Parts.CachesStill.{same_caches}
 
 -- what is in tables of blocks is manual
 pub blocks_are_manual : (w : World) → IsWellFormed w → (id : Id) → contains (ids_in_blocks w.graph) id ≡ true
@@ -102,12 +110,14 @@ module _ {F : Type 0} (layout : F → Layout) (past : Past) (h after : HeapState
     stay : ThingsStay h after
     stay = record {
       pools = λ n less. subst (λ ps. n < length ps) (sym heap.pools) less;
+      caches = let beside = ap (λ (b : BesideState). length b.caches) heap.beside in omega (arith, beside);
       tables = heap.tables_there;
       areas = λ key there. ap (λ rows. is_some (kept rows key)) heap.areas ∙ there;
       blocks = λ n less. subst (λ rows. n < length rows) (sym heap.blocks) less;
       points = points_stay;
       dependencies = λ n less. subst (λ ds. n < length ds) (sym heap.dependencies) less;
       chains = λ n less. subst (λ (c : ChainsState). n < length c.chains) (sym heap.chains) less;
+      transforms = ap (λ (b : BesideState). b.transforms.live) heap.beside;
     }
 
     points_now : AreNumbered (IsPoint (length v.flips) (world.is_copying_pool v) v.point_memories) past.point_number (point_at after.points)
@@ -118,6 +128,9 @@ module _ {F : Type 0} (layout : F → Layout) (past : Past) (h after : HeapState
         v.graph.points) (sym heap.points)
         (points_flipped (length w.flips) (world.is_copying_pool w) w.point_memories past.point_number h.points w.graph.points made
         parts.points))
+
+    no_pairs : pairs_in v.state ≡ []
+    no_pairs = ap pairs_in heap.state ∙ unpaired after.arena
 
     -- at this time
     abbrev then : Past
@@ -168,7 +181,16 @@ module _ {F : Type 0} (layout : F → Layout) (past : Past) (h after : HeapState
           named_at past t after w.graph.names w.graph.labels
           (named_alike h after past w.graph.names w.graph.labels parts.names (λ name. ap (λ ns. thing_named ns name) heap.names)
           (ap (λ (ns : NamesState). ns.counts) heap.names) stay);
-      state = heap.state;
+      state = heap.state ∙ ap (state_of after.arena) (sym no_pairs);
+      beside = subst (λ (b : BesideState). IsBeside b v.addresses v.graph.transforms (pairs_in v.state) v.graph.caches v.graph.frames)
+          (sym heap.beside) (beside_others _ _ _ _ _ _ (emptied h.beside.transforms)
+          (beside_still _ _ _ _ _ _ parts.beside _ _ _ _ _
+          (same_caches w.addresses left.addresses w.graph.caches (λ id there. places.manual id (blocks_are_manual w formed id
+          (contains_right (ids_in_places w.graph) (ids_in_caches w.graph) id there))))));
+      transforms = subst (λ (b : BesideState). AreTransforms past.transform_number (world.is_copying_object v) v.addresses b.transforms
+          v.graph.transforms (pairs_in v.state)) (sym heap.beside)
+          (transforms_emptied past.transform_number (world.is_copying_object w) (world.is_copying_object v) w.addresses v.addresses
+          h.beside.transforms w.graph.transforms (pairs_in w.state) (pairs_in v.state) no_pairs parts.transforms);
     }
 
     pub flipped_parts : AreParts layout then after there

@@ -34,6 +34,7 @@ use Rattle.mps_refinement.proofs.Lookups.ManualBlocks.{IsBlock, IsWordOf, block_
 use Rattle.mps_refinement.proofs.Summaries.ManualWords.{manual_keeps}
 use Rattle.mps_refinement.proofs.Calls.Readings.{IsReading, act_reading, reading_is_right}
 use Rattle.mps_refinement.proofs.Worlds.Steps.{Leads, quiet_is_right}
+use Rattle.mps_refinement.proofs.Parts.ObjectKinds.{kinds_by_images}
 
 module _ {F : Type 0} (layout : F → Layout) (h : HeapState F) where
   -- ---- load
@@ -95,23 +96,29 @@ module _ {F : Type 0} (layout : F → Layout) (h : HeapState F) where
         → AreParts layout past (with_word h n value) (with_graph w (graph_with_word w.graph id k value))
     word_written at id k value n old b word =
         let objects = (graph_with_word w.graph id k value).objects in
+        let image_now = subst (λ m. StandsAt past.time (record h.segs { words = slice_set h.segs.words m value })
+        (with_graph w (graph_with_word w.graph id k value))) (sym word.is) (image_stored at id k value b word.low) in
         blocks_changed layout past h w (record h.segs { words = slice_set h.segs.words n value }) h.roots.blocks objects w.addresses
         w.graph.blocks w.segments parts (record {
           grains = refl;
           limit = refl;
           segments_are = parts.segments;
-          image =
-              subst (λ m. StandsAt past.time (record h.segs { words = slice_set h.segs.words m value })
-              (with_graph w (graph_with_word w.graph id k value))) (sym word.is) (image_stored at id k value b word.low);
+          image = image_now;
           arena = parts.arena;
           summed = manual_keeps layout past h w parts own.laid at id b k value n word.low word.is;
           tables = parts.tables;
           areas = parts.areas;
           blocks_are = parts.blocks;
+          cached = refl;
           count = refl;
           counted = refl;
           registered = parts.registered;
           messages = parts.messages;
+          paired = λ j from paired there. (
+            there,
+            kinds_by_images past.time h.segs (record h.segs { words = slice_set h.segs.words n value }) w objects refl parts.image
+                image_now j from there,
+          );
           there = refl;
         })
 

@@ -28,7 +28,7 @@ use Rattle.mps_laws.proofs.Positions.Segments.{IsAmong, among_aligned, found_seg
 use Rattle.mps_laws.proofs.Sound.SoundGraph.{IsSoundGraph, auto}
 use Rattle.mps_model.specs.Allocating.{address_of_placement}
 use Rattle.mps_model.specs.Checked.{Found}
-use Rattle.mps_model.specs.Graph.{Cell, NumberCell, Manual, Object, entry_at, is_automatic, size_of, with_last}
+use Rattle.mps_model.specs.Graph.{Cell, NumberCell, Manual, Object, entry_at, is_automatic, size_of, with_last, ids_in_caches, ids_in_places}
 use Rattle.mps_model.specs.World.{World, extent, is_automatic_kind, is_copying_pool, is_live, object_is, pool_is}
 use Rattle.mps_heap_spec.specs.declared.found.Entry.{Entry}
 use Rattle.mps_heap_spec.specs.State.{HeapState}
@@ -59,6 +59,11 @@ use Rattle.mps_format.specs.declared.pool.Policy.{Policy}
 use Rattle.mps_laws.proofs.Positions.Covered.{covered-shapes, covered_ascending}
 use Rattle.mps_refinement.proofs.Lookups.Policies.{lawful_of_policy}
 use Rattle.mps_refinement.proofs.Summaries.NewRuns.{new_run_summed, notes_sized, null_target, stays_held, zero_summed}
+use Rattle.mps_refinement.proofs.Parts.CachesStill.{same_caches}
+use Rattle.mps_refinement.proofs.Parts.ObjectMore.{address_still}
+use Rattle.mps_model.proofs.Reaching.{list_all-contains}
+use Rattle.mps_changes.proofs.OneMore.{parts_pass}
+use Rattle.mps_refinement.proofs.Parts.ObjectKinds.{kind_with_last, paired_automatic}
 
 -- ---- placements
 
@@ -452,6 +457,9 @@ module _ {F : Type 0} (layout : F → Layout) (past : Past) (h : HeapState F) (w
               (address_of_target addresses_after) refl (λ m k j there apart.
               let low = once.below m k j there in
               ap (λ o. option_map_or (λ x. x) o 0) (sym (entry_at-last w.addresses (Some at) j (omega (arith, low, lengths)))));
+          cached = same_caches w.addresses addresses_after w.graph.caches (λ j cached.
+              address_still w.addresses at j (list_all-contains (is_live w) (ids_in_caches w.graph) j
+              (parts_pass (is_live w) (ids_in_places w.graph) (ids_in_caches w.graph) known.live.blocks).1 cached));
           count = places_count w.graph.blocks found.number found.index found.list (Some new) has;
           counted = places_counted w.graph.blocks found.number found.index found.list (Some new) has;
           registered =
@@ -461,6 +469,10 @@ module _ {F : Type 0} (layout : F → Layout) (past : Past) (h : HeapState F) (w
               h.finals.registered w.graph.registered
               known.formed.registered parts.registered;
           messages = parts.messages ∙ messages_still w graph addresses_after still;
+          paired = λ j from paired there.
+              let automatic = paired_automatic w known.formed j paired in
+              let o = passes_there is_automatic (slice_get w.graph.objects j) automatic in
+              (still j automatic ∙ there, kind_with_last (is_copying_pool w) w.graph.objects object j o.0 o.1);
           there =
               ap (λ n. length (with_place h.roots.blocks n entry.index at)) same_key
               ∙ ap (λ i. length (with_place h.roots.blocks found.number i at)) same_index

@@ -7,7 +7,7 @@ use Rattle.mps_base.specs.Segment.{Segment}
 use Rattle.mps_format.specs.Layout.{Layout}
 use Rattle.mps_model.specs.Graph.{Object, PoolFrames, Slots}
 use Rattle.mps_model.specs.Making.{length_of}
-use Rattle.mps_model.specs.World.{World, pairs_in}
+use Rattle.mps_model.specs.World.{World, is_copying_object, pairs_in}
 use Rattle.mps_root.specs.State.{kept}
 use Rattle.mps_seg.specs.Segs.{SegsState}
 use Rattle.mps_heap_spec.specs.State.{HeapState}
@@ -16,9 +16,12 @@ use Rattle.mps_heap_spec.specs.declared.arena.ArenaState.TheVariants as arena
 use Rattle.mps_refinement.specs.Numbering.{AreNumbered}
 use Rattle.mps_refinement.specs.StandsFor.{Past, AreParts, AreSlots, AreWords, IsArena, address_of_id, address_of_target, StandsAt, AreRegisteredAt, state_of}
 use Rattle.mps_refinement.proofs.Parts.Named.{named_alike}
-use Rattle.mps_refinement.proofs.Parts.PartsByKind.{parts_of_kinds, points_of, pools_of, states_of}
+use Rattle.mps_refinement.proofs.Parts.BesideParts.{beside_still}
+use Rattle.mps_refinement.proofs.Parts.TransformParts.{KeepsPaired, transforms_still}
+use Rattle.mps_refinement.proofs.Parts.PartsByKind.{parts_of_kinds, points_of, pools_of}
 use Rattle.mps_trace_laws.specs.Summaries.Summed.{AreWordsSummed}
 use Rattle.mps_format.specs.Pools.{policy_of_pool}
+use Rattle.mps_refinement.specs.Beside.{kept_cache}
 
 module _ {F : Type 0} (h : HeapState F) (segs : SegsState) (blocks : List (List ℕ)) where
   -- the state with these segments and places
@@ -43,11 +46,15 @@ pub record AreBlocks {F : Type 0} (layout : F → Layout) (past : Past) (h : Hea
   pub tables : AreNumbered (AreSlots addresses) past.table_number (kept h.roots.tables) w.graph.tables
   pub areas : AreNumbered (AreWords addresses) past.area_number (kept h.roots.areas) w.graph.areas
   pub blocks_are : blocks ≡ map (map (address_of_target addresses)) places
+  pub cached : map (kept_cache w.addresses) w.graph.caches ≡ map (kept_cache addresses) w.graph.caches
   pub count : length places ≡ length w.graph.blocks
   pub counted : sum_by length places ≡ sum_by length w.graph.blocks
   pub registered : AreRegisteredAt past.time addresses h.finals.registered w.graph.registered
   pub messages : h.finals.messages ≡ map (address_of_id addresses) w.graph.messages
   pub there : length blocks ≡ length h.roots.blocks
+  -- objects in pairs of transforms are what they were, where they were
+  pub paired : KeepsPaired (is_copying_object w) (is_copying_object (world_with_blocks w objects addresses places segments)) w.addresses
+      addresses (pairs_in w.state)
 
 pub blocks_changed : {F : Type 0} (layout : F → Layout) (past : Past) (h : HeapState F) (w : World) (segs : SegsState)
     (blocks : List (List ℕ)) (objects : List Object) (addresses : List (Option Address)) (places : List Slots) (segments : List Segment)
@@ -65,17 +72,26 @@ blocks_changed layout past h w segs blocks objects addresses places segments par
     (points_of parts) (are.registered, are.messages) parts.dependencies (pools_of parts)
     (named_alike h (with_blocks h segs blocks) past w.graph.names w.graph.labels parts.names (λ name. refl) refl (record {
       pools = λ n low. low;
+      caches = omega arith;
       tables = λ key some. some;
       areas = λ key some. some;
       blocks = λ n low. let same = are.there in omega (arith, low, same);
       points = λ key some. some;
       dependencies = λ n low. low;
       chains = λ n low. low;
-    }))
-    (states_of parts)
+      transforms = refl;
+    })) (
+      parts.flips,
+      parts.point_flips,
+      parts.state,
+      beside_still _ _ _ _ _ _ parts.beside _ _ _ _ _ are.cached,
+      transforms_still past.transform_number (is_copying_object w)
+          (is_copying_object (world_with_blocks w objects addresses places segments))
+          w.addresses addresses h.beside.transforms w.graph.transforms (pairs_in w.state) are.paired parts.transforms,
+    )
 
--- a heap has no pairs of transforms
-pub unpaired : (a : ArenaState) → pairs_in (state_of a) ≡ []
+-- an arena has no pairs of transforms but those that are given
+pub unpaired : (a : ArenaState) → pairs_in (state_of a []) ≡ []
 unpaired arena.Unclamped = refl
 unpaired arena.Clamped = refl
 unpaired arena.Parked = refl
@@ -113,6 +129,8 @@ parts_with_pairs layout past h w pairs unpaired p = record {
   dependents = unpaired p.dependents;
   names = p.names;
   state = p.state;
+  beside = p.beside;
+  transforms = p.transforms;
 }
 
 -- a world with other frames of pools
@@ -148,4 +166,6 @@ parts_with_frames layout past h w frames p = record {
   dependents = p.dependents;
   names = p.names;
   state = p.state;
+  beside = beside_still _ _ _ _ _ _ p.beside _ _ _ _ _ refl;
+  transforms = p.transforms;
 }

@@ -1,5 +1,5 @@
 -- After a live reservation became a block the parts of a heap stand for those of the world with the new object.
-use Rattle.std.proofs.Common.{◌≡◌, ◌∙◌, ℕ, ◌+◌, ◌*◌, ◌%◌, ◌<◌, ◌≤◌, true, false, refl, sym, ap, subst, List, [], ◌∷◌, ◌++◌, length, map, Option, Some, None, Contains, inl, inr, arith}
+use Rattle.std.proofs.Common.{◌≡◌, ◌∙◌, ℕ, ◌+◌, ◌*◌, ◌%◌, ◌<◌, ◌≤◌, true, false, refl, sym, ap, subst, List, [], ◌∷◌, ◌++◌, length, map, Option, Some, None, Contains, inl, inr, arith, is_some}
 use Rattle.std.proofs.lemmas.Bool.{and_parts, cases_eq}
 use Rattle.std.proofs.lemmas.Option.{none-some, same_Some}
 use Rattle.std.specs.Prelude.{◌&&◌, not, slice_get, slice_set, if◌then◌else◌, ◌≢◌, Bool}
@@ -31,14 +31,15 @@ use Rattle.mps_model.specs.Allocating as model
 use Rattle.mps_model.specs.Graph as graph
 use Rattle.mps_model.specs.Graph.{Object, Reservation, entry_at, with_last}
 use Rattle.mps_model.specs.Making.{is_weak_rank}
-use Rattle.mps_model.specs.World.{World, covered, extent, extents_of, is_copying_pool, is_live, reserved_extents}
+use Rattle.mps_model.specs.World.{World, covered, extent, extents_of, is_copying_pool, is_live, reserved_extents, is_copying_object, pairs_in}
 use Rattle.mps_heap_spec.specs.State.{HeapState}
 use Rattle.mps_refinement.specs.StandsFor.{AreParts, NoneHeld, IsArena, IsHeld, IsPoint, Past, StandsAt, setting_at}
 use Rattle.mps_refinement.proofs.Worlds.AtHand.{extent_there, there_after}
 use Rattle.mps_refinement.proofs.Parts.Counts.{reservation_written_points}
 use Rattle.mps_refinement.proofs.Worlds.Known.{IsKnown}
 use Rattle.mps_refinement.proofs.Parts.ObjectMore.{areas_still, blocks_still, ids_still, tables_still, address_still}
-use Rattle.mps_refinement.proofs.Parts.PartsByKind.{parts_of_kinds, arena_of, pools_of, states_of}
+use Rattle.mps_refinement.proofs.Parts.BesideParts.{beside_still}
+use Rattle.mps_refinement.proofs.Parts.PartsByKind.{parts_of_kinds, arena_of, pools_of}
 use Rattle.mps_refinement.proofs.Parts.Named.{named_alike}
 use Rattle.mps_refinement.proofs.Parts.PointWritten.{other_point, points_stay, points_there, reservation_fits, resting_points, written_point}
 use Rattle.mps_refinement.specs.Numbering.{AreNumbered}
@@ -49,6 +50,10 @@ use Rattle.mps_seg.specs.Collecting.{is_condemned_at, is_white_at}
 use Rattle.mps_extents.specs.Table.{bit}
 use Rattle.mps_trace_laws.proofs.Image.SegmentMarks.{keeping_marks}
 use Rattle.mps_refinement.proofs.Parts.Registered.{as_before}
+use Rattle.mps_refinement.proofs.Parts.CachesStill.{same_caches}
+use Rattle.mps_model.proofs.Reaching.{list_all-contains}
+use Rattle.mps_refinement.proofs.Parts.TransformParts.{transforms_still}
+use Rattle.mps_refinement.proofs.Parts.ObjectKinds.{kind_with_last}
 
 -- ---- segments
 
@@ -321,5 +326,18 @@ module _ {F : Type 0} (layout : F → Layout) (past : Past) (h : HeapState F) (w
       parts.dependencies (pools_of parts)
       (named_alike h heap_made past w.graph.names w.graph.labels parts.names (λ name. refl) refl
       (points_stay layout past h w parts segs_made
-      (with_point h.points key (Some (after_close p))) (points_there h.points key p (after_close p) at_key)))
-      (states_of parts)
+      (with_point h.points key (Some (after_close p))) (points_there h.points key p (after_close p) at_key))) (
+        parts.flips,
+        parts.point_flips,
+        parts.state,
+        beside_still _ _ _ _ _ _ parts.beside _ _ _ _ _
+            (same_caches w.addresses (with_last w.addresses (Some at)) w.graph.caches (λ id cached.
+            address_still w.addresses at id (list_all-contains (is_live w) (graph.ids_in_caches w.graph) id
+            (parts_pass (is_live w) (graph.ids_in_places w.graph) (graph.ids_in_caches w.graph) known.live.blocks).1 cached))),
+        transforms_still past.transform_number (is_copying_object w) (is_copying_object world_made) w.addresses world_made.addresses
+            h.beside.transforms w.graph.transforms (pairs_in w.state) (λ id was paired there.
+            let o = parts.image.placed.exists id was there in (
+              address_still w.addresses at id (ap is_some there) ∙ there,
+              kind_with_last (is_copying_pool w) w.graph.objects new_object id o.0 o.1,
+            )) parts.transforms,
+      )

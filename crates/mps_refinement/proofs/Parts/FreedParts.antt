@@ -22,7 +22,7 @@ use Rattle.mps_laws.proofs.Positions.Occupancy.{OfBlock, occupancy_of, shape_of}
 use Rattle.mps_laws.proofs.Positions.Segments.{IsAligned, IsAmong, among_without, found_segment, all_without, among_aligned, among_kept, ascending_without, found_among, same_by_base, AreAligned}
 use Rattle.mps_laws.proofs.Sound.SoundGraph.{IsSoundGraph, auto}
 use Rattle.mps_pools.specs.Manual.{any_size, block_removed, segs_after_free, given_back, is_none, is_unused}
-use Rattle.mps_model.specs.Graph.{Object, entry_at, is_automatic, is_automatic_body, size_of}
+use Rattle.mps_model.specs.Graph.{Object, entry_at, is_automatic, is_automatic_body, size_of, ids_in_caches}
 use Rattle.mps_model.specs.World as world
 use Rattle.mps_model.specs.World.{World, OneSize, AnySize, begins_in, is_any_size_kind, is_automatic_kind, object_is, is_copying_object, is_copying_pool, is_live}
 use Rattle.mps_model.specs.Effect.{with_address}
@@ -57,6 +57,8 @@ use Rattle.mps_seg.specs.Marks.{MarkTables}
 use Rattle.mps_extents.specs.Table.{bit}
 use Rattle.mps_trace_laws.specs.Summaries.Summed.{AreWordsSummed}
 use Rattle.mps_refinement.proofs.Summaries.FreedBlocks.{given_summed, removed_summed}
+use Rattle.mps_refinement.proofs.Parts.CachesStill.{same_caches, others_in}
+use Rattle.mps_refinement.proofs.Parts.ObjectKinds.{paired_automatic}
 
 -- ---- whether a segment is given back
 
@@ -382,6 +384,12 @@ module _ {F : Type 0} (layout : F → Layout) (past : Past) (h : HeapState F) (w
               table = has;
               entry = ap (slice_get found.list) is.found_index ∙ is.there ∙ ap Some (value ∙ ap Some same);
             }))))));
+        cached = same_caches w.addresses addresses_after w.graph.caches (λ j cached. entry_at-set_other w.addresses id j None
+            (others_in id (ids_in_caches w.graph) (once.not_cached found.number found.index id (record {
+              row = found.list;
+              table = has;
+              entry = ap (slice_get found.list) is.found_index ∙ is.there ∙ ap Some value;
+            })) j cached));
         count = places_count w.graph.blocks found.number found.index found.list None has;
         counted = places_counted w.graph.blocks found.number found.index found.list None has;
         registered =
@@ -390,6 +398,7 @@ module _ {F : Type 0} (layout : F → Layout) (past : Past) (h : HeapState F) (w
             h.finals.registered w.graph.registered
             known.formed.registered parts.registered;
         messages = parts.messages ∙ messages_still w graph addresses_after still;
+        paired = λ j from paired there. (still j (paired_automatic w known.formed j paired) ∙ there, refl);
         there =
             ap (λ n. length (with_place h.roots.blocks n entry.index 0)) same_key
             ∙ ap (λ i. length (with_place h.roots.blocks found.number i 0)) same_index

@@ -1,6 +1,6 @@
 -- The parts of a heap that stand for those of a world, after things were made or dropped: a lemma for each kind of thing, over the
 -- facts that change.
-use Rattle.std.proofs.Common.{◌≡◌, ℕ, ◌<◌, refl, sym, ap, subst, List, length, map, Option, IsSome}
+use Rattle.std.proofs.Common.{◌≡◌, ℕ, ◌<◌, Bool, refl, sym, ap, subst, List, length, map, Option, IsSome, arith}
 use Rattle.mps_base.specs.declared.names.Name.{Name}
 use Rattle.mps_buffer.specs.declared.point.Point.{Point}
 use Rattle.mps_format.specs.Layout.{Layout}
@@ -12,9 +12,13 @@ use Rattle.mps_model.specs.World as world
 use Rattle.mps_model.specs.World.{World, Dependency, PointMemory}
 use Rattle.mps_model.specs.Checked.{with_graph}
 use Rattle.mps_names.specs.State.{NamesState, IsSameMap}
+use Rattle.mps_neighbours.specs.Beside.{BesideState}
 use Rattle.mps_root.specs.State.{RootsState, kept}
 use Rattle.mps_heap_spec.specs.Making.{IsUntouched}
 use Rattle.mps_heap_spec.specs.State.{HeapState}
+use Rattle.mps_heap_spec.specs.Transforming.{with_transforms}
+use Rattle.mps_neighbours.specs.Beside.{BesideState}
+use Rattle.mps_neighbours.specs.Transforms.{TransformsState}
 use Rattle.mps_format.specs.Pools.{size_of_pool, policy_of_pool}
 use Rattle.mps_heap_spec.specs.declared.arena.ArenaState.{ArenaState}
 use Rattle.mps_format.specs.declared.pool.Pool.{Pool}
@@ -22,22 +26,26 @@ use Rattle.mps_trace.specs.AmcState.{with_pool}
 use Rattle.mps_trace.specs.GenState.{ChainsState}
 use Rattle.mps_pools.specs.Pools.{tails_on, with_pool_on}
 use Rattle.mps_refinement.specs.Numbering.{AreNumbered, AreOrdered}
+use Rattle.mps_refinement.specs.Transforms.{AreTransforms}
 use Rattle.mps_refinement.specs.StandsFor.{AreChains, AreNamed, AreParts, ArePools, AreSlots, AreWords, IsPoint, Past, StandsFor, address_of_target, kept_of, state_of, IsArena, IsInTime, StandsAt, collector_of}
 use Rattle.mps_refinement.proofs.Parts.Named.{ThingsStay, named_alike}
+use Rattle.mps_refinement.proofs.Parts.BesideParts.{beside_others, beside_still}
 use Rattle.mps_refinement.proofs.Parts.PartsByKind.{parts_of_kinds, arena_of, finals_of, image_of, points_of, pools_of, roots_of, states_of}
 use Rattle.mps_trace_laws.specs.Summaries.Summed.{AreWordsSummed}
 
 -- where the things are those of another state, all stay
 pub all_stay : {F : Type 0} (h after : HeapState F) → after.pools ≡ h.pools → after.roots ≡ h.roots → after.points ≡ h.points
-    → after.dependencies ≡ h.dependencies → after.chains ≡ h.chains → ThingsStay h after
-all_stay h after pools roots points dependencies chains = record {
+    → after.dependencies ≡ h.dependencies → after.chains ≡ h.chains → after.beside ≡ h.beside → ThingsStay h after
+all_stay h after pools roots points dependencies chains beside = record {
   pools = λ n low. subst (λ ps. n < length ps) (sym pools) low;
+  caches = let same = ap (λ (b : BesideState). length b.caches) beside in omega (arith, same);
   tables = λ key some. subst (λ (r : RootsState). IsSome (kept r.tables key)) (sym roots) some;
   areas = λ key some. subst (λ (r : RootsState). IsSome (kept r.areas key)) (sym roots) some;
   blocks = λ n low. subst (λ (r : RootsState). n < length r.blocks) (sym roots) low;
   points = λ key some. subst (λ ps. IsSome (Rattle.mps_buffer.specs.Points.point_at ps key)) (sym points) some;
   dependencies = λ n low. subst (λ ds. n < length ds) (sym dependencies) low;
   chains = λ n low. subst (λ (c : ChainsState). n < length c.chains) (sym chains) low;
+  transforms = ap (λ (b : BesideState). b.transforms.live) beside;
 }
 
 module _ {F : Type 0} (layout : F → Layout) (past : Past) (h : HeapState F) (w : World) (parts : AreParts layout past h w) where
@@ -142,6 +150,8 @@ module _ {F : Type 0} (layout : F → Layout) (past : Past) (h : HeapState F) (w
         past.point_number (kept h.points.points) w.graph.points
     pub image_stands : StandsAt past.time h.segs (world_of_pools numbered w.graph.names)
     pub words_summed : AreWordsSummed layout (map policy_of_pool pools) h.segs
+    pub transforms_are : AreTransforms past.transform_number (world.is_copying_object (world_of_pools numbered w.graph.names)) w.addresses
+        h.beside.transforms w.graph.transforms (world.pairs_in w.state)
     pub names_are : AreNamed past (state_of_pools pools sizes chain names) named w.graph.labels
 
   pub pools_changed : (pools : List (Pool F)) (sizes : List ℕ) (chain : Option ℕ) (names : NamesState) (numbered : List world.Pool)
@@ -151,7 +161,7 @@ module _ {F : Type 0} (layout : F → Layout) (past : Past) (h : HeapState F) (w
       parts_of_kinds (arena_of parts) (are.image_stands, parts.arena, are.words_summed) (roots_of parts)
       (are.points_are, parts.points_counted)
       (finals_of parts) parts.dependencies (parts.lawful, are.pools_are, are.sizes_are, are.chains_are, parts.dependents) are.names_are
-      (states_of parts)
+      (parts.flips, parts.point_flips, parts.state, parts.beside, are.transforms_are)
 
   -- ---- dependencies
 
@@ -181,27 +191,75 @@ module _ {F : Type 0} (layout : F → Layout) (past : Past) (h : HeapState F) (w
       parts_of_kinds (arena_of parts) (image_of parts) (roots_of parts) (points_of parts) (finals_of parts) parts.dependencies
       (pools_of parts) names_are (states_of parts)
 
-  -- ---- the arena's limit and state, and names in another order
+  -- ---- transforms
 
-  pub arena_changed : (limit : ℕ) (arena : ArenaState) (state : world.ArenaState) (names : NamesState) → state ≡ state_of arena
-      → IsSameMap h.names names → names.counts ≡ h.names.counts
-      → AreParts layout past (record h { segs = record h.segs { limit = limit }; arena = arena; names = names })
-      (record w { limit = limit; state = state })
-  arena_changed limit arena state names is same counts =
-      let after = record h { segs = record h.segs { limit = limit }; arena = arena; names = names } in
+  -- the state with other transforms and names
+  abbrev pub state_of_transforms : TransformsState → NamesState → HeapState F
+  state_of_transforms transforms names = record (with_transforms h transforms) { names = names }
+
+  -- the world with other transforms, names and pairs
+  abbrev pub world_of_transforms : List Bool → List NamedThing → world.ArenaState → World
+  world_of_transforms transforms named state =
+      record w { graph = record w.graph { names = named; transforms = transforms }; state = state }
+
+  pub transforms_changed : (number : ℕ → ℕ) (transforms : TransformsState) (names : NamesState) (theirs : List Bool)
+      (named : List NamedThing) (state : world.ArenaState) → state ≡ state_of h.arena (world.pairs_in state)
+      → AreTransforms number (world.is_copying_object w) w.addresses transforms theirs (world.pairs_in state)
+      → AreNamed (record past { transform_number = number }) (state_of_transforms transforms names) named w.graph.labels
+      → AreParts layout (record past { transform_number = number }) (state_of_transforms transforms names)
+      (world_of_transforms theirs named state)
+  transforms_changed number transforms names theirs named state is are names_are =
+      parts_of_kinds (arena_of parts) (image_of parts) (roots_of parts) (points_of parts) (finals_of parts) parts.dependencies
+      (pools_of parts) names_are (
+        parts.flips,
+        parts.point_flips,
+        is,
+        beside_others _ _ _ _ _ _ transforms (beside_still _ _ _ _ _ _ parts.beside _ _ _ _ _ refl),
+        are,
+      )
+
+  -- ---- the arena's limit and state, pairs of transforms, and names in another order
+
+  pub arena_changed : (limit : ℕ) (arena : ArenaState) (transforms : TransformsState) (state : world.ArenaState) (names : NamesState)
+      → state ≡ state_of arena (world.pairs_in state)
+      → AreTransforms past.transform_number (world.is_copying_object w) w.addresses transforms w.graph.transforms (world.pairs_in state)
+      → transforms.live ≡ h.beside.transforms.live → IsSameMap h.names names → names.counts ≡ h.names.counts
+      → AreParts layout past (record (with_transforms h transforms) {
+        segs = record h.segs { limit = limit };
+        arena = arena;
+        names = names;
+      }) (record w { limit = limit; state = state })
+  arena_changed limit arena transforms state names is are live same counts =
+      let after = record (with_transforms h transforms) { segs = record h.segs { limit = limit }; arena = arena; names = names } in
       parts_of_kinds (parts.grains, refl, parts.segments)
       (parts.image, parts.arena, record { sized = parts.summed.sized; each = parts.summed.each }) (roots_of parts) (points_of parts)
       (finals_of parts)
       parts.dependencies (pools_of parts)
-      (named_alike h after past w.graph.names w.graph.labels parts.names same counts (all_stay h after refl refl refl refl refl))
-      (parts.flips, parts.point_flips, is)
+      (named_alike h after past w.graph.names w.graph.labels parts.names same counts (record {
+        pools = λ n low. low;
+        caches = omega arith;
+        tables = λ key some. some;
+        areas = λ key some. some;
+        blocks = λ n low. low;
+        points = λ key some. some;
+        dependencies = λ n low. low;
+        chains = λ n low. low;
+        transforms = live;
+      })) (
+        parts.flips,
+        parts.point_flips,
+        is,
+        beside_others _ _ _ _ _ _ transforms (beside_still _ _ _ _ _ _ parts.beside _ _ _ _ _ refl),
+        are,
+      )
 
   -- what stands for the world stands for it with other names of the same meaning
   pub untouched_parts : (names : NamesState) → IsSameMap h.names names → names.counts ≡ h.names.counts
       → AreParts layout past (record h { names = names }) w
   untouched_parts names same counts =
       subst (λ (v : World). AreParts layout past (record h { names = names }) v)
-      (ap (λ (l : ℕ). record w { limit = l }) parts.limit) (arena_changed h.segs.limit h.arena w.state names parts.state same counts)
+      (ap (λ (l : ℕ). record w { limit = l }) parts.limit)
+      (arena_changed h.segs.limit h.arena h.beside.transforms w.state names parts.state parts.transforms refl same counts)
 
 -- a call that changed nothing that can be seen
 pub untouched_stands : {F : Type 0} (layout : F → Layout) (h after : HeapState F) (w : World) → IsUntouched h after → StandsFor layout h w

@@ -10,7 +10,7 @@ use Rattle.mps_model.specs.Checked.{Found, with_graph}
 use Rattle.mps_model.specs.Accessing.{with_word}
 use Rattle.mps_model.specs.Graph.{AreaWord, Object, Slots}
 use Rattle.mps_model.specs.Making.{live_roots, live_slots}
-use Rattle.mps_model.specs.World.{World, Dependency}
+use Rattle.mps_model.specs.World.{World, Dependency, is_copying_object, pairs_in}
 use Rattle.mps_ld.specs.State.{LdState}
 use Rattle.mps_root.specs.State.{RootsState, kept, with_item}
 use Rattle.mps_trace_laws.specs.Summaries.Summed.{AreWordsSummed}
@@ -29,6 +29,8 @@ use Rattle.mps_refinement.proofs.Parts.Ordering.{still_ordered}
 use Rattle.mps_refinement.proofs.Parts.PartsByKind.{parts_of_kinds, arena_of, finals_of, image_of, points_of, pools_of, roots_of, states_of}
 use Rattle.mps_refinement.proofs.Parts.PartsMade.{all_stay}
 use Rattle.mps_refinement.proofs.Lookups.Lookups.{IsSlotEntry, IsWordEntry}
+use Rattle.mps_refinement.proofs.Parts.ObjectKinds.{kinds_by_images}
+use Rattle.mps_refinement.proofs.Parts.TransformParts.{transforms_still}
 
 -- ---- the parts, where some of them are others
 
@@ -71,8 +73,19 @@ module _ {F : Type 0} (layout : F → Layout) (past : Past) (h : HeapState F) (w
       let after : HeapState F = record h { segs = record h.segs { words = words; summaries = summaries } } in
       parts_of_kinds (arena_of parts) (image, parts.arena, summed) (roots_of parts) (points_of parts) (finals_of parts) parts.dependencies
       (pools_of parts)
-      (named_alike h after past w.graph.names w.graph.labels parts.names (λ name. refl) refl (all_stay h after refl refl refl refl refl))
-      (states_of parts)
+      (named_alike h after past w.graph.names w.graph.labels parts.names (λ name. refl) refl
+      (all_stay h after refl refl refl refl refl refl)) (
+        parts.flips,
+        parts.point_flips,
+        parts.state,
+        parts.beside,
+        transforms_still past.transform_number (is_copying_object w)
+            (is_copying_object (with_graph w (record w.graph { objects = objects }))) w.addresses w.addresses h.beside.transforms
+            w.graph.transforms (pairs_in w.state) (λ id at paired there. (
+              there,
+              kinds_by_images past.time h.segs (record h.segs { words = words }) w objects refl parts.image image id at there,
+            )) parts.transforms,
+      )
 
   -- other registrations and messages
   pub finals_written : (finals : FinalsState) (registered messages : List Id)
@@ -82,7 +95,7 @@ module _ {F : Type 0} (layout : F → Layout) (past : Past) (h : HeapState F) (w
   finals_written finals registered messages are waiting =
       parts_of_kinds (arena_of parts) (image_of parts) (roots_of parts) (points_of parts) (are, waiting) parts.dependencies (pools_of parts)
       (named_alike h (with_finals h finals) past w.graph.names w.graph.labels parts.names (λ name. refl) refl
-      (all_stay h (with_finals h finals) refl refl refl refl refl))
+      (all_stay h (with_finals h finals) refl refl refl refl refl refl))
       (states_of parts)
 
   -- other epochs and zones of the dependencies
@@ -93,12 +106,14 @@ module _ {F : Type 0} (layout : F → Layout) (past : Past) (h : HeapState F) (w
       parts_of_kinds (arena_of parts) (image_of parts) (roots_of parts) (points_of parts) (finals_of parts) are (pools_of parts)
       (named_alike h (record h { dependencies = states }) past w.graph.names w.graph.labels parts.names (λ name. refl) refl (record {
         pools = λ n low. low;
+        caches = omega arith;
         tables = λ key some. some;
         areas = λ key some. some;
         blocks = λ n low. low;
         points = λ key some. some;
         dependencies = λ n low. omega (arith, low, count);
         chains = λ n low. low;
+        transforms = refl;
       }))
       (states_of parts)
 
@@ -122,12 +137,14 @@ module _ {F : Type 0} (layout : F → Layout) (past : Past) (h : HeapState F) (w
         slots_counted = slot_written_slots w.graph found target is.has;
         stay = record {
           pools = λ n low. low;
+          caches = omega arith;
           tables = kept_still h.roots.tables entry.key entry.index at;
           areas = λ key some. some;
           blocks = λ n low. low;
           points = λ key some. some;
           dependencies = λ n low. low;
           chains = λ n low. low;
+          transforms = refl;
         };
       })
 
@@ -147,11 +164,13 @@ module _ {F : Type 0} (layout : F → Layout) (past : Past) (h : HeapState F) (w
         slots_counted = word_written_slots w.graph found word is.has;
         stay = record {
           pools = λ n low. low;
+          caches = omega arith;
           tables = λ key some. some;
           areas = kept_still h.roots.areas entry.key entry.index stored;
           blocks = λ n low. low;
           points = λ key some. some;
           dependencies = λ n low. low;
           chains = λ n low. low;
+          transforms = refl;
         };
       })

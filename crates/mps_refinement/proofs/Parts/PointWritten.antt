@@ -1,5 +1,5 @@
 -- The parts of a heap still stand for those of a world after a point was written in both, with what it has in the arena.
-use Rattle.std.proofs.Common.{◌≡◌, ◌∙◌, ℕ, zero, suc, Bool, false, refl, sym, ap, subst, List, [], ◌∷◌, length, Option, Some, IsSome, is_some, get_or, inl, inr, map}
+use Rattle.std.proofs.Common.{◌≡◌, ◌∙◌, ℕ, zero, suc, Bool, false, refl, sym, ap, subst, List, [], ◌∷◌, length, Option, Some, IsSome, is_some, get_or, inl, inr, map, arith}
 use Rattle.std.proofs.lemmas.Bool.{cases_eq}
 use Rattle.std.proofs.lemmas.Option.{same_Some}
 use Rattle.std.specs.Prelude.{◌≢◌, slice_get, slice_set}
@@ -175,12 +175,14 @@ module _ {F : Type 0} (layout : F → Layout) (past : Past) (h : HeapState F) (w
       → ThingsStay h (points_heap segs points)
   points_stay segs points still = record {
     pools = λ n low. low;
+    caches = omega arith;
     tables = λ key some. some;
     areas = λ key some. some;
     blocks = λ n low. low;
     points = still;
     dependencies = λ n low. low;
     chains = λ n low. low;
+    transforms = refl;
   }
 
   -- other segments and words, and other points
@@ -205,4 +207,4 @@ module _ {F : Type 0} (layout : F → Layout) (past : Past) (h : HeapState F) (w
       (roots_of parts) (anew.are, parts.points_counted ∙ sym anew.counted) (finals_of parts) parts.dependencies (pools_of parts)
       (named_alike h (points_heap segs points) past w.graph.names w.graph.labels parts.names (λ name. refl) refl
       (points_stay segs points anew.there))
-      (parts.flips, anew.flips ∙ parts.point_flips, parts.state)
+      (parts.flips, anew.flips ∙ parts.point_flips, parts.state, parts.beside, parts.transforms)

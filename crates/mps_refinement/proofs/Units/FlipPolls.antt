@@ -105,11 +105,11 @@ due_alike layout past h w parts = due_so h.chains h.segs.segments w parts.chains
 -- ---- the arena of one that polls
 
 pub unclamped_if_it_polls : {F : Type 0} (h : HeapState F) (checked : Checked Reserving) → polls_for h checked ≡ true
-    → state_of h.arena ≡ world.Unclamped
-unclamped_if_it_polls h (Err why) polling = absurd (false≢true polling)
-unclamped_if_it_polls h (Ok r) polling = of_arena h.arena (and_parts (is_unclamped h.arena) _ polling).0
+    → (pairs : List world.TransformPair) → state_of h.arena pairs ≡ world.Unclamped
+unclamped_if_it_polls h (Err why) polling pairs = absurd (false≢true polling)
+unclamped_if_it_polls h (Ok r) polling pairs = of_arena h.arena (and_parts (is_unclamped h.arena) _ polling).0
   where
-    of_arena : (a : ArenaState) → is_unclamped a ≡ true → state_of a ≡ world.Unclamped
+    of_arena : (a : ArenaState) → is_unclamped a ≡ true → state_of a pairs ≡ world.Unclamped
     of_arena arena.Unclamped is = refl
     of_arena arena.Clamped is = absurd (false≢true is)
     of_arena arena.Parked is = absurd (false≢true is)
@@ -119,7 +119,7 @@ unclamped_if_it_polls h (Ok r) polling = of_arena h.arena (and_parts (is_unclamp
 module _ {F : Type 0} (layout : F → Layout) (h : HeapState F) (whole : IsWhole h) (m : Moves)
     (room : most_moves h.segs.grains ≤ m.spare) (w : World) (st : StandsFor layout h w) (none : h.running ≡ None) (due : Due)
     (is : due_in h ≡ Some due) where
-  numbered : IsNumbered (condemnation (condemned_by due))
+  pub numbered : IsNumbered (condemnation (condemned_by due))
   numbered =
       chain_numbered due.chain due.generation
       (let within = due_within h.chains h.segs.segments 0 h.chains.chains due is in
@@ -148,7 +148,7 @@ module _ {F : Type 0} (layout : F → Layout) (h : HeapState F) (whole : IsWhole
         (laid_by_moves w st.reached ms flipped.legal)
 
     -- in an arena that is unclamped already it changes nothing more
-    module _ (unclamped : state_of h.arena ≡ world.Unclamped) where
+    module _ (unclamped : state_of h.arena (world.pairs_in w.state) ≡ world.Unclamped) where
       state_then : v.state ≡ world.Unclamped
       state_then = ap (λ (u : World). u.state) flipped.moved.world ∙ st.parts.state ∙ unclamped
 

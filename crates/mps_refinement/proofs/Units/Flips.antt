@@ -101,20 +101,20 @@ module _ {F : Type 0} (layout : F → Layout) (past : Past) (h : HeapState F) (w
   abbrev z : Traced
   z = traced (trace_of h'.pools h'.chains h'.tails) h'.segs m'
 
-  known_before : IsBefore layout h m w
+  pub known_before : IsBefore layout h m w
   known_before = is_before layout past h w parts known rest marked m room
 
-  before : StandsBefore layout t h.segs m h.points w
+  pub before : StandsBefore layout t h.segs m h.points w
   before = known_before.stands t of
 
-  abbrev at_rest : IsAtRest w
+  abbrev pub at_rest : IsAtRest w
   at_rest = before.objects.rest
 
   -- the objects that are to be scanned besides
-  abbrev others : List Id
+  abbrev pub others : List Id
   others = remembered_in h.segs w what
 
-  told : AreRemembered (collecting_at_flip h.segs w what) others
+  pub told : AreRemembered (collecting_at_flip h.segs w what) others
   told = remembered_is_enough w c (summary_at h.segs) at_rest may.refers
 
   zones : zones_at_flip (map policy_of_pool h.pools) h.chains what h.segs.segments ≡ condemned_zones w c
@@ -127,15 +127,15 @@ module _ {F : Type 0} (layout : F → Layout) (past : Past) (h : HeapState F) (w
 
   module _ (run : RunningState) (running : h'.running ≡ Some run)
       (begun : Begins layout t.formats t.chains what h.points h.roots h.finals here h'.roots h'.finals z run) where
-    act : IsActDone layout t h.segs m w what known_before.rows h.roots h'.roots h'.finals z run
+    pub act : IsActDone layout t h.segs m w what known_before.rows h.roots h'.roots h'.finals z run
     act =
         a_collection_begins flip_stands layout t h.segs m h.points h.roots h'.roots h.finals h'.finals w known_before.rows z run
         what before may known_before.areas known_before.roots begun
 
-    abbrev y : Collecting
+    abbrev pub y : Collecting
     y = act.after
 
-    some : is_nothing (condemned_by w c) ≡ false
+    pub some : is_nothing (condemned_by w c) ≡ false
     some = something_condemned layout past h w parts m t before what may.alike begun.some
 
     leads : IsFlipDone w c act.first y
@@ -145,7 +145,7 @@ module _ {F : Type 0} (layout : F → Layout) (past : Past) (h : HeapState F) (w
     moved = acted_moves w c others act.first y at_rest may.numbered some told act.fixes
 
     -- the state of the abstract collector in the unclamped arena
-    abbrev after : Collecting
+    abbrev pub after : Collecting
     after = record y { world = with_state y.world Unclamped }
 
     abbrev v : World
@@ -175,10 +175,10 @@ module _ {F : Type 0} (layout : F → Layout) (past : Past) (h : HeapState F) (w
         (tables_acted w at_rest (λ id at there. (before.segments.image.placed.address id at there).not_null) past.table_number h.roots
         h'.roots parts.tables known_before.rows known_before.roots.tables known_before.ordered roots y act.slots)
 
-    abbrev time_then : Time
+    abbrev pub time_then : Time
     time_then = time_now layout t.formats t.chains w.addresses z h'.finals run y act.stands
 
-    parts_then : AreParts layout (record past { time = time_then }) h' v
+    pub parts_then : AreParts layout (record past { time = time_then }) h' v
     parts_then =
         flipped_parts layout past h h' w parts known.formed made_then y y.world _ moved Unclamped time_then flipped places
         (image_now layout t.formats t.chains w.addresses z h'.finals run y act.stands)
@@ -211,7 +211,7 @@ module _ {F : Type 0} (layout : F → Layout) (past : Past) (h : HeapState F) (w
           units = r.units;
         }
 
-    runs_then : Runs time_then (collector_of h') v after
+    pub runs_then : Runs time_then (collector_of h') v after
     runs_then =
         let count = same_count w (flip_act w c) in
         let same = ap (λ (u : World). length u.graph.objects) leads.leads in
@@ -257,7 +257,7 @@ module _ {F : Type 0} (layout : F → Layout) (past : Past) (h : HeapState F) (w
         ∙ list_all-contains (is_live w) (ids_in_blocks w.graph) id known.live.blocks was)
 
     -- the world after the moves, in the unclamped arena
-    leads_to : with_state (world_after_moves w (flip_act w c)) Unclamped ≡ v
+    pub leads_to : with_state (world_after_moves w (flip_act w c)) Unclamped ≡ v
     leads_to = ap (λ u. with_state u Unclamped) leads.leads
 
     some_left : 0 < m'.spare

@@ -35,7 +35,7 @@ use Rattle.mps_refinement.proofs.Worlds.Known.{IsKnown, known_now}
 use Rattle.mps_refinement.proofs.Worlds.Staying.{one_world}
 
 -- what is shown of a running collection by the world that the abstract collector has
-in_its_world : {F : Type 0} {layout : F → Layout} {past : Past} {h : HeapState F} {w : World} (x : Collecting) (A : World → Type 0)
+pub in_its_world : {F : Type 0} {layout : F → Layout} {past : Past} {h : HeapState F} {w : World} (x : Collecting) (A : World → Type 0)
     → (AreParts layout past h x.world → IsKnown past.time x.world → IsReached x.world → Runs past.time (collector_of h) x.world x
     → A x.world) → AreParts layout past h w → IsKnown past.time w → IsReached w → Runs past.time (collector_of h) w x → A w
 in_its_world {layout = layout} {past = past} {h = h} x A shown parts knows reach r =

@@ -1,15 +1,16 @@
 -- After moves of a collector the parts of a heap stand for the world after them, where what isn't white stays where it is.
-use Rattle.std.proofs.Common.{◌≡◌, ◌∙◌, ◌+◌, ◌<◌, ◌≤◌, true, false, refl, sym, ap, subst, ◌++◌, map}
+use Rattle.std.proofs.Common.{◌≡◌, ◌∙◌, ◌+◌, ◌<◌, ◌≤◌, true, false, refl, sym, ap, subst, ◌++◌, map, arith}
 use Rattle.std.specs.Prelude.{not}
 use Rattle.mps_base.specs.Address.{Id, max_grains, word_of}
 use Rattle.mps_format.specs.Layout.{Layout}
 use Rattle.mps_model.specs.Graph.{contains, entry_at, ids_in_blocks, ids_in_caches, ids_in_holds, ids_in_places, ids_in_reservations, ids_in_slots, is_automatic}
 use Rattle.mps_model.specs.WellFormed.{IsWellFormed}
-use Rattle.mps_model.specs.World.{World, address_of, object_is}
+use Rattle.mps_model.specs.World.{World, address_of, is_copying_object, object_is, pairs_in}
 use Rattle.mps_model.proofs.Reaching.{list_all-contains}
 use Rattle.mps_abstract.specs.Collecting.{Collecting, Running, is_white_in}
 use Rattle.mps_abstract.specs.Leaving.{IsButCollected}
 use Rattle.mps_abstract.proofs.Lists.{contains_left, contains_right}
+use Rattle.mps_abstract.proofs.Rows.{still_runs}
 use Rattle.mps_trace.specs.State.{FinalsState}
 use Rattle.mps_trace_laws.specs.Fix.Tracing.{AreSegmentsOf}
 use Rattle.mps_trace_laws.specs.Image.Memory.{words_of_arena}
@@ -17,10 +18,13 @@ use Rattle.mps_heap_spec.specs.State.{HeapState}
 use Rattle.mps_refinement.specs.StandsFor.{AreParts, AreRegisteredAt, CollectorState, Past, StandsAt, Time, address_of_id}
 use Rattle.mps_refinement.proofs.Collect.SameAddresses.{areas_same, same_places, tables_same}
 use Rattle.mps_refinement.proofs.Parts.Named.{named_alike, named_at}
-use Rattle.mps_refinement.proofs.Parts.PartsByKind.{parts_of_kinds, points_of, states_of}
-use Rattle.mps_refinement.proofs.Worlds.InSteps.{manual_not_white}
+use Rattle.mps_refinement.proofs.Parts.BesideParts.{beside_still}
+use Rattle.mps_refinement.proofs.Parts.TransformParts.{none_paired, pairs_unparked, transforms_still}
+use Rattle.mps_refinement.proofs.Parts.PartsByKind.{parts_of_kinds, points_of}
+use Rattle.mps_refinement.proofs.Worlds.InSteps.{manual_not_white, running_unparked}
 use Rattle.mps_trace_laws.specs.Summaries.Summed.{AreWordsSummed}
 use Rattle.mps_format.specs.Pools.{policy_of_pool}
+use Rattle.mps_refinement.proofs.Parts.CachesStill.{same_caches}
 
 -- a heap after a collector's work: other segments and tails, registrations and messages, and a collection that is further on
 abbrev pub collected_heap : {F : Type 0} → HeapState F → CollectorState → FinalsState → HeapState F
@@ -78,6 +82,11 @@ module _ {F : Type 0} (layout : F → Layout) (past : Past) (h : HeapState F) (x
       stays id (manual_not_white x run id (list_all-contains (object_is (λ o. not (is_automatic o)) w) (ids_in_blocks w.graph) id
       formed.blocks (contains_left (ids_in_places w.graph) (ids_in_caches w.graph) id there)))
 
+  in_caches : (id : Id) → contains (ids_in_caches w.graph) id ≡ true → entry_at v.addresses id ≡ entry_at w.addresses id
+  in_caches id there =
+      stays id (manual_not_white x run id (list_all-contains (object_is (λ o. not (is_automatic o)) w) (ids_in_blocks w.graph) id
+      formed.blocks (contains_right (ids_in_places w.graph) (ids_in_caches w.graph) id there)))
+
   -- ---- the parts
 
   module _ (segments : AreSegmentsOf c.segs after.grains after.limit after.segments) (image : StandsAt t c.segs after)
@@ -119,14 +128,25 @@ module _ {F : Type 0} (layout : F → Layout) (past : Past) (h : HeapState F) (x
         (named_alike h (collected_heap h c finals) (record past { time = t }) w.graph.names w.graph.labels
         (named_at past t h w.graph.names w.graph.labels parts.names) (λ name. refl) refl (record {
           pools = λ n low. low;
+          caches = omega arith;
           tables = λ key some. some;
           areas = λ key some. some;
           blocks = λ n low. low;
           points = λ key some. some;
           dependencies = λ n low. low;
           chains = λ n low. low;
-        }))
-        (states_of parts)
+          transforms = refl;
+        })) (
+          parts.flips,
+          parts.point_flips,
+          parts.state,
+          beside_still _ _ _ _ _ _ parts.beside _ _ _ _ _
+              (same_caches w.addresses v.addresses w.graph.caches in_caches),
+          transforms_still past.transform_number (is_copying_object w) (is_copying_object v) w.addresses v.addresses h.beside.transforms
+              w.graph.transforms (pairs_in w.state) (none_paired (is_copying_object w) (is_copying_object v) w.addresses v.addresses
+              (pairs_in w.state) (pairs_unparked w.state
+              (running_unparked w formed (still_runs w x.running run.runs)))) parts.transforms,
+        )
 
     pub parts_moved : AreParts layout (record past { time = t }) (collected_heap h c finals) after
     parts_moved = subst (AreParts layout (record past { time = t }) (collected_heap h c finals)) (sym same) parts_there

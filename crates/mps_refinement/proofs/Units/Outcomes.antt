@@ -13,7 +13,7 @@ use Rattle.mps_model.specs.declared.call.Call.TheVariants as call
 use Rattle.mps_model.specs.declared.reply.Reply.TheVariants as reply
 use Rattle.mps_model.specs.Answer.{Answer, Replied}
 use Rattle.mps_model.specs.Collection.{Collection}
-use Rattle.mps_model.specs.World.{World, is_running, is_unclamped}
+use Rattle.mps_model.specs.World.{World, is_running, is_unclamped, pairs_in}
 use Rattle.mps_trace.specs.Collect.{most_moves}
 use Rattle.mps_pools.specs.Pools.{trace_of}
 use Rattle.mps_trace.specs.State.{FinalsState}
@@ -151,7 +151,7 @@ module _ {F : Type 0} (layout : F → Layout) (h : HeapState F) (whole : IsWhole
           subst (λ v. is_running v ≡ true) r.world (still_runs x.world x.running r.invariant.runs)
           ∙ sym (ap (λ (o : Option RunningState). is_some o) r.running)
 
-  unclamped_alike : is_unclamped w ≡ is_unclamped (record w { state = state_of h.arena })
+  unclamped_alike : is_unclamped w ≡ is_unclamped (record w { state = state_of h.arena (pairs_in w.state) })
   unclamped_alike = ap (λ s. is_unclamped (record w { state = s })) st.parts.state
 
   -- a step that does nothing, if the arena isn't unclamped or no collection runs
@@ -207,8 +207,9 @@ module _ {F : Type 0} (layout : F → Layout) (h : HeapState F) (whole : IsWhole
           subst (λ s. IsRightMovingIn layout w (call.Step n) m.moves m'.moves (says_progress (progress_of s)) s) (sym same.0)
           (idle_step n m' same.1 (and_left (is_unclamped w) (is_running w) clamped))
 
-      unclamped_in : (a : ArenaState) → h.arena ≡ a → is_unclamped w ≡ is_unclamped (record w { state = state_of a })
-      unclamped_in a is = unclamped_alike ∙ ap (λ b. is_unclamped (record w { state = state_of b })) is
+      unclamped_in : (a : ArenaState) → h.arena ≡ a
+          → is_unclamped w ≡ is_unclamped (record w { state = state_of a (pairs_in w.state) })
+      unclamped_in a is = unclamped_alike ∙ ap (λ b. is_unclamped (record w { state = state_of b (pairs_in w.state) })) is
 
       of_arena : (a : ArenaState) → h.arena ≡ a
           → IsRightMovingIn layout w (call.Step n) m.moves m'.moves (says_progress (progress_of h')) h'

@@ -1,5 +1,5 @@
 -- A `park` that finishes a running collection is right: the collection ends, and the arena is parked.
-use Rattle.std.proofs.Common.{◌∙◌, ℕ, suc, ◌≤◌, refl, sym, ap, subst}
+use Rattle.std.proofs.Common.{ℕ, suc, ◌≤◌, refl, ap}
 use Rattle.mps_base.specs.Trail.{Moves}
 use Rattle.mps_format.specs.Layout.{Layout}
 use Rattle.mps_model.specs.declared.call.Call.TheVariants as call
@@ -26,8 +26,7 @@ use Rattle.mps_heap_spec.specs.State.{HeapState}
 use Rattle.mps_heap_spec.specs.declared.arena.ArenaState.TheVariants as arena
 use Rattle.mps_refinement.specs.RightMoving.{IsRightMovingIn}
 use Rattle.mps_refinement.specs.StandsFor.{AreParts, IsReached, Past, Runs, collector_of, time_at_rest}
-use Rattle.mps_refinement.proofs.Calls.ArenaCalls.{state_has}
-use Rattle.mps_refinement.proofs.Parts.BlockParts.{unpaired}
+use Rattle.mps_refinement.proofs.Calls.ArenaCalls.{parked_has}
 use Rattle.mps_refinement.proofs.Units.Ended as ended
 use Rattle.mps_refinement.proofs.Worlds.RestingActs.{resting_sound}
 use Rattle.mps_refinement.proofs.Worlds.Steps.{HasParts, moved_to_rest}
@@ -74,10 +73,7 @@ module _ {F : Type 0} (layout : F → Layout) (past : Past) (h : HeapState F) (x
       record { client = l.client; blocks = l.blocks; referred = l.referred; transforms = l.transforms }
 
   has : HasParts layout time_at_rest heap_after u
-  has =
-      subst (λ pairs. HasParts layout time_at_rest heap_after (with_state v (Parked pairs)))
-      (sym (ap pairs_in parts_then.state ∙ unpaired h.arena))
-      (state_has layout at_rest v (record past { time = time_at_rest }) parts_then arena.Parked)
+  has = parked_has layout at_rest v (record past { time = time_at_rest }) parts_then
 
   pub parking_is_right : IsRightMovingIn layout w call.Park m.moves z.moves.moves ok heap_after
   parking_is_right =

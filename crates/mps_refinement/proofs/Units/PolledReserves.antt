@@ -14,7 +14,7 @@ use Rattle.mps_model.specs.declared.call.Call.{Call}
 use Rattle.mps_model.specs.declared.call.Call.TheVariants as call
 use Rattle.mps_model.specs.Checked.{Checked}
 use Rattle.mps_model.specs.Policy.{polls, units_of_poll}
-use Rattle.mps_model.specs.World.{World}
+use Rattle.mps_model.specs.World.{World, pairs_in}
 use Rattle.mps_seg.specs.Table.{IsMarked}
 use Rattle.mps_trace.specs.Collect.{most_moves}
 use Rattle.mps_pools.specs.Pools.{trace_of}
@@ -209,7 +209,7 @@ module _ {F : Type 0} (layout : F → Layout) (h : HeapState F) (whole : IsWhole
       omega (arith, more, room)
 
   -- whatever a poll does: units, a flip, or nothing
-  of_poll : (P : HeapState F → Moves → Type 0)
+  pub of_poll : (P : HeapState F → Moves → Type 0)
       → ((run : RunningState) → h.running ≡ Some run → (h' : HeapState F) (m' : Moves) → HasDoneUnits layout h m units_of_poll h' m'
       → P h' m')
       → ((due : Due) → h.running ≡ None → due_in h ≡ Some due → (h' : HeapState F) (m' : Moves)
@@ -294,7 +294,7 @@ module _ {F : Type 0} (layout : F → Layout) (h : HeapState F) (whole : IsWhole
           → IsRightAfterPoll layout w st.reached name head m.moves polled trail
       after_flip polling due none is polled trail started =
           let flipped = flips.flipped layout h whole m enough w st none due is made polled trail started in
-          let unclamped = flips.unclamped_if_it_polls h (check_reserve layout h name head) polling in
+          let unclamped = flips.unclamped_if_it_polls h (check_reserve layout h name head) polling (pairs_in w.state) in
           let polling_there = sym (polls_alike layout st.past h w st.parts (known_now st) name head) ∙ polling in
           judged_is_right layout w st.reached name head m.moves (record st.past { time = flipped.time }) polled trail
           (flips.ms layout h whole m enough w st none due is made polled trail started)

@@ -304,7 +304,7 @@ module _ {F : Type 0} (layout : F → Layout) (h : HeapState F) (whole : IsWhole
     (room : most_moves h.segs.grains ≤ m.spare) where
   module _ (w : World) (st : StandsFor layout h w) (none : h.running ≡ None) (what : Condemn) (numbered : IsNumbered (condemnation what))
     where
-      may : MayCondemn (trace_of h.pools h.chains h.tails) h.segs w what
+      pub may : MayCondemn (trace_of h.pools h.chains h.tails) h.segs w what
       may =
           may_condemn layout st.past h w st.parts (trace_of h.pools h.chains h.tails) m whole.tails
           ((is_before layout st.past h w st.parts (known_now st) (resting_now layout h w st none) whole.marked m room).stands

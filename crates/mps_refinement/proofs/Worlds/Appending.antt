@@ -48,18 +48,18 @@ abbrev pub after_moves : List Move → Moves → Moves
 after_moves ms trail = record { moves = ms ++ trail.moves; spare = trail.spare }
 
 -- a trail that has no moves, with the same room
-abbrev fresh : Moves → Moves
+abbrev pub fresh : Moves → Moves
 fresh trail = record { moves = []; spare = trail.spare }
 
-unmoved : (trail : Moves) → trail ≡ after_moves trail.moves (fresh trail)
+pub unmoved : (trail : Moves) → trail ≡ after_moves trail.moves (fresh trail)
 unmoved trail = ap (λ (ms : List Move). record { moves = ms; spare = trail.spare }) (sym (append-nil trail.moves))
 
-move_appends : (ms : List Move) (t u : Moves) (m : Move) → t ≡ after_moves ms u → with_move t m ≡ after_moves ms (with_move u m)
+pub move_appends : (ms : List Move) (t u : Moves) (m : Move) → t ≡ after_moves ms u → with_move t m ≡ after_moves ms (with_move u m)
 move_appends ms t u m is =
     ap (λ (x : Moves). with_move x m) is
     ∙ ap (λ (xs : List Move). record { moves = xs; spare = u.spare - 1 }) (append_assoc ms u.moves (m ∷ []))
 
-moves_after-appends : (p : Placement) (pool generation : ℕ) (ms : List Move) (t u : Moves) → t ≡ after_moves ms u
+pub moves_after-appends : (p : Placement) (pool generation : ℕ) (ms : List Move) (t u : Moves) → t ≡ after_moves ms u
     → moves_after p pool generation t ≡ after_moves ms (moves_after p pool generation u)
 moves_after-appends (NewSegment grain grains) pool generation ms t u is = move_appends ms t u _ is
 moves_after-appends (Place word) pool generation ms t u is = is
@@ -76,7 +76,7 @@ given_back_appends covered (Some s) ms t u is = of_use (is_unused covered s)
     of_use true = move_appends ms t u (moves.Unseg (record { 0 = s.base })) is
     of_use false = is
 
-freed_appends : (size : ℕ) (s : SegsState) (trail : Moves) (at : Addr)
+pub freed_appends : (size : ℕ) (s : SegsState) (trail : Moves) (at : Addr)
     → moves_freed size s trail at ≡ after_moves trail.moves (moves_freed size s (fresh trail) at)
 freed_appends size s trail at = of_size (size == any_size)
   where
@@ -94,7 +94,7 @@ freed_appends size s trail at = of_size (size == any_size)
 -- ---- outcomes
 
 module _ {F A : Type 0} where
-  abbrev with_moves : List Move → Checked (Moved F A) → Checked (Moved F A)
+  abbrev pub with_moves : List Move → Checked (Moved F A) → Checked (Moved F A)
   with_moves ms (Ok m) = Ok (record m { trail = after_moves ms m.trail })
   with_moves ms (Err why) = Err why
 
@@ -102,24 +102,24 @@ module _ {F A : Type 0} where
   abbrev pub Appends : List Move → Checked (Moved F A) → Checked (Moved F A) → Type 0
   Appends ms x y = x ≡ with_moves ms y
 
-  after_check : {X : Type 0} (ms : List Move) (x : Checked X) (f g : X → Checked (Moved F A)) → ((a : X) → Appends ms (f a) (g a))
+  pub after_check : {X : Type 0} (ms : List Move) (x : Checked X) (f g : X → Checked (Moved F A)) → ((a : X) → Appends ms (f a) (g a))
       → Appends ms (x >>= f) (x >>= g)
   after_check ms (Ok a) f g each = each a
   after_check ms (Err why) f g each = refl
 
-  after_refusal : {X : Type 0} (ms : List Move) (x : Checked X) (f g : Checked (Moved F A)) → Appends ms f g
+  pub after_refusal : {X : Type 0} (ms : List Move) (x : Checked X) (f g : Checked (Moved F A)) → Appends ms f g
       → Appends ms (x >> f) (x >> g)
   after_refusal ms (Ok a) f g is = is
   after_refusal ms (Err why) f g is = refl
 
-  ok_appends : (ms : List Move) (answer : A) (state : HeapState F) (t u : Moves) → t ≡ after_moves ms u
+  pub ok_appends : (ms : List Move) (answer : A) (state : HeapState F) (t u : Moves) → t ≡ after_moves ms u
       → Appends ms (Ok (record { answer = answer; state = state; trail = t }))
       (Ok (record { answer = answer; state = state; trail = u }))
   ok_appends ms answer state t u is = ap (λ (x : Moves). Ok (record { answer = answer; state = state; trail = x })) is
 
   module _ (layout : F → Layout) (h : HeapState F) (c : Call) (trail : Moves) (says : A → Answer) where
     -- what is known of the call over a fresh trail
-    abbrev IsRightFresh : Checked (Moved F A) → Type 0
+    abbrev pub IsRightFresh : Checked (Moved F A) → Type 0
     IsRightFresh x =
         (result : Checked A) (after : HeapState F) (trail_after : Moves) → ComesMoving h (fresh trail) x result after trail_after
         → IsRight layout h c trail_after.moves (answer_to says result) after
@@ -139,7 +139,7 @@ module _ {F A : Type 0} where
     }
 
     -- a call that is right over a fresh trail is right over this one
-    appended_right : (x y : Checked (Moved F A)) → Appends trail.moves x y → IsRightFresh y → (result : Checked A) (after : HeapState F)
+    pub appended_right : (x y : Checked (Moved F A)) → Appends trail.moves x y → IsRightFresh y → (result : Checked A) (after : HeapState F)
         (trail_after : Moves) → ComesMoving h trail x result after trail_after
         → IsRightMoving layout h c trail.moves trail_after.moves (answer_to says result) after
     appended_right x y appends right result after trail_after comes =

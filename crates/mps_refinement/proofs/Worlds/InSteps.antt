@@ -51,7 +51,7 @@ use Rattle.mps_refinement.proofs.Worlds.Ready.{laid_out}
 
 -- ---- an arena in which a collection runs isn't parked
 
-running_unparked : (w : World) → IsWellFormed w → is_running w ≡ true → is_parked w ≡ false
+pub running_unparked : (w : World) → IsWellFormed w → is_running w ≡ true → is_parked w ≡ false
 running_unparked w formed running =
     of_bools (is_parked w) (ap (λ b. not (is_parked w && b)) (sym running) ∙ formed.parked)
   where

@@ -49,7 +49,7 @@ placement_keeps (Place word) pool generation t some = record { room = refl; spar
 placement_keeps (OverLimit after_commit need limit) pool generation t some = record { room = refl; spare = omega (arith) }
 placement_keeps (NoFreeRun need longest) pool generation t some = record { room = refl; spare = omega (arith) }
 
-alloc_keeps : (s : SegsState) (t : Moves) (pool words : ℕ) (at : Addr) → 1 < t.spare → KeepsRoom t (moves_allocated s t pool words at)
+pub alloc_keeps : (s : SegsState) (t : Moves) (pool words : ℕ) (at : Addr) → 1 < t.spare → KeepsRoom t (moves_allocated s t pool words at)
 alloc_keeps s t pool words at some =
     let p = placement_in_gaps s pool rank.Exact words in
     let u = moves_after p pool 0 t in
@@ -65,7 +65,7 @@ given_back_keeps covered (Some s) t some = of_use (is_unused covered s)
     of_use true = move_keeps t _ some
     of_use false = refl
 
-freed_keeps : (size : ℕ) (s : SegsState) (t : Moves) (at : Addr) → 1 < t.spare → KeepsRoom t (moves_freed size s t at)
+pub freed_keeps : (size : ℕ) (s : SegsState) (t : Moves) (at : Addr) → 1 < t.spare → KeepsRoom t (moves_freed size s t at)
 freed_keeps size s t at some = of_size (size == any_size)
   where
     u : Moves
@@ -84,14 +84,14 @@ freed_keeps size s t at some = of_size (size == any_size)
 
 module _ {F A : Type 0} (trail : Moves) where
   -- an outcome over a trail keeps its room
-  abbrev Keeps : Checked (Moved F A) → Type 0
+  abbrev pub Keeps : Checked (Moved F A) → Type 0
   Keeps x = KeepsRoom trail (trail_moved trail x)
 
-  after_check : {X : Type 0} (x : Checked X) (f : X → Checked (Moved F A)) → ((a : X) → Keeps (f a)) → Keeps (x >>= f)
+  pub after_check : {X : Type 0} (x : Checked X) (f : X → Checked (Moved F A)) → ((a : X) → Keeps (f a)) → Keeps (x >>= f)
   after_check (Ok a) f each = each a
   after_check (Err why) f each = refl
 
-  after_refusal : {X : Type 0} (x : Checked X) (f : Checked (Moved F A)) → Keeps f → Keeps (x >> f)
+  pub after_refusal : {X : Type 0} (x : Checked X) (f : Checked (Moved F A)) → Keeps f → Keeps (x >> f)
   after_refusal (Ok a) f keeps = keeps
   after_refusal (Err why) f keeps = refl
 

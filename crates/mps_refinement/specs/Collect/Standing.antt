@@ -9,7 +9,7 @@ use Rattle.mps_ld.specs.State as ld
 use Rattle.mps_model.specs.World.{World, Parked}
 use Rattle.mps_model.specs.Effect.{Everything, condemned_zones, world_after_moves}
 use Rattle.mps_root.specs.State.{kept}
-use Rattle.mps_heap_spec.specs.State.{HeapState}
+use Rattle.mps_heap_spec.specs.State.{HeapState, without_pairs}
 use Rattle.mps_refinement.specs.Numbering.{AreNumbered}
 use Rattle.mps_trace_laws.specs.Units.Laws.{HasFinalsOf}
 use Rattle.mps_refinement.specs.StandsFor.{AreSlots, Past, state_of}
@@ -33,7 +33,7 @@ pub record IsFlippedHeap {F : Type 0} (past : Past) (w : World) (zones : ℕ) (h
   -- a flip came for points and dependencies
   pub points : after.points ≡ points_after_flip h.points
   pub epochs : after.epochs ≡ ld.epochs_after_flip h.epochs zones
-  pub state : v.state ≡ state_of after.arena
+  pub state : v.state ≡ state_of after.arena []
   -- and nothing else changed
   pub areas : after.roots.areas ≡ h.roots.areas
   pub blocks : after.roots.blocks ≡ h.roots.blocks
@@ -45,6 +45,8 @@ pub record IsFlippedHeap {F : Type 0} (past : Past) (w : World) (zones : ℕ) (h
   pub sizes : after.sizes ≡ h.sizes
   pub chains : after.chains ≡ h.chains
   pub names : after.names ≡ h.names
+  -- no transform has a pair
+  pub beside : after.beside ≡ without_pairs h.beside
 
 -- what a call has to leave whose collection has ended: words, marks and runs represent the world after the call, no segment is condemned,
 -- no block is kept, and registrations and messages are those of their objects then
