@@ -20,6 +20,8 @@ use Rattle.mps_refinement.specs.Collect.Collecting.{IsRightCollect}
 use Rattle.mps_refinement.specs.RightMoving.{IsRightMoving, KeepsRoom}
 use Rattle.mps_refinement.specs.StandsFor.{StandsFor}
 use Rattle.mps_refinement.specs.StandsForSome.{StandsForSome}
+use Rattle.mps_refinement.specs.UnitsLeft.{StepsDown, units_left}
+use Rattle.mps_refinement.proofs.Left.AfterUnits.{none_after_collect, none_at_rest, rests_at_the_end, steps_down}
 use Rattle.mps_refinement.proofs.Units.Outcomes as outcomes
 use Rattle.mps_refinement.proofs.Units.Outcomes.{a_collect_is_right, can_do_units, park_is_right, right_in_each, stepped_is_right, stepped_keeps_room, units_keep_room, units_leave}
 use Rattle.mps_refinement.proofs.Worlds.Staying.{one_world}
@@ -45,6 +47,12 @@ module _ {F : Type 0} (layout : F → Layout) (h : HeapState F) (some : StandsFo
       units_keep_room layout h whole m room one.0 one.1 (units_to_end h) between m' units,
     )
 
+    -- no unit is left then
+    pub none_left_parked : (between : HeapState F) (m' : Moves) → HasDoneUnits layout h m (units_to_end h) between m'
+        → units_left (with_arena between arena.Parked) ≡ 0
+    none_left_parked between m' units =
+        none_at_rest (with_arena between arena.Parked) (rests_at_the_end layout h whole m room one.0 one.1 between m' units)
+
     -- any number of units can be done in an unclamped arena
     pub can_step : (n : ℕ) → h.arena ≡ arena.Unclamped → CanDoUnits layout h m n
     can_step n unclamped = can_do_units layout h whole m room one.0 one.1 n
@@ -57,6 +65,11 @@ module _ {F : Type 0} (layout : F → Layout) (h : HeapState F) (some : StandsFo
           (λ w st. stepped_is_right layout h whole m room w st n h' m' answer stepped),
       stepped_keeps_room layout h whole m room one.0 one.1 n h' m' answer stepped,
     )
+
+    -- and each unit was one less, if the collection goes on
+    pub stepped_down : (n : ℕ) (h' : HeapState F) (m' : Moves) (answer : Progress) → HasStepped layout h m n h' m' answer
+        → StepsDown h n answer h'
+    stepped_down = steps_down layout h whole m room one.0 one.1
 
   -- a collection of everything after them is a `collect`, if one flip more can be counted and there is room for two collections
   module _ (can : can_collect h ≡ true) (both_fit : 2 * most_moves h.segs.grains ≤ m.spare) where
@@ -84,3 +97,8 @@ module _ {F : Type 0} (layout : F → Layout) (h : HeapState F) (some : StandsFo
         collected_rightly made h' m' collected =
             a_collect_is_right layout h m between m_between h' m'
             (record { world = one.0; stands = one.1; whole = whole; room = both_fit }) made units whole_then collected
+
+        -- no unit is left after it
+        pub none_left : (h' : HeapState F) (m' : Moves) → IsCollected layout between m_between h' m' → units_left h' ≡ 0
+        none_left =
+            none_after_collect layout h whole m (omega (arith, both_fit)) one.0 one.1 between m_between units

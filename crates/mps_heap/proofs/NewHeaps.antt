@@ -18,4 +18,6 @@ is_new_heap layout grains limit h nonzero at_most is empty counts = λ formats l
     (new_heap_is_right layout formats lawful grains limit nonzero at_most h.names (record {
       free = λ name. ap (λ es. thing_in es name) empty;
       no_label = ap (λ (c : NameCounts). c.labels) counts;
+      no_cache = ap (λ (c : NameCounts). c.caches) counts;
+      no_transform = ap (λ (c : NameCounts). c.transforms) counts;
     }) line)

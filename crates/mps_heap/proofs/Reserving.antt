@@ -17,6 +17,8 @@ use Rattle.mps_refinement.specs.Answering.{answer_to, says_ok}
 use Rattle.mps_refinement.specs.RightMoving.{IsRightMoving, KeepsRoom}
 use Rattle.mps_refinement.specs.StandsFor.{StandsFor}
 use Rattle.mps_refinement.specs.StandsForSome.{StandsForSome}
+use Rattle.mps_refinement.specs.UnitsLeft.{ReservesWithin}
+use Rattle.mps_refinement.proofs.Left.Reserves.{reserves_within}
 use Rattle.mps_refinement.proofs.Units.Outcomes.{right_in_each}
 use Rattle.mps_refinement.proofs.Units.PolledReserves.{a_reserve_is_right, can_poll}
 use Rattle.mps_refinement.proofs.Worlds.Staying.{one_world}
@@ -44,3 +46,8 @@ module _ {F : Type 0} (layout : F → Layout) (h : HeapState F) (some : StandsFo
           (λ w st. (a_reserve_is_right layout h whole m room w st made name head result after trail_after reserved).0),
       (a_reserve_is_right layout h whole m room one.0 one.1 made name head result after trail_after reserved).1,
     )
+
+    -- as many units are left as may be
+    pub reserved_within : (name : Name) (head : ℕ) (result : Checked (Unit {0})) (after : HeapState F) (trail_after : Moves)
+        → HasReserved layout h m name head result after trail_after → ReservesWithin h.running h after
+    reserved_within = reserves_within layout h whole m room one.0 one.1 made

@@ -17,6 +17,8 @@ use Rattle.mps_refinement.specs.Answering.{answer_to, says_ok}
 use Rattle.mps_refinement.specs.RightMoving.{IsRightMoving, KeepsRoom}
 use Rattle.mps_refinement.specs.StandsFor.{StandsFor}
 use Rattle.mps_refinement.specs.StandsForSome.{StandsForSome}
+use Rattle.mps_refinement.specs.UnitsLeft.{BeginsWithin}
+use Rattle.mps_refinement.proofs.Left.Starts.{begins_within}
 use Rattle.mps_refinement.proofs.Units.Starts.{a_start_is_right, can_start, start_chain_checked, start_checked}
 use Rattle.mps_refinement.proofs.Worlds.Staying.{one_world}
 
@@ -41,6 +43,13 @@ module _ {F : Type 0} (layout : F → Layout) (h : HeapState F) (some : StandsFo
   started_rightly made h' m' result starts =
       a_start_is_right layout h whole m room made call.Start (check_start h) h' m' result one (start_checked layout h whole) starts
 
+  -- and at most as many units are left as its flip may leave
+  pub started_within : WereMadeBefore h.points.flips h.points → (h' : HeapState F) (m' : Moves) (result : Checked (Unit {0}))
+      → Starts layout (check_start h) h m result h' m' → BeginsWithin (check_start h) h h'
+  started_within made h' m' result =
+      begins_within layout h whole m room one.0 one.1 made h' m' call.Start (check_start h) result
+      (start_checked layout h whole one.0 one.1)
+
   -- the same of the generations of a chain
   module _ (chain : Name) (oldest : ℕ) where
     pub can_start_chain_here : can_collect h ≡ true → IfOk (check_start_chain h chain oldest) (λ what. CanStart layout what h m)
@@ -54,3 +63,9 @@ module _ {F : Type 0} (layout : F → Layout) (h : HeapState F) (some : StandsFo
     chain_started_rightly made h' m' result starts =
         a_start_is_right layout h whole m room made (call.StartChain chain oldest) (check_start_chain h chain oldest) h' m' result one
         (λ w st. start_chain_checked layout h whole w st chain oldest) starts
+
+    pub chain_started_within : WereMadeBefore h.points.flips h.points → (h' : HeapState F) (m' : Moves) (result : Checked (Unit {0}))
+        → Starts layout (check_start_chain h chain oldest) h m result h' m' → BeginsWithin (check_start_chain h chain oldest) h h'
+    chain_started_within made h' m' result =
+        begins_within layout h whole m room one.0 one.1 made h' m' (call.StartChain chain oldest) (check_start_chain h chain oldest) result
+        (start_chain_checked layout h whole one.0 one.1 chain oldest)

@@ -4,6 +4,7 @@
 mod allocating;
 mod areas;
 mod arena;
+mod caching;
 mod collecting;
 mod depending;
 mod finalizing;
@@ -13,6 +14,7 @@ mod making;
 mod manual;
 mod objects;
 mod results;
+mod transforming;
 
 ghost use Rattle.std.specs.Prelude.{◌≡◌, ◌≤◌, ◌<◌, slice_get, IfOk};
 ghost use Rattle.mps_base.specs.Address.{max_grains};

@@ -8,6 +8,7 @@ ghost use Rattle.mps_refinement.specs.Answering.{answer_to, says_committed, says
 ghost use Rattle.mps_heap_spec.specs.Collect.{most_moves};
 ghost use Rattle.mps_heap_spec.specs.Collecting.{can_collect};
 ghost use Rattle.mps_refinement.specs.RightMoving.{IsRightMoving, KeepsRoom};
+ghost use Rattle.mps_refinement.specs.UnitsLeft.{ReservesWithin};
 
 use super::Heap;
 use mps_base::{Name, Refusal, Slot, Trail};
@@ -27,6 +28,7 @@ impl<F: Format> Heap<F> {
         requires fits { most_moves self.old.segs.grains < trail.old.spare }
         ensures right { IsRightMoving F.layout self.old (call.Reserve x head) trail.old.moves trail.new.moves
             (answer_to says_ok result) self.new }
+        ensures units { ReservesWithin self.old.running self.old self.new }
         ensures room { KeepsRoom trail.old trail.new }
         ensures grains { self.new.segs.grains ≡ self.old.segs.grains }
     {

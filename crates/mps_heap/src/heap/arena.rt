@@ -29,14 +29,14 @@ impl<F: Format> Heap<F> {
         arena::committed(&self.state)
     }
 
-    /// The arena is clamped: it does nothing by itself.
+    /// The arena is clamped: it does nothing by itself. No transform has a pair any more.
     pub fn clamp(&mut self)
         ensures right { IsRight F.layout self.old call.Clamp [] (Replied reply.Ok) self.new }
     {
         arena::clamp(&mut self.state);
     }
 
-    /// The arena is unclamped: it may collect by itself.
+    /// The arena is unclamped: it may collect by itself. No transform has a pair any more.
     pub fn release(&mut self)
         ensures right { IsRight F.layout self.old call.Release [] (Replied reply.Ok) self.new }
     {

@@ -6,9 +6,10 @@ ghost use Rattle.mps_model.specs.declared.call.Call.TheVariants as call;
 ghost use Rattle.mps_model.specs.declared.reply.Reply.TheVariants as reply;
 ghost use Rattle.mps_model.specs.Answer.{Replied};
 ghost use Rattle.mps_heap_code.specs.Ticks.{HasTicked};
-ghost use Rattle.mps_heap_spec.specs.Collecting.{can_collect};
+ghost use Rattle.mps_heap_spec.specs.Collecting.{can_collect, check_start, check_start_chain};
 ghost use Rattle.mps_refinement.specs.Answering.{answer_to, says_ok, says_progress};
 ghost use Rattle.mps_refinement.specs.RightMoving.{IsRightMoving, KeepsRoom};
+ghost use Rattle.mps_refinement.specs.UnitsLeft.{BeginsWithin, StepsDown, units_left};
 ghost use Rattle.mps_heap_spec.specs.Collect.{most_moves};
 
 use super::Heap;
@@ -45,6 +46,7 @@ impl<F: Format> Heap<F> {
         requires built { IsTrue (can_collect self.old) }
         requires fits { 2 * most_moves self.old.segs.grains ≤ trail.old.spare }
         ensures right { IsRightMoving F.layout self.old call.Collect trail.old.moves trail.new.moves (Replied reply.Ok) self.new }
+        ensures units { units_left self.new ≡ 0 }
         ensures room { KeepsRoom trail.old trail.new }
     {
         units::is_whole(&self.state);
@@ -58,6 +60,7 @@ impl<F: Format> Heap<F> {
     pub fn park(&mut self, trail: &mut Trail)
         requires fits { most_moves self.old.segs.grains ≤ trail.old.spare }
         ensures right { IsRightMoving F.layout self.old call.Park trail.old.moves trail.new.moves (Replied reply.Ok) self.new }
+        ensures units { units_left self.new ≡ 0 }
         ensures room { KeepsRoom trail.old trail.new }
     {
         units::is_whole(&self.state);
@@ -71,6 +74,7 @@ impl<F: Format> Heap<F> {
         requires few_flips { IsTrue (can_collect self.old) }
         requires fits { most_moves self.old.segs.grains ≤ trail.old.spare }
         ensures right { IsRightMoving F.layout self.old call.Start trail.old.moves trail.new.moves (answer_to says_ok result) self.new }
+        ensures units { BeginsWithin (check_start self.old) self.old self.new }
         ensures room { KeepsRoom trail.old trail.new }
     {
         units::is_whole(&self.state);
@@ -90,6 +94,7 @@ impl<F: Format> Heap<F> {
         requires fits { most_moves self.old.segs.grains ≤ trail.old.spare }
         ensures right { IsRightMoving F.layout self.old (call.StartChain chain generation) trail.old.moves trail.new.moves
             (answer_to says_ok result) self.new }
+        ensures units { BeginsWithin (check_start_chain self.old chain generation) self.old self.new }
         ensures room { KeepsRoom trail.old trail.new }
     {
         units::is_whole(&self.state);
@@ -101,6 +106,7 @@ impl<F: Format> Heap<F> {
     pub fn step<L: Ledger>(&mut self, trail: &mut Trail, n: u64, steps: &mut Steps<L>) -> Progress
         requires fits { most_moves self.old.segs.grains ≤ trail.old.spare }
         ensures right { IsRightMoving F.layout self.old (call.Step n) trail.old.moves trail.new.moves (says_progress result) self.new }
+        ensures units { StepsDown self.old n result self.new }
         ensures ticks { HasTicked self.old n result steps.old steps.new }
         ensures room { KeepsRoom trail.old trail.new }
     {

@@ -5,6 +5,7 @@ ghost use Rattle.std.specs.Prelude.{[], ◌≡◌, ◌<◌, ◌≤◌};
 ghost use Rattle.mps_model.specs.Tagging.{tag_count};
 ghost use Rattle.mps_model.specs.declared.call.Call.TheVariants as call;
 ghost use Rattle.mps_refinement.specs.RightMoving.{IsRightMoving, KeepsRoom};
+ghost use Rattle.mps_refinement.specs.UnitsLeft.{units_left};
 ghost use Rattle.mps_refinement.specs.RightStep.{IsRight};
 ghost use Rattle.mps_refinement.specs.Answering.{answer_to, says_bool, says_head, says_number, says_ok};
 ghost use Rattle.mps_heap_spec.specs.Collect.{most_moves};
@@ -93,6 +94,7 @@ impl<F: Format> Heap<F> {
         requires fits { most_moves self.old.segs.grains ≤ trail.old.spare }
         ensures right { IsRightMoving F.layout self.old (call.Get target source cell) trail.old.moves trail.new.moves
             (answer_to says_ok result) self.new }
+        ensures units { units_left self.new ≤ units_left self.old }
         ensures room { KeepsRoom trail.old trail.new }
         ensures grains { self.new.segs.grains ≡ self.old.segs.grains }
     {

@@ -6,7 +6,7 @@ use Rattle.mps_heap_spec.specs.Collecting.{can_collect}
 use Rattle.mps_heap_spec.specs.Collect.{most_moves}
 use Rattle.mps_refinement.specs.RightMoving.{IsRightMoving}
 use Rattle.mps_refinement.proofs.Worlds.Staying.{stays}
-use Rattle.mps_heap.proofs.Collected.{can_collect_then, can_count, can_end_first, collected_rightly, few_epochs}
+use Rattle.mps_heap.proofs.Collected.{can_collect_then, can_count, can_end_first, collected_rightly, few_epochs, none_left}
 use Rattle.mps_heap.proofs.heap.Heap.collect.Goals as goal
 
 pub end_collection-requires : goal.end_collection-requires
@@ -55,5 +55,8 @@ returns g c =
           (λ x. IsRightMoving layout x call.Collect c.args.trail.now.moves c.collect.new.trail.moves (Replied reply.Ok)
           c.collect.new.state)
           c.self.view_is right.right;
+      units = none_left layout h c.self.invariant c.is_whole.ensures.whole c.args.trail.now can room c.end_collection.new.state
+          c.end_collection.new.trail c.end_collection.ensures c.is_whole-2.ensures.whole c.collect.new.state c.collect.new.trail
+          c.collect.ensures.collected;
       room = right.room;
     }

@@ -1,12 +1,13 @@
-use Rattle.std.proofs.Common.{◌≤◌, sym, subst}
+use Rattle.std.proofs.Common.{◌≡◌, ◌≤◌, sym, subst}
 use Rattle.mps_model.specs.declared.call.Call.TheVariants as call
 use Rattle.mps_model.specs.declared.reply.Reply.TheVariants as reply
 use Rattle.mps_model.specs.Answer.{Replied}
 use Rattle.mps_heap_spec.specs.Collect.{most_moves}
 use Rattle.mps_refinement.specs.RightMoving.{IsRightMoving}
 use Rattle.mps_refinement.specs.RightStep.{IsRight}
+use Rattle.mps_refinement.specs.UnitsLeft.{units_left}
 use Rattle.mps_refinement.proofs.Worlds.Staying.{stays}
-use Rattle.mps_heap.proofs.Collected.{can_end, parked_rightly}
+use Rattle.mps_heap.proofs.Collected.{can_end, none_left_parked, parked_rightly}
 use Rattle.mps_heap.proofs.heap.Heap.park.Goals as goal
 
 pub end_collection-requires : goal.end_collection-requires
@@ -38,5 +39,8 @@ returns g c =
           c.self.view_is
           (subst (λ x. IsRightMoving layout h call.Park c.args.trail.now.moves c.end_collection.new.trail.moves (Replied reply.Ok) x)
           (sym c.park.ensures) parked.0);
+      units = subst (λ x. units_left x ≡ 0) (sym c.park.ensures)
+          (none_left_parked layout h c.self.invariant c.is_whole.ensures.whole c.args.trail.now room c.end_collection.new.state
+          c.end_collection.new.trail c.end_collection.ensures);
       room = parked.1;
     }

@@ -4,8 +4,9 @@ use Rattle.mps_heap_spec.specs.Collect.{most_moves}
 use Rattle.mps_heap_spec.specs.Collecting.{can_collect}
 use Rattle.mps_refinement.specs.Answering.{answer_to, says_ok}
 use Rattle.mps_refinement.specs.RightMoving.{IsRightMoving}
+use Rattle.mps_refinement.specs.UnitsLeft.{ReservesWithin}
 use Rattle.mps_refinement.proofs.Worlds.Staying.{grains_stay, is_ready, stays}
-use Rattle.mps_heap.proofs.Reserving.{can_poll_here, reserved_rightly, some_room}
+use Rattle.mps_heap.proofs.Reserving.{can_poll_here, reserved_rightly, reserved_within, some_room}
 use Rattle.mps_heap.proofs.heap.Heap.reserve.Goals as goal
 
 pub reserve-requires : goal.reserve-requires
@@ -45,6 +46,9 @@ returns g c =
           (λ x. IsRightMoving layout x (call.Reserve c.args.x c.args.head) c.args.trail.now.moves c.reserve.new.trail.moves
           (answer_to says_ok c.reserve.result) c.reserve.new.state)
           c.self.view_is came.0;
+      units = subst (λ x. ReservesWithin x.running x c.reserve.new.state) c.self.view_is
+          (reserved_within layout h c.self.invariant c.is_whole.ensures.whole c.args.trail.now room c.is_whole.ensures.made_before c.args.x
+          c.args.head c.reserve.result c.reserve.new.state c.reserve.new.trail c.reserve.ensures);
       room = came.1;
       grains = subst (λ x. c.reserve.new.state.segs.grains ≡ x.segs.grains) c.self.view_is
           (grains_stay layout h c.reserve.new.state (call.Reserve c.args.x c.args.head) came.0.moves (answer_to says_ok c.reserve.result)

@@ -1,11 +1,12 @@
 use Rattle.std.proofs.Common.{◌≡◌, ◌≤◌, true, sym, subst}
 use Rattle.mps_model.specs.declared.call.Call.TheVariants as call
 use Rattle.mps_heap_spec.specs.Collect.{most_moves}
-use Rattle.mps_heap_spec.specs.Collecting.{can_collect}
+use Rattle.mps_heap_spec.specs.Collecting.{can_collect, check_start}
 use Rattle.mps_refinement.specs.Answering.{answer_to, says_ok}
 use Rattle.mps_refinement.specs.RightMoving.{IsRightMoving}
+use Rattle.mps_refinement.specs.UnitsLeft.{BeginsWithin}
 use Rattle.mps_refinement.proofs.Worlds.Staying.{stays}
-use Rattle.mps_heap.proofs.Starting.{can_start_here, started_rightly}
+use Rattle.mps_heap.proofs.Starting.{can_start_here, started_rightly, started_within}
 use Rattle.mps_heap.proofs.heap.Heap.start.Goals as goal
 
 pub start-requires : goal.start-requires
@@ -37,5 +38,8 @@ returns g c =
           (λ x. IsRightMoving layout x call.Start c.args.trail.now.moves c.start.new.trail.moves (answer_to says_ok c.start.result)
           c.start.new.state)
           c.self.view_is came.0;
+      units = subst (λ x. BeginsWithin (check_start x) x c.start.new.state) c.self.view_is
+          (started_within layout h c.self.invariant c.is_whole.ensures.whole c.args.trail.now room c.is_whole.ensures.made_before
+          c.start.new.state c.start.new.trail c.start.result c.start.ensures);
       room = came.1;
     }

@@ -1,11 +1,12 @@
 use Rattle.std.proofs.Common.{◌≡◌, ◌≤◌, true, sym, subst}
 use Rattle.mps_model.specs.declared.call.Call.TheVariants as call
 use Rattle.mps_heap_spec.specs.Collect.{most_moves}
-use Rattle.mps_heap_spec.specs.Collecting.{can_collect}
+use Rattle.mps_heap_spec.specs.Collecting.{can_collect, check_start_chain}
 use Rattle.mps_refinement.specs.Answering.{answer_to, says_ok}
 use Rattle.mps_refinement.specs.RightMoving.{IsRightMoving}
+use Rattle.mps_refinement.specs.UnitsLeft.{BeginsWithin}
 use Rattle.mps_refinement.proofs.Worlds.Staying.{stays}
-use Rattle.mps_heap.proofs.Starting.{can_start_chain_here, chain_started_rightly}
+use Rattle.mps_heap.proofs.Starting.{can_start_chain_here, chain_started_rightly, chain_started_within}
 use Rattle.mps_heap.proofs.heap.Heap.start_chain.Goals as goal
 
 pub start_chain-requires : goal.start_chain-requires
@@ -44,5 +45,8 @@ returns g c =
           c.start_chain.new.trail.moves (answer_to says_ok c.start_chain.result)
           c.start_chain.new.state)
           c.self.view_is came.0;
+      units = subst (λ x. BeginsWithin (check_start_chain x c.args.chain c.args.generation) x c.start_chain.new.state) c.self.view_is
+          (chain_started_within layout h c.self.invariant c.is_whole.ensures.whole c.args.trail.now room c.args.chain c.args.generation
+          c.is_whole.ensures.made_before c.start_chain.new.state c.start_chain.new.trail c.start_chain.result c.start_chain.ensures);
       room = came.1;
     }

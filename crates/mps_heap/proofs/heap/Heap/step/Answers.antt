@@ -4,8 +4,9 @@ use Rattle.mps_heap_spec.specs.Collect.{most_moves}
 use Rattle.mps_heap_code.specs.Ticks.{HasTicked}
 use Rattle.mps_refinement.specs.Answering.{says_progress}
 use Rattle.mps_refinement.specs.RightMoving.{IsRightMoving}
+use Rattle.mps_refinement.specs.UnitsLeft.{StepsDown}
 use Rattle.mps_refinement.proofs.Worlds.Staying.{stays}
-use Rattle.mps_heap.proofs.Collected.{can_step, stepped_rightly}
+use Rattle.mps_heap.proofs.Collected.{can_step, stepped_down, stepped_rightly}
 use Rattle.mps_heap.proofs.heap.Heap.step.Goals as goal
 
 pub step-requires : goal.step-requires
@@ -34,6 +35,9 @@ returns g c =
           (λ x. IsRightMoving layout x (call.Step c.args.n) c.args.trail.now.moves c.step.new.trail.moves (says_progress c.step.result)
           c.step.new.state)
           c.self.view_is stepped.0;
+      units = subst (λ x. StepsDown x c.args.n c.step.result c.step.new.state) c.self.view_is
+          (stepped_down layout h c.self.invariant c.is_whole.ensures.whole c.args.trail.now room c.args.n c.step.new.state
+          c.step.new.trail c.step.result c.step.ensures.stepped);
       ticks = subst (λ x. HasTicked x c.args.n c.step.result c.args.steps.now c.step.new.steps) c.self.view_is c.step.ensures.ticked;
       room = stepped.1;
     }

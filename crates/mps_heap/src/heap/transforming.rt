@@ -1,0 +1,38 @@
+// Transforms.
+#![tactic(auto)]
+
+ghost use Rattle.std.specs.Prelude.{[]};
+ghost use Rattle.mps_model.specs.declared.call.Call.TheVariants as call;
+ghost use Rattle.mps_refinement.specs.RightStep.{IsRight};
+ghost use Rattle.mps_refinement.specs.Answering.{answer_to, says_ok};
+
+use super::Heap;
+use mps_base::{Name, Refusal, Slot};
+use mps_format::Format;
+use mps_heap_transforming::transforming;
+
+impl<F: Format> Heap<F> {
+    /// Makes a transform without pairs. It takes no memory. Refuses `NameTaken`, and `TooMany` if there are 16 transforms.
+    pub fn transform(&mut self, x: Name) -> Result<(), Refusal>
+        ensures right { IsRight F.layout self.old (call.Transform x) [] (answer_to says_ok result) self.new }
+    {
+        transforming::transform(&mut self.state, x)
+    }
+
+    /// Adds a pair to a transform: the old object in a slot, and the new one in another. A `start`, a `collect`, a `clamp` and a `release`
+    /// take all pairs from all transforms. Refuses `BadName` if no transform has this name, then as `addr` does for both slots,
+    /// `NotParked` if the arena isn't parked, `OldTwice` if the transform has a pair with this old object, and `TooMany` if there are 4,096
+    /// pairs in all.
+    pub fn transadd(&mut self, x: Name, s: Slot, t: Slot) -> Result<(), Refusal>
+        ensures right { IsRight F.layout self.old (call.TransformAdd x s t) [] (answer_to says_ok result) self.new }
+    {
+        transforming::transadd(&mut self.state, x, s, t)
+    }
+
+    /// Drops a transform with its pairs. Its name is free again. Refuses `BadName` if no transform has this name.
+    pub fn transdrop(&mut self, x: Name) -> Result<(), Refusal>
+        ensures right { IsRight F.layout self.old (call.TransformDrop x) [] (answer_to says_ok result) self.new }
+    {
+        transforming::transdrop(&mut self.state, x)
+    }
+}
