@@ -38,3 +38,4 @@ pub mod ReservationsOfMoves
 pub mod ReservationsStay
 pub mod Reservations
 pub mod Initialising
+pub mod Substituting

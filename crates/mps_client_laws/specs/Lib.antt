@@ -8,3 +8,4 @@ pub mod Complete
 pub mod Committing
 pub mod Reservations
 pub mod Initialising
+pub mod Substituting

@@ -11,6 +11,7 @@ ghost use Rattle.mps_client_laws.specs.Initialising.{InitWritesTheNumber, InitWr
 ghost use Rattle.mps_client_laws.specs.ReadingBack.{GetGivesWhatWasPut, NumAnswersWhatWasSet, LoadAnswersWhatWasStored};
 ghost use Rattle.mps_client_laws.specs.Refusals.{RefusalsAreListed, RefusedStepsAreListed, NoneIsOutOfMemory, RefusedStepsMakeNoMoves, RefusedStepsChangeNothing, RefusedStepsLeaveTheirMoves, RefusedPollsHaveNoPlace};
 ghost use Rattle.mps_client_laws.specs.Reservations.{ReserveOpens, ReservationsStay, InitOfDoomedLeavesTheGraph, CommitAnswersByFlips, CommitSpendsTheReservation};
+ghost use Rattle.mps_client_laws.specs.Substituting.{NoChangesNothing, NoReferenceIsToOld, NoSlotRefersToOld, YesIsNotBlocked, YesIsTheSubstitution};
 ghost use Rattle.mps_client_laws.specs.Slots.{SlotsStay, CopyGivesTheSameObject, ClearLeavesNull, YesIsTheSameObject, NoIsAnotherObject, YesIsNoObject, NoIsAnObject};
 
 /// No object is lost. Over any steps an object keeps its pool, its kind, its size, its head and its weakness. A cell is
@@ -122,4 +123,15 @@ pub fn a_commit_answers_by_flips()
 pub fn an_init_writes_its_cell()
     ensures number { InitWritesTheNumber }
     ensures reference { InitWritesTheReference }
+{}
+
+/// A `transapply` that answers yes leaves the substitution, once: each slot and each reference of an object, weak or not, that was to an
+/// old object of a pair is to its new one, and all others are what they were. So after it none is to an old object that isn't a new one
+/// too. It answers yes if no area word lies in an old object. If one does it answers no, and the graph is as it was.
+pub fn a_transapply_replaces_once()
+    ensures substitution { YesIsTheSubstitution }
+    ensures not_blocked { YesIsNotBlocked }
+    ensures slots { NoSlotRefersToOld }
+    ensures references { NoReferenceIsToOld }
+    ensures blocked { NoChangesNothing }
 {}
