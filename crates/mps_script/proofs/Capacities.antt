@@ -3,9 +3,10 @@ use Rattle.std.proofs.Common.{◌≡◌, ℕ, ◌+◌, ◌-◌, ◌<◌, ◌≤�
 use Rattle.std.specs.Prelude.{option_map}
 use Rattle.std.proofs.lemmas.Grind.{common_steps}
 use Rattle.std.proofs.lemmas.Bool.Decides.{nat_tests}
-use Rattle.std.proofs.lemmas.List.{take_more_set, drop-set-lt, drop-drop, drop-replicate, append-nil, append_assoc, take-append-drop}
+use Rattle.std.proofs.lemmas.List.{take_more_set, append-nil, append_assoc}
 use Rattle.mps_line_words.specs.Reading.{both, each}
 use Rattle.mps_script.specs.Form.{grains_from, capacities, padded}
+use Rattle.mps_script.proofs.Padded.{first_length, padded_first, zeros_after}
 
 -- what the readings of a word and of the words after it give
 abbrev with_first : Option ℕ → Option (List ℕ) → Option (List ℕ)
@@ -31,13 +32,6 @@ moved_on front n (Some ns) = ap Some (sym (append_assoc front (n ∷ []) ns))
 stopped : (front : List ℕ) (ns : Option (List ℕ)) → after_numbers front (with_first None ns) ≡ None
 stopped front ns = refl
 
-fewer_zeros : (count : ℕ) (numbers : List ℕ) → count < 8 → drop count numbers ≡ replicate (8 - count) 0
-    → drop (count + 1) numbers ≡ replicate (8 - (count + 1)) 0
-fewer_zeros count numbers less zeros =
-    let one_less : 8 - count - 1 ≡ 8 - (count + 1) = omega arith in
-    sym (drop-drop 1 count numbers) ∙ ap (drop 1) zeros ∙ drop-replicate 1 (8 - count) 0
-    ∙ ap (λ (k : ℕ). replicate k 0) one_less
-
 pub one_more_read : (all after : List (List ℕ)) (word : List ℕ) (numbers : List ℕ) (count n : ℕ) → AreRead all (word ∷ after) numbers count
     → grains_from 0 word ≡ Some n → count < 8 → AreRead all after (set numbers count n) (count + 1)
 one_more_read all after word numbers count n before value less =
@@ -48,7 +42,7 @@ one_more_read all after word numbers count n before value less =
           ∙ moved_on (take count numbers) n (each (grains_from 0) after)
           ∙ ap (λ (front : List ℕ). after_numbers front (each (grains_from 0) after)) (sym (take_more_set numbers count n fits));
       words = omega (arith, before.words);
-      zeros = drop-set-lt (count + 1) numbers count n (omega arith) ∙ fewer_zeros count numbers less before.zeros;
+      zeros = zeros_after count numbers n less before.zeros;
       in_bounds = omega arith;
       room = grind (arith, common_steps, before.room);
     }
@@ -101,8 +95,6 @@ all_read all numbers count before some =
     let least : 1 ≤ length all = omega (arith, before.words) in
     let front : capacities all ≡ Some (take count numbers)
     = in_range all least few ∙ before.read ∙ ap Some (append-nil (take count numbers)) in
-    let size : length (take count numbers) ≡ count = grind (arith, common_steps, before.room, before.in_bounds) in
-    let whole : padded (take count numbers) ≡ numbers
-    = ap (λ (k : ℕ). take count numbers ++ replicate (8 - k) 0) size ∙ ap (λ (tail : List ℕ). take count numbers ++ tail) (sym before.zeros)
-    ∙ take-append-drop count numbers in
+    let size : length (take count numbers) ≡ count = first_length count numbers before.in_bounds before.room in
+    let whole : padded (take count numbers) ≡ numbers = padded_first count numbers before.in_bounds before.room before.zeros in
     sym (ap answer front ∙ ap (λ (k : ℕ). Some (k, padded (take count numbers))) size ∙ ap (λ (xs : List ℕ). Some (count, xs)) whole)

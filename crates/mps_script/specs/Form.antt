@@ -1,7 +1,7 @@
 -- The forms of commands: the command word, and after it the words, each in its form and with its range. A command word stands
 -- once; if it has several forms, `or` stands between them. A name, a slot, a head, a decimal number and a number in either
 -- form are read by `name_of`, `slot_of`, `head_of`, `decimal_number` and `number_of`.
-use Rattle.std.specs.Prelude.{ℕ, ◌-◌, nat_le, ◌&&◌, if◌then◌else◌, codes, Option, Some, None, option_map, List, [], ◌∷◌, ◌++◌, length, replicate}
+use Rattle.std.specs.Prelude.{ℕ, ◌*◌, ◌-◌, nat_le, nat_lt, ◌&&◌, if◌then◌else◌, codes, Option, Some, None, option_map, List, [], ◌∷◌, ◌++◌, length, replicate}
 use Rattle.std.specs.Str.{bytes_eq}
 use Rattle.mps_base.specs.Address.{max_grains}
 use Rattle.mps_base.specs.declared.names.Kind.{Kind}
@@ -11,7 +11,7 @@ use Rattle.mps_base.specs.declared.names.Rank.TheVariants as rank
 use Rattle.mps_model.specs.declared.call.Call.{Call}
 use Rattle.mps_model.specs.declared.call.Call.TheVariants as call
 use Rattle.mps_numerals.specs.Decimal.{decimal_number}
-use Rattle.mps_line_words.specs.Reading.{named_in, onto, each}
+use Rattle.mps_line_words.specs.Reading.{both, named_in, onto, each}
 use Rattle.mps_line_words.specs.Number.{number_of, number_within, prefixed_hexadecimal}
 use Rattle.mps_line_words.specs.Name.{name_of, slot_of}
 use Rattle.mps_line_words.specs.Head.{head_of}
@@ -69,13 +69,51 @@ tag_number = number_within 0 max_tag
 abbrev pub capacities : List (List ℕ) → Option (List ℕ)
 capacities ws = if nat_le 1 (length ws) && nat_le (length ws) max_generations then each (grains_from 0) ws else None
 
--- eight capacities, of which these are the first and the others are 0
+-- eight numbers, of which these are the first and the others are 0
 abbrev pub padded : List ℕ → List ℕ
 padded numbers = numbers ++ replicate (max_generations - length numbers) 0
 
 -- a name, and after it the capacities of a chain
 abbrev pub chain : List (List ℕ) → Option Call
 chain ws = option_map (λ p. call.Chain p.0 (length p.1) (padded p.1)) (onto name_of capacities ws)
+
+-- ---- the classes of a cache
+
+-- the most classes of a cache
+abbrev pub max_classes : ℕ
+max_classes = 8
+
+-- the most blocks that a class keeps
+abbrev pub max_cached : ℕ
+max_cached = 64
+
+-- one word more than the largest block has
+abbrev pub too_large : ℕ
+too_large = 65537
+
+-- the size of the blocks of a class; those that are too large are refused alike, and all stand as the least of them
+abbrev pub class_size : List ℕ → Option ℕ
+class_size word = option_map (λ n. if nat_lt n too_large then n else too_large) (decimal_number word)
+
+-- how many blocks a class keeps at most
+abbrev pub class_limit : List ℕ → Option ℕ
+class_limit = number_within 0 max_cached
+
+-- the sizes of classes, and how many blocks each keeps at most; of each class two words
+abbrev pub each_class : List (List ℕ) → Option (List ℕ × List ℕ)
+each_class [] = Some ([], [])
+each_class (size ∷ []) = None
+each_class (size ∷ limit ∷ ws) =
+    option_map (λ p. (p.0.0 ∷ p.1.0, p.0.1 ∷ p.1.1)) (both (both (class_size size) (class_limit limit)) (each_class ws))
+
+-- the same, of one to eight classes
+abbrev pub classes : List (List ℕ) → Option (List ℕ × List ℕ)
+classes ws = if nat_le 2 (length ws) && nat_le (length ws) (2 * max_classes) then each_class ws else None
+
+-- a name, the name of a pool, and classes
+abbrev pub cache : List (List ℕ) → Option Call
+cache ws =
+    option_map (λ p. call.Cache p.0 p.1.0 (length p.1.1.0) (padded p.1.1.0) (padded p.1.1.1)) (onto name_of (onto name_of classes) ws)
 
 -- ---- commands with several forms
 
@@ -120,6 +158,9 @@ abbrev pub c_forms : List Form
 c_forms =
     (codes "commit", two name_of slot_of call.Commit)
     ∷ (codes "copy", two slot_of slot_of call.Copy)
+    ∷ (codes "calloc", three name_of decimal_number slot_of call.CacheAlloc)
+    ∷ (codes "cfree", two name_of slot_of call.CacheFree)
+    ∷ (codes "cache", cache)
     ∷ (codes "chain", chain)
     ∷ (codes "clamp", none call.Clamp)
     ∷ (codes "clear", one slot_of call.Clear)

@@ -2,6 +2,7 @@
 #![tactic(auto)]
 
 mod a_to_k;
+mod caches;
 mod chain;
 mod commands;
 mod grains;
