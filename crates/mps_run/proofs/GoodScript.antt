@@ -63,7 +63,8 @@ script_first xs ys e =
     both (list_all is_good xs) (begin_with_arena (calls_of xs)) (all_first is_good xs ys k.0)
     (arena_first (calls_of xs) (calls_of ys) (sym (ap begin_with_arena calls) ∙ k.1))
 
-one_more_first : (ran later : List Line) → is_grammatical (ran ++ later) ≡ true → is_grammatical (ran ++ take 1 later) ≡ true
+-- they are one with one line more
+pub one_more_first : (ran later : List Line) → is_grammatical (ran ++ later) ≡ true → is_grammatical (ran ++ take 1 later) ≡ true
 one_more_first ran later e =
     let cut : (ran ++ take 1 later) ++ drop 1 later ≡ ran ++ later =
     append_assoc ran (take 1 later) (drop 1 later) ∙ ap (λ (ls : List Line). ran ++ ls) (take-append-drop 1 later) in

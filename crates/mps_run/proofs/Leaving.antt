@@ -5,7 +5,7 @@ use Rattle.std.proofs.lemmas.List.{length-take-le}
 use Rattle.std.proofs.lemmas.Grind.{common_steps}
 use Rattle.mps_desk.specs.Desk.{Outside, OnlyReports}
 use Rattle.mps_base.specs.Record.{records_bytes}
-use Rattle.mps_model.specs.Step.{Step}
+use Rattle.mps_model.specs.Step.{Step, History}
 use Rattle.mps_model.specs.Log.{written_log, pools_made}
 use Rattle.mps_model.specs.World.{World, empty_world}
 use Rattle.mps_model.specs.History.{world_after_history}
@@ -31,7 +31,7 @@ use Rattle.mps_run.specs.Leaving.{Part, Nothing, SomeRecords, SomeAnswer, IsPart
 use Rattle.mps_run.specs.Running.{IsBegun, IsPartOf, IsReason, LineStops}
 use Rattle.mps_run.specs.Script.{Line, answers_of, commands_of_call, commands_from, max_lines}
 use Rattle.mps_run.proofs.LineByLine.{first_line, commands_more, grammar_more}
-use Rattle.mps_run.proofs.SoFar.{SoFar, ReadUpTo, ReadSoFar, IsKnown, few_flips, known_rest, unsupported-append}
+use Rattle.mps_run.proofs.SoFar.{HasCome, SoFar, ReadUpTo, ReadSoFar, IsKnown, few_flips, known_rest, unsupported-append}
 
 -- ---- the part of a longer time
 
@@ -158,42 +158,54 @@ module _ (built : Built) (stands : World → Type 0) (p : Progress) (old now new
 
 -- ---- at a line that stops the run
 
+module _ (built : Built) (stands : World → Type 0) (p : Progress) (ran : List Line) (history : History)
+    (come : HasCome built stands p ran history) (line : Line) (later : List Line) (first : take 1 later ≡ line ∷ []) where
+  -- a step of its command is one of the next command
+  begins : (step : Step) → IsBegun built stands (commands_of_call (p.lines + 1) (call_of_line line)) step
+      → Begins built ran later history step
+  begins step b = record {
+    commands = commands_more history (step ∷ []) ran line come.run.commands
+        (b.answers ∙ ap (λ n. commands_of_call (n + 1) (call_of_line line)) (sym come.counted))
+        ∙ ap (λ (ls : List Line). commands_from 1 (ran ++ ls)) (sym first);
+    legal = IsLegalFrom-append empty_world history (step ∷ []) come.run.legal
+        (b.legal (world_after_history history) come.stands_for);
+    unsupported = unsupported-append built empty_world history (step ∷ []) come.run.unsupported
+        (b.unsupported (world_after_history history) come.stands_for (few_flips built stands p ran history come));
+  }
+
+  pub of_next : (part : Part) → IsPartOf built stands (commands_of_call (p.lines + 1) (call_of_line line)) part
+      → IsOfNext built ran later history part
+  of_next Nothing b = tt
+  of_next (SomeRecords step count) b = begins step b
+  of_next (SomeAnswer step count) b = begins step b
+
+  -- its command, for which there is no memory
+  pub needs_memory : NeedsMemory built (commands_of_call (p.lines + 1) (call_of_line line))
+      → NeedsMemory built (commands_from (length ran + 1) (take 1 later))
+  needs_memory needs =
+      subst (NeedsMemory built)
+      (ap (λ n. commands_of_call (n + 1) (call_of_line line)) (sym come.counted)
+      ∙ (sym (append-nil (commands_of_call (length ran + 1) (call_of_line line)))
+      ∙ ap (λ (ls : List Line). commands_from (length ran + 1) ls) (sym first)))
+      needs
+
+  -- it is good where they are a script with it
+  pub good_next : is_grammatical (ran ++ take 1 later) ≡ is_good_after p.has_arena line
+  good_next =
+      ap (λ (ls : List Line). is_grammatical (ran ++ ls)) first
+      ∙ (grammar_more history ran line come.run.grammatical come.run.commands
+      ∙ ap (λ (b : Bool). is_good_after b line) (sym come.arena))
+
 module _ (built : Built) (stands : World → Type 0) (p : Progress) (old now mid new : Outside) (f : SoFar built stands p old now)
     (printed : mid.printed ≡ now.printed) (logged : mid.logged ≡ now.logged) (script : List ℕ) (line : Line)
     (bounded : p.lines + 1 ≤ max_lines) (grew : old.out_faults ≤ mid.out_faults) where
-  -- a step of its command is one of the next command
-  begins : (later : List Line) (step : Step) → take 1 later ≡ line ∷ []
-      → IsBegun built stands (commands_of_call (p.lines + 1) (call_of_line line)) step → Begins built f.ran later f.history step
-  begins later step first b = record {
-    commands = commands_more f.history (step ∷ []) f.ran line f.come.run.commands
-        (b.answers ∙ ap (λ n. commands_of_call (n + 1) (call_of_line line)) (sym f.come.counted))
-        ∙ ap (λ (ls : List Line). commands_from 1 (f.ran ++ ls)) (sym first);
-    legal = IsLegalFrom-append empty_world f.history (step ∷ []) f.come.run.legal
-        (b.legal (world_after_history f.history) f.come.stands_for);
-    unsupported = unsupported-append built empty_world f.history (step ∷ []) f.come.run.unsupported
-        (b.unsupported (world_after_history f.history) f.come.stands_for (few_flips built stands p f.ran f.history f.come));
-  }
-
-  of_next : (later : List Line) (part : Part) → take 1 later ≡ line ∷ []
-      → IsPartOf built stands (commands_of_call (p.lines + 1) (call_of_line line)) part → IsOfNext built f.ran later f.history part
-  of_next later Nothing first b = tt
-  of_next later (SomeRecords step count) first b = begins later step first b
-  of_next later (SomeAnswer step count) first b = begins later step first b
-
   ends_here : (why : Stop BadScriptLine) (later : List Line) → take 1 later ≡ line ∷ [] → IsReason built why p line
       → RunEndsAt built (Err why) f.ran later script new.input
-  ends_here stop.OutOfMemory later first needs =
-      subst (NeedsMemory built)
-      (ap (λ n. commands_of_call (n + 1) (call_of_line line)) (sym f.come.counted)
-      ∙ (sym (append-nil (commands_of_call (length f.ran + 1) (call_of_line line)))
-      ∙ ap (λ (ls : List Line). commands_from (length f.ran + 1) ls) (sym first)))
-      needs
+  ends_here stop.OutOfMemory later first needs = needs_memory built stands p f.ran f.history f.come line later first needs
   ends_here (stop.Bad bad) later first reason = (
     reason.0 ∙ ap (λ n. n + 1) (sym f.come.counted),
     omega (arith, reason.0, bounded),
-    ap (λ (ls : List Line). is_grammatical (f.ran ++ ls)) first
-        ∙ (grammar_more f.history f.ran line f.come.run.grammatical f.come.run.commands
-        ∙ (ap (λ (b : Bool). is_good_after b line) (sym f.come.arena) ∙ reason.1)),
+    good_next built stands p f.ran f.history f.come line later first ∙ reason.1,
   )
   ends_here stop.LogFailed later first reason = tt
   ends_here stop.WriteFailed later first reason = tt
@@ -210,7 +222,7 @@ module _ (built : Built) (stands : World → Type 0) (p : Progress) (old now mid
     run = f.come.run;
     part = s.within.part;
     is_part = part_earlier (Err why) s.within.part old mid new grew s.within.is_part;
-    begun = of_next (lines_of rest) s.within.part first s.within.begun;
+    begun = of_next built stands p f.ran f.history f.come line (lines_of rest) first s.within.part s.within.begun;
     ends_at = ends_here why (lines_of rest) first s.reason;
     printed = s.within.printed
         ∙ (ap (λ known. appended known (printed_of s.within.part)) (printed ∙ f.printed)

@@ -1,4 +1,6 @@
 mod InRange
+mod RangesOfLists
+mod RangesOfReadings
 pub mod Following
 pub mod GoodScript
 pub mod Leaving

@@ -1,20 +1,21 @@
 -- The step of a command that was answered, from what was logged and printed of it, and of the line in which it stands.
 use Rattle.std.proofs.Common.{◌≡◌, ℕ, ◌+◌, ◌≤◌, Bool, true, None, Some, Ok, Err, OnOk, IfErr, [], ◌∷◌, ◌++◌, List, take, refl, sym, ◌∙◌, ap, subst, arith, append_assoc, append-nil, inl, inr, ◌⊎◌}
-use Rattle.std.specs.Prelude.{◌↔◌, IsTrue, if◌then◌else◌, is_ok, All}
+use Rattle.std.specs.Prelude.{◌↔◌, IsTrue, if◌then◌else◌, is_ok, All, map}
+use Rattle.std.specs.List.{flat_map}
 use Rattle.std.proofs.lemmas.List.Elements.{All-from_recursion}
 use Rattle.mps_event.specs.declared.version.Version.TheVariants.{Two}
 use Rattle.mps_event.specs.Grammar.{IsRecord}
-use Rattle.mps_desk.specs.Desk.{Outside}
+use Rattle.mps_desk.specs.Desk.{Outside, HasRisen}
 use Rattle.mps_base.specs.declared.moves.Move.{Move}
 use Rattle.mps_base.specs.Record.{Record, records_bytes}
 use Rattle.mps_model.specs.declared.call.Call.{Call}
 use Rattle.mps_model.specs.declared.call.Call.TheVariants as call
 use Rattle.mps_model.specs.declared.reply.Reply.{Reply}
 use Rattle.mps_model.specs.declared.reply.Reply.TheVariants as reply
-use Rattle.mps_model.specs.Answer.{Replied, answer_of, is_accepted}
-use Rattle.mps_model.specs.Step.{Step}
+use Rattle.mps_model.specs.Answer.{Answer, Replied, answer_of, is_accepted}
+use Rattle.mps_model.specs.Step.{Step, History}
 use Rattle.mps_model.specs.World.{World}
-use Rattle.mps_model.specs.Log.{records_of, records_of_accepted, records_of_answered, records_of_command, records_of_label, records_with_label, pools_of_accepted, pools_made_by}
+use Rattle.mps_model.specs.Log.{records_of, records_of_accepted, records_of_answered, records_of_command, records_of_label, labelled_log_from, records_with_label, pools_of_accepted, pools_made_by}
 use Rattle.mps_model.specs.Text.{line_of_answer}
 use Rattle.mps_commands.specs.Built.{Built}
 use Rattle.mps_commands.specs.RightAnswer.{step_in, IsLegalIn, StandsAfter, IsUnsupportedExactly}
@@ -29,8 +30,8 @@ use Rattle.mps_run.specs.declared.bad_script_line.BadScriptLine.{BadScriptLine}
 use Rattle.mps_run.specs.declared.progress.Progress.{Progress}
 use Rattle.mps_run.specs.Ending.{Ending}
 use Rattle.mps_run.specs.Leaving.{SomeRecords, SomeAnswer}
-use Rattle.mps_run.specs.Running.{LogsSomeRecords, PrintsSomeAnswer, StepsRan, LineRan, IsBegun, StopsWithin, IsReason, LineStops, LogsThenPrints, IsReasonOfCall, CommandStops}
-use Rattle.mps_run.specs.Script.{Line, commands_of_call}
+use Rattle.mps_run.specs.Running.{HasAnswered, PrintsOrStops, PrintsSomeAnswer, StepsLogged, LineLogged, LineRan, IsBegun, StopsWithin, IsReason, LineStops, IsReasonOfCall, CommandStops}
+use Rattle.mps_run.specs.Script.{Line, ScriptCommand, answer_of_step, answers_of, commands_of_call}
 
 -- a reply and its answer are accepted alike
 accepted_alike : (words : List ℕ) (given : Reply) → is_accepted (answer_of words given) ≡ is_accepted (Replied given)
@@ -95,12 +96,12 @@ module _ (built : Built) (stood stands_now : World → Type 0) (line : ℕ) (cal
   }
 
   module _ (pools pools_after : ℕ) (old new : Outside) where
-    pub steps_of : (ends : Ending) → pools_after ≡ pools + pools_made_by call (Replied given) → pools_made_by call (Replied given) ≤ 1
-        → LogsThenPrints (records_bytes (the_records pools)) (line_of_answer (answer_of words given)) ends old new
-        → OnOk ends (All (IsRecord Two) (the_records pools))
-        → OnOk ends (StepsRan built stood stands_now (record { line = line; call = call } ∷ []) pools pools_after old new)
+    pub steps_logged : pools_after ≡ pools + pools_made_by call (Replied given) → pools_made_by call (Replied given) ≤ 1
+        → new.logged ≡ appended old.logged (records_bytes (the_records pools)) → All (IsRecord Two) (the_records pools)
+        → StepsLogged built stood stands_now (record { line = line; call = call } ∷ []) (answer_of words given ∷ []) pools pools_after
+        old new
     unfolding begun
-    steps_of (Ok value) made at_most l recorded = record {
+    steps_logged made at_most logged recorded = record {
       steps = the_step ∷ [];
       answered = record {
         answers = refl;
@@ -108,64 +109,42 @@ module _ (built : Built) (stood stands_now : World → Type 0) (line : ℕ) (cal
         unsupported = begun.unsupported;
         stands = λ w s. is.stands w line s;
       };
+      told = refl;
       pools = omega (arith, made, same_pools);
       at_most = omega (arith, made, at_most);
-      logged = l.0
+      logged = logged
           ∙ ap (λ rs. appended old.logged (records_bytes rs)) (same_records pools ∙ sym (append-nil (records_with_label pools the_step)));
-      printed = l.1 ∙ ap (appended old.printed) (sym (append-nil (line_of_answer (answer_of words given))));
       recorded = subst (All (IsRecord Two)) (same_records pools ∙ sym (append-nil (records_with_label pools the_step))) recorded;
     }
-    steps_of (Err why) made at_most l recorded = tt
 
-    some_records : LogsSomeRecords (records_bytes (the_records pools)) old new
-        → StopsWithin built stop.LogFailed stood (record { line = line; call = call } ∷ []) pools old new
+    -- a prefix of the records was logged
+    pub some_records : (count : ℕ) → new.logged ≡ appended old.logged (take count (records_bytes (the_records pools)))
+        → new.printed ≡ old.printed → CommandStops built stop.LogFailed stood line call pools old new
     unfolding begun
-    some_records l = record {
-      part = SomeRecords the_step l.count;
-      is_part = refl;
-      begun = begun;
-      printed = l.printed ∙ appended_empty old.printed;
-      logged = l.logged ∙ ap (λ rs. appended old.logged (take l.count (records_bytes rs))) (same_records pools);
+    some_records count logged printed = record {
+      reason = tt;
+      within = record {
+        part = SomeRecords the_step count;
+        is_part = refl;
+        begun = begun;
+        printed = printed ∙ appended_empty old.printed;
+        logged = logged ∙ ap (λ rs. appended old.logged (take count (records_bytes rs))) (same_records pools);
+      };
     }
-
-    some_answer : (why : Stop BadScriptLine)
-        → (let ends : Ending = Err why in (ends ≡ Err stop.WriteFailed) ⊎ (ends ≡ Err stop.LogFailed))
-        → PrintsSomeAnswer (records_bytes (the_records pools)) (line_of_answer (answer_of words given)) old new
-        → StopsWithin built why stood (record { line = line; call = call } ∷ []) pools old new
-    unfolding begun
-    some_answer why blames l = record {
-      part = SomeAnswer the_step l.count;
-      is_part = record { blames = blames; fault = l.fault };
-      begun = begun;
-      printed = l.printed;
-      logged = l.logged ∙ ap (λ rs. appended old.logged (records_bytes rs)) (same_records pools);
-    }
-
-    pub stops_of : (ends : Ending)
-        → LogsThenPrints (records_bytes (the_records pools)) (line_of_answer (answer_of words given)) ends old new
-        → IfErr ends (λ why. CommandStops built why stood line call pools old new)
-    stops_of (Ok value) l = tt
-    stops_of (Err stop.LogFailed) (inl l) = record { reason = tt; within = some_records l }
-    stops_of (Err stop.LogFailed) (inr l) = record { reason = tt; within = some_answer stop.LogFailed (inr refl) l }
-    stops_of (Err stop.WriteFailed) l = record { reason = tt; within = some_answer stop.WriteFailed (inl refl) l }
-    stops_of (Err stop.ReadFailed) l = absurd l
-    stops_of (Err stop.TooLong) l = absurd l
-    stops_of (Err stop.OutOfMemory) l = absurd l
-    stops_of (Err (stop.Bad bad)) l = absurd l
 
 -- ---- the line
 
 module _ (built : Built) (stood stands_now : World → Type 0) (p : Progress) (line : Line) (old new : Outside) where
   -- a line without a call
   pub empty_line : in_turn p.has_arena (call_of_line line) ≡ Ok None
-      → LineRan built stood stood p (record p { lines = p.lines + 1 }) line old old
+      → LineLogged built stood stood [] p (record p { lines = p.lines + 1 }) line old old
   empty_line turn =
       let e : call_of_line line ≡ Ok None = turn_taken p.has_arena (call_of_line line) None turn in
       record {
         good = ap is_ok turn;
         lines = refl;
         arena = ap (has_arena_after p.has_arena) (sym e);
-        ran = record {
+        logs = record {
           steps = [];
           answered = record {
             answers = sym (ap (commands_of_call (p.lines + 1)) e);
@@ -173,10 +152,10 @@ module _ (built : Built) (stood stands_now : World → Type 0) (p : Progress) (l
             unsupported = λ w s few. tt;
             stands = λ w s. s;
           };
+          told = refl;
           pools = omega arith;
           at_most = omega arith;
           logged = appended_empty old.logged;
-          printed = appended_empty old.printed;
           recorded = All-from_recursion (IsRecord Two) [] tt;
         };
       }
@@ -186,18 +165,17 @@ module _ (built : Built) (stood stands_now : World → Type 0) (p : Progress) (l
       → record { line = p.lines + 1; call = call } ∷ [] ≡ commands_of_call (p.lines + 1) (call_of_line line)
   command_of call e = sym (ap (commands_of_call (p.lines + 1)) e)
 
-  pub line_ran : (call : Call) (pools : ℕ) (ends : Ending) → in_turn p.has_arena (call_of_line line) ≡ Ok (Some call)
-      → OnOk ends (StepsRan built stood stands_now (record { line = p.lines + 1; call = call } ∷ []) p.pools pools old new)
-      → OnOk ends (LineRan built stood stands_now p (record { lines = p.lines + 1; has_arena = true; pools = pools }) line old new)
-  line_ran call pools (Ok value) turn ran =
+  pub line_logged : (call : Call) (answers : List Answer) (pools : ℕ) → in_turn p.has_arena (call_of_line line) ≡ Ok (Some call)
+      → StepsLogged built stood stands_now (record { line = p.lines + 1; call = call } ∷ []) answers p.pools pools old new
+      → LineLogged built stood stands_now answers p (record { lines = p.lines + 1; has_arena = true; pools = pools }) line old new
+  line_logged call answers pools turn logs =
       let e : call_of_line line ≡ Ok (Some call) = turn_taken p.has_arena (call_of_line line) (Some call) turn in
       record {
         good = ap is_ok turn;
         lines = refl;
         arena = ap (has_arena_after p.has_arena) (sym e);
-        ran = subst (λ cs. StepsRan built stood stands_now cs p.pools pools old new) (command_of call e) ran;
+        logs = subst (λ cs. StepsLogged built stood stands_now cs answers p.pools pools old new) (command_of call e) logs;
       }
-  line_ran call pools (Err why) turn ran = tt
 
   reason_of : (call : Call) (why : Stop BadScriptLine) → call_of_line line ≡ Ok (Some call) → IsReasonOfCall built why call
       → IsReason built why p line
@@ -219,3 +197,102 @@ module _ (built : Built) (stood stands_now : World → Type 0) (p : Progress) (l
         reason = reason_of call why e stops.reason;
         within = subst (λ cs. StopsWithin built why stood cs p.pools old new) (command_of call e) stops.within;
       }
+
+-- ---- the answer
+
+-- the answer lines of steps are those of their answers
+pub texts_told : (steps : History) → answers_of steps ≡ flat_map line_of_answer (map answer_of_step steps)
+texts_told [] = refl
+texts_told (s ∷ ss) = ap (λ (rest : List ℕ). line_of_answer s.answer ++ rest) (texts_told ss)
+
+module _ (built : Built) (stood stands_now : World → Type 0) (answers : List Answer) (p q : Progress) (line : Line) (old mid new : Outside)
+    (l : LineLogged built stood stands_now answers p q line old mid) (unprinted : mid.printed ≡ old.printed)
+    (unlogged : new.logged ≡ mid.logged) where
+  -- what was logged is printed too
+  abbrev pub line_ran : new.printed ≡ appended mid.printed (flat_map line_of_answer answers)
+      → LineRan built stood stands_now p q line old new
+  line_ran printed = record {
+    good = l.good;
+    lines = l.lines;
+    arena = l.arena;
+    ran = record {
+      steps = l.logs.steps;
+      answered = l.logs.answered;
+      pools = l.logs.pools;
+      at_most = l.logs.at_most;
+      logged = unlogged ∙ l.logs.logged;
+      printed = printed
+          ∙ (ap (λ known. appended known (flat_map line_of_answer answers)) unprinted
+          ∙ ap (appended old.printed) (ap (flat_map line_of_answer) (sym l.logs.told) ∙ sym (texts_told l.logs.steps)));
+      recorded = l.logs.recorded;
+    };
+  }
+
+-- a call that was to print failed
+reason_of_print : (built : Built) (why : Stop BadScriptLine) (p : Progress) (line : Line)
+    → (let ends : Ending = Err why in (ends ≡ Err stop.WriteFailed) ⊎ (ends ≡ Err stop.LogFailed)) → IsReason built why p line
+reason_of_print built stop.LogFailed p line blames = tt
+reason_of_print built stop.WriteFailed p line blames = tt
+reason_of_print built stop.OutOfMemory p line (inl is) = absurd cc
+reason_of_print built stop.OutOfMemory p line (inr is) = absurd cc
+reason_of_print built stop.ReadFailed p line (inl is) = absurd cc
+reason_of_print built stop.ReadFailed p line (inr is) = absurd cc
+reason_of_print built stop.TooLong p line (inl is) = absurd cc
+reason_of_print built stop.TooLong p line (inr is) = absurd cc
+reason_of_print built (stop.Bad bad) p line (inl is) = absurd cc
+reason_of_print built (stop.Bad bad) p line (inr is) = absurd cc
+
+module _ (built : Built) (stood stands_now : World → Type 0) (answer : Answer) (p q : Progress) (line : Line) (old mid new : Outside)
+    (l : LineLogged built stood stands_now (answer ∷ []) p q line old mid) (unprinted : mid.printed ≡ old.printed)
+    (no_fault : mid.out_faults ≡ old.out_faults) (unlogged : new.logged ≡ mid.logged) (why : Stop BadScriptLine)
+    (some : PrintsSomeAnswer (line_of_answer answer) why mid new) where
+  abbrev its_commands : List ScriptCommand
+  its_commands = commands_of_call (p.lines + 1) (call_of_line line)
+
+  cut_answer : (steps : History) → HasAnswered built stood stands_now its_commands steps → map answer_of_step steps ≡ answer ∷ []
+      → mid.logged ≡ appended old.logged (records_bytes (labelled_log_from p.pools steps))
+      → StopsWithin built why stood its_commands p.pools old new
+  cut_answer [] answered told logged = absurd (let none : List Answer = [] in let wrong : none ≡ answer ∷ [] = told in cc)
+  cut_answer (s ∷ []) answered told logged =
+      let same : s.answer ∷ [] ≡ answer ∷ [] = told in
+      let is : s.answer ≡ answer = cc in
+      record {
+        part = SomeAnswer s some.count;
+        is_part = record {
+          blames = some.stops.blames;
+          fault = subst (λ n. HasRisen n new.out_faults) no_fault some.stops.fault;
+        };
+        begun = record { answers = answered.answers; legal = answered.legal; unsupported = answered.unsupported };
+        printed = some.printed
+            ∙ (ap (λ known. appended known (take some.count (line_of_answer answer))) unprinted
+            ∙ ap (λ (a : Answer). appended old.printed (take some.count (line_of_answer a))) (sym is));
+        logged = unlogged
+            ∙ (logged ∙ ap (λ rs. appended old.logged (records_bytes rs)) (append-nil (records_with_label p.pools s)));
+      }
+  cut_answer (s ∷ t ∷ ss) answered told logged =
+      absurd (let wrong : s.answer ∷ t.answer ∷ map answer_of_step ss ≡ answer ∷ [] = told in cc)
+
+  -- its answer was printed only in part
+  pub line_cut : LineStops built why stood p line old new
+  line_cut = record {
+    reason = reason_of_print built why p line some.stops.blames;
+    within = cut_answer l.logs.steps l.logs.answered l.logs.told l.logs.logged;
+  }
+
+module _ (built : Built) (stood stands_now : World → Type 0) (answer : Answer) (p q : Progress) (line : Line) (old mid new : Outside)
+    (l : LineLogged built stood stands_now (answer ∷ []) p q line old mid) (unprinted : mid.printed ≡ old.printed)
+    (no_fault : mid.out_faults ≡ old.out_faults) where
+  -- it was run where its answer was printed
+  pub ran_if_printed : (ends : Ending) → PrintsOrStops (line_of_answer answer) ends mid new
+      → OnOk ends (LineRan built stood stands_now p q line old new)
+  ran_if_printed (Ok done) prints =
+      line_ran built stood stands_now (answer ∷ []) p q line old mid new l unprinted prints.1
+      (prints.0 ∙ ap (appended mid.printed) (sym (append-nil (line_of_answer answer))))
+  ran_if_printed (Err why) prints = tt
+
+  -- and stopped the run where it wasn't
+  pub cut_if_not : (ends : Ending) → PrintsOrStops (line_of_answer answer) ends mid new
+      → IfErr ends (λ why. LineStops built why stood p line old new)
+  cut_if_not (Ok done) prints = tt
+  cut_if_not (Err why) prints =
+      line_cut built stood stands_now answer p q line old mid new l unprinted no_fault prints.1 why prints.0

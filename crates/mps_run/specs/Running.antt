@@ -1,10 +1,11 @@
 -- One line of a run: what a machine does of it, and what stops the run there.
-use Rattle.std.specs.Prelude.{ℕ, ◌≡◌, ◌+◌, ◌≤◌, ◌⊎◌, IsTrue, true, false, All, Ok, Err, List, [], ◌∷◌, take}
-use Rattle.mps_desk.specs.Desk.{Outside, HasRisen}
+use Rattle.std.specs.Prelude.{ℕ, ◌≡◌, ◌+◌, ◌≤◌, IsTrue, true, false, All, Ok, Err, List, [], ◌∷◌, map, take}
+use Rattle.mps_desk.specs.Desk.{Outside}
 use Rattle.mps_base.specs.Record.{records_bytes}
 use Rattle.mps_event.specs.declared.version.Version.TheVariants.{Two}
 use Rattle.mps_event.specs.Grammar.{IsRecord}
 use Rattle.mps_model.specs.declared.call.Call.{Call}
+use Rattle.mps_model.specs.Answer.{Answer}
 use Rattle.mps_model.specs.Step.{Step, History}
 use Rattle.mps_model.specs.Log.{labelled_log_from, pools_made}
 use Rattle.mps_model.specs.World.{World}
@@ -19,8 +20,8 @@ use Rattle.mps_report.specs.declared.stop.Stop.TheVariants as stop
 use Rattle.mps_run.specs.declared.bad_script_line.BadScriptLine.{BadScriptLine}
 use Rattle.mps_run.specs.declared.progress.Progress.{Progress}
 use Rattle.mps_run.specs.Ending.{Ending}
-use Rattle.mps_run.specs.Leaving.{Part, Nothing, SomeRecords, SomeAnswer, IsPartAt, NeedsMemory, logged_of, printed_of}
-use Rattle.mps_run.specs.Script.{Line, ScriptCommand, AreUnsupportedWhereDue, answers_of, commands_of, command_of_step, commands_of_call}
+use Rattle.mps_run.specs.Leaving.{Part, Nothing, SomeRecords, SomeAnswer, IsPartAt, NeedsMemory, StopsPrinting, logged_of, printed_of}
+use Rattle.mps_run.specs.Script.{Line, ScriptCommand, AreUnsupportedWhereDue, answers_of, answer_of_step, commands_of, command_of_step, commands_of_call}
 
 -- before the first line
 abbrev pub not_begun : Progress
@@ -47,6 +48,19 @@ pub record StepsRan (built : Built) (stood stands_now : World → Type 0) (comma
   -- these records are such as a log may hold
   pub recorded : All (IsRecord Two) (labelled_log_from before steps)
 
+-- steps were made that answer these commands, and these are their answers; what was logged is their records
+pub record StepsLogged (built : Built) (stood stands_now : World → Type 0) (commands : List ScriptCommand) (answers : List Answer)
+    (before after : ℕ) (old new : Outside) : Type 0 where
+  pub steps : History
+  pub answered : HasAnswered built stood stands_now commands steps
+  pub told : map answer_of_step steps ≡ answers
+  -- how many pools were made before and after
+  pub pools : after ≡ before + pools_made steps
+  pub at_most : after ≤ before + 1
+  pub logged : new.logged ≡ appended old.logged (records_bytes (labelled_log_from before steps))
+  -- these records are such as a log may hold
+  pub recorded : All (IsRecord Two) (labelled_log_from before steps)
+
 -- the line after those that were run is good, and its command was answered, where it has one
 pub record LineRan (built : Built) (stood stands_now : World → Type 0) (before after : Progress) (line : Line) (old new : Outside)
     : Type 0 where
@@ -54,6 +68,15 @@ pub record LineRan (built : Built) (stood stands_now : World → Type 0) (before
   pub lines : after.lines ≡ before.lines + 1
   pub arena : after.has_arena ≡ has_arena_after before.has_arena (call_of_line line)
   pub ran : StepsRan built stood stands_now (commands_of_call (before.lines + 1) (call_of_line line)) before.pools after.pools old new
+
+-- the same, and these are the answers of its command, which are not printed yet
+pub record LineLogged (built : Built) (stood stands_now : World → Type 0) (answers : List Answer) (before after : Progress) (line : Line)
+    (old new : Outside) : Type 0 where
+  pub good : is_good_after before.has_arena line ≡ true
+  pub lines : after.lines ≡ before.lines + 1
+  pub arena : after.has_arena ≡ has_arena_after before.has_arena (call_of_line line)
+  pub logs : StepsLogged built stood stands_now (commands_of_call (before.lines + 1) (call_of_line line)) answers before.pools after.pools
+      old new
 
 -- ---- what stops a run
 
@@ -94,28 +117,16 @@ pub record LineStops (built : Built) (why : Stop BadScriptLine) (stood : World �
 
 -- ---- one command
 
--- a prefix of the records was logged, and nothing of the answer printed
-pub record LogsSomeRecords (records : List ℕ) (old new : Outside) : Type 0 where
+-- a prefix of an answer was printed, and a call that was to print failed
+pub record PrintsSomeAnswer (answer : List ℕ) (why : Stop BadScriptLine) (old new : Outside) : Type 0 where
   pub count : ℕ
-  pub logged : new.logged ≡ appended old.logged (take count records)
-  pub printed : new.printed ≡ old.printed
-
--- all records were logged, and then a prefix of the answer was printed, and a call that was to print failed
-pub record PrintsSomeAnswer (records answer : List ℕ) (old new : Outside) : Type 0 where
-  pub count : ℕ
-  pub logged : new.logged ≡ appended old.logged records
   pub printed : new.printed ≡ appended old.printed (take count answer)
-  pub fault : HasRisen old.out_faults new.out_faults
+  pub stops : StopsPrinting (Err why) old new
 
--- records are logged, and then an answer is printed: all of both, or a part of the records or of the answer. It is a part of the
--- answer too where the log fails as its bytes are written before the answer.
-abbrev pub LogsThenPrints : (records answer : List ℕ) → Ending → (old new : Outside) → Type 0
-LogsThenPrints records answer (Ok done) old new =
-    (new.logged ≡ appended old.logged records) × (new.printed ≡ appended old.printed answer)
-LogsThenPrints records answer (Err stop.LogFailed) old new =
-    LogsSomeRecords records old new ⊎ PrintsSomeAnswer records answer old new
-LogsThenPrints records answer (Err stop.WriteFailed) old new = PrintsSomeAnswer records answer old new
-LogsThenPrints records answer ends old new = ⊥
+-- an answer is printed, or a part of it. That may also be where the log fails, as its bytes are written before the answer.
+abbrev pub PrintsOrStops : (answer : List ℕ) → Ending → (old new : Outside) → Type 0
+PrintsOrStops answer (Ok done) old new = (new.printed ≡ appended old.printed answer) × (new.logged ≡ old.logged)
+PrintsOrStops answer (Err why) old new = PrintsSomeAnswer answer why old new × (new.logged ≡ old.logged)
 
 -- the reason is one that a command may have
 abbrev pub IsReasonOfCall : Built → Stop BadScriptLine → Call → Type 0

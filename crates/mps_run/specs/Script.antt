@@ -7,7 +7,7 @@ use Rattle.mps_event.specs.Grammar.{IsRecord}
 use Rattle.mps_model.specs.declared.call.Call.{Call}
 use Rattle.mps_model.specs.declared.call.Call.TheVariants as call
 use Rattle.mps_model.specs.declared.reply.Reply.TheVariants as reply
-use Rattle.mps_model.specs.Answer.{Replied}
+use Rattle.mps_model.specs.Answer.{Answer, Replied}
 use Rattle.mps_model.specs.Step.{Step, History}
 use Rattle.mps_model.specs.Log.{written_log}
 use Rattle.mps_model.specs.World.{World, empty_world}
@@ -46,6 +46,10 @@ command_of_step s = record { line = s.line; call = s.call }
 
 abbrev pub commands_of : History → List ScriptCommand
 commands_of history = map command_of_step history
+
+-- what a step is answered
+abbrev pub answer_of_step : Step → Answer
+answer_of_step s = s.answer
 
 -- what is printed for a history: the answer line of each step, in order
 abbrev pub answers_of : History → List ℕ

@@ -55,7 +55,7 @@ fn is_fault(ending: &Result<(), Stop<BadScriptLine>>) -> bool
 }
 
 /// Has written what the desk took and what waits: the log first, and then the answers.
-fn settle<D: Desk>(desk: &mut D) -> Result<(), Stop<BadScriptLine>>
+pub fn settle<D: Desk>(desk: &mut D) -> Result<(), Stop<BadScriptLine>>
     ensures same { OnOk result (OnlyReads (D.outside desk.old) (D.outside desk.new)) }
     ensures input { (D.outside desk.new).input ≡ (D.outside desk.old).input }
     ensures in_faults { (D.outside desk.new).in_faults ≡ (D.outside desk.old).in_faults }

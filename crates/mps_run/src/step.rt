@@ -1,17 +1,15 @@
 // One line of a script, and its command.
-ghost use Rattle.std.specs.Prelude.{◌≡◌, ◌≢◌, ◌⊎◌, ◌+◌, ◌<◌, ◌≤◌, ◌∷◌, ◌++◌, [], true, false, Err, All, IfErr, OnOk, OnErr};
+ghost use Rattle.std.specs.Prelude.{◌≡◌, ◌≢◌, ◌⊎◌, ◌<◌, ◌≤◌, ◌∷◌, [], true, false, if◌then◌else◌, Err, IfOk, IfErr, OnOk, OnErr};
 ghost use Rattle.mps_desk.specs.Desk.{HasRisen, IsSteady, OnlyLogs};
-ghost use Rattle.mps_base.specs.Record.{records_bytes};
-ghost use Rattle.mps_event.specs.declared.version.Version.TheVariants.{Two};
-ghost use Rattle.mps_event.specs.Grammar.{IsRecord};
 ghost use Rattle.mps_model.specs.Answer.{Replied, answer_of};
-ghost use Rattle.mps_model.specs.Log.{pools_made_by, pools_of_accepted as pools_if_accepted, records_of, records_of_answered};
+ghost use Rattle.mps_model.specs.Log.{pools_made_by, pools_of_accepted as pools_if_accepted};
 ghost use Rattle.mps_model.specs.Text.{line_of_answer};
 ghost use Rattle.mps_commands.specs.Range.{IsInRange};
+ghost use Rattle.mps_report.specs.Causes.{CauseOf};
 ghost use Rattle.mps_report.specs.Streams.{LogTakes};
 ghost use Rattle.mps_report.specs.declared.stop.Stop.TheVariants as stop;
 ghost use Rattle.mps_run.specs.Ending.{HasCause, RunsOn, is_verdict};
-ghost use Rattle.mps_run.specs.Running.{LineRan, LineStops, StepsRan, LogsThenPrints, CommandStops};
+ghost use Rattle.mps_run.specs.Running.{LineRan, LineLogged, LineStops, StepsLogged, PrintsOrStops, CommandStops};
 
 use crate::bad_script_line::BadScriptLine;
 use crate::log::log_records;
@@ -47,24 +45,60 @@ pub fn run_line<D: Desk, C: Commands>(
     ensures runs { RunsOn (D.outside desk.old) (D.outside desk.new) }
     ensures log_written { result ≡ Err stop.WriteFailed → (D.outside desk.new).log_waits ≡ false }
 {
+    match log_line(desk, commands, progress, bytes, call, reply) {
+        Ok(true) => print_answer(desk, reply, commands),
+        Ok(false) => Ok(()),
+        Err(stop) => Err(stop),
+    }
+}
+
+/// Runs the line after those that were run but for printing its answer: that is the one of the reply. Returns whether it has a command;
+/// else there is no answer.
+#[inline(always)]
+pub fn log_line<D: Desk, C: Commands>(
+    desk: &mut D,
+    commands: &mut C,
+    progress: &mut Progress,
+    bytes: &[u8],
+    call: &mut Call,
+    reply: &mut Reply,
+) -> Result<bool, Stop<BadScriptLine>>
+    requires bounded { progress.old.lines < 4294967295 }
+    requires pools { progress.old.pools ≤ progress.old.lines }
+    ensures logged { IfOk result (λ has_call. LineLogged C.built (C.stands_for commands.old) (C.stands_for commands.new)
+        (if has_call then answer_of (C.words commands.new) reply.new ∷ [] else []) progress.old progress.new bytes.now
+        (D.outside desk.old) (D.outside desk.new)) }
+    ensures stops { IfErr result (λ why. LineStops C.built why (C.stands_for commands.old) progress.old bytes.now
+        (D.outside desk.old) (D.outside desk.new)) }
+    ensures cause { IfErr result (λ why. CauseOf (D.outside desk.old) (D.outside desk.new) why) }
+    ensures steady { IfOk result (λ has_call. IsSteady (D.outside desk.old) (D.outside desk.new)) }
+    ensures bad { IfErr result (λ why. is_verdict (Err why) ≡ true → IsSteady (D.outside desk.old) (D.outside desk.new)) }
+    ensures quiet { OnlyLogs (D.outside desk.old) (D.outside desk.new) }
+    ensures counted { (D.outside desk.old).log_faults ≤ (D.outside desk.new).log_faults }
+    ensures takes { LogTakes (D.outside desk.old) (D.outside desk.new) }
+    ensures unprinted { IfErr result (λ why. why ≢ stop.WriteFailed) }
+{
     let line = progress.lines + 1;
     match next_call(progress.has_arena, bytes, call) {
         Ok(false) => {
             progress.lines = line;
-            Ok(())
+            Ok(false)
         }
         Ok(true) => {
             progress.lines = line;
             progress.has_arena = true;
-            run_call(desk, commands, line, &mut progress.pools, call, reply)
+            match log_call(desk, commands, line, &mut progress.pools, call, reply) {
+                Ok(()) => Ok(true),
+                Err(stop) => Err(stop),
+            }
         }
         Err(_) => Err(Stop::Bad(BadScriptLine { line })),
     }
 }
 
-/// Runs one command. `pools` counts the pools that were made, and `reply` is where the reply is written.
+/// Has one command answered, and writes its records. `pools` counts the pools that were made, and `reply` is where the reply is written.
 #[inline(always)]
-fn run_call<D: Desk, C: Commands>(
+fn log_call<D: Desk, C: Commands>(
     desk: &mut D,
     commands: &mut C,
     line: u32,
@@ -74,25 +108,28 @@ fn run_call<D: Desk, C: Commands>(
 ) -> Result<(), Stop<BadScriptLine>>
     requires range { IsInRange call.now }
     requires fits { pools.old < 4294967295 }
-    ensures ran { OnOk result (StepsRan C.built (C.stands_for commands.old) (C.stands_for commands.new)
-        (record { line = line; call = call.now } ∷ []) pools.old pools.new
+    ensures logged { OnOk result (StepsLogged C.built (C.stands_for commands.old) (C.stands_for commands.new)
+        (record { line = line; call = call.now } ∷ []) (answer_of (C.words commands.new) reply.new ∷ []) pools.old pools.new
         (D.outside desk.old) (D.outside desk.new)) }
     ensures stops { IfErr result (λ why. CommandStops C.built why (C.stands_for commands.old) line call.now pools.old
         (D.outside desk.old) (D.outside desk.new)) }
     ensures no_verdict { OnErr result (is_verdict result ≡ false) }
     ensures cause { HasCause result (D.outside desk.old) (D.outside desk.new) }
     ensures steady { OnOk result (IsSteady (D.outside desk.old) (D.outside desk.new)) }
-    ensures input { (D.outside desk.new).input ≡ (D.outside desk.old).input }
+    ensures quiet { OnlyLogs (D.outside desk.old) (D.outside desk.new) }
+    ensures counted { (D.outside desk.old).log_faults ≤ (D.outside desk.new).log_faults }
     ensures takes { LogTakes (D.outside desk.old) (D.outside desk.new) }
-    ensures runs { RunsOn (D.outside desk.old) (D.outside desk.new) }
-    ensures log_written { result ≡ Err stop.WriteFailed → (D.outside desk.new).log_waits ≡ false }
+    ensures unprinted { IfErr result (λ why. why ≢ stop.WriteFailed) }
 {
     let Ok(()) = commands.answer(call, reply) else {
         return Err(Stop::OutOfMemory);
     };
     let before = *pools;
     *pools += pools_made(call, reply);
-    log_then_print(desk, line, before, call, reply, commands)
+    let Ok(()) = log_records(desk, line, before, call, reply, commands.moves()) else {
+        return Err(Stop::LogFailed);
+    };
+    Ok(())
 }
 
 /// How many pools a command makes.
@@ -123,32 +160,24 @@ fn pools_of_accepted(call: &Call) -> u32
     }
 }
 
-/// Writes the records of the last command that the machine answered, and then prints its answer.
+/// Prints the answer of a reply.
 #[inline(always)]
-fn log_then_print<D: Desk, C: Commands>(
+pub fn print_answer<D: Desk, C: Commands>(
     desk: &mut D,
-    line: u32,
-    pools: u32,
-    call: &Call,
     reply: &Reply,
     commands: &C,
 ) -> Result<(), Stop<BadScriptLine>>
-    requires range { IsInRange call.now }
-    ensures does { LogsThenPrints
-        (records_bytes (records_of (C.moves commands.now) line ++ records_of_answered pools call.now (Replied reply.now) line))
-        (line_of_answer (answer_of (C.words commands.now) reply.now)) result (D.outside desk.old) (D.outside desk.new) }
-    ensures recorded { OnOk result (All (IsRecord Two)
-        (records_of (C.moves commands.now) line ++ records_of_answered pools call.now (Replied reply.now) line)) }
+    ensures does { PrintsOrStops (line_of_answer (answer_of (C.words commands.now) reply.now)) result
+        (D.outside desk.old) (D.outside desk.new) }
     ensures cause { HasCause result (D.outside desk.old) (D.outside desk.new) }
+    ensures no_verdict { OnErr result (is_verdict result ≡ false) }
     ensures steady { OnOk result (IsSteady (D.outside desk.old) (D.outside desk.new)) }
     ensures input { (D.outside desk.new).input ≡ (D.outside desk.old).input }
+    ensures in_faults { (D.outside desk.new).in_faults ≡ (D.outside desk.old).in_faults }
     ensures takes { LogTakes (D.outside desk.old) (D.outside desk.new) }
     ensures runs { RunsOn (D.outside desk.old) (D.outside desk.new) }
     ensures log_written { result ≡ Err stop.WriteFailed → (D.outside desk.new).log_waits ≡ false }
 {
-    let Ok(()) = log_records(desk, line, pools, call, reply, commands.moves()) else {
-        return Err(Stop::LogFailed);
-    };
     let Ok(()) = print(desk, reply, commands) else {
         return Err(after_no_print(desk));
     };

@@ -1,52 +1,50 @@
-use Rattle.std.proofs.Common.{◌≡◌, ◌∙◌, ap, sym, Bool, Option, Some, None, Result, Ok}
-use Rattle.mps_model.specs.declared.call.Call.{Call}
-use Rattle.mps_script.specs.declared.line.BadLine.{BadLine}
-use Rattle.mps_script.specs.Filled.{found}
-use Rattle.mps_script.specs.Line.{call_of_line}
-use Rattle.mps_script.specs.Script.{in_turn}
-use Rattle.mps_script.proofs.Scripts.{turn_taken}
-use Rattle.mps_report.proofs.Logging.{takes_self}
-use Rattle.mps_run.proofs.InRange.{call_in_range}
-use Rattle.mps_run.proofs.Steps.{empty_line, line_ran, line_stops}
+use Rattle.std.proofs.Common.{◌∷◌, [], if◌then◌else◌, subst, refl}
+use Rattle.mps_model.specs.Answer.{answer_of}
+use Rattle.mps_report.proofs.Appended.{appended_empty}
+use Rattle.mps_report.proofs.Logging.{takes_then}
+use Rattle.mps_run.specs.Running.{LineLogged}
+use Rattle.mps_run.proofs.Steps.{line_ran, ran_if_printed, cut_if_not}
 use Rattle.mps_run.proofs.step.run_line.Goals as goal
-
--- what a line has, by what was returned of it and the call that was written
-read_as : {returned : Result Bool BadLine} {own has_call : Bool} (call : Call) {line : Result (Option Call) BadLine}
-    → found returned call ≡ line → returned ≡ Ok own → own ≡ has_call → line ≡ found (Ok has_call) call
-read_as {returned} {own} {has_call} call {line} reads is test =
-    sym reads ∙ ap (λ (r : Result Bool BadLine). found r call) is ∙ ap (λ (b : Bool). found (Ok b) call) test
-
-pub run_call-requires-clause-range : goal.run_call-requires-clause-range
-run_call-requires-clause-range g c =
-    call_in_range c.args.bytes.now c.next_call.new.into
-    (turn_taken c.args.progress.now.has_arena (call_of_line c.args.bytes.now) (Some c.next_call.new.into)
-    (read_as c.next_call.new.into c.next_call.ensures c.in-Ok-true.is c.in-Ok-true.field-0-test))
-
-pub returns-in-Ok-false-clause-ran : goal.returns-in-Ok-false-clause-ran
-returns-in-Ok-false-clause-ran g c =
-    let turn : in_turn c.args.progress.now.has_arena (call_of_line c.args.bytes.now) ≡ Ok None =
-    read_as c.next_call.new.into c.next_call.ensures c.in-Ok-false.is c.in-Ok-false.field-0-test in
-    empty_line g.C.Commands.built (g.C.Commands.stands_for c.args.commands.now) (g.C.Commands.stands_for c.args.commands.now)
-    c.args.progress.now c.args.bytes.now (g.D.Desk.outside c.args.desk.now) (g.D.Desk.outside c.args.desk.now) turn
-
-pub returns-in-Ok-false-clause-takes : goal.returns-in-Ok-false-clause-takes
-returns-in-Ok-false-clause-takes g c = takes_self (g.D.Desk.outside c.args.desk.now)
 
 pub returns-in-Ok-true-clause-ran : goal.returns-in-Ok-true-clause-ran
 returns-in-Ok-true-clause-ran g c =
-    let turn : in_turn c.args.progress.now.has_arena (call_of_line c.args.bytes.now) ≡ Ok (Some c.next_call.new.into) =
-    read_as c.next_call.new.into c.next_call.ensures c.in-Ok-true.is c.in-Ok-true.field-0-test in
-    line_ran g.C.Commands.built (g.C.Commands.stands_for c.args.commands.now) (g.C.Commands.stands_for c.run_call.new.commands)
-    c.args.progress.now c.args.bytes.now (g.D.Desk.outside c.args.desk.now) (g.D.Desk.outside c.run_call.new.desk) c.next_call.new.into
-    c.run_call.new.pools c.run_call.result turn c.run_call.ensures.ran
+    let stood = g.C.Commands.stands_for c.args.commands.now in
+    let stands = g.C.Commands.stands_for c.log_line.new.commands in
+    let old = g.D.Desk.outside c.args.desk.now in
+    let mid = g.D.Desk.outside c.log_line.new.desk in
+    let answer = answer_of (g.C.Commands.words c.log_line.new.commands) c.log_line.new.reply in
+    ran_if_printed g.C.Commands.built stood stands answer c.args.progress.now c.log_line.new.progress c.args.bytes.now old mid
+    (g.D.Desk.outside c.print_answer.new.desk)
+    (subst (λ has_call. LineLogged g.C.Commands.built stood stands (if has_call then answer ∷ [] else []) c.args.progress.now
+    c.log_line.new.progress c.args.bytes.now old mid) c.in-Ok-true.field-0-test c.in-Ok-true.ensures.logged)
+    c.log_line.ensures.quiet.printed c.log_line.ensures.quiet.out_faults c.print_answer.result c.print_answer.ensures.does
 
 pub returns-in-Ok-true-clause-stops : goal.returns-in-Ok-true-clause-stops
 returns-in-Ok-true-clause-stops g c =
-    let turn : in_turn c.args.progress.now.has_arena (call_of_line c.args.bytes.now) ≡ Ok (Some c.next_call.new.into) =
-    read_as c.next_call.new.into c.next_call.ensures c.in-Ok-true.is c.in-Ok-true.field-0-test in
-    line_stops g.C.Commands.built (g.C.Commands.stands_for c.args.commands.now) (g.C.Commands.stands_for c.run_call.new.commands)
-    c.args.progress.now c.args.bytes.now (g.D.Desk.outside c.args.desk.now) (g.D.Desk.outside c.run_call.new.desk) c.next_call.new.into
-    c.run_call.result turn c.run_call.ensures.stops
+    let stood = g.C.Commands.stands_for c.args.commands.now in
+    let stands = g.C.Commands.stands_for c.log_line.new.commands in
+    let old = g.D.Desk.outside c.args.desk.now in
+    let mid = g.D.Desk.outside c.log_line.new.desk in
+    let answer = answer_of (g.C.Commands.words c.log_line.new.commands) c.log_line.new.reply in
+    cut_if_not g.C.Commands.built stood stands answer c.args.progress.now c.log_line.new.progress c.args.bytes.now old mid
+    (g.D.Desk.outside c.print_answer.new.desk)
+    (subst (λ has_call. LineLogged g.C.Commands.built stood stands (if has_call then answer ∷ [] else []) c.args.progress.now
+    c.log_line.new.progress c.args.bytes.now old mid) c.in-Ok-true.field-0-test c.in-Ok-true.ensures.logged)
+    c.log_line.ensures.quiet.printed c.log_line.ensures.quiet.out_faults c.print_answer.result c.print_answer.ensures.does
 
-pub returns-in-Err-clause-takes : goal.returns-in-Err-clause-takes
-returns-in-Err-clause-takes g c = takes_self (g.D.Desk.outside c.args.desk.now)
+pub returns-in-Ok-true-clause-takes : goal.returns-in-Ok-true-clause-takes
+returns-in-Ok-true-clause-takes g c =
+    takes_then (g.D.Desk.outside c.args.desk.now) (g.D.Desk.outside c.log_line.new.desk) (g.D.Desk.outside c.print_answer.new.desk)
+    c.log_line.ensures.takes c.print_answer.ensures.takes
+
+pub returns-in-Ok-false-clause-ran : goal.returns-in-Ok-false-clause-ran
+returns-in-Ok-false-clause-ran g c =
+    let stood = g.C.Commands.stands_for c.args.commands.now in
+    let stands = g.C.Commands.stands_for c.log_line.new.commands in
+    let old = g.D.Desk.outside c.args.desk.now in
+    let mid = g.D.Desk.outside c.log_line.new.desk in
+    let answer = answer_of (g.C.Commands.words c.log_line.new.commands) c.log_line.new.reply in
+    line_ran g.C.Commands.built stood stands [] c.args.progress.now c.log_line.new.progress c.args.bytes.now old mid mid
+    (subst (λ has_call. LineLogged g.C.Commands.built stood stands (if has_call then answer ∷ [] else []) c.args.progress.now
+    c.log_line.new.progress c.args.bytes.now old mid) c.in-Ok-false.field-0-test c.in-Ok-false.ensures.logged)
+    c.log_line.ensures.quiet.printed refl (appended_empty mid.printed)
