@@ -2,7 +2,7 @@
 use Rattle.std.proofs.Common.{◌≡◌, ℕ, suc, None, List, [], ◌∷◌, length, String, refl, ap}
 use Rattle.std.specs.Global.{Global}
 use Rattle.mps_args.specs.Seen.{texts}
-use Rattle.mps_args.specs.Words.{cnv_meaning}
+use Rattle.mps_args.specs.Words.{cnv_meaning, gen_meaning}
 
 -- each word has a text
 pub length-texts : (words : List (String Global)) → length (texts words) ≡ length words
@@ -18,3 +18,11 @@ cnv_by_length (a ∷ b ∷ []) none two four = absurd (two refl)
 cnv_by_length (a ∷ b ∷ c ∷ []) none two four = refl
 cnv_by_length (a ∷ b ∷ c ∷ d ∷ []) none two four = absurd (four refl)
 cnv_by_length (a ∷ b ∷ c ∷ d ∷ e ∷ more) none two four = refl
+
+-- where there are neither two nor three, `gen` has none
+pub gen_by_length : (words : List (List ℕ)) → (length words ≡ 2 → ⊥) → (length words ≡ 3 → ⊥) → None ≡ gen_meaning words
+gen_by_length [] two three = refl
+gen_by_length (a ∷ []) two three = refl
+gen_by_length (a ∷ b ∷ []) two three = absurd (two refl)
+gen_by_length (a ∷ b ∷ c ∷ []) two three = absurd (three refl)
+gen_by_length (a ∷ b ∷ c ∷ d ∷ more) two three = refl

@@ -13,3 +13,5 @@ pub data Meaning : Type 0 where
   Lists : (log : List ℕ) → Meaning
   -- prints a generated script
   Generates : (seed count : ℕ) → Meaning
+  -- runs a generated script and writes its log
+  RunsGenerated : (log : List ℕ) (seed count : ℕ) → Meaning

@@ -10,3 +10,4 @@ IsRunnable (command.Convert log kinds) = Unit {0}
 IsRunnable (command.Read text) = Unit {0}
 IsRunnable (command.Blocks log) = Unit {0}
 IsRunnable (command.Generate seed count) = count ≤ 1000000
+IsRunnable (command.RunGenerated log seed count) = count ≤ 1000000

@@ -5,11 +5,11 @@
 --   cnv [-f LOG] [-k KINDS]        in either order; LOG is `mpsio.log` and KINDS all kinds if they are not given
 --   txt [-l TEXT]                  TEXT is `-` if it is not given
 --   blocks [-f LOG]                LOG is `mpsio.log` if it is not given
---   gen SEED COUNT                 decimal numbers below 2^64; COUNT is at most 1,000,000
+--   gen [-r] SEED COUNT            decimal numbers below 2^64; COUNT is at most 1,000,000; with `-r` the log is `mpsio.log`
 use Rattle.std.specs.Prelude.{◌≡◌, ℕ, nat_le, ◌&&◌, if◌then◌else◌, codes, Option, Some, None, option_and_then, List, [], ◌∷◌, refl}
 use Rattle.std.specs.Str.{bytes_eq}
 use Rattle.mps_numerals.specs.Decimal.{decimal_number}
-use Rattle.mps_args.specs.Meaning.{Meaning, Runs, Converts, Reads, Lists, Generates}
+use Rattle.mps_args.specs.Meaning.{Meaning, Runs, Converts, Reads, Lists, Generates, RunsGenerated}
 use Rattle.mps_desk.specs.Desk.{standard_input}
 use Rattle.mps_args.specs.Files.{is_file, is_file_to_read, usual_log}
 use Rattle.mps_args.specs.Kinds.{kinds_named, all_kinds}
@@ -30,6 +30,10 @@ listing log = if is_file_to_read log then Some (Lists log) else None
 abbrev pub generating : (seed count : Option ℕ) → Option Meaning
 generating seed count =
     option_and_then (λ s. option_and_then (λ n. if nat_le n 1000000 then Some (Generates s n) else None) count) seed
+
+abbrev pub running_generated : (seed count : Option ℕ) → Option Meaning
+running_generated seed count =
+    option_and_then (λ s. option_and_then (λ n. if nat_le n 1000000 then Some (RunsGenerated usual_log s n) else None) count) seed
 
 -- ---- the words after the name of each command
 abbrev pub run_meaning : List (List ℕ) → Option Meaning
@@ -61,6 +65,8 @@ blocks_meaning _ = None
 
 abbrev pub gen_meaning : List (List ℕ) → Option Meaning
 gen_meaning (seed ∷ count ∷ []) = generating (decimal_number seed) (decimal_number count)
+gen_meaning (name ∷ seed ∷ count ∷ []) =
+    if bytes_eq name (codes "-r") then running_generated (decimal_number seed) (decimal_number count) else None
 gen_meaning _ = None
 
 -- ---- the whole line
@@ -122,6 +128,9 @@ lists_the_usual_log = refl
 pub generates_the_most : meaning (codes "gen" ∷ codes "7" ∷ codes "1000000" ∷ []) ≡ Some (Generates 7 1000000)
 generates_the_most = refl
 
+pub runs_a_generated_script : meaning (codes "gen" ∷ codes "-r" ∷ codes "7" ∷ codes "0" ∷ []) ≡ Some (RunsGenerated (codes "mpsio.log") 7 0)
+runs_a_generated_script = refl
+
 -- ---- lines without one
 pub nothing_is_asked : meaning [] ≡ None
 nothing_is_asked = refl
@@ -180,5 +189,14 @@ not_one_more = refl
 pub no_zero_in_front : meaning (codes "gen" ∷ codes "07" ∷ codes "1" ∷ []) ≡ None
 no_zero_in_front = refl
 
-pub no_option_of_gen : meaning (codes "gen" ∷ codes "-r" ∷ codes "7" ∷ codes "1" ∷ []) ≡ None
-no_option_of_gen = refl
+pub no_run_of_one_step_more : meaning (codes "gen" ∷ codes "-r" ∷ codes "7" ∷ codes "1000001" ∷ []) ≡ None
+no_run_of_one_step_more = refl
+
+pub no_run_without_a_count : meaning (codes "gen" ∷ codes "-r" ∷ codes "7" ∷ []) ≡ None
+no_run_without_a_count = refl
+
+pub no_option_after_the_numbers : meaning (codes "gen" ∷ codes "7" ∷ codes "1" ∷ codes "-r" ∷ []) ≡ None
+no_option_after_the_numbers = refl
+
+pub no_other_option_of_gen : meaning (codes "gen" ∷ codes "-o" ∷ codes "7" ∷ codes "1" ∷ []) ≡ None
+no_other_option_of_gen = refl

@@ -15,4 +15,6 @@ pub enum Command<'a> {
     Blocks { log: &'a str },
     /// Prints a generated script, of at most 1,000,000 steps.
     Generate { seed: u64, count: u64 },
+    /// Runs a generated script, of at most 1,000,000 steps, writes its log, and prints the last two answers.
+    RunGenerated { log: &'a str, seed: u64, count: u64 },
 }

@@ -50,6 +50,14 @@ fn each_line_asks_for_its_command(rt: HostRuntime) -> Result<(), AllocError> {
                 count: 1_000_000,
             },
         ),
+        (
+            "gen -r 7 0",
+            Command::RunGenerated {
+                log: "mpsio.log",
+                seed: 7,
+                count: 0,
+            },
+        ),
     ];
     for (line, command) in cases {
         assert!(rt;
@@ -72,6 +80,9 @@ fn other_lines_ask_for_nothing(rt: HostRuntime) -> Result<(), AllocError> {
         "cnv -k seg,",
         "gen 01 1",
         "gen 1 1000001",
+        "gen -r 1 1000001",
+        "gen -r 1",
+        "gen 1 1 -r",
     ];
     for line in lines {
         assert!(rt;

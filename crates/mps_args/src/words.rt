@@ -6,7 +6,7 @@ ghost use Rattle.mps_event.specs.KindSet.{bits_of};
 ghost use Rattle.mps_numerals.specs.Decimal.{decimal_number as number_written};
 ghost use Rattle.mps_args.specs.Files.{is_file, is_file_to_read};
 ghost use Rattle.mps_args.specs.Kinds.{kind_named, kinds_named, all_kinds};
-ghost use Rattle.mps_args.specs.Words.{running, converting, reading, listing, generating, run_meaning, cnv_meaning, txt_meaning, blocks_meaning, gen_meaning, meaning_after, meaning};
+ghost use Rattle.mps_args.specs.Words.{running, converting, reading, listing, generating, running_generated, run_meaning, cnv_meaning, txt_meaning, blocks_meaning, gen_meaning, meaning_after, meaning};
 ghost use Rattle.mps_args.specs.Runnable.{IsRunnable};
 ghost use Rattle.mps_args.specs.Seen.{meaning_of, texts};
 
@@ -171,22 +171,52 @@ fn listing(log: &str) -> Option<Command<'_>>
     }
 }
 
-/// `SEED COUNT`
+/// `[-r] SEED COUNT`
 fn generate_of(words: &[String]) -> Option<Command<'_>>
-    ensures { option_map meaning_of result ≡ gen_meaning (texts words.now) }
+    ensures value { option_map meaning_of result ≡ gen_meaning (texts words.now) }
+    ensures runnable { IfSome result IsRunnable }
 {
     match words {
         [seed, count] => generating(number(seed.as_str())?, number(count.as_str())?),
+        [name, seed, count] => generate_by(name.as_str(), seed.as_str(), count.as_str()),
+        _ => None,
+    }
+}
+
+/// The option, and the numbers after it.
+fn generate_by<'a>(name: &str, seed: &str, count: &str) -> Option<Command<'a>>
+    ensures value { option_map meaning_of result ≡ gen_meaning (name.now ∷ seed.now ∷ count.now ∷ []) }
+    ensures runnable { IfSome result IsRunnable }
+{
+    match name {
+        "-r" => running_generated(number(seed)?, number(count)?),
         _ => None,
     }
 }
 
 /// A generated script, if it has few enough steps.
 fn generating<'a>(seed: u64, count: u64) -> Option<Command<'a>>
-    ensures { option_map meaning_of result ≡ generating (Some seed) (Some count) }
+    ensures value { option_map meaning_of result ≡ generating (Some seed) (Some count) }
+    ensures runnable { IfSome result IsRunnable }
 {
     if count <= MAX_STEPS {
         Some(Command::Generate { seed, count })
+    } else {
+        None
+    }
+}
+
+/// A run of a generated script, if it has few enough steps.
+fn running_generated<'a>(seed: u64, count: u64) -> Option<Command<'a>>
+    ensures value { option_map meaning_of result ≡ running_generated (Some seed) (Some count) }
+    ensures runnable { IfSome result IsRunnable }
+{
+    if count <= MAX_STEPS {
+        Some(Command::RunGenerated {
+            log: USUAL_LOG,
+            seed,
+            count,
+        })
     } else {
         None
     }

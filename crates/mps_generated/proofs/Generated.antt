@@ -13,17 +13,17 @@ use Rattle.mps_generated.proofs.Separated.{has_none, line_first, number_has_none
 use Rattle.mps_generated.proofs.Lines.{init_number_line, init_slot_line, commit_line, number_line, put_line, get_line}
 
 -- a text is a line, good after the arena, and its line feed
-record IsGoodText (text : List ℕ) : Type 0 where
-  line : List ℕ
-  is : text ≡ line ++ 10 ∷ []
-  none : has_none is_line_feed line ≡ true
-  good : is_good_after true line ≡ true
+pub record IsGoodText (text : List ℕ) : Type 0 where
+  pub line : List ℕ
+  pub is : text ≡ line ++ 10 ∷ []
+  pub none : has_none is_line_feed line ≡ true
+  pub good : is_good_after true line ≡ true
 
-abbrev AreGood : List (List ℕ) → Type 0
+abbrev pub AreGood : List (List ℕ) → Type 0
 AreGood [] = Unit {0}
 AreGood (text ∷ texts) = IsGoodText text × AreGood texts
 
-are_good_more : (xs ys : List (List ℕ)) → AreGood xs → AreGood ys → AreGood (xs ++ ys)
+pub are_good_more : (xs ys : List (List ℕ)) → AreGood xs → AreGood ys → AreGood (xs ++ ys)
 are_good_more [] ys a b = b
 are_good_more (x ∷ xs) ys a b = (a.0, are_good_more xs ys a.1 b)
 
@@ -141,7 +141,7 @@ step_is_good step state fits =
 ending_is_good : AreGood ending_lines
 ending_is_good = (plain (codes "collect") refl refl, (plain (codes "live") refl refl, (plain (codes "committed") refl refl, tt)))
 
-from_is_good : (count step state : ℕ) → step + count ≤ 2 ^ 64 → AreGood (lines_from count step state)
+pub from_is_good : (count step state : ℕ) → step + count ≤ 2 ^ 64 → AreGood (lines_from count step state)
 unfolding lines_from
 from_is_good zero step state fits = ending_is_good
 from_is_good (suc count) step state fits =
@@ -149,10 +149,10 @@ from_is_good (suc count) step state fits =
     (from_is_good count (step + 1) (state_after_step state) (omega arith))
 
 -- the lines that make things, after the first
-abbrev later_making : List (List ℕ)
+abbrev pub later_making : List (List ℕ)
 later_making = codes "chain c 4 8\n" ∷ codes "pool p amc front c\n" ∷ codes "table t 16\n" ∷ codes "ap x p exact\n" ∷ []
 
-making_is_good : AreGood later_making
+pub making_is_good : AreGood later_making
 making_is_good = (
   plain (codes "chain c 4 8") refl refl,
   (

@@ -17,9 +17,13 @@ abbrev pub making_lines : List (List ℕ)
 making_lines =
     codes "arena 1024 1024\n" ∷ codes "chain c 4 8\n" ∷ codes "pool p amc front c\n" ∷ codes "table t 16\n" ∷ codes "ap x p exact\n" ∷ []
 
+-- the last two lines, whose answers are those that a run prints
+abbrev pub last_two_lines : List (List ℕ)
+last_two_lines = codes "live\n" ∷ codes "committed\n" ∷ []
+
 -- the last lines
 abbrev pub ending_lines : List (List ℕ)
-ending_lines = codes "collect\n" ∷ codes "live\n" ∷ codes "committed\n" ∷ []
+ending_lines = codes "collect\n" ∷ last_two_lines
 
 -- the lines that make an object, which refers to what one slot refers to, and put it into another
 abbrev pub allocating_lines : (step slot target : ℕ) → List (List ℕ)

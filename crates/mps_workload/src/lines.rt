@@ -1,7 +1,7 @@
 // The lines of a generated script, one by one.
 
-ghost use Rattle.std.specs.Prelude.{◌≡◌, ◌≤◌, ◌<◌, ◌∷◌, [], take, drop, MatchOption, IfSome};
-ghost use Rattle.mps_workload.specs.Script.{script_lines, ending_lines, next_state, number_below, state_after_step};
+ghost use Rattle.std.specs.Prelude.{◌≡◌, ◌≢◌, ◌≤◌, ◌<◌, ◌∷◌, [], true, false, length, take, drop, MatchOption, IfSome};
+ghost use Rattle.mps_workload.specs.Script.{script_lines, ending_lines, last_two_lines, next_state, number_below, state_after_step};
 ghost use Rattle.mps_workload.specs.GenLines.{lines_left, CanStand};
 ghost use Rattle.mps_workload.specs.declared.lines.Position.TheVariants as position;
 
@@ -88,6 +88,17 @@ impl GenLines {
             } => Some(at.allocating_line(written, slot, target, line)),
             Position::Ending(written) if written < 3 => Some(at.ending_line(written, line)),
             Position::Ending(_) => None,
+        }
+    }
+
+    /// Whether just the last two lines are left: `live` and `committed`.
+    pub fn are_two_left(&self) -> bool
+        ensures two { result ≡ true → self.now ≡ last_two_lines }
+        ensures others { result ≡ false → length self.now ≢ 2 }
+    {
+        match self.standing.position {
+            Position::Ending(written) => written == 1,
+            _ => false,
         }
     }
 }
