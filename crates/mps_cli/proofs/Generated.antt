@@ -1,4 +1,4 @@
--- What `gen` asks for by name, which is nothing, and what of its script is written.
+-- What `gen` asks for by name, which is nothing, and what of its script or of its run is written.
 use Rattle.std.proofs.Common.{◌≡◌, ◌⊎◌, ℕ, List, true, subst, ◌∙◌, inl, inr}
 use Rattle.std.specs.Prelude.{codes}
 use Rattle.mps_desk.specs.Desk.{Outside, NothingWaits}
@@ -19,4 +19,15 @@ generated_written status new (inl is) written verdict = written is
 generated_written status new (inr (inl is)) written verdict =
     let wrong : is_input_verdict 4 ≡ true = subst (λ n. is_input_verdict n ≡ true) is verdict in cc
 generated_written status new (inr (inr is)) written verdict =
+    let wrong : is_input_verdict 8 ≡ true = subst (λ n. is_input_verdict n ≡ true) is verdict in cc
+
+-- a run of a generated script has one status more
+pub run_written : (status : ℕ) (new : Outside) → (status ≡ 0) ⊎ (status ≡ 4) ⊎ (status ≡ 5) ⊎ (status ≡ 8)
+    → (status ≡ 0 → NothingWaits new) → is_input_verdict status ≡ true → NothingWaits new
+run_written status new (inl is) written verdict = written is
+run_written status new (inr (inl is)) written verdict =
+    let wrong : is_input_verdict 4 ≡ true = subst (λ n. is_input_verdict n ≡ true) is verdict in cc
+run_written status new (inr (inr (inl is))) written verdict =
+    let wrong : is_input_verdict 5 ≡ true = subst (λ n. is_input_verdict n ≡ true) is verdict in cc
+run_written status new (inr (inr (inr is))) written verdict =
     let wrong : is_input_verdict 8 ≡ true = subst (λ n. is_input_verdict n ≡ true) is verdict in cc

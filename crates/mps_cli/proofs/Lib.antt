@@ -1,8 +1,3 @@
-pub mod Groups
-pub mod CanCollect
-pub mod Answering
-pub mod Standing
-pub mod Keeping
 pub mod Generated
 pub mod GoodInput
 pub mod Meanings

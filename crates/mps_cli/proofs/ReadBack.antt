@@ -22,7 +22,7 @@ use Rattle.mps_cnv.proofs.AllKinds.{text_of_all}
 use Rattle.mps_txt.specs.Labels.{no_names}
 use Rattle.mps_txt.proofs.OwnText.{reads_its_own}
 use Rattle.mps_cli.specs.Asked.{ConvertsLog, ListsBlocks, ReadsText}
-use Rattle.mps_cli.specs.Built.{session_built}
+use Rattle.mps_session.specs.Built.{session_built}
 use Rattle.mps_cli.specs.ReadBack.{ListsLiveBlocks, ConvertsRecords, ReadsRecords, IsReadBack}
 use Rattle.mps_cli.proofs.GoodInput.{verdict}
 use Rattle.mps_cli.proofs.Meanings.{meaning_of}

@@ -16,12 +16,13 @@ use Rattle.mps_tools.specs.Text.{ReadWith, IsCutShort as IsCutShortText, IsUniqu
 use Rattle.mps_tools.specs.Converted.{ConvertedWith, ConvertsUntilReadFault, ConvertsUntilWriteFault, IsUniqueConversion}
 use Rattle.mps_tools.specs.Ending.{FailsWithin}
 use Rattle.mps_tools.specs.Script.{script as generated_script}
-use Rattle.mps_args.specs.Meaning.{Meaning, Runs, Converts, Reads, Lists, Generates}
+use Rattle.mps_args.specs.Meaning.{Meaning, Runs, Converts, Reads, Lists, Generates, RunsGenerated}
 use Rattle.mps_args.specs.Words.{meaning}
-use Rattle.mps_cli.specs.Built.{session_built}
-use Rattle.mps_run.specs.Leaving.{LeavesRun}
+use Rattle.mps_session.specs.Built.{session_built}
+use Rattle.mps_run.specs.Leaving.{LeavesRun, log_header}
 use Rattle.mps_run.specs.LogFile.{IsInFile}
 use Rattle.mps_run.specs.Run.{RunsScript}
+use Rattle.mps_generated.specs.Run.{RunsGeneratedScript, EndsBeforeLog, LeavesGenerated}
 
 -- what is reported of words without a meaning
 abbrev pub usage : List ℕ
@@ -112,6 +113,7 @@ DoesAsAsked (Some (Converts log kinds)) status old new = ConvertsLog log kinds s
 DoesAsAsked (Some (Reads text)) status old new = ReadsText text status old new
 DoesAsAsked (Some (Lists log)) status old new = ListsBlocks log status old new
 DoesAsAsked (Some (Generates seed count)) status old new = GeneratesScript seed count status old new
+DoesAsAsked (Some (RunsGenerated log seed count)) status old new = RunsGeneratedScript session_built log seed count status old new
 
 pub help_prints_nothing : (status : ℕ) (old new : Outside) → DoesAsAsked (meaning (codes "run" ∷ codes "--help" ∷ [])) status old new
     → new.printed ≡ old.printed
@@ -146,3 +148,8 @@ a_missing_log_lists_nothing status old new does nothing = (does.missing nothing)
 pub a_script_is_generated : (old new : Outside) → DoesAsAsked (meaning (codes "gen" ∷ codes "7" ∷ codes "0" ∷ [])) 0 old new
     → Prints old new (generated_script 7 0)
 a_script_is_generated old new does = does.whole refl
+
+pub a_generated_script_is_run : (old new : Outside)
+    → (does : DoesAsAsked (meaning (codes "gen" ∷ codes "-r" ∷ codes "7" ∷ codes "0" ∷ [])) 0 old new)
+    → EndsBeforeLog does.ends old new ⊎ LeavesGenerated session_built does.ends log_header (generated_script 7 0) old new
+a_generated_script_is_run old new does = does.leaves

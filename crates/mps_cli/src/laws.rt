@@ -7,7 +7,7 @@ ghost use Rattle.mps_tools.specs.Listed.{Lists as ListsAll};
 ghost use Rattle.mps_event.specs.declared.version.Version.{Version};
 ghost use Rattle.mps_run.specs.LogPrefix.{LogPrefix, LogEnds};
 ghost use Rattle.mps_tools.specs.Text.{TextEndsWith};
-ghost use Rattle.mps_cli.specs.Built.{session_built};
+ghost use Rattle.mps_session.specs.Built.{session_built};
 ghost use Rattle.mps_run.specs.LogReaderEnding.{is_input_verdict};
 ghost use Rattle.mps_run.specs.Ending.{NoFaultRose};
 ghost use Rattle.mps_run.specs.Line.{lines_of};

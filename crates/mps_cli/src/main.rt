@@ -1,11 +1,10 @@
 //! The command line of the memory pool system: `mps run` runs a script over a heap, prints its answers and logs what
-//! happened; `mps cnv`, `mps txt` and `mps blocks` read logs; `mps gen` prints a generated script.
+//! happened; `mps cnv`, `mps txt` and `mps blocks` read logs; `mps gen` prints a generated script, or runs it.
 #![tactic(auto)]
 
 mod laws;
 mod mps;
 mod over;
-mod session;
 #[cfg(test)]
 mod tests;
 

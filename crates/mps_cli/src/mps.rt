@@ -10,11 +10,12 @@ ghost use Rattle.mps_run.specs.Ending.{CountsGrow, NoFaultRose};
 ghost use Rattle.mps_cli.specs.Asked.{DoesAsAsked};
 ghost use Rattle.mps_cli.specs.declared.mps.NoWords.TheVariants.{NotText, OutOfMemory};
 
-use crate::session::Session;
 use mps_args::{Command, command_of};
 use mps_desk::Desk;
+use mps_generated::run_generated;
 use mps_report::{NoBadPlace, Notice, Stop, report_ending};
 use mps_run::run_script;
+use mps_session::Session;
 use mps_tools::{blocks, cnv, generate, txt};
 use std::alloc::Global;
 
@@ -117,5 +118,8 @@ fn run_command<D: Desk>(alloc: Global, command: Command<'_>, desk: &mut D) -> u8
         Command::Read { text } => txt(alloc, text, desk),
         Command::Blocks { log } => blocks(alloc, log, desk),
         Command::Generate { seed, count } => generate(alloc, seed, count, desk),
+        Command::RunGenerated { log, seed, count } => {
+            run_generated(Session::new(alloc), log, seed, count, desk)
+        }
     }
 }

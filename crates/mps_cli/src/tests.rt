@@ -3,6 +3,7 @@
 // The check goes over each test as over any function, so their form is one that costs little: tables are constants, a case
 // has a function of its own, and the function that owns a desk does nothing but hand it on.
 mod between_units;
+mod caches;
 mod collected;
 mod desk;
 mod gathered;
@@ -13,7 +14,6 @@ mod memory;
 mod played;
 mod promoted;
 mod scripts;
-mod session;
 mod stepped;
 mod words;
 

@@ -15,6 +15,14 @@ use Rattle.mps_model.specs.Tagging.{tag_count}
 abbrev pub most_generations : ℕ
 most_generations = 8
 
+-- the most classes of a cache
+abbrev pub most_classes : ℕ
+most_classes = 8
+
+-- whether a class may keep this many blocks
+abbrev pub are_cached : ℕ → Bool
+are_cached count = nat_le count 64
+
 -- the number of the last format
 abbrev pub last_format : ℕ
 last_format = 3
@@ -54,6 +62,7 @@ IsInRange (call.Table table length) = IsLength length
 IsInRange (call.Area area length) = IsLength length
 IsInRange (call.Blocks blocks length) = IsLength length
 IsInRange (call.SetTag slot cell tag) = tag < tag_count
+IsInRange (call.Cache cache pool count sizes limits) = (1 ≤ count) × (count ≤ most_classes) × IsTrue (list_all are_cached limits)
 IsInRange (call.Intern label) = IsPaddedName label
 IsInRange _ = Unit {0}
 
@@ -62,6 +71,12 @@ a_limit_of_all_grains = refl
 
 pub a_limit_of_more_grains : are_grains 2049 ≡ false
 a_limit_of_more_grains = refl
+
+pub a_class_of_many_blocks : are_cached 64 ≡ true
+a_class_of_many_blocks = refl
+
+pub a_class_of_too_many_blocks : are_cached 65 ≡ false
+a_class_of_too_many_blocks = refl
 
 pub no_pool_of_leaves_on_a_chain : may_be_on_chain kind.Lo ≡ false
 no_pool_of_leaves_on_a_chain = refl

@@ -41,7 +41,7 @@ fn compare_files(rt: &impl Abort, desk: &MemDesk, case: &WordsCase) {
 }
 
 /// Each line of words has its answers, and its log goes to the file that is named and no other.
-const LINES_OF_WORDS: [WordsCase; 16] = [
+const LINES_OF_WORDS: [WordsCase; 17] = [
     WordsCase {
         line: "",
         ends: Ends {
@@ -84,6 +84,16 @@ const LINES_OF_WORDS: [WordsCase; 16] = [
     },
     WordsCase {
         line: "cnv -k seg,",
+        ends: Ends {
+            status: 2,
+            printed: b"",
+            reported: USAGE,
+        },
+        named: None,
+        usual: None,
+    },
+    WordsCase {
+        line: "gen -r 1 1000001",
         ends: Ends {
             status: 2,
             printed: b"",
@@ -210,4 +220,27 @@ fn each_line_of_words_has_its_answers(rt: HostRuntime) -> Result<(), Fail> {
         check_words(&rt, rt.alloc(), case)?;
     }
     Ok(())
+}
+
+/// A run of a generated script prints the last two answers, and its log is that of the same script run by `run`.
+fn check_generated_run(rt: &impl Abort, alloc: Global, desk: &mut MemDesk) -> Result<(), Fail> {
+    desk.add_file("s", GENERATED)?;
+    let status = run(alloc, desk, "gen -r 1 0")?;
+    let ends = Ends {
+        status: 0,
+        printed: b"0 0\n0\n",
+        reported: b"",
+    };
+    compare(rt, desk, "gen -r 1 0", status, &ends);
+    let status = run(alloc, desk, "run -o a s")?;
+    assert_eq!(rt; status, 0);
+    assert!(rt; desk.file("a").is_some());
+    assert_eq!(rt; desk.file("a"), desk.file("mpsio.log"));
+    Ok(())
+}
+
+#[test]
+fn a_generated_script_is_run(rt: HostRuntime) -> Result<(), Fail> {
+    let mut desk = MemDesk::new(rt.alloc());
+    check_generated_run(&rt, rt.alloc(), &mut desk)
 }

@@ -1,4 +1,4 @@
-use Rattle.mps_cli.specs.Built.{session_built}
+use Rattle.mps_session.specs.Built.{session_built}
 use Rattle.mps_run.proofs.GoodScript.{good_script}
 use Rattle.mps_run.proofs.Following.{answers_whole, runs_whole, log_in_its_file}
 use Rattle.mps_cli.proofs.laws.a_run_by_its_words.Goals as goal

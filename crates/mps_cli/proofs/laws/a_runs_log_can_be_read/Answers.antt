@@ -1,4 +1,4 @@
-use Rattle.mps_cli.specs.Built.{session_built}
+use Rattle.mps_session.specs.Built.{session_built}
 use Rattle.mps_run.proofs.Following.{log_in_its_file}
 use Rattle.mps_cli.proofs.ReadBack.{read_back}
 use Rattle.mps_cli.proofs.laws.a_runs_log_can_be_read.Goals as goal

@@ -1,4 +1,4 @@
-use Rattle.mps_cli.proofs.Generated.{generated_asks_nothing, generated_written}
+use Rattle.mps_cli.proofs.Generated.{generated_asks_nothing, generated_written, run_written}
 use Rattle.mps_cli.proofs.mps.run_command.Goals as goal
 
 pub returns-in-Convert-clause-asked : goal.returns-in-Convert-clause-asked
@@ -52,3 +52,11 @@ pub returns-in-Generate-clause-written : goal.returns-in-Generate-clause-written
 returns-in-Generate-clause-written g c verdict none =
     generated_written c.generate.result
     (g.D.Desk.outside c.generate.new.desk) c.generate.ensures.statuses c.generate.ensures.written verdict
+
+pub returns-in-RunGenerated-clause-asked : goal.returns-in-RunGenerated-clause-asked
+returns-in-RunGenerated-clause-asked g c = rw c.in-RunGenerated.is c.run_generated.ensures.runs
+
+pub returns-in-RunGenerated-clause-written : goal.returns-in-RunGenerated-clause-written
+returns-in-RunGenerated-clause-written g c verdict none =
+    run_written c.run_generated.result (g.D.Desk.outside c.run_generated.new.desk) c.run_generated.ensures.statuses
+    c.run_generated.ensures.runs.written verdict

@@ -1,7 +1,0 @@
-use Rattle.std.proofs.Common.{refl}
-use Rattle.mps_cli.specs.Told.{ok_tells_ok}
-use Rattle.mps_cli.proofs.Answering.{answered_moving}
-use Rattle.mps_cli.proofs.session.collecting.park.Goals as goal
-
-pub returns-clause-right : goal.returns-clause-right
-returns-clause-right c = answered_moving refl c.requires.empty ok_tells_ok c.park.ensures.right

@@ -1,0 +1,5 @@
+pub mod Groups
+pub mod CanCollect
+pub mod Answering
+pub mod Standing
+pub mod Keeping

@@ -1,0 +1,6 @@
+use Rattle.std.proofs.Common.{refl}
+use Rattle.mps_session.proofs.Answering.{answered}
+use Rattle.mps_session.proofs.arena.release.Goals as goal
+
+pub returns : goal.returns
+returns c = answered refl (record { told = λ arena. refl; supported = λ e. absurd cc }) c.release.ensures.right
