@@ -1,6 +1,8 @@
 -- Points, their reservations, and where a reservation is placed.
 use Rattle.std.specs.Prelude.{ℕ, ◌+◌, ◌<◌, ◌≤◌, ◌≡◌, ◌⊎◌, ◌==◌, Bool, true, false, option_map, map, length, if◌then◌else◌, Option, Some, None, is_some, List, [], ◌∷◌, replicate, get_or, slice_set, Contains, refl}
 use Rattle.std.proofs.Common.{arith}
+use Rattle.std.specs.List.{list_any}
+use Rattle.std.specs.Option.{option_map_or}
 use Rattle.mps_base.specs.Address.{word_of}
 use Rattle.mps_base.specs.Run.{Run, end_of, with_run, without_run}
 use Rattle.mps_base.specs.Placement.{Placement, Place, NewSegment, OverLimit, NoFreeRun}
@@ -59,6 +61,15 @@ pub record IsMade (s s' : PointsState) (key : ℕ) (p : Point) : Type 0 where
 -- there is a point under each of the 256 keys
 abbrev pub AllTaken : List (Option Point) → Type 0
 AllTaken points = (key : ℕ) → key < max_points → key < length points → is_some (get_or points key None) ≡ true
+
+-- a point has a reservation that no flip ended
+abbrev pub is_reserved_now : (flips : ℕ) → Option Point → Bool
+is_reserved_now flips None = false
+is_reserved_now flips (Some p) = option_map_or (λ h. h.flips == flips) p.reservation false
+
+-- some point has one
+abbrev pub has_live_reservation : PointsState → Bool
+has_live_reservation s = list_any (is_reserved_now s.flips) s.points
 
 -- ---- where a reservation is placed
 
@@ -216,6 +227,18 @@ too_early = record {
   points = Some (record a_point { reservation = Some (record { at = record { 0 = 0x1040 }; head = 1; words = 2; flips = 3 }) }) ∷ [];
   flips = 2;
 }
+
+abbrev reserved_after : (flips : ℕ) → PointsState
+reserved_after flips = record {
+  points = None ∷ Some (record a_point { reservation = Some (record { at = record { 0 = 0x1040 }; head = 1; words = 2; flips = flips }) }) ∷ [];
+  flips = 2;
+}
+
+pub a_reservation_since_the_last_flip : has_live_reservation (reserved_after 2) ≡ true
+a_reservation_since_the_last_flip = refl
+
+pub one_that_a_flip_ended : has_live_reservation (reserved_after 1) ≡ false
+one_that_a_flip_ended = refl
 
 pub no_reservation_is_to_come : WereMadeBefore 2 too_early → ⊥
 no_reservation_is_to_come made = let most = made.before 0 _ _ refl refl in omega (arith, most)

@@ -11,7 +11,7 @@ ghost use Rattle.mps_base.specs.Run.{Run};
 ghost use Rattle.mps_seg.specs.Segs.{CanCover, moves_after};
 ghost use Rattle.mps_buffer.specs.declared.point.Point.{Point};
 ghost use Rattle.mps_buffer.specs.declared.point.Held.{Held};
-ghost use Rattle.mps_buffer.specs.Points.{no_points, point_at, with_point, placement_at, buffer_after, AreApart, with_place, with_reservation, with_block, after_close, after_open, after_all_end, AreReserved, points_after_flip, after_end_at, IsReserved, IsReservedAt, new_point, IsMade, AllTaken, WereMadeBefore, is_place};
+ghost use Rattle.mps_buffer.specs.Points.{no_points, point_at, with_point, placement_at, buffer_after, AreApart, with_place, with_reservation, with_block, after_close, after_open, after_all_end, AreReserved, points_after_flip, after_end_at, IsReserved, IsReservedAt, new_point, IsMade, AllTaken, WereMadeBefore, has_live_reservation, is_place};
 ghost use Rattle.mps_seg.specs.Buffer.{IsAtHand};
 ghost use Rattle.mps_buffer.specs.Tokens.{HasOpen, IsClosedAt};
 
@@ -68,6 +68,13 @@ impl OpenPoints {
         ensures { result ≡ self.now.flips }
     {
         self.points.flips()
+    }
+
+    /// Whether a point has a reservation that no flip ended.
+    pub fn has_live_reservation(&self) -> bool
+        ensures { result ≡ has_live_reservation self.now }
+    {
+        self.points.has_live_reservation()
     }
 
     /// No reservation remembers a flip that is still to come.

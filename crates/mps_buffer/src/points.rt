@@ -11,7 +11,7 @@ ghost use Rattle.mps_base.specs.Run.{Run};
 ghost use Rattle.mps_seg.specs.Segs.{SegsState, CanCover, moves_after};
 ghost use Rattle.mps_buffer.specs.declared.point.Point.{Point};
 ghost use Rattle.mps_buffer.specs.declared.point.Held.{Held};
-ghost use Rattle.mps_buffer.specs.Points.{no_points, point_at, with_point, placement_at, buffer_after, AreApart, with_place, with_reservation, with_block, without_reservation, run_of_held, after_close, after_open, IsOpenAt, after_all_end, AreReserved, without_free_words, points_after_flip, after_end_at, IsReservedAt, new_point, IsMade, AllTaken, is_place, WereMadeBefore};
+ghost use Rattle.mps_buffer.specs.Points.{no_points, point_at, with_point, placement_at, buffer_after, AreApart, with_place, with_reservation, with_block, without_reservation, run_of_held, after_close, after_open, IsOpenAt, after_all_end, AreReserved, without_free_words, points_after_flip, after_end_at, IsReservedAt, new_point, IsMade, AllTaken, is_place, is_reserved_now, has_live_reservation, WereMadeBefore};
 ghost use Rattle.mps_seg.specs.Buffer.{IsAtHand};
 
 use crate::place::place;
@@ -73,6 +73,16 @@ impl Points {
         ensures { result ≡ self.now.flips }
     {
         self.flips
+    }
+
+    /// Whether a point has a reservation that no flip ended.
+    pub fn has_live_reservation(&self) -> bool
+        ensures { result ≡ has_live_reservation self.now }
+    {
+        let flips = self.flips;
+        self.points
+            .iter()
+            .any(|point| is_reserved_now(flips, *point))
     }
 
     /// No reservation remembers a flip that is still to come.
@@ -278,6 +288,19 @@ fn has_place(segs: &Segs, p: &Point, words: u32) -> bool
         words <= p.buffer.count
     } else {
         segs.lowest_gap(p.pool, p.rank, words).is_some()
+    }
+}
+
+/// Whether a point has a reservation, and no flip came since it was made, if there were this many.
+fn is_reserved_now(flips: u64, point: Option<Point>) -> bool
+    ensures { result ≡ is_reserved_now flips point }
+{
+    let Some(p) = point else {
+        return false;
+    };
+    match p.reservation {
+        Some(held) => held.flips == flips,
+        None => false,
     }
 }
 
