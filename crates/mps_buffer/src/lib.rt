@@ -9,6 +9,3 @@ mod points;
 pub use open_points::OpenPoints;
 pub use point::{Held, Point, Reserved};
 pub use points::Points;
-
-#[cfg(test)]
-mod tests;

@@ -6,8 +6,3 @@ mod follow;
 mod marks;
 
 pub use dependents::{Dependents, MAX_PAIRS, Pair};
-
-#[cfg(test)]
-mod follow_tests;
-#[cfg(test)]
-mod tests;

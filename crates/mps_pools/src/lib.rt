@@ -4,6 +4,3 @@
 mod pools;
 
 pub use pools::Pools;
-
-#[cfg(test)]
-mod tests;

@@ -20,6 +20,3 @@ pub use collect::{most_moves, most_units};
 pub use condemn::Condemn;
 pub use running::{Band, Running};
 pub use trace::Trace;
-
-#[cfg(test)]
-mod tests;

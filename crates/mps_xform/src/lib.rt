@@ -8,12 +8,3 @@ mod slots;
 mod transforms;
 
 pub use transforms::{AddRefusal, MAX_PAIRS, MAX_TRANSFORMS, Pair, Transforms};
-
-#[cfg(test)]
-mod applying_tests;
-#[cfg(test)]
-mod blocking_tests;
-#[cfg(test)]
-mod slots_tests;
-#[cfg(test)]
-mod tests;

@@ -1,5 +1,0 @@
-use Rattle.mps_buffer.specs.Tokens.{IsReady}
-use Rattle.mps_buffer.proofs.tests.compare_all.Given as goal
-
-abbrev pub invariant-loop-case : goal.invariant-loop-case
-invariant-loop-case g l = IsReady l.points l.segs l.key
