@@ -9,7 +9,8 @@ fn each_table_is_reached(rt: HostRuntime) -> Result<(), AllocError> {
     assert!(rt; beside.dependents.link(Addr(8), Addr(16)) == Ok(()));
     assert!(rt; beside.transforms.has_room());
     assert_eq!(rt; beside.caches.count(), 0);
-    beside.frames.add_pool(2)?;
+    let made = beside.frames.new_pool()?;
+    beside.frames.add_pool(2, made);
     assert_eq!(rt; beside.frames.frames(2), 0);
     Ok(())
 }

@@ -1,5 +1,5 @@
 -- What a caller sees of the pools of frames, and the results of their calls.
-use Rattle.std.specs.Prelude.{ℕ, ◌≡◌, ◌+◌, ◌-◌, ◌*◌, Option, Some, None, List, [], ◌∷◌, ◌++◌, length, take, replicate, slice_get, slice_index, slice_index_or, slice_set, refl}
+use Rattle.std.specs.Prelude.{ℕ, ◌≡◌, ◌+◌, ◌-◌, ◌*◌, Bool, true, nat_lt, Option, Some, None, List, [], ◌∷◌, ◌++◌, length, take, replicate, slice_get, slice_index, slice_index_or, slice_set, refl}
 use Rattle.std.specs.List.{sum_by}
 use Rattle.std.specs.Option.{option_map_or}
 use Rattle.mps_snc.specs.declared.pool.Block.{Block}
@@ -65,6 +65,15 @@ state_of pools pool = option_map_or (λ p. p) (pool_at pools pool) new_pool
 abbrev pub with_pool : Pools → (pool : ℕ) → PoolState → Pools
 with_pool pools pool state = slice_set pools pool (Some state)
 
+-- whether one more block of a pool can be noted: nothing is noted of a pool that isn't one of frames
+abbrev pub has_room : Option PoolState → Bool
+has_room None = true
+has_room (Some p) = nat_lt (length p.blocks) max_notes
+
+-- a block of a pool is noted, its last, where the pool is one of frames
+abbrev pub noted : Pools → (pool : ℕ) → Block → Pools
+noted pools pool block = option_map_or (λ p. with_pool pools pool (with_block p block)) (pool_at pools pool) pools
+
 -- how many blocks and open frames a pool has, none where it isn't one of frames
 abbrev pub blocks_of : Option PoolState → ℕ
 blocks_of o = option_map_or (λ p. length p.blocks) o 0
@@ -106,6 +115,15 @@ all_pools_are_counted = refl
 
 pub all_frames_are_counted : frames_count (None ∷ Some example ∷ Some example ∷ []) ≡ 4
 all_frames_are_counted = refl
+
+pub a_noted_block_is_the_last : noted (None ∷ Some example ∷ []) 1 (block_in 3) ≡ None ∷ Some (with_block example (block_in 3)) ∷ []
+a_noted_block_is_the_last = refl
+
+pub nothing_is_noted_of_another_pool : noted (None ∷ Some example ∷ []) 0 (block_in 3) ≡ None ∷ Some example ∷ []
+nothing_is_noted_of_another_pool = refl
+
+pub three_blocks_leave_room : has_room (Some example) ≡ true
+three_blocks_leave_room = refl
 
 pub another_pool_has_none : pool_at (Some example ∷ None ∷ []) 1 ≡ None
 another_pool_has_none = refl

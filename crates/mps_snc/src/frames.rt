@@ -1,9 +1,9 @@
 // The pools of frames of an arena.
 #![tactic(auto)]
 
-ghost use Rattle.std.specs.Prelude.{◌≡◌, ◌<◌, ◌≤◌, None, Some, length, take, slice_index_or, IsSome, IsOk, IfOk, IfErr, MatchResult};
+ghost use Rattle.std.specs.Prelude.{◌≡◌, ◌-◌, ◌<◌, ◌≤◌, None, Some, is_some, length, take, slice_index_or, IsSome, IsOk, IsTrue, IfOk, IfErr, OnOk, MatchResult};
 ghost use Rattle.std.specs.Option.{MatchOption};
-ghost use Rattle.mps_snc.specs.State.{PoolState, new_pool, no_pools, max_pools, max_notes, max_frames, pool_at, state_of, with_pool, with_block, with_frame, with_frames, without_last_block, last_of, opened_at, notes_count, frames_count};
+ghost use Rattle.mps_snc.specs.State.{PoolState, new_pool, no_pools, max_pools, max_notes, max_frames, pool_at, state_of, with_pool, with_block, with_frame, with_frames, without_last_block, last_of, opened_at, has_room, noted, frames_count};
 
 use crate::pool::{Block, Pool};
 use mps_base::Refusal;
@@ -19,7 +19,7 @@ pub const MAX_NOTES: usize = 65_536;
 /// The most open frames of all pools.
 pub const MAX_FRAMES: usize = 4_096;
 
-/// The pools of frames of an arena, by the numbers of the pools. Only `new` and `add_pool` allocate.
+/// The pools of frames of an arena, by the numbers of the pools. Only `new` and `new_pool` allocate.
 #[derive(Drop)]
 pub struct Frames {
     alloc: Global,
@@ -55,16 +55,33 @@ impl Frames {
         })
     }
 
-    /// A pool is one of frames, without blocks and frames. Room for all its blocks and frames is reserved here; out of memory changes
-    /// nothing.
-    pub fn add_pool(&mut self, pool: u32) -> Result<(), AllocError>
-        requires within { pool < max_pools }
-        requires free { pool_at self.old pool ≡ None }
-        ensures { MatchResult result (λ _. self.new ≡ with_pool self.old pool new_pool) (λ _. self.new ≡ self.old) }
+    /// A pool without blocks and frames, with room for all that there may be.
+    pub fn new_pool(&self) -> Result<Pool, AllocError>
+        ensures { IfOk result (λ made. made ≡ new_pool) }
     {
-        let made = Pool::new(self.alloc)?;
+        Pool::new(self.alloc)
+    }
+
+    /// A pool is one of frames, without blocks and frames; what it had before is gone.
+    pub fn add_pool(&mut self, pool: u32, made: Pool)
+        requires within { pool < max_pools }
+        requires empty { made ≡ new_pool }
+        ensures { self.new ≡ with_pool self.old pool new_pool }
+    {
+        if self.is_pool(pool) {
+            self.open_frames -= self.frames(pool);
+        }
         self.pools[pool as usize] = Some(made);
-        Ok(())
+    }
+
+    /// Whether a pool is one of frames.
+    pub fn is_pool(&self, pool: u32) -> bool
+        ensures { result ≡ is_some (pool_at self.now pool) }
+    {
+        let Some(Some(_)) = self.pools.get(pool as usize) else {
+            return false;
+        };
+        true
     }
 
     /// How many frames of a pool are open.
@@ -78,12 +95,37 @@ impl Frames {
         frames.frames()
     }
 
-    /// A block of a pool was made, which a place holds.
-    pub fn note(&mut self, pool: u32, block: Block)
-        requires there { IsSome (pool_at self.old pool) }
-        requires fits { notes_count self.old < max_notes }
-        ensures { self.new ≡ with_pool self.old pool (with_block (state_of self.old pool) block) }
+    /// How many blocks of a pool were made since a frame was opened.
+    pub fn made_since(&self, pool: u32, frame: u32) -> u32
+        requires there { IsSome (pool_at self.now pool) }
+        requires opened { frame < length (state_of self.now pool).frames }
+        ensures value { result ≡ length (state_of self.now pool).blocks - opened_at (state_of self.now pool) frame }
+        ensures few { result ≤ max_notes }
     {
+        let Some(frames) = &self.pools[pool as usize] else {
+            unreachable!()
+        };
+        frames.made_since(frame)
+    }
+
+    /// Whether one more block of a pool can be noted: of one that isn't of frames nothing is.
+    pub fn has_room(&self, pool: u32) -> bool
+        ensures { result ≡ has_room (pool_at self.now pool) }
+    {
+        let Some(Some(frames)) = self.pools.get(pool as usize) else {
+            return true;
+        };
+        frames.has_room()
+    }
+
+    /// A block of a pool was made, which a place holds. It is noted if the pool is one of frames.
+    pub fn note(&mut self, pool: u32, block: Block)
+        requires { IsTrue (has_room (pool_at self.old pool)) }
+        ensures { self.new ≡ noted self.old pool block }
+    {
+        if !self.is_pool(pool) {
+            return;
+        }
         let Some(frames) = &mut self.pools[pool as usize] else {
             unreachable!()
         };
@@ -96,6 +138,7 @@ impl Frames {
         ensures state { MatchResult result (λ number. (number ≡ length (state_of self.old pool).frames)
             × (self.new ≡ with_pool self.old pool (with_frame (state_of self.old pool)))) (λ _. self.new ≡ self.old) }
         ensures fits { frames_count self.old < max_frames → IsOk result }
+        ensures few { OnOk result (frames_count self.old < max_frames) }
         ensures full { IfErr result (λ why. (why ≡ Refusal.TooMany max_frames) × (frames_count self.old ≡ max_frames)) }
     {
         if self.open_frames as usize == MAX_FRAMES {

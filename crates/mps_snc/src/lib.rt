@@ -5,7 +5,7 @@ mod frames;
 mod pool;
 
 pub use frames::{Frames, MAX_FRAMES, MAX_NOTES, MAX_POOLS};
-pub use pool::{Block, Place};
+pub use pool::{Block, Place, Pool};
 
 #[cfg(test)]
 mod tests;

@@ -1,7 +1,7 @@
 // One pool of frames.
 #![tactic(auto)]
 
-ghost use Rattle.std.specs.Prelude.{◌≡◌, ◌<◌, ◌≤◌, ◌++◌, ◌∷◌, [], Some, length, take, slice_index, IfOk};
+ghost use Rattle.std.specs.Prelude.{◌≡◌, ◌-◌, ◌<◌, ◌≤◌, ◌++◌, ◌∷◌, [], Some, length, take, nat_lt, slice_index, IfOk};
 ghost use Rattle.std.specs.Option.{MatchOption};
 ghost use Rattle.mps_snc.specs.State.{PoolState, new_pool, max_notes, max_frames, last_of, opened_at, with_block, without_last_block, with_frame, with_frames};
 
@@ -27,7 +27,7 @@ pub struct Block {
 /// The blocks of a pool in the order of making, and its open frames, each as the number of blocks at its opening. There is room for all
 /// that there may be.
 #[derive(Drop)]
-pub(crate) struct Pool {
+pub struct Pool {
     blocks: Vec<Block>,
     frames: Vec<usize>,
 }
@@ -40,7 +40,7 @@ impl Model for Pool {
 
     ghost view = { λ p. record { blocks = p.blocks.items; frames = p.frames.items } };
 
-    ghost invariant = { λ p. (length p.frames.items ≤ max_frames) × (max_notes ≤ vec_capacity p.blocks)
+    ghost invariant = { λ p. (length p.frames.items ≤ max_frames) × (length p.blocks.items ≤ max_notes) × (max_notes ≤ vec_capacity p.blocks)
         × (max_frames ≤ vec_capacity p.frames) };
 }
 
@@ -61,6 +61,23 @@ impl Pool {
         ensures few { result ≤ max_frames }
     {
         self.frames.len() as u32
+    }
+
+    /// Whether one more block can be noted.
+    pub(crate) fn has_room(&self) -> bool
+        ensures { result ≡ nat_lt (length self.now.blocks) max_notes }
+    {
+        self.blocks.len() < MAX_NOTES
+    }
+
+    /// How many blocks were made since a frame was opened.
+    pub(crate) fn made_since(&self, frame: u32) -> u32
+        requires { frame < length self.now.frames }
+        ensures value { result ≡ length self.now.blocks - opened_at self.now frame }
+        ensures few { result ≤ max_notes }
+    {
+        let before = self.frames[frame as usize];
+        self.blocks.len().saturating_sub(before) as u32
     }
 
     /// A block was made.

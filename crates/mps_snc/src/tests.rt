@@ -1,8 +1,8 @@
 // Each call once, the most open frames, and 2,000 random steps beside plain lists.
 #![tactic(auto)]
 
-ghost use Rattle.std.specs.Prelude.{◌<◌, ◌≤◌, ◌+◌, IsSome};
-ghost use Rattle.mps_snc.specs.State.{pool_at, notes_count, max_notes};
+ghost use Rattle.std.specs.Prelude.{IsSome};
+ghost use Rattle.mps_snc.specs.State.{pool_at};
 
 use crate::{Block, Frames, Place};
 use mps_base::{Addr, Refusal};
@@ -22,7 +22,11 @@ fn block(at: u64) -> Block {
 #[test]
 fn the_latest_block_goes_first(rt: HostRuntime) -> Result<(), AllocError> {
     let mut frames = Frames::new(rt.alloc())?;
-    frames.add_pool(7)?;
+    let made = frames.new_pool()?;
+    frames.add_pool(7, made);
+    assert!(rt; frames.is_pool(7) && frames.has_room(7));
+    assert!(rt; !frames.is_pool(6) && frames.has_room(64));
+    frames.note(6, block(32));
     frames.note(7, block(8));
     assert!(rt; frames.push(7) == Ok(0));
     frames.note(7, block(16));
@@ -40,8 +44,10 @@ fn the_latest_block_goes_first(rt: HostRuntime) -> Result<(), AllocError> {
 #[test]
 fn refuses_one_frame_more_than_4096(rt: HostRuntime) -> Result<(), AllocError> {
     let mut frames = Frames::new(rt.alloc())?;
-    frames.add_pool(0)?;
-    frames.add_pool(1)?;
+    let made = frames.new_pool()?;
+    frames.add_pool(0, made);
+    let made = frames.new_pool()?;
+    frames.add_pool(1, made);
     for number in 0..4_095 {
         assert!(rt; frames.push(0) == Ok(number));
     }
@@ -61,8 +67,7 @@ struct Plain {
 // Whether a push has the same answer in the plain lists.
 fn pushed_alike(frames: &mut Frames, plain: &mut Plain) -> Result<bool, AllocError>
     requires { IsSome (pool_at frames.old 3) }
-    ensures there { IsSome (pool_at frames.new 3) }
-    ensures few { notes_count frames.new ≤ notes_count frames.old }
+    ensures { IsSome (pool_at frames.new 3) }
 {
     let open = plain.frames.len();
     plain.frames.push(plain.blocks.len())?;
@@ -72,8 +77,7 @@ fn pushed_alike(frames: &mut Frames, plain: &mut Plain) -> Result<bool, AllocErr
 // Whether a pop of some open frame has the same answer in the plain lists.
 fn popped_alike(frames: &mut Frames, plain: &mut Plain, number: u64) -> bool
     requires { IsSome (pool_at frames.old 3) }
-    ensures there { IsSome (pool_at frames.new 3) }
-    ensures few { notes_count frames.new ≤ notes_count frames.old }
+    ensures { IsSome (pool_at frames.new 3) }
 {
     let frame = (number % 5) as u32;
     if frame >= frames.frames(3) || frame as usize >= plain.frames.len() {
@@ -94,14 +98,12 @@ fn agree(
     choice: u64,
     number: u64,
 ) -> Result<bool, AllocError>
-    requires there { IsSome (pool_at frames.old 3) }
-    requires fits { notes_count frames.old < max_notes }
-    ensures there { IsSome (pool_at frames.new 3) }
-    ensures few { notes_count frames.new ≤ notes_count frames.old + 1 }
+    requires { IsSome (pool_at frames.old 3) }
+    ensures { IsSome (pool_at frames.new 3) }
 {
     match choice {
         0 => pushed_alike(frames, plain),
-        1 | 2 | 3 => {
+        1 | 2 | 3 if frames.has_room(3) => {
             plain.blocks.push(number)?;
             frames.note(3, block(number));
             Ok(true)
@@ -113,7 +115,8 @@ fn agree(
 #[test]
 fn stays_beside_plain_lists(rt: HostRuntime) -> Result<(), AllocError> {
     let mut frames = Frames::new(rt.alloc())?;
-    frames.add_pool(3)?;
+    let made = frames.new_pool()?;
+    frames.add_pool(3, made);
     let mut plain = Plain {
         blocks: Vec::new(rt.alloc()),
         frames: Vec::new(rt.alloc()),
