@@ -1,5 +1,7 @@
 -- The outcomes of the calls on allocation caches.
-use Rattle.std.specs.Prelude.{◌≡◌, ℕ, ◌+◌, ◌==◌, ◌++◌, ◌||◌, ◌&&◌, nat_lt, nat_le, Bool, true, false, not, if◌then◌else◌, Option, Some, None, option_map, Ok, Err, List, [], ◌∷◌, length, slice_get, Contains, refl}
+use Rattle.std.specs.Prelude.{◌≡◌, ℕ, ◌+◌, ◌*◌, ◌==◌, ◌++◌, ◌||◌, ◌&&◌, nat_lt, nat_le, Bool, true, false, not, if◌then◌else◌, Option, Some, None, option_map, Ok, Err, List, [], ◌∷◌, map, length, slice_get, slice_index, Contains, refl}
+use Rattle.std.proofs.Common.{ap, arith}
+use Rattle.std.specs.List.{flat_map}
 use Rattle.mps_base.specs.Address.{Address, word_of}
 use Rattle.mps_base.specs.Segment.{segment_over}
 use Rattle.mps_base.specs.Trail.{Moves}
@@ -12,7 +14,7 @@ use Rattle.mps_model.specs.Checked.{Checked, ◌>>=◌, ◌>>◌, required, refu
 use Rattle.mps_model.specs.Making.{is_block_size, most_caches}
 use Rattle.mps_names.specs.State.{Updates, own_room}
 use Rattle.mps_names.specs.declared.names.Thing.TheVariants as thing
-use Rattle.mps_sac.specs.State.{CacheState, ClassState, blocks_of_size, classes_of, keeps_size, last_of, new_cache, with_classes, with_last_of_size, without_last_of_size}
+use Rattle.mps_sac.specs.State.{CacheState, ClassState, blocks_of_size, classes_of, count_in, keeps_size, last_of, new_cache, with_classes, with_last_of_size, without_last_of_size}
 use Rattle.mps_sac.specs.declared.class.ClassSize.{ClassSize}
 use Rattle.mps_seg.specs.Arena.{cleared_words}
 use Rattle.mps_format.specs.declared.pool.Pool.{Pool}
@@ -20,10 +22,26 @@ use Rattle.mps_format.specs.declared.pool.Pool.TheVariants as pool
 use Rattle.mps_heap_spec.specs.State.{HeapState}
 use Rattle.mps_heap_spec.specs.Coming.{ComesMoving, Moved}
 use Rattle.mps_heap_spec.specs.Finding.{as_cache, block_place_in, key_named, pool_named, under, with_words}
+use Rattle.mps_heap_spec.specs.Framing.{has_frames}
 use Rattle.mps_heap_spec.specs.Making.{refuse_taken}
-use Rattle.mps_heap_spec.specs.Manual.{block_in, with_block_place}
+use Rattle.mps_heap_spec.specs.Manual.{Freeing, block_in, row_freed, with_block_place}
 use Rattle.mps_heap_spec.specs.declared.found.Entry.{Entry}
 use Rattle.mps_heap_spec.specs.declared.found.Kept.{Kept}
+
+-- ---- a cache is flushed
+
+-- addresses from the last to the first
+abbrev pub from_last : List Address → List Address
+from_last [] = []
+from_last (at ∷ ats) = from_last ats ++ at ∷ []
+
+-- the blocks of some classes in the order in which a flush frees them: class by class, the last cached first
+abbrev pub flushed : List ClassState → List Address
+flushed classes = flat_map (λ (c : ClassState). from_last c.blocks) classes
+
+-- a class without its blocks
+abbrev pub emptied : ClassState → ClassState
+emptied c = record c { blocks = [] }
 
 -- ---- a cache is made
 
@@ -32,10 +50,14 @@ abbrev pub are_class_sizes : (above : ℕ) → List ClassSize → Bool
 are_class_sizes above [] = true
 are_class_sizes above (c ∷ cs) = nat_lt above c.words && (is_block_size c.words && are_class_sizes c.words cs)
 
--- whether a cache may stand over a pool
-abbrev pub may_have_cache : {F : Type 0} → Pool F → Bool
-may_have_cache pool.AnySize = true
-may_have_cache _ = false
+-- whether a pool has blocks of any sizes
+abbrev pub has_any_sizes : {F : Type 0} → Pool F → Bool
+has_any_sizes pool.AnySize = true
+has_any_sizes _ = false
+
+-- whether a cache may stand over a pool: one of blocks of any sizes, which isn't one of frames
+abbrev pub may_have_cache : {F : Type 0} → HeapState F → Kept (Pool F) → Bool
+may_have_cache h of = has_any_sizes of.value && not (has_frames h of.key)
 
 -- n words from an address on are 0, if the arena has them
 abbrev pub words_cleared : List ℕ → (at : Address) → (n : ℕ) → List ℕ
@@ -53,7 +75,7 @@ module _ {F : Type 0} where
   check_cache h name pool classes = do
     refuse_taken h name
     of ← pool_named h pool
-    refuse_when (not (may_have_cache of.value)) refusal.WrongPool
+    refuse_when (not (may_have_cache h of)) refusal.WrongPool
     refuse_when (not (are_class_sizes 0 classes)) refusal.BadSize
     refuse_when (are_caches_full h) (refusal.TooMany most_caches)
     Ok of
@@ -168,7 +190,43 @@ module _ {F : Type 0} where
         → Contains h.segs.blocks (record { from = word_of at; count = words })
     pub comes : ComesMoving h trail (block_to_cache h trail cache place words) result after trail_after
 
+  -- ---- a cache is flushed
+
+  -- a cache is empty, and the segments and the trail are these
+  abbrev pub with_cache_flushed : HeapState F → (cache : ℕ) → Freeing → Moved F (Unit {0})
+  with_cache_flushed h cache f = record {
+    answer = tt;
+    state = with_cached (record h { segs = f.segs }) cache (map emptied (classes_of h.beside.caches cache));
+    trail = f.trail;
+  }
+
+  -- all blocks of a cache are freed
+  abbrev pub cache_flushed : HeapState F → Moves → (cache : Name) → Checked (Moved F (Unit {0}))
+  cache_flushed h trail cache = do
+    of ← cache_named h cache
+    size ← required (slice_get h.sizes of.value) refusal.BadName
+    Ok (with_cache_flushed h of.key
+        (row_freed size (record { segs = h.segs; trail = trail }) (flushed (classes_of h.beside.caches of.key))))
+
+  -- two moves for each block of the cache that was found
+  abbrev pub two_each : HeapState F → Checked (Kept ℕ) → ℕ
+  two_each h (Ok of) = 2 * count_in (classes_of h.beside.caches of.key)
+  two_each h (Err why) = 0
+
+  -- the moves for which a flush needs room
+  abbrev pub moves_of_flush : HeapState F → (cache : Name) → ℕ
+  moves_of_flush h cache = two_each h (cache_named h cache)
+
 -- ---- vectors
+
+abbrev two_classes : List ClassState
+two_classes = record { words = 2; limit = 2; blocks = 8 ∷ [] } ∷ record { words = 16; limit = 2; blocks = 256 ∷ 512 ∷ [] } ∷ []
+
+pub class_by_class_the_last_cached_first : flushed two_classes ≡ 8 ∷ 512 ∷ 256 ∷ []
+class_by_class_the_last_cached_first = refl
+
+pub not_the_first_cached_first : flushed two_classes ≡ 8 ∷ 256 ∷ 512 ∷ [] → ⊥
+not_the_first_cached_first e = absurd (let second : ◌≡◌ {A = ℕ} 512 256 = ap (λ ats. slice_index ats 1) e in omega (arith, second))
 
 abbrev class_sizes : List ClassSize
 class_sizes = record { words = 4; limit = 1 } ∷ record { words = 16; limit = 3 } ∷ []

@@ -4,8 +4,10 @@ pub mod Referring
 pub mod Objects
 pub mod Getting
 pub mod Areas
+pub mod Framing
 pub mod Allocating
 pub mod Manual
+pub mod Popping
 pub mod Caching
 pub mod Making
 pub mod Labelling

@@ -1,19 +1,26 @@
 -- The outcomes of the calls on transforms. None takes memory, and none makes moves.
-use Rattle.std.specs.Prelude.{ℕ, ◌≡◌, Bool, true, false, not, ◌&&◌, nat_lt, Some, Result, Ok, Err, is_some, length}
+use Rattle.std.specs.Prelude.{ℕ, zero, suc, ◌≡◌, ◌%◌, Bool, true, false, not, ◌&&◌, nat_lt, Option, Some, None, List, Result, Ok, Err, is_some, length, slice_get, option_and_then}
+use Rattle.std.specs.List.{All}
 use Rattle.std.specs.Option.{option_map_or}
-use Rattle.mps_base.specs.Address.{Address}
+use Rattle.mps_base.specs.Address.{Address, bytes_of_word}
 use Rattle.mps_base.specs.declared.names.Name.{Name}
 use Rattle.mps_base.specs.declared.names.Slot.{Slot}
 use Rattle.mps_base.specs.declared.refusal.Refusal.{Refusal}
 use Rattle.mps_base.specs.declared.refusal.Refusal.TheVariants as refusal
 use Rattle.mps_format.specs.Layout.{Layout}
-use Rattle.mps_format.specs.Pools.{is_copying_pool}
+use Rattle.mps_buffer.specs.Points.{has_live_reservation}
+use Rattle.mps_format.specs.Pools.{format_of_pool, is_copying_pool}
+use Rattle.mps_format.specs.declared.pool.Pool.{Pool}
 use Rattle.mps_model.specs.Checked.{Checked, ◌>>=◌, ◌>>◌, refuse_when}
 use Rattle.mps_model.specs.Making.{refuse_at_limit}
 use Rattle.mps_model.specs.Transforms.{most_pairs, most_transforms}
 use Rattle.mps_names.specs.State.{NamesState, Updates, own_room, thing_named}
 use Rattle.mps_names.specs.declared.names.Thing.TheVariants as thing
-use Rattle.mps_neighbours.specs.Transforms.{TransformsState, free_number, has_old, is_live, with_pair, with_transform, without_transform}
+use Rattle.mps_neighbours.specs.Transforms.{TransformsState, free_number, has_old, is_live, new_address, pair_of, with_pair, with_transform, without_transform}
+use Rattle.mps_seg.specs.Segs.{SegsState}
+use Rattle.mps_xform.specs.Applying.{CanApply, after_apply}
+use Rattle.mps_xform.specs.Blocking.{is_blocked}
+use Rattle.mps_xform.specs.Slots.{AreListedOnce, slots_after_apply}
 use Rattle.mps_xform.specs.declared.transforms.Pair.{Pair}
 use Rattle.mps_heap_spec.specs.Coming.{Outcome, done}
 use Rattle.mps_heap_spec.specs.Finding.{object_at, slot_in, transform_named}
@@ -102,3 +109,63 @@ pair_added layout h name old new = do
   second ← object_at layout h to.value
   refuse_when (not (is_parked h.arena)) refusal.NotParked
   with_pair_checked h (pair_of_objects h number first second)
+
+-- ---- applying
+
+module _ {F : Type 0} where
+  -- the transform that may be applied, by its number: the arena is parked, and no point has a reservation that no flip ended
+  abbrev pub check_apply : HeapState F → Name → Checked ℕ
+  check_apply h name = do
+    number ← transform_named h name
+    refuse_when (not (is_parked h.arena)) refusal.NotParked
+    refuse_when (has_live_reservation h.points) refusal.Open
+    Ok number
+
+  -- the state with these segments
+  abbrev pub with_segs : HeapState F → SegsState → HeapState F
+  with_segs h segs = record h { segs = segs }
+
+  -- a word of an area lies in an old block of a transform
+  abbrev pub is_blocked_by : HeapState F → (number : ℕ) → Bool
+  is_blocked_by h number = is_blocked (pair_of h.beside.transforms number) h.segs.blocks h.roots.areas
+
+module _ {F : Type 0} (layout : F → Layout) where
+  module _ (to : Address → Option Address) where
+    -- the segments after the references of a pool lead to new addresses, by the pool's format. A manual pool has no references
+    abbrev pub with_pool_applied : Option F → (number : ℕ) → SegsState → SegsState
+    with_pool_applied None number s = s
+    with_pool_applied (Some format) number s = after_apply (layout format) to s number
+
+    -- the same of the pools below a number, each once
+    abbrev pub with_pools_applied : List (Pool F) → (count : ℕ) → SegsState → SegsState
+    with_pools_applied pools zero s = s
+    with_pools_applied pools (suc number) s =
+        with_pool_applied (option_and_then format_of_pool (slice_get pools number)) number (with_pools_applied pools number s)
+
+  -- the references of all automatic pools, and the slots of all tables, lead to the new addresses of a transform
+  abbrev pub with_transform_applied : HeapState F → (number : ℕ) → HeapState F
+  with_transform_applied h number = record h {
+    segs = with_pools_applied (new_address h.beside.transforms number) h.pools (length h.pools) h.segs;
+    roots = slots_after_apply (new_address h.beside.transforms number) h.roots;
+  }
+
+  -- what applying a transform asks for: it can be applied to each automatic pool by its own format, each new address is that of a word,
+  -- and the order of the tables has each key once. Each parked heap keeps it
+  pub record CanTransform (h : HeapState F) : Type 0 where
+    pub pools : (number : ℕ) (format : F) → option_and_then format_of_pool (slice_get h.pools number) ≡ Some format
+        → CanApply (layout format) h.segs number
+    pub aligned : All (λ p. p.new.0 % bytes_of_word ≡ 0) h.beside.transforms.pairs
+    pub slots : AreListedOnce h.roots
+
+  -- a transform is applied, and goes with its pairs
+  pub record AppliesTransform (h : HeapState F) (name : Name) (number : ℕ) (after : HeapState F) : Type 0 where
+    pub names : Updates h.names after.names name None
+    pub state : after
+        ≡ record (with_transforms (with_transform_applied h number) (without_transform h.beside.transforms number)) { names = after.names }
+
+  -- a call that applies a transform: it is refused, or an area word keeps it from being applied and nothing changes, or it is applied
+  pub data IsApplying (h : HeapState F) (name : Name) : Result Bool Refusal → HeapState F → Type 0 where
+    NotApplied : {why : Refusal} → check_apply h name ≡ Err why → IsApplying h name (Err why) h
+    KeptFromApplying : {number : ℕ} → check_apply h name ≡ Ok number → is_blocked_by h number ≡ true → IsApplying h name (Ok false) h
+    Applied : {after : HeapState F} {number : ℕ} → check_apply h name ≡ Ok number → is_blocked_by h number ≡ false
+        → AppliesTransform h name number after → IsApplying h name (Ok true) after
