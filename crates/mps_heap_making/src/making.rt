@@ -5,6 +5,7 @@ ghost use Rattle.mps_names.specs.State.{thing_named, room_for, Updates};
 ghost use Rattle.mps_names.specs.declared.names.Thing.TheVariants as thing;
 ghost use Rattle.mps_format.specs.declared.pool.Pool.TheVariants as kind_of_pool;
 ghost use Rattle.mps_heap_spec.specs.Making.{IsUntouched, IsMaking, IsDropping, check_root, with_root, MakesTable, MakesArea, MakesBlocks, roots_without, root_dropped, point_dropped, without_answer, check_point, MakesPoint, MakesPointIn, check_chain, MakesChain, check_pool, check_pool_on_chain, check_pool_of_size, MakesPool, MakesPoolOn, check_dependency, MakesDependency};
+ghost use Rattle.mps_heap_spec.specs.Framing.{MakesPoolOfFrames};
 ghost use Rattle.mps_heap_making.specs.Made.{IsMade};
 
 use mps_base::{Kind, Name, Rank, Refusal};
@@ -404,6 +405,28 @@ pub fn pool_mvff<F: Format>(state: &mut State<F>, name: Name) -> Result<usize, R
 {
     check_pool(state, name)?;
     make_pool(state, name, Pool::AnySize, None)
+}
+
+/// Makes a manual pool of blocks of any sizes that go by frames, of which none is open.
+pub fn pool_snc<F: Format>(state: &mut State<F>, name: Name) -> Result<usize, Refusal>
+    ensures { IsMaking state.old (check_pool state.old name) (MakesPoolOfFrames state.old name) result state.new }
+{
+    check_pool(state, name)?;
+    make_pool_of_frames(state, name)
+}
+
+/// Makes a pool of blocks of any sizes, and has it be one of frames. The room of its frames is taken first.
+fn make_pool_of_frames<F: Format>(state: &mut State<F>, name: Name) -> Result<usize, Refusal>
+    requires free { thing_named state.old.names name ≡ None }
+    requires few { length state.old.pools < 64 }
+    ensures { IsMade state.old (MakesPoolOfFrames state.old name) result state.new }
+{
+    let Ok(made) = state.beside.frames.new_pool() else {
+        return Err(Refusal::OutOfMemory);
+    };
+    let number = make_pool(state, name, Pool::AnySize, None)?;
+    state.beside.frames.add_pool(number as u32, made);
+    Ok(number)
 }
 
 /// Refuses a dependency if its name is taken or there are 256.

@@ -5,8 +5,10 @@ use Rattle.mps_base.specs.Segment.{segment_over}
 use Rattle.mps_base.specs.Trail.{Moves}
 use Rattle.mps_base.specs.declared.refusal.Refusal.TheVariants as refusal
 use Rattle.mps_manual.specs.Manual.{has_blocks_of, answer_of_alloc, segs_after_alloc, moves_allocated, segs_after_free, moves_freed}
+use Rattle.mps_snc.specs.State.{has_room, max_notes, pool_at}
 use Rattle.mps_heap_spec.specs.Checked.{Checked, ◌>>=◌, ◌>>◌, required, refuse_when}
 use Rattle.mps_heap_spec.specs.Coming.{Moved}
+use Rattle.mps_heap_spec.specs.Framing.{frames_after_alloc, has_frames, with_frames}
 use Rattle.mps_heap_spec.specs.Manual.{with_block_place}
 use Rattle.mps_heap_spec.specs.State.{HeapState}
 use Rattle.mps_heap_spec.specs.declared.found.Entry.{Entry}
@@ -18,10 +20,12 @@ module _ {F : Type 0} (h : HeapState F) (trail : Moves) where
     size ← required (slice_get h.sizes pool) refusal.BadName
     refuse_when (not (has_blocks_of size words)) refusal.BadSize
     refuse_when (not (into.value == 0)) refusal.NameTaken
+    refuse_when (not (has_room (pool_at h.beside.frames pool))) (refusal.TooMany max_notes)
     at ← answer_of_alloc size h.segs pool words
     Ok (record {
       answer = tt;
-      state = with_block_place (record h { segs = segs_after_alloc h.segs pool words at }) into at.0;
+      state = with_frames (with_block_place (record h { segs = segs_after_alloc h.segs pool words at }) into at.0)
+          (frames_after_alloc h pool into at);
       trail = moves_allocated h.segs trail pool words at;
     })
 
@@ -29,6 +33,7 @@ module _ {F : Type 0} (h : HeapState F) (trail : Moves) where
   abbrev pub freed_at : Entry Address → Address → Checked (Moved F (Unit {0}))
   freed_at from at = do
     s ← required (segment_over h.segs.segments at) refusal.NotABlock
+    refuse_when (has_frames h s.pool) refusal.WrongPool
     size ← required (slice_get h.sizes s.pool) refusal.NotABlock
     Ok (record {
       answer = tt;

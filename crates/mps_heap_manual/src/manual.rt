@@ -1,15 +1,16 @@
 // The calls on manual blocks.
-ghost use Rattle.std.specs.Prelude.{◌≡◌, ◌<◌, ℕ, IfOk, Contains};
+ghost use Rattle.std.specs.Prelude.{◌≡◌, ◌<◌, ℕ, IfOk, Contains, length, slice_index};
 ghost use Rattle.mps_base.specs.Address.{word_of};
 ghost use Rattle.mps_root.specs.State.{HasPlace};
 ghost use Rattle.mps_heap_spec.specs.Coming.{Comes, ComesMoving};
-ghost use Rattle.mps_heap_spec.specs.Manual.{with_block_place, block_allocated, block_in, block_freed, word_in_block, word_loaded, word_stored};
+ghost use Rattle.mps_heap_spec.specs.Manual.{with_block_place, block_allocated, block_in, block_freed, one_freed, word_in_block, word_loaded, word_stored};
 ghost use Rattle.mps_heap_manual.specs.Placed.{allocated_into, freed_at};
 
 use mps_base::{Addr, BYTES_OF_WORD, Name, Refusal, Slot, Trail};
 use mps_format::{Format, is_automatic};
 use mps_heap_spec::{Entry, begins_block, is_block_over, pool_of_segment, write_word};
 use mps_heap_state::State;
+use mps_snc::{Block, MAX_NOTES, Place};
 
 /// The most words that a block may have.
 const MAX_BLOCK_WORDS: u64 = 65_536;
@@ -64,9 +65,19 @@ fn alloc_into<F: Format>(
     if into.value != 0 {
         return Err(Refusal::NameTaken);
     }
+    if !state.beside.frames.has_room(pool) {
+        return Err(Refusal::TooMany {
+            limit: MAX_NOTES as u32,
+        });
+    }
     let manual = state.pools.manual();
     let at = manual.alloc(&mut state.segs, trail, pool, words as u32)?;
     set_place(state, into, at.0);
+    let place = Place {
+        table: into.key,
+        index: into.index,
+    };
+    state.beside.frames.note(pool, Block { at, place });
     Ok(())
 }
 
@@ -81,7 +92,8 @@ pub fn block_in<F: Format>(state: &State<F>, place: Entry<u64>) -> Result<u64, R
     Ok(place.value)
 }
 
-/// Frees the block in a place, and empties the place. Refuses `NotABlock` if it is empty.
+/// Frees the block in a place, and empties the place. Refuses `NotABlock` if it is empty, and `WrongPool` if the block's pool is one of
+/// frames.
 pub fn free<F: Format>(state: &mut State<F>, trail: &mut Trail, place: Slot) -> Result<(), Refusal>
     requires { 1 < trail.old.spare }
     ensures { ComesMoving state.old trail.old (block_freed state.old trail.old place) result state.new trail.new }
@@ -91,7 +103,7 @@ pub fn free<F: Format>(state: &mut State<F>, trail: &mut Trail, place: Slot) -> 
     free_at(state, trail, from, at)
 }
 
-/// Frees the block at an address, and empties the place that was found.
+/// Frees the block at an address, and empties the place that was found. Refuses `WrongPool` if its pool is one of frames.
 fn free_at<F: Format>(
     state: &mut State<F>,
     trail: &mut Trail,
@@ -106,6 +118,9 @@ fn free_at<F: Format>(
     let Some(pool) = pool_of_segment(&state.segs, at) else {
         return Err(Refusal::NotABlock);
     };
+    if state.beside.frames.is_pool(pool) {
+        return Err(Refusal::WrongPool);
+    }
     if pool as usize >= state.pools.manual().pools() {
         return Err(Refusal::NotABlock);
     }
@@ -113,6 +128,23 @@ fn free_at<F: Format>(
     manual.free(&mut state.segs, trail, pool, Addr(at));
     set_place(state, from, 0);
     Ok(())
+}
+
+/// Frees the block that begins at an address, of the manual pool with a number, if one begins there. Its place isn't emptied.
+pub fn free_block<F: Format>(state: &mut State<F>, trail: &mut Trail, pool: u32, at: u64)
+    requires listed { pool < length state.old.sizes }
+    requires fits { 1 < trail.old.spare }
+    ensures state { state.new ≡ record state.old {
+      segs = (one_freed (slice_index state.old.sizes pool)
+          (record { segs = state.old.segs; trail = trail.old }) at).segs;
+    } }
+    ensures moves { trail.new ≡ (one_freed (slice_index state.old.sizes pool)
+        (record { segs = state.old.segs; trail = trail.old }) at).trail }
+{
+    if begins_block(&state.segs, at) {
+        let manual = state.pools.manual();
+        manual.free(&mut state.segs, trail, pool, Addr(at));
+    }
 }
 
 /// The number of word `k` of a block.
