@@ -1,1 +1,2 @@
+mod Flushing
 mod Outcomes

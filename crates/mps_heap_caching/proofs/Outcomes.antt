@@ -1,8 +1,8 @@
 -- From what the calls found and made to their outcomes.
-use Rattle.std.proofs.Common.{◌≡◌, ◌∙◌, ℕ, ◌-◌, Bool, true, false, refl, sym, ap, subst, List, [], ◌∷◌, ◌++◌, length, get_or, set, Some, None, Ok, arith}
+use Rattle.std.proofs.Common.{◌≡◌, ◌∙◌, ℕ, ◌-◌, Bool, true, false, refl, sym, ap, subst, List, [], ◌∷◌, ◌++◌, length, get_or, Some, None, Ok, arith}
 use Rattle.std.proofs.lemmas.List.{set-get_or}
 use Rattle.std.proofs.lemmas.Option.{none-some, slice_get-get_or}
-use Rattle.std.specs.Prelude.{if◌then◌else◌, slice_get, slice_set}
+use Rattle.std.specs.Prelude.{if◌then◌else◌, slice_set}
 use Rattle.mps_base.specs.declared.names.Name.{Name}
 use Rattle.mps_format.specs.declared.pool.Pool.{Pool}
 use Rattle.mps_names.specs.State.{Updates}
@@ -28,13 +28,13 @@ cache_made {F} {was} {h} {after} {name} {pool} {classes} {of} {number} {caches} 
 
 -- ---- nothing is taken
 
-none_last : (blocks : List ℕ) → last_of blocks ≡ None → blocks ≡ []
+pub none_last : (blocks : List ℕ) → last_of blocks ≡ None → blocks ≡ []
 none_last [] e = refl
 none_last (b ∷ bs) e =
     absurd (none-some (get_or (b ∷ bs) (length (b ∷ bs) - 1) 0)
     (sym e ∙ slice_get-get_or (b ∷ bs) (length (b ∷ bs) - 1) 0 (omega arith)))
 
-same_where : (test : ClassState → Bool) (cs : List ClassState) → blocks_where test cs ≡ [] → with_blocks_where test cs [] ≡ cs
+pub same_where : (test : ClassState → Bool) (cs : List ClassState) → blocks_where test cs ≡ [] → with_blocks_where test cs [] ≡ cs
 same_where test [] none = refl
 same_where test (c ∷ cs) none = of_test (test c) refl none (λ later. same_where test cs later)
   where

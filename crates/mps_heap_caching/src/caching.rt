@@ -1,20 +1,21 @@
 // The calls on allocation caches.
-ghost use Rattle.std.specs.Prelude.{◌≡◌, ◌<◌, ◌≤◌, ℕ, None, Some, IfOk, OnOk, Contains, length};
+ghost use Rattle.std.specs.Prelude.{◌≡◌, ◌*◌, ◌<◌, ◌≤◌, ℕ, None, Some, IfOk, OnOk, Contains, length, slice_index};
 ghost use Rattle.std.specs.List.{All};
 ghost use Rattle.mps_base.specs.Address.{Address, word_of};
 ghost use Rattle.mps_names.specs.State.{thing_named};
 ghost use Rattle.mps_root.specs.State.{HasPlace};
-ghost use Rattle.mps_sac.specs.State.{blocks_of_size, classes_of, last_of, max_caches, max_cached, max_classes, without_last_of_size};
+ghost use Rattle.mps_sac.specs.State.{blocks_of_size, classes_of, count_in, last_of, max_caches, max_cached, max_cached_in_all, max_classes, next_blocks, without_last_of_size, without_next};
 ghost use Rattle.std.specs.Option.{MatchOption};
-ghost use Rattle.mps_heap_spec.specs.Caching.{IsCacheFree, IsCacheMaking, are_class_sizes, block_from_cache, block_to_cache, cache_named, check_cache, kept_from, may_have_cache, taken_into, with_cached, words_cleared};
+ghost use Rattle.mps_heap_spec.specs.Caching.{IsCacheFree, IsCacheMaking, are_class_sizes, block_from_cache, block_to_cache, cache_flushed, cache_named, check_cache, kept_from, may_have_cache, moves_of_flush, taken_into, with_cached, words_cleared};
 ghost use Rattle.mps_heap_spec.specs.Coming.{ComesMoving};
 ghost use Rattle.mps_heap_spec.specs.Finding.{block_place_in, with_words};
 ghost use Rattle.mps_heap_spec.specs.Manual.{block_in};
 ghost use Rattle.mps_heap_spec.specs.declared.found.Entry.{Entry};
+ghost use Rattle.mps_heap_caching.specs.Flushed.{flushed_from};
 
 use mps_base::{Addr, Name, Refusal, Slot, Trail};
 use mps_format::{Format, Pool};
-use mps_heap_manual::manual::{block_in, set_place};
+use mps_heap_manual::manual::{block_in, free_block, set_place};
 use mps_heap_spec::{Entry, Kept, pool_of_segment};
 use mps_heap_state::State;
 use mps_names::Thing;
@@ -39,11 +40,11 @@ fn are_class_sizes(above: u32, classes: &[ClassSize]) -> bool
     }
 }
 
-/// Whether a cache may stand over a pool.
-fn may_have_cache<F: Format>(pool: Pool<F>) -> bool
-    ensures { result ≡ may_have_cache pool }
+/// Whether a cache may stand over a pool with a number: one of blocks of any sizes, which isn't one of frames.
+fn may_have_cache<F: Format>(state: &State<F>, number: u32, pool: Pool<F>) -> bool
+    ensures { result ≡ may_have_cache state.now (record { key = number; value = pool }) }
 {
-    matches!(pool, Pool::AnySize)
+    matches!(pool, Pool::AnySize) && !state.beside.frames.is_pool(number)
 }
 
 /// The pool of a cache that may be made.
@@ -60,7 +61,7 @@ fn check_cache<F: Format>(
 {
     state.names.refuse_taken(name)?;
     let of = state.pool_named(pool)?;
-    if !may_have_cache(of.value) {
+    if !may_have_cache(state, of.key, of.value) {
         return Err(Refusal::WrongPool);
     }
     if !are_class_sizes(0, classes) {
@@ -74,8 +75,8 @@ fn check_cache<F: Format>(
 }
 
 /// Makes a cache over a pool of blocks of any sizes, with classes of these sizes, all empty. Refuses `NameTaken`, `BadName` if there is no
-/// such pool, `WrongPool` if it hasn't blocks of any sizes, `BadSize` if the sizes don't rise or one isn't 1 to 65,536, and `TooMany` if
-/// there are 16 caches.
+/// such pool, `WrongPool` if it hasn't blocks of any sizes or is one of frames, `BadSize` if the sizes don't rise or one isn't 1 to
+/// 65,536, and `TooMany` if there are 16 caches.
 pub fn cache<F: Format>(
     state: &mut State<F>,
     name: Name,
@@ -262,4 +263,58 @@ fn keep_from<F: Format>(
     }
     set_place(state, from, 0);
     Ok(())
+}
+
+/// How many moves a flush of a cache needs room for: two for each block that it has; 0 if there is no such cache.
+pub fn moves_of_cflush<F: Format>(state: &State<F>, cache: Name) -> u32
+    ensures value { result ≡ moves_of_flush state.now cache }
+    ensures at_most { result ≤ 2 * max_cached_in_all }
+{
+    match cache_named(state, cache) {
+        Ok(of) => 2 * state.beside.caches.cached(of.key),
+        Err(_) => 0,
+    }
+}
+
+/// Frees all blocks of a cache, class by class, the one cached last first. Refuses `BadName` if there is no such cache. The trail has room
+/// for `moves_of_cflush`.
+pub fn cflush<F: Format>(
+    state: &mut State<F>,
+    trail: &mut Trail,
+    cache: Name,
+) -> Result<(), Refusal>
+    requires fits { moves_of_flush state.old cache ≤ trail.old.spare }
+    ensures outcome { ComesMoving state.old trail.old (cache_flushed state.old trail.old cache) result state.new trail.new }
+{
+    let of = cache_named(state, cache)?;
+    if of.value as usize >= state.pools.manual().pools() {
+        return Err(Refusal::BadName);
+    }
+    flush(state, trail, of.key, of.value);
+    Ok(())
+}
+
+/// Frees all blocks of the cache with a number, which stands over the pool with a number.
+fn flush<F: Format>(state: &mut State<F>, trail: &mut Trail, number: u32, pool: u32)
+    requires there { number < length state.old.beside.caches }
+    requires listed { pool < length state.old.sizes }
+    requires fits { 2 * count_in (classes_of state.old.beside.caches number) ≤ trail.old.spare }
+    ensures state { state.new ≡ (flushed_from (slice_index state.old.sizes pool) number state.old trail.old).state }
+    ensures moves { trail.new ≡ (flushed_from (slice_index state.old.sizes pool) number state.old trail.old).trail }
+{
+    while let Some(at) = take_next(state, number) {
+        free_block(state, trail, pool, at.0);
+    }
+}
+
+/// Takes the block that a flush of the cache with a number frees next; nothing changes if there is none.
+#[tactic(auto, using(crate::proofs::Flushing::nothing_next))]
+fn take_next<F: Format>(state: &mut State<F>, number: u32) -> Option<Addr>
+    requires { number < length state.old.beside.caches }
+    ensures value { MatchOption result (last_of (next_blocks (classes_of state.old.beside.caches number)) ≡ None)
+        (λ at. last_of (next_blocks (classes_of state.old.beside.caches number)) ≡ Some at.0) }
+    ensures state { MatchOption result (state.new ≡ state.old)
+        (λ _. state.new ≡ with_cached state.old number (without_next (classes_of state.old.beside.caches number))) }
+{
+    state.beside.caches.next(number)
 }
