@@ -1,15 +1,16 @@
-// The calls that make and drop transforms, and add pairs to them.
-ghost use Rattle.std.specs.Prelude.{◌≡◌, ◌<◌, true, None, Some, IfOk, IsSome, OnOk};
+// The calls that make, drop and apply transforms, and add pairs to them.
+ghost use Rattle.std.specs.Prelude.{◌≡◌, ◌<◌, true, None, Some, IfOk, IsSome, OnOk, length, option_and_then, slice_get};
+ghost use Rattle.mps_format.specs.Pools.{format_of_pool};
 ghost use Rattle.mps_names.specs.State.{own_room, thing_named};
 ghost use Rattle.mps_names.specs.declared.names.Thing.TheVariants as thing;
-ghost use Rattle.mps_neighbours.specs.Transforms.{free_number, is_live};
+ghost use Rattle.mps_neighbours.specs.Transforms.{free_number, is_live, new_address};
 ghost use Rattle.mps_heap_spec.specs.Coming.{Comes};
 ghost use Rattle.mps_heap_spec.specs.Finding.{transform_named};
 ghost use Rattle.mps_heap_spec.specs.Making.{IsDropping};
-ghost use Rattle.mps_heap_spec.specs.Transforming.{AreTransformsThere, IsTransforming, check_transform, has_room_for_transform, is_moved_at, pair_added, transform_dropped, with_pair_checked};
+ghost use Rattle.mps_heap_spec.specs.Transforming.{AreTransformsThere, CanTransform, IsApplying, IsTransforming, check_apply, check_transform, has_room_for_transform, is_moved_at, is_parked, pair_added, transform_dropped, with_pair_checked, with_pool_applied, with_pools_applied, with_segs};
 
 use mps_base::{Addr, Name, Refusal, Slot};
-use mps_format::{Format, is_copying};
+use mps_format::{Format, format_of_pool, is_copying};
 use mps_heap_state::State;
 use mps_names::Thing;
 use mps_xform::{AddRefusal, MAX_PAIRS, MAX_TRANSFORMS, Pair};
@@ -123,4 +124,92 @@ pub fn transadd<F: Format>(
             inside,
         },
     )
+}
+
+/// The number of the transform that may be applied. Refuses `BadName` if no transform has this name, `NotParked` if the arena isn't parked,
+/// and `Open` if a point has a reservation that no flip ended.
+fn check_apply<F: Format>(state: &State<F>, name: Name) -> Result<u32, Refusal>
+    ensures value { result ≡ check_apply state.now name }
+    ensures named { IfOk result (λ number. thing_named state.now.names name ≡ Some (thing.Transform number)) }
+    ensures parked { OnOk result (is_parked state.now.arena ≡ true) }
+{
+    let number = transform_named(state, name)?;
+    if !state.arena.is_parked() {
+        return Err(Refusal::NotParked);
+    }
+    if state.points.has_live_reservation() {
+        return Err(Refusal::Open);
+    }
+    Ok(number)
+}
+
+/// How many pools there are.
+fn count_pools<F: Format>(state: &State<F>) -> u32
+    ensures { result ≡ length state.now.pools }
+{
+    state.pools.tails_are_listed();
+    state.pools.chains().are_sound();
+    state.pools.count() as u32
+}
+
+/// The format of the objects of a pool, if it is automatic.
+fn format_of<F: Format>(state: &State<F>, pool: u32) -> Option<F>
+    ensures { result ≡ option_and_then format_of_pool (slice_get state.now.pools pool) }
+{
+    format_of_pool(state.pools.get(pool)?)
+}
+
+/// Applies a transform to the references of a pool, if it is automatic, by its own format.
+fn apply_to_pool<F: Format>(state: &mut State<F>, transform: u32, pool: u32)
+    requires { CanTransform F.layout state.old }
+    ensures state { state.new ≡ with_segs state.old (with_pool_applied F.layout (new_address state.old.beside.transforms transform)
+        (option_and_then format_of_pool (slice_get state.old.pools pool)) pool state.old.segs) }
+    ensures again { CanTransform F.layout state.new }
+{
+    let Some(format) = format_of(state, pool) else {
+        return;
+    };
+    state
+        .beside
+        .transforms
+        .apply(transform, &format, &mut state.segs, pool);
+}
+
+/// Applies a transform to the references of all automatic pools, each once.
+fn apply_to_pools<F: Format>(state: &mut State<F>, transform: u32)
+    requires { CanTransform F.layout state.old }
+    ensures state { state.new ≡ with_segs state.old (with_pools_applied F.layout (new_address state.old.beside.transforms transform)
+        state.old.pools (length state.old.pools) state.old.segs) }
+    ensures again { CanTransform F.layout state.new }
+{
+    for pool in 0..count_pools(state) {
+        apply_to_pool(state, transform, pool);
+    }
+}
+
+/// Replaces the old objects of a transform by its new ones, once: each reference to an old one, in objects of all automatic pools and in
+/// slots, leads to its new one from then on, and keeps its tag. The transform is dropped then. It doesn't if a word of an area lies in
+/// an old object, which is the answer false, and nothing changes. Refuses `BadName` if no transform has this name, `NotParked` if the arena
+/// isn't parked, and `Open` if a point has a reservation that no flip ended.
+pub fn transapply<F: Format>(state: &mut State<F>, name: Name) -> Result<bool, Refusal>
+    requires there { AreTransformsThere state.old }
+    requires can { is_parked state.old.arena ≡ true → CanTransform F.layout state.old }
+    ensures outcome { IsApplying F.layout state.old name result state.new }
+{
+    let number = check_apply(state, name)?;
+    if state
+        .beside
+        .transforms
+        .blocked(number, &state.segs, &state.roots)
+    {
+        return Ok(false);
+    }
+    apply_to_pools(state, number);
+    state
+        .beside
+        .transforms
+        .apply_slots(number, &mut state.roots);
+    state.beside.transforms.drop_transform(number);
+    let _ = state.names.drop_name(name);
+    Ok(true)
 }

@@ -1,0 +1,13 @@
+use Rattle.std.proofs.Common.{◌∙◌, subst, sym}
+use Rattle.mps_heap_spec.specs.State.{HeapState}
+use Rattle.mps_xform.specs.Applying.{CanApply}
+use Rattle.mps_heap_transforming.proofs.Applying.{still_can}
+use Rattle.mps_heap_transforming.proofs.transforming.apply_to_pool.Goals as goal
+
+pub apply-requires-clause-can : goal.apply-requires-clause-can
+apply-requires-clause-can g c =
+    subst (λ (x : HeapState g.row.F.Denot). CanApply (g.F.Format.layout c.in-Some.format) x.segs c.args.pool) (sym c.state.view_is)
+    (c.requires.pools c.args.pool c.in-Some.format (sym c.format_of.ensures ∙ c.in-Some.is))
+
+pub returns-clause-again : goal.returns-clause-again
+returns-clause-again g c = still_can c.state.view_is c.requires c.apply.ensures.again c.apply.ensures.unchanged
