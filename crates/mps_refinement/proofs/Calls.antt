@@ -30,6 +30,7 @@ pub mod LoanSteps
 pub mod CacheMaking
 pub mod CacheAllocs
 pub mod CacheFrees
+pub mod CacheFlushes
 pub mod CellLoans
 pub mod MakingPoints
 pub mod MakingPools
@@ -37,7 +38,10 @@ pub mod MakingChains
 pub mod Dependencies
 pub mod Labelling
 pub mod Transforming
+pub mod Applying
 pub mod TransformPairs
 pub mod ArenaCalls
 pub mod LiveBlocks
 pub mod NewHeap
+pub mod FramedPools
+pub mod Pushes

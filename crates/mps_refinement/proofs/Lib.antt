@@ -6,3 +6,5 @@ pub mod Lookups
 pub mod Calls
 pub mod Summaries
 pub mod Left
+pub mod Following
+pub mod Substitution

@@ -7,6 +7,7 @@ pub mod Ordering
 pub mod EntryWritten
 pub mod PartsByKind
 pub mod BesideParts
+pub mod FramedParts
 pub mod CachesStill
 pub mod TransformParts
 pub mod ObjectKinds
@@ -24,9 +25,12 @@ pub mod ReservedParts
 pub mod BlockPlaces
 pub mod CachesWritten
 pub mod PlaceWritten
+pub mod EmptiedPlaces
 pub mod BlockWritten
 pub mod StillHeld
+pub mod FreedSegments
 pub mod FreedParts
+pub mod RowParts
 pub mod Named
 pub mod PartsMade
 pub mod WrittenReservation

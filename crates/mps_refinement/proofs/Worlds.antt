@@ -17,6 +17,7 @@ pub mod RunningNow
 pub mod PlacesByMoves
 pub mod CellsByMoves
 pub mod PlacedOnce
+pub mod RoomForNotes
 pub mod ReachedGraph
 pub mod Staying
 pub mod Appending
@@ -27,4 +28,7 @@ pub mod CollectorKept
 pub mod BlockMade
 pub mod CachedBlocks
 pub mod ZeroedWords
+pub mod OneFree
+pub mod RowOfFrees
 pub mod CachingTrails
+pub mod FlushTrails

@@ -1,5 +1,5 @@
 -- When the state of a heap represents a world of the model.
-use Rattle.std.specs.Prelude.{◌≡◌, ℕ, ◌+◌, ◌-◌, ◌%◌, ◌<◌, ◌≤◌, ◌==◌, Bool, true, false, not, IsTrue, Option, Some, None, option_and_then, option_map, IsSome, List, [], map, length, slice_get, ◌∷◌, Contains}
+use Rattle.std.specs.Prelude.{◌≡◌, ◌⊎◌, ℕ, ◌+◌, ◌-◌, ◌%◌, ◌<◌, ◌≤◌, ◌==◌, Bool, true, false, not, IsTrue, Option, Some, None, option_and_then, option_map, IsSome, List, [], map, length, slice_get, ◌∷◌, Contains}
 use Rattle.std.proofs.Common.{◌∙◌, ap, arith, lit<, refl, subst, suc, sym, zero}
 use Rattle.std.specs.Option.{option_map_or}
 use Rattle.mps_base.specs.Address.{Address, Id, Word, max_grains, word_of, grain_of}
@@ -24,7 +24,7 @@ use Rattle.mps_model.specs.Making.{live_roots, live_slots, live_points}
 use Rattle.mps_model.specs.Step.{History}
 use Rattle.mps_model.specs.History.{IsLegalHistoryOf}
 use Rattle.mps_model.specs.World as world
-use Rattle.mps_model.specs.World.{World, PointMemory, Dependency, TransformPair, Collected, OneSize, AnySize, is_copying_kind}
+use Rattle.mps_model.specs.World.{World, PointMemory, Dependency, TransformPair, Collected, OneSize, AnySize, Frames, is_copying_kind}
 use Rattle.mps_names.specs.State.{thing_named}
 use Rattle.mps_names.specs.declared.names.Thing.{Thing}
 use Rattle.mps_names.specs.declared.names.Thing.TheVariants as thing
@@ -38,6 +38,7 @@ use Rattle.mps_format.specs.declared.pool.Pool.{Pool}
 use Rattle.mps_format.specs.declared.pool.Pool.TheVariants as pool
 use Rattle.mps_refinement.specs.Numbering.{AreNumbered, AreOrdered}
 use Rattle.mps_refinement.specs.Beside.{IsBeside}
+use Rattle.mps_refinement.specs.Framed.{AreFramed}
 use Rattle.mps_refinement.specs.Transforms.{AreTransforms, live_count}
 use Rattle.mps_neighbours.specs.Transforms.{is_live}
 use Rattle.mps_base.specs.Segment.{Segment}
@@ -145,12 +146,13 @@ pub record IsPoint (flips : ℕ) (is_copying : ℕ → Bool) (memories : List Po
 -- ---- pools, dependencies and the arena's state
 
 module _ {F : Type 0} (layout : F → Layout) where
-  -- a pool of the heap represents a pool of the model, where the numbers of formats mean these
+  -- a pool of the heap represents a pool of the model, where the numbers of formats mean these. One of blocks of any sizes may have frames
   abbrev pub IsPool : (formats : ℕ → Layout) → Pool F → world.Pool → Type 0
   IsPool formats (pool.Automatic kind format) q =
       (q ≡ record { kind = Collected kind; format = q.format; chain = q.chain }) × (formats q.format ≡ layout format)
   IsPool formats (pool.OneSize words) q = q ≡ record { kind = OneSize words; format = 0; chain = None }
-  IsPool formats pool.AnySize q = q ≡ record { kind = AnySize; format = 0; chain = None }
+  IsPool formats pool.AnySize q =
+      (q ≡ record { kind = AnySize; format = 0; chain = None }) ⊎ (q ≡ record { kind = Frames; format = 0; chain = None })
 
   -- so do all, by their numbers
   pub record ArePools (formats : ℕ → Layout) (pools : List (Pool F)) (numbered : List world.Pool) : Type 0 where
@@ -284,9 +286,11 @@ pub record AreParts {F : Type 0} (layout : F → Layout) (past : Past) (h : Heap
   pub names : AreNamed past h w.graph.names w.graph.labels
   pub state : w.state ≡ state_of h.arena (world.pairs_in w.state)
   -- what stands beside the blocks
-  pub beside : IsBeside h.beside w.addresses w.graph.transforms (world.pairs_in w.state) w.graph.caches w.graph.frames
+  pub beside : IsBeside h.beside w.addresses w.graph.caches
   pub transforms : AreTransforms past.transform_number (world.is_copying_object w) w.addresses h.beside.transforms w.graph.transforms
       (world.pairs_in w.state)
+  -- the pools of frames
+  pub framed : AreFramed h.beside.frames h.roots.blocks w.graph.blocks w.pools w.graph.frames
 
 -- ---- what is known of the collection that runs, if one does
 

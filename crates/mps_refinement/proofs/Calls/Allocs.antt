@@ -1,8 +1,9 @@
 -- `alloc`: from its outcome to a right step.
-use Rattle.std.proofs.Common.{◌≡◌, ◌∙◌, ℕ, ◌<◌, Bool, true, false, refl, sym, ap, subst, [], ◌∷◌, ◌++◌, Option, Some, None, Ok, Err, is_some, arith, ◌+◌, List, length}
-use Rattle.std.proofs.lemmas.Bool.{and_parts, false≢true, leb-true, ltb-true, ne_eqb}
-use Rattle.std.proofs.lemmas.Option.{slice_get-map}
-use Rattle.std.specs.Prelude.{◌==◌, ◌&&◌, ◌||◌, nat_le, not, slice_get, option_map, if◌then◌else◌}
+use Rattle.std.proofs.Common.{◌≡◌, ◌∙◌, ℕ, ◌<◌, Bool, true, false, refl, sym, ap, subst, [], ◌∷◌, ◌++◌, Option, Some, None, Ok, Err, is_some, arith, ◌+◌, List, length, inl, inr}
+use Rattle.std.proofs.lemmas.Bool.{and_parts, false≢true, leb-true, lt-ltb, ltb-true, ne_eqb}
+use Rattle.std.proofs.lemmas.List.{length-map}
+use Rattle.std.proofs.lemmas.Option.{slice_get-map, slice_get_within}
+use Rattle.std.specs.Prelude.{◌==◌, ◌&&◌, ◌||◌, nat_le, not, slice_get, slice_set, option_map, if◌then◌else◌}
 use Rattle.std.specs.Option.{option_map_or}
 use Rattle.mps_seg.specs.Arena.{answer_of_placement}
 use Rattle.mps_base.specs.Address.{Address, address_of_word}
@@ -24,7 +25,7 @@ use Rattle.mps_laws.proofs.Sound.SoundGraph.{PassesOrNull, all-at as all-in, ent
 use Rattle.mps_pools.specs.Manual.{has_blocks_of}
 use Rattle.mps_model.specs.declared.call.Call.TheVariants as call
 use Rattle.mps_model.specs.declared.reply.Reply.TheVariants as reply
-use Rattle.mps_model.specs.Allocating.{act_alloc, address_of_placement, allows_size, refuse_without_place}
+use Rattle.mps_model.specs.Allocating.{act_alloc, address_of_placement, allows_size, refuse_without_place, with_block_noted}
 use Rattle.mps_model.specs.Answer.{Answer, Replied}
 use Rattle.mps_model.specs.Checked as checked
 use Rattle.mps_model.specs.Checked.{Checked, Found, Numbered, ◌>>=◌, ◌>>◌, refuse_when, required}
@@ -38,7 +39,11 @@ use Rattle.mps_heap_spec.specs.Coming.{ComesMoving, Moved}
 use Rattle.mps_heap_spec.specs.Finding.{block_place_in, pool_named}
 use Rattle.mps_heap_spec.specs.declared.found.Entry.{Entry}
 use Rattle.mps_heap_spec.specs.declared.found.Kept.{Kept}
+use Rattle.mps_heap_spec.specs.Framing.{frames_after_alloc, with_frames}
 use Rattle.mps_heap_spec.specs.Manual.{block_allocated, with_block_place}
+use Rattle.mps_root.specs.State.{with_place}
+use Rattle.mps_snc.specs.State.{PoolState, has_room, max_notes, pool_at}
+use Rattle.mps_snc.specs.declared.pool.Block.{Block}
 use Rattle.mps_heap_spec.specs.State.{HeapState}
 use Rattle.mps_format.specs.Pools.{is_automatic_pool, size_of_pool}
 use Rattle.mps_format.specs.declared.pool.Pool.{Pool}
@@ -48,7 +53,10 @@ use Rattle.mps_seg.specs.Segs.{moves_after, segments_after}
 use Rattle.mps_refinement.specs.Answering.{answer_to, says_ok}
 use Rattle.mps_refinement.specs.RightStep.{IsRight, IsRightIn, step_of}
 use Rattle.mps_refinement.specs.StandsFor.{AreParts, IsPool, IsReached, Past, address_of_target, AreOfFlip, IsInTime, collector_of}
+use Rattle.mps_refinement.specs.Framed.{AreFramed, IsNoted}
 use Rattle.mps_refinement.proofs.Parts.BlockParts.{parts_with_frames, world_with_frames}
+use Rattle.mps_refinement.proofs.Parts.FramedParts.{framed_noted, listed_found, noted_alike, noted_there}
+use Rattle.mps_refinement.proofs.Worlds.RoomForNotes.{reached_frames, room_for_notes}
 use Rattle.mps_refinement.proofs.Parts.AllocatedParts.{parts_made, segments_made, noted_clear}
 use Rattle.mps_refinement.proofs.Calls.AllocatingStep as allocating
 use Rattle.mps_refinement.proofs.Calls.AllocatingStep.{alloc_empty, alloc_from, alloc_in, alloc_manual, alloc_placed, alloc_sized}
@@ -81,7 +89,12 @@ automatic_alike : {F : Type 0} (layout : F → Layout) (formats : ℕ → Layout
     → is_automatic_pool p ≡ is_automatic_kind q.kind
 automatic_alike layout formats (pool.Automatic kind format) q is = sym (ap (λ (x : world.Pool). is_automatic_kind x.kind) is.0)
 automatic_alike layout formats (pool.OneSize words) q is = sym (ap (λ (x : world.Pool). is_automatic_kind x.kind) is)
-automatic_alike layout formats pool.AnySize q is = sym (ap (λ (x : world.Pool). is_automatic_kind x.kind) is)
+automatic_alike layout formats pool.AnySize q (inl is) = sym (ap (λ (x : world.Pool). is_automatic_kind x.kind) is)
+automatic_alike layout formats pool.AnySize q (inr is) = sym (ap (λ (x : world.Pool). is_automatic_kind x.kind) is)
+
+with_true : (b : Bool) → (b && true) ≡ b
+with_true true = refl
+with_true false = refl
 
 -- a pool has blocks of a size exactly where the model's has
 size_alike : {F : Type 0} (layout : F → Layout) (formats : ℕ → Layout) (p : Pool F) (q : world.Pool) (words : ℕ) → IsPool layout formats p q
@@ -93,13 +106,16 @@ size_alike layout formats (pool.OneSize size) q words is manual sized =
     let low = ltb-true 0 size (sym (ap is_sized kind) ∙ sized) in
     ap (λ c. is_block_size words && (c || words == size)) (ne_eqb size 0 (λ e. omega (arith, e, low)))
     ∙ sym (ap (λ k. allows_size k words) kind)
-size_alike layout formats pool.AnySize q words is manual sized =
-    let kind : q.kind ≡ AnySize = ap (λ (x : world.Pool). x.kind) is in with_true (is_block_size words) ∙ sym (ap
-    (λ k. allows_size k words) kind)
-  where
-    with_true : (b : Bool) → (b && true) ≡ b
-    with_true true = refl
-    with_true false = refl
+size_alike layout formats pool.AnySize q words (inl is) manual sized =
+    let kind : q.kind ≡ AnySize = ap (λ (x : world.Pool). x.kind) is in
+    with_true (is_block_size words) ∙ sym (ap (λ k. allows_size k words) kind)
+size_alike layout formats pool.AnySize q words (inr is) manual sized =
+    let kind : q.kind ≡ Frames = ap (λ (x : world.Pool). x.kind) is in
+    with_true (is_block_size words) ∙ sym (ap (λ k. allows_size k words) kind)
+
+none_of : (o : Option ℕ) → is_some o ≡ false → o ≡ None
+none_of None e = refl
+none_of (Some id) e = absurd (false≢true (sym e))
 
 some_words : (k : PoolKind) (words : ℕ) → allows_size k words ≡ true → 0 < words
 some_words (Collected kind) words h = absurd (false≢true h)
@@ -137,7 +153,8 @@ module _ {F : Type 0} (layout : F → Layout) (h : HeapState F) (trail : Moves) 
   abbrev made_at : (number : ℕ) → Entry Address → Placement → Addr → Moved F (Unit {0})
   made_at number into q at = record {
     answer = tt;
-    state = with_block_place (record h { segs = segments_made h.segs q number words at.0 }) into at.0;
+    state = with_frames (with_block_place (record h { segs = segments_made h.segs q number words at.0 }) into at.0)
+        (frames_after_alloc h number into at);
     trail = with_move (moves_after q number 0 trail) (moves.Alloc at words number);
   }
 
@@ -148,15 +165,20 @@ module _ {F : Type 0} (layout : F → Layout) (h : HeapState F) (trail : Moves) 
   sized_as number into has =
       if has then answer_of_placement (placement_in_gaps h.segs number rank.Exact words) else Err refusal.BadSize
 
-  abbrev from_size : (number : ℕ) → Entry Address → (has empty : Bool) → Checked (Moved F (Unit {0}))
-  from_size number into has empty =
-      refuse_when (not has) refusal.BadSize >> (refuse_when (not empty) refusal.NameTaken >> (sized_as number into has
-      >>= (λ at. Ok (made_at number into (placement_in_gaps h.segs number rank.Exact words) at))))
+  abbrev from_size : (number : ℕ) → Entry Address → (has empty room : Bool) → Checked (Moved F (Unit {0}))
+  from_size number into has empty room =
+      refuse_when (not has) refusal.BadSize >> (refuse_when (not empty) refusal.NameTaken
+      >> (refuse_when (not room) (refusal.TooMany max_notes) >> (sized_as number into has
+      >>= (λ at. Ok (made_at number into (placement_in_gaps h.segs number rank.Exact words) at)))))
+
+  -- whether a block of a pool can be noted
+  abbrev room_in : (number : ℕ) → Bool
+  room_in number = has_room (pool_at h.beside.frames number)
 
   abbrev from_place : Kept (Pool F) → Entry Address → Checked (Moved F (Unit {0}))
   from_place from into =
       required (slice_get h.sizes from.key) refusal.BadName >>= (λ size.
-      from_size from.key into (has_blocks_of size words) (into.value == 0))
+      from_size from.key into (has_blocks_of size words) (into.value == 0) (room_in from.key))
 
   abbrev from_pool : Kept (Pool F) → (automatic : Bool) → Checked (Moved F (Unit {0}))
   from_pool from automatic = refuse_when automatic refusal.WrongPool >> (block_place_in h place >>= from_place from)
@@ -284,10 +306,15 @@ module _ {F : Type 0} (layout : F → Layout) (h : HeapState F) (trail : Moves) 
                 has = record {
                   past = past;
                   timed = refl;
-                  parts = parts_with_frames layout past (made_at p.number into q (record { 0 = address_of_placement q })).state
-                      (world_with_frames v w.graph.frames) v.graph.frames
-                      (parts_made layout past h w parts own own.graph own.once p.number words
-                      (some_words p.value.kind words allowed) q time automatic not_copying place.index into found is own.laid after);
+                  parts = let made = parts_made layout past h w parts own own.graph own.once p.number words
+                      (some_words p.value.kind words allowed) q time automatic not_copying place.index into found is
+                      (none_of found.value empty) own.laid after in
+                      parts_with_frames layout past
+                      (with_block_place (record h { segs = segments_made h.segs q p.number words (address_of_placement q) }) into
+                      (address_of_placement q))
+                      (world_with_frames v w.graph.frames)
+                      (frames_after_alloc h p.number into (record { 0 = address_of_placement q })) v.graph.frames
+                      (noted_made q made.framed) made;
                 };
                 keeps = record {
                   rest = λ rest. rest;
@@ -321,6 +348,35 @@ module _ {F : Type 0} (layout : F → Layout) (h : HeapState F) (trail : Moves) 
                 formats = refl;
               }))
             where
+              noted_made : (q : Placement)
+                  → AreFramed h.beside.frames (with_place h.roots.blocks into.key into.index (address_of_placement q))
+                  (slice_set w.graph.blocks found.number (slice_set found.list found.index (Some (length w.graph.objects)))) w.pools
+                  w.graph.frames
+                  → AreFramed (frames_after_alloc h p.number into (record { 0 = address_of_placement q }))
+                  (with_place h.roots.blocks into.key into.index (address_of_placement q))
+                  (slice_set w.graph.blocks found.number (slice_set found.list found.index (Some (length w.graph.objects)))) w.pools
+                  (with_block_noted w.graph.frames p.number (length w.graph.objects))
+              noted_made q framed =
+                  let block : Block =
+                  record { at = record { 0 = address_of_placement q }; place = record { table = into.key; index = into.index } } in
+                  let slots = slice_set w.graph.blocks found.number (slice_set found.list found.index (Some (length w.graph.objects))) in
+                  let there : slice_get found.list found.index ≡ Some found.value =
+                  ap (slice_get found.list) is.found_index ∙ is.there in
+                  let low = slice_get_within found.list found.index found.value there in
+                  let long = ap (λ (xs : List Address). length xs) is.lists
+                  ∙ length-map found.list (address_of_target w.addresses) in
+                  let key : into.key ≡ found.number = sym is.number in
+                  let index : into.index ≡ found.index = is.index_is ∙ sym is.found_index in
+                  framed_noted h.beside.frames (with_place h.roots.blocks into.key into.index (address_of_placement q)) slots w.pools
+                  w.graph.frames framed p.number block (length w.graph.objects)
+                  (subst (λ n. IsNoted (with_place h.roots.blocks n into.index (address_of_placement q)) slots block
+                  (length w.graph.objects)) (sym key)
+                  (subst (λ i. IsNoted (with_place h.roots.blocks found.number i (address_of_placement q)) slots block
+                  (length w.graph.objects)) (sym index)
+                  (noted_there h.roots.blocks w.graph.blocks found.number found.index found.list is.list (Some (length w.graph.objects))
+                  (address_of_placement q) is.has (ap (slice_get h.roots.blocks) is.number ∙ is.kept) (length w.graph.objects) block key
+                  index refl refl low (omega (arith, low, long)))))
+
               moved_is : (u : World) (sound : w.collection ≡ None → IsSound w) (q : Placement)
                   → placement_of w (ForAlloc p.number words) ≡ q → refuse_without_place q ≡ Ok tt
                   → world_after_moves w (alloc_at p.number words q)
@@ -358,8 +414,24 @@ module _ {F : Type 0} (layout : F → Layout) (h : HeapState F) (trail : Moves) 
               subst (λ q. IsRightAlloc w line (placed_at p.number into q)) (sym (gaps_agree h.segs w arena_is p.number rank.Exact words))
               (of_placement (placement_of w (ForAlloc p.number words)) refl)
 
+        -- there is room for a note where the place is empty
+        room_is : is_some found.value ≡ false → room_in p.number ≡ true
+        room_is empty = of_pool (pool_at h.beside.frames p.number) refl
+          where
+            of_pool : (o : Option PoolState) → pool_at h.beside.frames p.number ≡ o → has_room o ≡ true
+            of_pool None e = refl
+            of_pool (Some x) e =
+                let framed = parts.framed in
+                let f = listed_found h.roots.blocks w.graph.blocks 0 h.beside.frames w.graph.frames p.number p.number x (omega arith) e
+                framed.listed in
+                let alike = noted_alike h.roots.blocks w.graph.blocks x.blocks f.0.blocks f.2.blocks in
+                let few = room_for_notes w (reached_frames w reach) framed.few found.number found.index found.list is.has
+                (ap (slice_get found.list) is.found_index ∙ is.there ∙ ap (λ o. Some o) (none_of found.value empty)) p.number f.0
+                f.1 in
+                lt-ltb (length x.blocks) max_notes (omega (arith, alike, few))
+
         of_size : (allowed empty : Bool) → allows_size p.value.kind words ≡ allowed → not (is_some found.value) ≡ empty
-            → IsRightAlloc w line (from_size p.number into allowed empty)
+            → IsRightAlloc w line (from_size p.number into allowed empty (room_in p.number))
         of_size false empty e f = refused_outcome refusal.BadSize (to_place ∙ ap (alloc_sized w w words place p found) e)
         of_size true false e f =
             refused_outcome refusal.NameTaken
@@ -369,7 +441,9 @@ module _ {F : Type 0} (layout : F → Layout) (h : HeapState F) (trail : Moves) 
             taken : (b : Bool) → not b ≡ false → b ≡ true
             taken true g = refl
             taken false g = absurd (false≢true (sym g))
-        of_size true true e f = placed_outcome e (untaken (is_some found.value) f)
+        of_size true true e f =
+            subst (λ b. IsRightAlloc w line (from_size p.number into true true b)) (sym (room_is (untaken (is_some found.value) f)))
+            (placed_outcome e (untaken (is_some found.value) f))
           where
             untaken : (b : Bool) → not b ≡ true → b ≡ false
             untaken true g = absurd (false≢true g)
@@ -378,10 +452,11 @@ module _ {F : Type 0} (layout : F → Layout) (h : HeapState F) (trail : Moves) 
         sized_outcome : IsRightAlloc w line (from_place from into)
         sized_outcome =
             subst (IsRightAlloc w line) (sym (ap (λ o. required o refusal.BadName >>= (λ n.
-            from_size from.key into (has_blocks_of n words) (into.value == 0))) size_is))
-            (subst (λ b. IsRightAlloc w line (from_size from.key into b (into.value == 0))) (sym has_same)
-            (subst (λ b. IsRightAlloc w line (from_size from.key into (allows_size p.value.kind words) b)) (sym empty_same)
-            (subst (λ n. IsRightAlloc w line (from_size n into (allows_size p.value.kind words) (not (is_some found.value))))
+            from_size from.key into (has_blocks_of n words) (into.value == 0) (room_in from.key))) size_is))
+            (subst (λ b. IsRightAlloc w line (from_size from.key into b (into.value == 0) (room_in from.key))) (sym has_same)
+            (subst (λ b. IsRightAlloc w line (from_size from.key into (allows_size p.value.kind words) b (room_in from.key)))
+            (sym empty_same)
+            (subst (λ n. IsRightAlloc w line (from_size n into (allows_size p.value.kind words) (not (is_some found.value)) (room_in n)))
             (sym same_number)
             (of_size (allows_size p.value.kind words) (not (is_some found.value)) refl refl))))
 

@@ -1,8 +1,8 @@
 -- `calloc`: from its outcome to a right step. A cached block comes without a move; a new one with those of an `alloc`.
 use Rattle.std.proofs.Common.{◌≡◌, ◌∙◌, ℕ, ◌+◌, ◌<◌, Bool, true, false, refl, sym, ap, subst, List, [], ◌∷◌, ◌++◌, length, map, Option, Some, None, Ok, Err, is_some, arith}
 use Rattle.std.proofs.lemmas.Bool.{and_parts, eqb-true, false≢true, le-leb, leb-true, ne_eqb}
-use Rattle.std.proofs.lemmas.Option.{slice_get-map}
-use Rattle.std.specs.Prelude.{◌==◌, ◌&&◌, nat_le, not, slice_get, option_map, if◌then◌else◌}
+use Rattle.std.proofs.lemmas.Option.{none-some, same_Some, slice_get-map}
+use Rattle.std.specs.Prelude.{◌==◌, ◌&&◌, nat_le, not, slice_get, slice_set, option_map, if◌then◌else◌}
 use Rattle.std.specs.List.{list_all}
 use Rattle.std.specs.Option.{option_map_or}
 use Rattle.mps_seg.specs.Arena.{answer_of_placement, cleared_words}
@@ -18,6 +18,7 @@ use Rattle.mps_base.specs.declared.names.Slot.{Slot}
 use Rattle.mps_base.specs.declared.refusal.Refusal.{Refusal}
 use Rattle.mps_base.specs.declared.refusal.Refusal.TheVariants as refusal
 use Rattle.mps_format.specs.Layout.{Layout}
+use Rattle.mps_changes.proofs.Frames.{blocks_in}
 use Rattle.mps_changes.proofs.OneMore.{parts_pass}
 use Rattle.mps_laws.proofs.Acts.{for_world}
 use Rattle.mps_laws.proofs.Lookups.{length-slice_set}
@@ -31,7 +32,7 @@ use Rattle.mps_laws.proofs.Sound.SoundGraph.{PassesOrNull, all-at as all-in, ent
 use Rattle.mps_pools.specs.Manual.{any_size, has_blocks_of}
 use Rattle.mps_model.specs.declared.call.Call.TheVariants as call
 use Rattle.mps_model.specs.declared.reply.Reply.TheVariants as reply
-use Rattle.mps_model.specs.Allocating.{address_of_placement, allows_size, graph_allocated, refuse_without_place}
+use Rattle.mps_model.specs.Allocating.{address_of_placement, allows_size, graph_allocated, refuse_without_place, with_block_noted}
 use Rattle.mps_model.specs.Answer.{Answer, Replied}
 use Rattle.mps_model.specs.Caches as models
 use Rattle.mps_model.specs.Caches.{act_cache_alloc, act_taken, graph_cleared, taken_from}
@@ -63,6 +64,8 @@ use Rattle.mps_seg.specs.Segs.{moves_after, segments_after}
 use Rattle.mps_trace_laws.proofs.Image.Shaped.{all_at}
 use Rattle.mps_refinement.specs.Answering.{answer_to, says_ok}
 use Rattle.mps_refinement.specs.Beside.{kept_cache, kept_class}
+use Rattle.mps_snc.specs.State.{pool_at as framed_at}
+use Rattle.mps_refinement.specs.Framed.{AreFramed}
 use Rattle.mps_refinement.specs.RightStep.{IsRight, IsRightIn, step_of}
 use Rattle.mps_refinement.specs.StandsFor.{AreOfFlip, AreParts, IsInTime, IsPool, IsReached, Past, address_of_id, address_of_target, collector_of}
 use Rattle.mps_refinement.proofs.Calls.RightOwn.{IsOwn, IsRightOutcome, done_is_right, outcome_is_right, refusal_is_right}
@@ -75,6 +78,7 @@ use Rattle.mps_refinement.proofs.Parts.AllocatedParts.{noted_clear, parts_made, 
 use Rattle.mps_refinement.proofs.Parts.BlockParts.{parts_with_frames, world_with_frames}
 use Rattle.mps_refinement.proofs.Parts.BlockWritten.{block_cleared, block_within}
 use Rattle.mps_refinement.proofs.Parts.CachesWritten.{caches_written, heap_with_caches, world_with_caches}
+use Rattle.mps_refinement.proofs.Parts.FramedParts.{all_true, changed_absent, listed_absent}
 use Rattle.mps_refinement.proofs.Parts.GreyRanks.{ranks_stay}
 use Rattle.mps_refinement.proofs.Parts.PlaceWritten.{block_place_written}
 use Rattle.mps_refinement.proofs.Parts.SegmentsTaken.{condemned_held, condemned_stay, over_same}
@@ -120,9 +124,9 @@ taken_where : (b : Bool) → not b ≡ false → b ≡ true
 taken_where true g = refl
 taken_where false g = absurd (false≢true (sym g))
 
-none_where : (o : Option ℕ) → is_some o ≡ false → o ≡ None
+none_where : {A : Type 0} (o : Option A) → is_some o ≡ false → o ≡ None
 none_where None e = refl
-none_where (Some id) e = absurd (false≢true (sym e))
+none_where (Some x) e = absurd (false≢true (sym e))
 
 -- ---- the moves of a new block, where the trail had none
 
@@ -379,7 +383,8 @@ module _ {F : Type 0} (layout : F → Layout) (h : HeapState F) (trail : Moves) 
                 (record (caches.cache_at h.beside.caches from.key) {
                   classes = caches.without_last_of_size (classes_of h.beside.caches from.key) words;
                 }) in omega (arith, e)))
-                into pl (is.number) (is.index_is ∙ sym is.found_index) is.has at (Some id) (sym address_is)
+                into pl (is.number) (is.index_is ∙ sym is.found_index) is.has at (Some id) (sym address_is) (λ j. true)
+                (all_true (blocks_in w.graph.frames)) (λ j entry passes. none-some j (same_Some None (Some j) (sym empty_entry ∙ entry)))
 
             done_outcome : IsRightTake w line (block_taken h trail from any_size words into (Some at))
             done_outcome =
@@ -436,6 +441,15 @@ module _ {F : Type 0} (layout : F → Layout) (h : HeapState F) (trail : Moves) 
             moved_is x =
                 made.moved_at w sound own.live.blocks own.formed.addresses q.value.pool words not_copying pl is.has x x
 
+            -- no block of it is noted
+            unnoted : with_block_noted w.graph.frames q.value.pool (length w.graph.objects) ≡ w.graph.frames
+            unnoted =
+                changed_absent w.graph.frames q.value.pool (λ f. record f { blocks = with_last f.blocks (length w.graph.objects) })
+                (listed_absent h.roots.blocks w.graph.blocks 0 h.beside.frames w.graph.frames q.value.pool q.value.pool (omega arith)
+                (none_where (framed_at h.beside.frames q.value.pool) (parts.framed.kinds q.value.pool
+                ∙ ap (λ o. option_map_or (λ (x : world.Pool). world.has_frames x.kind) o false) p.1 ∙ ap world.has_frames kind))
+                parts.framed.listed)
+
             -- the world with the block at a placement
             abbrev models_made : World → Placement → World
             models_made u x = record u {
@@ -477,10 +491,16 @@ module _ {F : Type 0} (layout : F → Layout) (h : HeapState F) (trail : Moves) 
                   has = record {
                     past = past;
                     timed = refl;
-                    parts = parts_with_frames layout past (made_at q.value.pool into x (record { 0 = address_of_placement x })).state
-                        (world_with_frames v w.graph.frames) v.graph.frames
-                        (parts_made layout past h w parts own own.graph own.once q.value.pool words some x time automatic not_copying
-                        place.index into pl is own.laid after);
+                    parts =
+                        let built = parts_made layout past h w parts own own.graph own.once q.value.pool words some x time automatic
+                        not_copying place.index into pl is (none_where pl.value empty) own.laid after in
+                        parts_with_frames layout past (made_at q.value.pool into x (record { 0 = address_of_placement x })).state
+                        (world_with_frames v w.graph.frames) h.beside.frames v.graph.frames
+                        (subst (AreFramed h.beside.frames
+                        (with_block_place (record h { segs = segments_made h.segs x q.value.pool words (address_of_placement x) }) into
+                        (address_of_placement x)).roots.blocks
+                        (slice_set w.graph.blocks pl.number (slice_set pl.list pl.index (Some (length w.graph.objects)))) w.pools)
+                        (sym unnoted) built.framed) built;
                   };
                   keeps = record {
                     rest = λ rest. rest;

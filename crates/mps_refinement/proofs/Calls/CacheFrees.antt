@@ -1,6 +1,9 @@
 -- `cfree`: from its outcome to a right step. A block that its class has room for is kept without a move; another is freed as by `free`.
 use Rattle.std.proofs.Common.{◌≡◌, ◌∙◌, ℕ, ◌+◌, Bool, true, false, refl, sym, ap, subst, [], Option, Some, None, Ok, Err, List, Contains, length, map, arith}
+use Rattle.std.proofs.lemmas.Bool.{and_parts, eq-eqb, eqb-true, false≢true}
+use Rattle.std.proofs.lemmas.Option.{same_Some}
 use Rattle.std.specs.Prelude.{◌==◌, not, slice_get, if◌then◌else◌}
+use Rattle.std.specs.List.{list_all}
 use Rattle.std.specs.Option.{option_map_or}
 use Rattle.mps_base.specs.Address.{Address, Id, grain_of, word_of}
 use Rattle.mps_base.specs.Segment.{Segment, without_segment}
@@ -32,6 +35,8 @@ use Rattle.mps_model.specs.Checked.{Act, Checked, Found, Numbered, ◌>>=◌, �
 use Rattle.mps_model.specs.Effect.{world_after_moves}
 use Rattle.mps_model.specs.Graph.{Cache, CacheClass, Object, entry_at, size_of, without_named}
 use Rattle.mps_model.specs.History.{free_of, moves_if_not_kept, moves_of_cache_free, moves_of_free, unless_refused}
+use Rattle.mps_model.specs.WellFormed.{is_right_cache, is_right_class}
+use Rattle.mps_model.specs.World as world
 use Rattle.mps_model.specs.World.{World, object_is, pool_of, words_of}
 use Rattle.mps_model.specs.Graph as graph
 use Rattle.mps_neighbours.specs.Caches as caches
@@ -43,6 +48,7 @@ use Rattle.mps_heap_spec.specs.declared.found.Entry.{Entry}
 use Rattle.mps_heap_spec.specs.declared.found.Kept.{Kept}
 use Rattle.mps_heap_spec.specs.Manual.{block_in, with_block_place}
 use Rattle.mps_heap_spec.specs.State.{HeapState}
+use Rattle.mps_trace_laws.proofs.Image.Shaped.{all_at}
 use Rattle.mps_refinement.specs.Answering.{answer_to, says_ok}
 use Rattle.mps_refinement.specs.Beside.{kept_cache}
 use Rattle.mps_refinement.specs.RightStep.{IsRight, IsRightIn, step_of}
@@ -54,11 +60,12 @@ use Rattle.mps_refinement.proofs.Lookups.BlockRuns.{run_is}
 use Rattle.mps_refinement.proofs.Lookups.Blocks.{same_address}
 use Rattle.mps_refinement.proofs.Lookups.CachesFound.{IsCacheFound, IsKeptAlike, cache_same, classes_kept, classes_written, kept_alike}
 use Rattle.mps_refinement.proofs.Lookups.Lookups.{IsPlaceEntry, IsPlaceFound, place_same}
-use Rattle.mps_refinement.proofs.Lookups.ManualBlocks.{IsBlock, block_same, setting}
+use Rattle.mps_refinement.proofs.Lookups.ManualBlocks.{IsBlock, block_same, passes_there, setting}
 use Rattle.mps_refinement.proofs.Parts.ObjectKinds.{manual_unpaired}
 use Rattle.mps_refinement.proofs.Parts.BlockParts.{parts_with_pairs, world_with_blocks}
 use Rattle.mps_refinement.proofs.Parts.CachesWritten.{caches_written, heap_with_caches, world_with_caches}
 use Rattle.mps_refinement.proofs.Parts.CommittedParts.{segment_there}
+use Rattle.mps_refinement.proofs.Parts.FramedParts.{frames_others}
 use Rattle.mps_refinement.proofs.Parts.FreedParts.{flip_after, freed_is, not_automatic, parts_freed, ranks_freed, segments_freed, segs_condemned, segs_kept}
 use Rattle.mps_refinement.proofs.Parts.PlaceWritten.{block_place_written}
 use Rattle.mps_refinement.proofs.Parts.PointWritten.{none_set}
@@ -69,6 +76,12 @@ use Rattle.mps_refinement.proofs.Worlds.RestingActs.{resting_sound}
 
 abbrev ok : Answer
 ok = Replied reply.Ok
+
+frameless_where : (k : world.PoolKind) → models.may_have_cache k ≡ true → world.has_frames k ≡ false
+frameless_where (world.Collected kind) e = refl
+frameless_where (world.OneSize words) e = refl
+frameless_where world.AnySize e = refl
+frameless_where world.Frames e = absurd (false≢true e)
 
 -- ---- the checks of the model, from each on
 
@@ -163,6 +176,17 @@ module _ {F : Type 0} (layout : F → Layout) (h : HeapState F) (trail : Moves) 
       -- ---- the block is of the cache's pool
 
       module _ (same_pool : (pool_of w id == q.value.pool) ≡ true) where
+        -- which has no frames
+        frameless : world.pool_is world.has_frames w (pool_of w id) ≡ false
+        frameless =
+            let right : is_right_cache w q.value ≡ true =
+            all_at (is_right_cache w) w.graph.caches q.number q.value own.formed.caches found.has in
+            let may = and_parts (world.pool_is models.may_have_cache w q.value.pool)
+            (list_all (is_right_class w q.value.pool) q.value.classes) right in
+            let p = passes_there (λ (x : world.Pool). models.may_have_cache x.kind) (world.pool_at w q.value.pool) may.0 in
+            ap (world.pool_is world.has_frames w) (eqb-true (pool_of w id) q.value.pool same_pool)
+            ∙ ap (λ o. option_map_or (λ (x : world.Pool). world.has_frames x.kind) o false) p.1 ∙ frameless_where p.0.kind p.2
+
         module _ (now : List CacheClass) (kept : kept_in q.value.classes words id ≡ Some now) where
           abbrev v : World
           v = world_kept w q found.has pl is.has words id now kept entry_full
@@ -204,7 +228,10 @@ module _ {F : Type 0} (layout : F → Layout) (h : HeapState F) (trail : Moves) 
               (let e = length-slice_set h.beside.caches into.key (record (caches.cache_at h.beside.caches into.key) {
                 classes = caches.with_last_of_size (classes_of h.beside.caches into.key) words at;
               }) in omega (arith, e)))
-              from pl is.number (is.index_is ∙ sym is.found_index) is.has 0 None refl
+              from pl is.number (is.index_is ∙ sym is.found_index) is.has 0 None refl (λ j. not (id == j))
+              (frames_others w id frameless w.graph.frames own.formed.frames) (λ j entry passes.
+              let same : id ≡ j = same_Some id j (same_Some (Some id) (Some j) (sym entry_full ∙ entry)) in
+              false≢true (ap not (sym (eq-eqb id j same)) ∙ passes))
 
           kept_outcome : IsRightKeep w line (block_kept h trail into size words from at true)
           kept_outcome =
@@ -309,7 +336,7 @@ module _ {F : Type 0} (layout : F → Layout) (h : HeapState F) (trail : Moves) 
                       (world_with_blocks w w.graph.objects v.addresses v.graph.blocks v.segments) v.graph.dependents
                       (λ unpaired. ap (λ ps. without_named ps id) unpaired)
                       (parts_freed layout past h w parts own own.graph at id b time place.index from pl is value own.once t g among
-                      not_copying own.laid layout_freed);
+                      not_copying frameless own.laid layout_freed);
                 };
                 keeps = record {
                   rest = λ rest. rest;

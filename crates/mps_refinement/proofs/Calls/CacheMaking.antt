@@ -1,5 +1,5 @@
 -- `cache`: a cache that is made stands for that of the model.
-use Rattle.std.proofs.Common.{◌≡◌, ◌∙◌, ℕ, ◌+◌, ◌-◌, ◌≤◌, false, refl, sym, ap, subst, List, [], ◌∷◌, ◌++◌, length, map, take, Option, None, Ok, Err, inl, inr, arith}
+use Rattle.std.proofs.Common.{◌≡◌, ◌∙◌, ℕ, ◌+◌, ◌-◌, ◌≤◌, Bool, false, refl, sym, ap, subst, List, [], ◌∷◌, ◌++◌, length, map, take, Option, None, Ok, Err, inl, inr, arith}
 use Rattle.std.proofs.lemmas.Bool.{cases_lt, le-leb, lt-leb, lt-ltb}
 use Rattle.std.proofs.lemmas.List.{length-append, length-map}
 use Rattle.std.specs.Prelude.{◌&&◌, ◌||◌, nat_le, nat_lt, not}
@@ -28,8 +28,9 @@ use Rattle.mps_names.specs.State.{thing_named}
 use Rattle.mps_names.specs.declared.names.Thing.TheVariants as thing
 use Rattle.mps_neighbours.specs.Caches.{new_cache, new_class}
 use Rattle.mps_sac.specs.declared.class.ClassSize.{ClassSize}
-use Rattle.mps_heap_spec.specs.Caching.{IsCacheMaking, MakesCache, NewCache, NoCache, are_caches_full, are_class_sizes, check_cache, may_have_cache}
+use Rattle.mps_heap_spec.specs.Caching.{IsCacheMaking, MakesCache, NewCache, NoCache, are_caches_full, are_class_sizes, check_cache, has_any_sizes, may_have_cache}
 use Rattle.mps_heap_spec.specs.Finding.{pool_named}
+use Rattle.mps_heap_spec.specs.Framing.{has_frames}
 use Rattle.mps_heap_spec.specs.Making.{refuse_taken}
 use Rattle.mps_heap_spec.specs.declared.found.Kept.{Kept}
 use Rattle.mps_heap_spec.specs.State.{HeapState}
@@ -37,11 +38,13 @@ use Rattle.mps_format.specs.declared.pool.Pool.{Pool}
 use Rattle.mps_format.specs.declared.pool.Pool.TheVariants as pool
 use Rattle.mps_refinement.specs.Answering.{answer_to, says_ok}
 use Rattle.mps_refinement.specs.Beside.{kept_cache, kept_class}
+use Rattle.mps_refinement.specs.Framed.{is_framed}
 use Rattle.mps_refinement.specs.RightStep.{IsRight}
 use Rattle.mps_refinement.specs.StandsFor.{AreNamed, AreParts, IsPool, Past, collector_of}
 use Rattle.mps_refinement.proofs.Calls.DroppingSteps.{ours_ok}
 use Rattle.mps_refinement.proofs.Calls.MakingSteps.{first_passed, free_name, taken_same}
 use Rattle.mps_refinement.proofs.Lookups.Lookups.{IsPoolFound, pool_same}
+use Rattle.mps_refinement.proofs.Parts.FramedParts.{kind_at}
 use Rattle.mps_refinement.proofs.Parts.Named.{named_made}
 use Rattle.mps_refinement.proofs.Parts.PartsByKind.{parts_of_kinds, arena_of, finals_of, image_of, points_of, pools_of, roots_of}
 use Rattle.mps_refinement.proofs.Worlds.CollectorKept.{KeepsAll, all_kept}
@@ -87,11 +90,17 @@ sizes_alike : (above : ℕ) (classes : List ClassSize)
 sizes_alike above [] = refl
 sizes_alike above (c ∷ cs) = ap (λ b. nat_lt above c.words && (is_block_size c.words && b)) (sizes_alike c.words cs)
 
-may_alike : {F : Type 0} (layout : F → Layout) (formats : ℕ → Layout) (p : Pool F) (q : world.Pool) → IsPool layout formats p q
-    → may_have_cache p ≡ models.may_have_cache q.kind
-may_alike layout formats (pool.Automatic kind format) q is = sym (ap (λ (x : world.Pool). models.may_have_cache x.kind) is.0)
-may_alike layout formats (pool.OneSize words) q is = sym (ap (λ (x : world.Pool). models.may_have_cache x.kind) is)
-may_alike layout formats pool.AnySize q is = sym (ap (λ (x : world.Pool). models.may_have_cache x.kind) is)
+-- a cache may stand over a pool as in the model, where one has frames as the other
+may_alike : {F : Type 0} (layout : F → Layout) (formats : ℕ → Layout) (p : Pool F) (q : world.Pool) (framed : Bool)
+    → framed ≡ world.has_frames q.kind → IsPool layout formats p q
+    → (has_any_sizes p && not framed) ≡ models.may_have_cache q.kind
+may_alike layout formats (pool.Automatic kind format) q framed has is =
+    sym (ap (λ (x : world.Pool). models.may_have_cache x.kind) is.0)
+may_alike layout formats (pool.OneSize words) q framed has is = sym (ap (λ (x : world.Pool). models.may_have_cache x.kind) is)
+may_alike layout formats pool.AnySize q framed has (inl is) =
+    ap not (has ∙ ap (λ (x : world.Pool). world.has_frames x.kind) is) ∙ sym (ap (λ (x : world.Pool). models.may_have_cache x.kind) is)
+may_alike layout formats pool.AnySize q framed has (inr is) =
+    ap not (has ∙ ap (λ (x : world.Pool). world.has_frames x.kind) is) ∙ sym (ap (λ (x : world.Pool). models.may_have_cache x.kind) is)
 
 -- there is room for a name where there are few caches
 full_is : (counted most there : ℕ) → counted ≤ there → (nat_le most there || not (nat_lt 0 (most - counted))) ≡ nat_le most there
@@ -155,8 +164,9 @@ module _ {F : Type 0} (layout : F → Layout) (h : HeapState F) (name of : Name)
   check_same =
       same_next (taken_same layout past h w parts name)
       (same_then (pool_same layout past h w parts of) (λ p number found.
-      same_next (same_refuse_when (not (may_have_cache p.value)) (not (models.may_have_cache number.value.kind)) refusal.WrongPool
-      (ap not (may_alike layout w.formats p.value number.value found.fit)))
+      same_next (same_refuse_when (not (may_have_cache h p)) (not (models.may_have_cache number.value.kind)) refusal.WrongPool
+      (ap not (may_alike layout w.formats p.value number.value (has_frames h p.key)
+      (parts.framed.kinds p.key ∙ ap (is_framed w.pools) (sym found.number) ∙ ap kind_at found.has) found.fit)))
       (same_next (same_refuse_when (not (are_class_sizes 0 classes))
       (not (models.are_class_sizes 0 (new_classes (length classes) sizes limits))) refusal.BadSize
       (ap not (sizes_alike 0 classes ∙ ap (models.are_class_sizes 0) (sym are))))
@@ -214,9 +224,9 @@ module _ {F : Type 0} (layout : F → Layout) (h : HeapState F) (name of : Name)
             record {
               dependents = parts.beside.dependents;
               caches = caches_fit;
-              frames = parts.beside.frames;
             },
             parts.transforms,
+            parts.framed,
           ));
     }
 
@@ -245,7 +255,7 @@ module _ {F : Type 0} (layout : F → Layout) (h : HeapState F) (name of : Name)
       (model_check layout h name of classes sizes limits are w st.past st.parts) p
       (check_same layout h name of classes sizes limits are w st.past st.parts) passed in
       let free = free_name h name (first_passed (refuse_taken h name)
-      (pool_named h of >>= (λ (q : Kept (Pool F)). refuse_when (not (may_have_cache q.value)) refusal.WrongPool
+      (pool_named h of >>= (λ (q : Kept (Pool F)). refuse_when (not (may_have_cache h q)) refusal.WrongPool
       >> (refuse_when (not (are_class_sizes 0 classes)) refusal.BadSize
       >> (refuse_when (are_caches_full h) (refusal.TooMany most_caches) >> Ok q)))) p passed).1 in
       plain_is_right layout w line (call.Cache name of (length classes) sizes limits) (Replied reply.Ok)

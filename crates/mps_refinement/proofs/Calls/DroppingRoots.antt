@@ -59,6 +59,7 @@ module _ {F : Type 0} (layout : F → Layout) (h : HeapState F) (name : Name) (w
           ordered = ordered_dropped parts.ordered key (λ other apart. kept_other h.roots.tables key other None apart) found.0 found.1 own;
           areas_are = parts.areas;
           blocks_are = parts.blocks;
+          framed_are = parts.framed;
           roots_counted = ap (λ n. n - 1) parts.roots_counted ∙ sym (table_dropped_roots w.graph (past.table_number key) found.0 found.1);
           slots_counted =
               ap (λ n. n - length items) parts.slots_counted ∙ ap (λ n. Rattle.mps_model.specs.Making.live_slots w.graph - n) long
@@ -111,6 +112,7 @@ module _ {F : Type 0} (layout : F → Layout) (h : HeapState F) (name : Name) (w
               parts.areas key (λ other apart. kept_other h.roots.areas key other None apart) items items (found.0) there
               (kept_without h.roots.areas key);
           blocks_are = parts.blocks;
+          framed_are = parts.framed;
           roots_counted = ap (λ n. n - 1) parts.roots_counted ∙ sym (area_dropped_roots w.graph (past.area_number key) found.0 found.1);
           slots_counted =
               ap (λ n. n - length items) parts.slots_counted ∙ ap (λ n. Rattle.mps_model.specs.Making.live_slots w.graph - n) long

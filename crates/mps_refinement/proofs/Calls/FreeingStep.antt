@@ -27,6 +27,7 @@ use Rattle.mps_model.specs.Accessing.{address_or_null}
 use Rattle.mps_model.specs.Effect.{after_free, after_unseg, giving_back, reclaiming, segment_base_of, where_one, with_address, with_collection, world_after_move, world_after_moves, without_object}
 use Rattle.mps_model.specs.Flip.{at_address}
 use Rattle.mps_model.specs.History.{free_of, give_back_empty, moves_of_free, unless_refused}
+use Rattle.mps_refinement.proofs.Worlds.OneFree as one
 use Rattle.mps_refinement.proofs.Worlds.PlacedOnce.{ArePlacedOnce, IsIn, written_cases}
 use Rattle.mps_refinement.proofs.Worlds.PlacesByMoves.{places_of}
 use Rattle.mps_refinement.proofs.Parts.StillHeld.{held_others, target_others}
@@ -79,45 +80,13 @@ module _ (w : World) (outside : (c : Collection) → w.collection ≡ Some c →
   abbrev pub world_freed : World
   world_freed = with_graph world_moved (with_block_place world_moved.graph found None)
 
-  block_freed : world_after_move w (moves.Free (at_address at)) ≡ without_object w id
-  block_freed =
-      ap (λ o. where_one w o (λ n. after_free w n at)) (id_at-there w at id different there)
-      ∙ ap (λ b. if b then with_collection (without_object w id) (reclaiming (segment_base_of w at)) else without_object w id) manual
-
   pub moved_is : world_after_moves w moves_freed ≡ world_moved
-  moved_is =
-      elim given as (λ b. (pool_is is_any_size_kind w t.pool && is_empty_segment (without_object w id) t) ≡ b
-      → world_after_moves w (moves.Free (at_address at) ∷ (if b then moves.Unseg (at_address t.base) ∷ [] else []))
-      ≡ record (without_object w id) { segments = if b then without_segment w.segments t.base else w.segments }) [
-        | true ↦ λ is.
-            ap (λ v. after_unseg v t.base) block_freed
-            ∙ of_collection (and_parts (pool_is is_any_size_kind w t.pool) (is_empty_segment (without_object w id) t) is).0
-            w.collection refl
-        | false ↦ λ isnt. block_freed
-      ] is_given
-    where
-      of_collection : pool_is is_any_size_kind w t.pool ≡ true → (o : Option Collection) → w.collection ≡ o
-          → after_unseg (without_object w id) t.base
-          ≡ record (without_object w id) { segments = without_segment w.segments t.base }
-      of_collection any None e =
-          with_collection-none (record (without_object w id) { segments = without_segment w.segments t.base }) (giving_back t.base) e
-      of_collection any (Some c) e =
-          let kept : option_map (giving_back t.base) w.collection ≡ w.collection =
-          ap (option_map (giving_back t.base)) e
-          ∙ ap (λ b. Some (if b then reclaiming t.base (record c { condemned_segments = without_first c.condemned_segments t.base }) else
-          c))
-          (outside c e t (found_among (λ s. is_in_segment s at) w.segments t over).0 any) ∙ sym e in
-          ap (λ x. record (without_object w id) {
-            segments = without_segment w.segments t.base;
-            collection = x;
-          }) kept
+  moved_is = one.moved_is w outside id at there manual different t over given is_given
 
   pub due : moves_freed ≡ unless_refused ok (moves_of_free w (block_place_in w place))
   due = sym (ap (moves_of_free w) place_is ∙ ap (λ o. option_map_or (λ n. free_of w (address_or_null w n)) o []) value
       ∙ ap (λ o. free_of w (option_map_or (λ a. a) o 0)) there
-      ∙ ap (λ v. moves.Free (at_address at) ∷ give_back_empty v (segment_of w at)) block_freed
-      ∙ ap (λ o. moves.Free (at_address at) ∷ give_back_empty (without_object w id) o) over
-      ∙ ap (λ b. moves.Free (at_address at) ∷ (if b then moves.Unseg (at_address t.base) ∷ [] else [])) is_given)
+      ∙ one.free_is w outside id at there manual different t over given is_given)
 
   pub comes : pool_is has_frames w (pool_of w id) ≡ false → act_free (world_after_moves w moves_freed) place ≡ done world_freed
   comes frameless =

@@ -27,19 +27,21 @@ use Rattle.mps_model.specs.World.{World, Pool, is_any_size_kind, is_empty_segmen
 use Rattle.mps_heap_spec.specs.Coming.{ComesMoving, Moved}
 use Rattle.mps_heap_spec.specs.Finding.{block_place_in}
 use Rattle.mps_heap_spec.specs.declared.found.Entry.{Entry}
+use Rattle.mps_heap_spec.specs.Framing as framing
 use Rattle.mps_heap_spec.specs.Manual.{block_freed, block_in, with_block_place}
 use Rattle.mps_heap_spec.specs.State.{HeapState}
 use Rattle.mps_format.specs.Pools.{size_of_pool}
 use Rattle.mps_refinement.specs.Answering.{answer_to, says_ok}
+use Rattle.mps_refinement.specs.Framed.{is_framed}
 use Rattle.mps_refinement.specs.RightStep.{IsRight, step_of, IsRightIn}
 use Rattle.mps_refinement.specs.StandsFor.{AreParts, IsReached, Past, IsInTime, Time, rests, runs, collector_of}
 use Rattle.mps_refinement.proofs.Lookups.Blocks.{same_address}
 use Rattle.mps_refinement.proofs.Parts.FreedParts.{any_size_alike, freed_is, not_automatic, parts_freed, segments_freed, unused_is, flip_after, segs_condemned, segs_kept, ranks_freed}
 use Rattle.mps_refinement.proofs.Calls.FreeingStep as freeing
 use Rattle.mps_refinement.proofs.Worlds.Known.{IsKnown}
+use Rattle.mps_refinement.proofs.Worlds.OneFree.{AreOutside, outside_known}
 use Rattle.mps_refinement.proofs.Lookups.LiveObjects.{IsLiveBlock, live_block}
 use Rattle.mps_refinement.proofs.Lookups.Lookups.{IsPlaceEntry, IsPlaceFound, place_same}
-use Rattle.mps_refinement.proofs.Lookups.PoolKinds.{no_frames}
 use Rattle.mps_refinement.proofs.Lookups.ManualBlocks.{IsBlock, block_same, setting}
 use Rattle.mps_refinement.proofs.Worlds.PlacedOnce.{is_sized, ArePlacedOnce}
 use Rattle.mps_seg.specs.Segs.{SegsState}
@@ -120,52 +122,57 @@ module _ {F : Type 0} (layout : F → Layout) (h : HeapState F) (trail : Moves) 
     sound rest = resting_sound w rest own.live
 
     -- no segment that may be given back is condemned
-    pub outside : (c : Collection) → w.collection ≡ Some c → (t : Segment) → IsAmong t w.segments
-        → pool_is is_any_size_kind w t.pool ≡ true → contains c.condemned_segments t.base ≡ false
-    outside c e t there any = of_time past.time time
-      where
-        of_time : (x : Time) → IsInTime x (collector_of h) w → contains c.condemned_segments t.base ≡ false
-        of_time x (rests rest) = absurd (none-some c (sym rest.none ∙ e))
-        of_time x (runs y r) =
-            subst (λ (d : model_collection.Collection). contains d.condemned_segments t.base ≡ false)
-            (same_Some y.running c (sym r.invariant.runs ∙ ap (λ (v : World). v.collection) r.world ∙ e))
-            (of_bool (cases_Bool (contains y.running.condemned_segments t.base)))
-          where
-            of_bool : (contains y.running.condemned_segments t.base ≡ true) ⊎ (contains y.running.condemned_segments t.base ≡ false)
-                → contains y.running.condemned_segments t.base ≡ false
-            of_bool (inl is) =
-                let u = condemned_held y r.invariant t.base is in
-                let one : u.0 ≡ t =
-                same_by_base 1 (w.grains + 1) w.segments u.0 t own.laid.ascending
-                (subst (λ (v : World). IsAmong u.0 v.segments) r.world u.1) there u.2 in
-                absurd (pool_exclusive w t.pool any
-                (sym (ap (λ (v : World). pool_is is_automatic_kind v t.pool) r.world)
-                ∙ ap (λ (s : Segment). pool_is is_automatic_kind y.world s.pool) (sym one) ∙ u.3))
-            of_bool (inr isnt) = isnt
+    pub outside : AreOutside w
+    outside = outside_known past (collector_of h) w own time
 
     refused_outcome : (why : Refusal) → model.act_free w place ≡ Err why → IsRightFree w line (Err why)
     refused_outcome why e =
         refusal_is_right layout h trail none (call.Free place) w line past parts own reach time is_own why e
 
     -- from the block on
-    abbrev from_block : (entry : Entry Address) → Address → Checked (Moved F (Unit {0}))
-    from_block entry at =
-        required (segment_over h.segs.segments at) refusal.NotABlock >>= (λ (s : Segment).
-        required (slice_get h.sizes s.pool) refusal.NotABlock >>= (λ size. Ok (record {
+    abbrev from_size : (entry : Entry Address) → Address → Option ℕ → Checked (Moved F (Unit {0}))
+    from_size entry at o =
+        required o refusal.NotABlock >>= (λ size. Ok (record {
           answer = tt;
           state = with_block_place (record h { segs = segs_after_free size h.segs at }) entry 0;
           trail = moves_freed size h.segs trail (record { 0 = at });
-        })))
+        }))
+
+    abbrev from_segment : (entry : Entry Address) → Address → Segment → (framed : Bool) → Checked (Moved F (Unit {0}))
+    from_segment entry at s framed = refuse_when framed refusal.WrongPool >> from_size entry at (slice_get h.sizes s.pool)
+
+    abbrev from_block : (entry : Entry Address) → Address → Checked (Moved F (Unit {0}))
+    from_block entry at =
+        required (segment_over h.segs.segments at) refusal.NotABlock >>= (λ (s : Segment).
+        from_segment entry at s (framing.has_frames h s.pool))
+
+    -- what is known of a block
+    module _ (at : Address) (id : Id) (b : IsBlock w at id) where
+      pub found_live : IsLiveBlock layout h w id at b.object
+      found_live =
+          let x = live_block layout past h w parts own id at b.address in
+          subst (IsLiveBlock layout h w id at)
+          (same_Some x.0 b.object (sym x.1.object ∙ b.there)) x.1
+
+      -- whether its pool has frames
+      framed_alike : framing.has_frames h found_live.segment.pool ≡ pool_is has_frames w (pool_of w id)
+      framed_alike =
+          parts.framed.kinds found_live.segment.pool ∙ ap (is_framed w.pools) found_live.of
+          ∙ sym (ap (λ o. pool_is has_frames w (option_map_or (λ (x : Object). x.pool) o 0)) b.there)
+
+      framed_is_refused : (entry : Entry Address) → pool_is has_frames w (pool_of w id) ≡ true
+          → from_block entry at ≡ Err refusal.WrongPool
+      framed_is_refused entry framed =
+          ap (λ o. required o refusal.NotABlock >>= (λ (s : Segment). from_segment entry at s (framing.has_frames h s.pool)))
+          found_live.over
+          ∙ ap (from_segment entry at found_live.segment) (framed_alike ∙ framed)
 
     module _ (entry : Entry Address) (found : Found (Option ℕ)) (is : IsPlaceEntry past h w place.index entry found)
         (place_is : checked.block_place_in w place ≡ Ok found) (at : Address) (id : Id) (b : IsBlock w at id) (value : found.value
         ≡ Some id)
       where
-        pub live : IsLiveBlock layout h w id at b.object
-        live =
-            let x = live_block layout past h w parts own id at b.address in
-            subst (IsLiveBlock layout h w id at)
-            (same_Some x.0 b.object (sym x.1.object ∙ b.there)) x.1
+        abbrev pub live : IsLiveBlock layout h w id at b.object
+        live = found_live at id b
 
         abbrev pub t : Segment
         t = live.segment
@@ -207,24 +214,6 @@ module _ {F : Type 0} (layout : F → Layout) (h : HeapState F) (trail : Moves) 
         pub entry_there : slice_get found.list found.index ≡ Some found.value
         entry_there = ap (slice_get found.list) is.found_index ∙ is.there
 
-        outcome_is : from_block entry at ≡ Ok (record {
-          answer = tt;
-          state = with_block_place (record h { segs = segs_after_free size h.segs at }) entry 0;
-          trail = moves_freed size h.segs trail (record { 0 = at });
-        })
-        outcome_is =
-            ap (λ o. required o refusal.NotABlock >>= (λ (s : Segment).
-            required (slice_get h.sizes s.pool) refusal.NotABlock >>= (λ size. Ok (record {
-              answer = tt;
-              state = with_block_place (record h { segs = segs_after_free size h.segs at }) entry 0;
-              trail = moves_freed size h.segs trail (record { 0 = at });
-            })))) live.over
-            ∙ ap (λ o. required o refusal.NotABlock >>= (λ size. Ok (record {
-              answer = tt;
-              state = with_block_place (record h { segs = segs_after_free size h.segs at }) entry 0;
-              trail = moves_freed size h.segs trail (record { 0 = at });
-            }))) size_is
-
         graph : IsSoundGraph w
         graph = own.graph
 
@@ -252,23 +241,6 @@ module _ {F : Type 0} (layout : F → Layout) (h : HeapState F) (trail : Moves) 
             freeing.due w outside graph sound own.live.blocks once place found place_is is.has entry_there id at value b.address manual
             differ t over given is_given
 
-        frameless : pool_is has_frames w (pool_of w id) ≡ false
-        frameless =
-            ap (λ o. pool_is has_frames w (option_map_or (λ (x : Object). x.pool) o 0)) b.there
-            ∙ ap (λ o. option_map_or (λ (q : Pool). has_frames q.kind) o false) live.has
-            ∙ no_frames layout w.formats live.pool live.models live.fit
-
-        comes : model.act_free (world_after_moves w ms) place ≡ done v
-        comes =
-            freeing.comes w outside graph sound own.live.blocks once place found place_is is.has entry_there id at value b.address manual
-            differ t over given is_given frameless
-
-        layout_freed : HasLayout (w.grains + 1) v
-        layout_freed =
-            let r = free_step (w.grains + 1) 0 line w own.laid place ms (Replied reply.Ok) own.live.blocks refl due in
-            subst (IsLaidOut (w.grains + 1)) (remembered_kept v)
-            (subst (λ x. HasLayout (w.grains + 1) (with_client_remembered (world_from (world_after_moves w ms) x))) comes r.layout)
-
         pub among : IsAmong t w.segments
         among = (found_among (λ s. is_in_segment s at) w.segments t over).0
 
@@ -276,67 +248,89 @@ module _ {F : Type 0} (layout : F → Layout) (h : HeapState F) (trail : Moves) 
         not_copying =
             manual_not_copying w.pools t.pool b.pool (ap (slice_get w.pools) live.of ∙ b.of) b.right.kind
 
-        accepted_outcome : IsRightFree w line (from_block entry at)
-        accepted_outcome =
-            subst (IsRightFree w line) (sym outcome_is)
-            (subst (λ ns. IsRightIn layout w
-            (step_of line (call.Free place) ns (Replied reply.Ok))
-            (with_block_place (record h { segs = segs_after_free size h.segs at }) entry 0)) (sym
-            (moves_are size h.segs trail at t none live.over))
-            (subst (λ segs. IsRightIn layout w
-            (step_of line (call.Free place) ms (Replied reply.Ok))
-            (with_block_place (record h { segs = segs }) entry 0)) (sym (freed_is size h.segs at t live.over))
-            (done_is_right layout h trail none (call.Free place) w line past parts own reach time is_own ms
-            (with_block_place (record h { segs = segments_freed h.segs at t given }) entry 0) v (record {
-              due = due;
-              comes = comes;
-              sound =
-                  freeing.sound_freed w outside graph sound own.live.blocks once place found place_is is.has entry_there id at value
-                  b.address manual differ t over given is_given (manual_unpaired w own.formed id manual);
-              blocks =
-                  freeing.blocks_freed w outside graph sound own.live.blocks once place found place_is is.has entry_there id at value
-                  b.address manual differ t over given is_given;
-              laid = layout_freed;
-              has = record {
-                past = past;
-                timed = refl;
-                parts = parts_with_pairs layout past (with_block_place (record h { segs = segments_freed h.segs at t given }) entry 0)
-                    (world_with_blocks w w.graph.objects v.addresses v.graph.blocks v.segments) v.graph.dependents
-                    (λ unpaired. ap (λ ps. without_named ps id) unpaired)
-                    (parts_freed layout past h w parts own graph at id b time place.index entry found is value once t given among
-                    not_copying own.laid layout_freed);
-              };
-              keeps = record {
-                rest = λ rest. rest;
-                not_condemned = λ none grain. ap (λ bits. bit bits grain)
-                    (segs_condemned layout past h w parts own graph at id b time t given)
-                    ∙ none grain;
-                not_kept = λ none unmarked n. ap (λ bits. bit bits n)
-                    (segs_kept layout past h w parts own graph at id b time t given)
-                    ∙ none_set h.segs.marks.kept (word_of at) n (unmarked n);
-                running = refl;
-                tails = λ pool generation. refl;
-                world_tails = λ pool generation. refl;
-                ranked = λ y r.
-                    ranks_freed layout past h w parts own graph at id b time t given v refl refl refl own.laid layout_freed (λ j grey.
-                    ap (λ (u : World). object_is is_automatic u j) (sym r.world)
-                    ∙ r.invariant.grey.grey_automatic j (ap (λ k. is_grey k j) (sym r.colours) ∙ grey));
-                flip = λ of_flip.
-                    let after = flip_after layout past h w parts own graph at id b time v.graph.blocks v.segments of_flip in
-                    record { made = after.made; still = after.still };
-                condemned = λ y same run marked u there.
-                    ap (λ bits. bit bits (grain_of u.base)) (segs_condemned layout past h w parts own graph at id b time t given)
-                    ∙ marked u (still_held given u there);
-              };
-              formats = refl;
-            }))))
-          where
-            still_held : (g : Bool) (u : Segment) → Contains (if g then without_segment w.segments t.base else w.segments) u
-                → Contains w.segments u
-            still_held true u there =
-                segment_there u w.segments (among_without t.base u w.segments
-                (contained_among (without_segment w.segments t.base) u there))
-            still_held false u there = there
+        -- where its pool has no frames
+        module _ (frameless : pool_is has_frames w (pool_of w id) ≡ false) where
+          outcome_is : from_block entry at ≡ Ok (record {
+            answer = tt;
+            state = with_block_place (record h { segs = segs_after_free size h.segs at }) entry 0;
+            trail = moves_freed size h.segs trail (record { 0 = at });
+          })
+          outcome_is =
+              ap (λ o. required o refusal.NotABlock >>= (λ (s : Segment). from_segment entry at s (framing.has_frames h s.pool))) live.over
+              ∙ ap (from_segment entry at t) (framed_alike at id b ∙ frameless) ∙ ap (from_size entry at) size_is
+
+          comes : model.act_free (world_after_moves w ms) place ≡ done v
+          comes =
+              freeing.comes w outside graph sound own.live.blocks once place found place_is is.has entry_there id at value b.address manual
+              differ t over given is_given frameless
+
+          layout_freed : HasLayout (w.grains + 1) v
+          layout_freed =
+              let r = free_step (w.grains + 1) 0 line w own.laid place ms (Replied reply.Ok) own.live.blocks refl due in
+              subst (IsLaidOut (w.grains + 1)) (remembered_kept v)
+              (subst (λ x. HasLayout (w.grains + 1) (with_client_remembered (world_from (world_after_moves w ms) x))) comes r.layout)
+
+          accepted_outcome : IsRightFree w line (from_block entry at)
+          accepted_outcome =
+              subst (IsRightFree w line) (sym outcome_is)
+              (subst (λ ns. IsRightIn layout w
+              (step_of line (call.Free place) ns (Replied reply.Ok))
+              (with_block_place (record h { segs = segs_after_free size h.segs at }) entry 0)) (sym
+              (moves_are size h.segs trail at t none live.over))
+              (subst (λ segs. IsRightIn layout w
+              (step_of line (call.Free place) ms (Replied reply.Ok))
+              (with_block_place (record h { segs = segs }) entry 0)) (sym (freed_is size h.segs at t live.over))
+              (done_is_right layout h trail none (call.Free place) w line past parts own reach time is_own ms
+              (with_block_place (record h { segs = segments_freed h.segs at t given }) entry 0) v (record {
+                due = due;
+                comes = comes;
+                sound =
+                    freeing.sound_freed w outside graph sound own.live.blocks once place found place_is is.has entry_there id at value
+                    b.address manual differ t over given is_given (manual_unpaired w own.formed id manual);
+                blocks =
+                    freeing.blocks_freed w outside graph sound own.live.blocks once place found place_is is.has entry_there id at value
+                    b.address manual differ t over given is_given;
+                laid = layout_freed;
+                has = record {
+                  past = past;
+                  timed = refl;
+                  parts = parts_with_pairs layout past (with_block_place (record h { segs = segments_freed h.segs at t given }) entry 0)
+                      (world_with_blocks w w.graph.objects v.addresses v.graph.blocks v.segments) v.graph.dependents
+                      (λ unpaired. ap (λ ps. without_named ps id) unpaired)
+                      (parts_freed layout past h w parts own graph at id b time place.index entry found is value once t given among
+                      not_copying frameless own.laid layout_freed);
+                };
+                keeps = record {
+                  rest = λ rest. rest;
+                  not_condemned = λ none grain. ap (λ bits. bit bits grain)
+                      (segs_condemned layout past h w parts own graph at id b time t given)
+                      ∙ none grain;
+                  not_kept = λ none unmarked n. ap (λ bits. bit bits n)
+                      (segs_kept layout past h w parts own graph at id b time t given)
+                      ∙ none_set h.segs.marks.kept (word_of at) n (unmarked n);
+                  running = refl;
+                  tails = λ pool generation. refl;
+                  world_tails = λ pool generation. refl;
+                  ranked = λ y r.
+                      ranks_freed layout past h w parts own graph at id b time t given v refl refl refl own.laid layout_freed (λ j grey.
+                      ap (λ (u : World). object_is is_automatic u j) (sym r.world)
+                      ∙ r.invariant.grey.grey_automatic j (ap (λ k. is_grey k j) (sym r.colours) ∙ grey));
+                  flip = λ of_flip.
+                      let after = flip_after layout past h w parts own graph at id b time v.graph.blocks v.segments of_flip in
+                      record { made = after.made; still = after.still };
+                  condemned = λ y same run marked u there.
+                      ap (λ bits. bit bits (grain_of u.base)) (segs_condemned layout past h w parts own graph at id b time t given)
+                      ∙ marked u (still_held given u there);
+                };
+                formats = refl;
+              }))))
+            where
+              still_held : (g : Bool) (u : Segment) → Contains (if g then without_segment w.segments t.base else w.segments) u
+                  → Contains w.segments u
+              still_held true u there =
+                  segment_there u w.segments (among_without t.base u w.segments
+                  (contained_among (without_segment w.segments t.base) u there))
+              still_held false u there = there
 
     -- ---- the checks
 
@@ -344,7 +338,22 @@ module _ {F : Type 0} (layout : F → Layout) (h : HeapState F) (trail : Moves) 
         → checked.block_place_in w place ≡ Ok found → (x : Checked Address) (y : Checked ℕ) → model.block_in found ≡ y
         → Same (IsBlock w) x y → IsRightFree w line (x >>= from_block entry)
     of_block entry found is place_is x y theirs (fits {a = at} {b = id} b) =
-        accepted_outcome entry found is place_is at id b (required-is found.value refusal.NotABlock id theirs)
+        of_framed (pool_is has_frames w (pool_of w id)) refl
+      where
+        value : found.value ≡ Some id
+        value = required-is found.value refusal.NotABlock id theirs
+
+        of_framed : (framed : Bool) → pool_is has_frames w (pool_of w id) ≡ framed → IsRightFree w line (from_block entry at)
+        of_framed true framed =
+            subst (IsRightFree w line) (sym (framed_is_refused at id b entry framed))
+            (refused_outcome refusal.WrongPool
+            (ap (λ z. z >>= (λ (p : Found (Option ℕ)). model.block_in p >>= (λ (n : ℕ).
+            refuse_when (pool_is has_frames w (pool_of w n)) refusal.WrongPool
+            >> done (checked.with_graph w (model.with_block_place w.graph p None))))) place_is
+            ∙ ap (λ z. z >>= (λ (n : ℕ). refuse_when (pool_is has_frames w (pool_of w n)) refusal.WrongPool
+            >> done (checked.with_graph w (model.with_block_place w.graph found None)))) theirs
+            ∙ ap (λ c. refuse_when c refusal.WrongPool >> done (checked.with_graph w (model.with_block_place w.graph found None))) framed))
+        of_framed false frameless = accepted_outcome entry found is place_is at id b value frameless
     of_block entry found is place_is x y theirs (same.refused {why = why}) =
         refused_outcome why
         (ap (λ z. z >>= (λ (p : Found (Option ℕ)). model.block_in p >>= (λ (n : ℕ).

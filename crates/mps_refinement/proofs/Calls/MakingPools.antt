@@ -21,11 +21,11 @@ use Rattle.mps_model.specs.Checked.{Checked, Numbered, ◌>>=◌, ◌>>◌, done
 use Rattle.mps_model.specs.Graph as graph
 use Rattle.mps_model.specs.Graph.{entry_at, with_last}
 use Rattle.mps_model.specs.Making as model
-use Rattle.mps_model.specs.Making.{is_block_size, most_pools, refuse_at_limit}
+use Rattle.mps_model.specs.Making.{frames_with, is_block_size, most_pools, refuse_at_limit}
 use Rattle.mps_model.specs.Reply.{act}
 use Rattle.mps_model.specs.World as world
-use Rattle.mps_model.specs.World.{World, Collected, OneSize, AnySize, is_copying_kind}
-use Rattle.mps_names.specs.State.{thing_named}
+use Rattle.mps_model.specs.World.{World, Collected, OneSize, AnySize, Frames, PoolKind, is_copying_kind}
+use Rattle.mps_names.specs.State.{NamesState, Updates, thing_named}
 use Rattle.mps_names.specs.declared.names.Thing.TheVariants as thing
 use Rattle.mps_trace.specs.GenState.{ChainsState}
 use Rattle.mps_pools.specs.Pools.{tails_on, with_pool_on}
@@ -37,14 +37,16 @@ use Rattle.mps_format.specs.Pools.{size_of_pool}
 use Rattle.mps_format.specs.declared.pool.Pool.{Pool}
 use Rattle.mps_format.specs.declared.pool.Pool.TheVariants as pool
 use Rattle.mps_refinement.proofs.Worlds.CollectorKept.{KeepsAll, one_more_kept}
+use Rattle.mps_snc.specs.State.{Pools}
+use Rattle.mps_refinement.specs.Framed.{AreFramed}
 use Rattle.mps_refinement.specs.Making.{IsRightMaking, IsRightMakingIn, MeansLayout}
 use Rattle.mps_refinement.specs.StandsFor.{AreChains, AreParts, ArePools, IsPool, Past, setting_at, collector_of}
 use Rattle.mps_refinement.proofs.Calls.MakingSteps.{MakesAlike, checks_then, first_passed, free_name, making_is_right, making_is_right_in, taken_same}
 use Rattle.mps_refinement.proofs.Calls.DroppingSteps.{ours_ok}
 use Rattle.mps_refinement.proofs.Lookups.Lookups.{IsChainFound, chain_same}
-use Rattle.mps_refinement.proofs.Lookups.PoolKinds.{same_frames}
 use Rattle.mps_refinement.proofs.Parts.Named.{ThingsStay, named_made}
 use Rattle.mps_refinement.proofs.Parts.Numbering.{fitting_there}
+use Rattle.mps_refinement.proofs.Parts.FramedParts.{framed_beside}
 use Rattle.mps_refinement.proofs.Parts.PartsMade.{pools_changed, state_of_pools}
 use Rattle.mps_refinement.proofs.Parts.PoolImage.{other_formats_stand}
 use Rattle.mps_refinement.proofs.Worlds.Steps.{HasParts}
@@ -53,6 +55,14 @@ use Rattle.mps_laws.proofs.LeftByActs.{owners}
 use Rattle.mps_refinement.proofs.Worlds.Known.{IsKnown}
 use Rattle.mps_refinement.proofs.Summaries.OtherPools.{pool_made_summed}
 use Rattle.mps_refinement.proofs.Parts.TransformParts.{transforms_still}
+
+-- a pool without frames changes none
+unframed : (kind : PoolKind) (frames : List graph.PoolFrames) (number : ℕ) → world.has_frames kind ≡ false
+    → frames_with frames kind number ≡ frames
+unframed (Collected kind) frames number plain = refl
+unframed (OneSize words) frames number plain = refl
+unframed AnySize frames number plain = refl
+unframed Frames frames number plain = absurd cc
 
 module _ {F : Type 0} (layout : F → Layout) (h : HeapState F) (name : Name) (p : Pool F) where
   module _ (w : World) (past : Past) (parts : AreParts layout past h w) (known : IsKnown past.time w) (q : world.Pool)
@@ -136,15 +146,18 @@ module _ {F : Type 0} (layout : F → Layout) (h : HeapState F) (name : Name) (p
         ap (λ x. w.formats (option_map_or (λ (y : world.Pool). y.format) x 0))
         (slice_get-kept w.pools q of.0 o.pool of.1 ∙ sym of.1)
 
-    pool_parts : (number : ℕ) (after : HeapState F) → thing_named h.names name ≡ None → MakesPool h name p chain number after
+    -- where its frames are those that the model gives it
+    pub pool_with_frames : (number : ℕ) (after : HeapState F) (frames : Pools) (names : NamesState) → thing_named h.names name ≡ None
+        → number ≡ length h.pools → Updates h.names names name (Some (thing.Pool number))
+        → after ≡ state_of_pools layout past h w parts (h.pools ++ p ∷ []) (h.sizes ++ size_of_pool p ∷ []) chain frames names
+        → AreFramed frames h.roots.blocks w.graph.blocks pools (frames_with w.graph.frames q.kind (length w.pools))
         → HasParts layout past.time after (model.with_pool w name q)
-    pool_parts number after free makes = record {
+    pool_with_frames number after frames names free number_is updates state framed = record {
       past = past;
       timed = refl;
-      parts = subst (λ s. AreParts layout past s (model.with_pool w name q)) (sym makes.state)
-          (subst (λ fs. AreParts layout past made (record pooled { graph = record pooled.graph { frames = fs } }))
-          (sym (same_frames layout w.formats p q fit w.graph.frames (length w.pools)))
-          (pools_changed layout past h w parts (h.pools ++ p ∷ []) (h.sizes ++ size_of_pool p ∷ []) chain after.names pools
+      parts = subst (λ s. AreParts layout past s (model.with_pool w name q)) (sym state)
+          (pools_changed layout past h w parts (h.pools ++ p ∷ []) (h.sizes ++ size_of_pool p ∷ []) chain frames names pools
+          (frames_with w.graph.frames q.kind (length w.pools))
           (with_last w.graph.names (record { name = name; thing = graph.PoolThing (length w.pools) })) (record {
             pools_are = pools_fit;
             sizes_are = ap (λ sizes. sizes ++ size_of_pool p ∷ []) parts.sizes ∙ sym (map-append size_of_pool h.pools (p ∷ []));
@@ -164,24 +177,16 @@ module _ {F : Type 0} (layout : F → Layout) (h : HeapState F) (name : Name) (p
             transforms_are = transforms_still past.transform_number (world.is_copying_object w)
                 (world.is_copying_object (record w { pools = pools })) w.addresses w.addresses h.beside.transforms w.graph.transforms
                 (world.pairs_in w.state) (λ id at paired there. (there, moved_as_before id at there)) parts.transforms;
+            framed_are = framed;
             names_are = named_made past past h made w.graph.names w.graph.labels parts.names name (thing.Pool number)
                 (graph.PoolThing (length w.pools))
-                makes.names free (ap graph.PoolThing (makes.number_is ∙ sym parts.pools.count)) (λ other there. refl) stay
-                (let e = makes.number_is in omega (arith, e, longer))
-                (λ there. let e = makes.number_is in omega (arith, e, there)) refl refl;
-          })));
+                updates free (ap graph.PoolThing (number_is ∙ sym parts.pools.count)) (λ other there. refl) stay
+                (omega (arith, number_is, longer)) (λ there. omega (arith, number_is, there)) refl refl;
+          }));
     }
       where
         made : HeapState F
-        made = state_of_pools layout past h w parts (h.pools ++ p ∷ []) (h.sizes ++ size_of_pool p ∷ []) chain after.names
-
-        pooled : World
-        pooled = record w {
-          graph = record w.graph {
-            names = with_last w.graph.names (record { name = name; thing = graph.PoolThing (length w.pools) });
-          };
-          pools = pools;
-        }
+        made = state_of_pools layout past h w parts (h.pools ++ p ∷ []) (h.sizes ++ size_of_pool p ∷ []) chain frames names
 
         longer : length (h.pools ++ p ∷ []) ≡ length h.pools + 1
         longer = length-append h.pools (p ∷ [])
@@ -199,16 +204,24 @@ module _ {F : Type 0} (layout : F → Layout) (h : HeapState F) (name : Name) (p
           transforms = refl;
         }
 
-    limit_same : Alike (refuse_at_limit (length h.pools) most_pools) (refuse_at_limit (length w.pools) most_pools)
+    pool_parts : world.has_frames q.kind ≡ false → (number : ℕ) (after : HeapState F) → thing_named h.names name ≡ None
+        → MakesPool h name p chain number after → HasParts layout past.time after (model.with_pool w name q)
+    pool_parts plain number after free makes =
+        pool_with_frames number after h.beside.frames after.names free makes.number_is makes.names makes.state
+        (subst (AreFramed h.beside.frames h.roots.blocks w.graph.blocks pools)
+        (sym (unframed q.kind w.graph.frames (length w.pools) plain))
+        (framed_beside h.beside.frames h.roots.blocks w.graph.blocks w.pools w.graph.frames parts.framed q plain))
+
+    pub limit_same : Alike (refuse_at_limit (length h.pools) most_pools) (refuse_at_limit (length w.pools) most_pools)
     limit_same =
         same_refuse_when (nat_le most_pools (length h.pools)) (nat_le most_pools (length w.pools)) (refusal.TooMany most_pools)
         (ap (nat_le most_pools) (sym parts.pools.count))
 
-    pool_alike : (c : Call)
+    pool_alike : world.has_frames q.kind ≡ false → (c : Call)
         → act false w w c
         ≡ (model.refuse_taken w name >> (refuse_at_limit (length w.pools) most_pools >> done (model.with_pool w name q)))
         → MakesAlike layout past h w c (check_pool h name) (MakesPool h name p chain)
-    pool_alike c is = record {
+    pool_alike plain c is = record {
       models = model.refuse_taken w name >> refuse_at_limit (length w.pools) most_pools;
       made = model.with_pool w name q;
       comes = is ∙ checks_then (model.refuse_taken w name) (refuse_at_limit (length w.pools) most_pools)
@@ -218,19 +231,19 @@ module _ {F : Type 0} (layout : F → Layout) (h : HeapState F) (name : Name) (p
       keeps = λ key after makes. subst (λ (s : HeapState F). KeepsAll (collector_of h) (collector_of s)) (sym makes.state)
           (one_more_kept h (tails_on h.chains chain));
       has = λ number after ok makes.
-          pool_parts number after
+          pool_parts plain number after
           (free_name h name (first_passed (refuse_taken h name) (refuse_at_limit (length h.pools) most_pools) tt ok).1) makes;
     }
 
     abbrev refuse_size : (words : ℕ) → Checked (Unit {0})
     refuse_size words = refuse_when (not (is_block_size words)) refusal.BadSize
 
-    pool_of_size_alike : (words : ℕ)
+    pool_of_size_alike : world.has_frames q.kind ≡ false → (words : ℕ)
         → act false w w (call.PoolMfs name words)
         ≡ (model.refuse_taken w name >> (refuse_size words
         >> (refuse_at_limit (length w.pools) most_pools >> done (model.with_pool w name q))))
         → MakesAlike layout past h w (call.PoolMfs name words) (check_pool_of_size h name words) (MakesPool h name p chain)
-    pool_of_size_alike words is = record {
+    pool_of_size_alike plain words is = record {
       models = model.refuse_taken w name >> (refuse_size words >> refuse_at_limit (length w.pools) most_pools);
       made = model.with_pool w name q;
       comes = is
@@ -244,7 +257,7 @@ module _ {F : Type 0} (layout : F → Layout) (h : HeapState F) (name : Name) (p
       keeps = λ key after makes. subst (λ (s : HeapState F). KeepsAll (collector_of h) (collector_of s)) (sym makes.state)
           (one_more_kept h (tails_on h.chains chain));
       has = λ number after ok makes.
-          pool_parts number after
+          pool_parts plain number after
           (free_name h name (first_passed (refuse_taken h name) (refuse_size words >> refuse_at_limit (length h.pools) most_pools) tt ok).1)
           makes;
     }
@@ -310,12 +323,12 @@ module _ {F : Type 0} (layout : F → Layout) (h : HeapState F) (name chain : Na
           (chain_named h chain >>= (λ on. refuse_at_limit (length h.pools) most_pools >> Ok on)) m.on m.found).1 in
           subst (λ x. HasParts layout past.time after (made_of x)) (sym y.1)
           (pool_parts layout h name (pool.Automatic kind format) w past parts known (pool_on y.0.number) (refl, means) (Some m.on.key)
-          (ap Some y.2.number) (λ n is. copies) key after free m.makes)
+          (ap Some y.2.number) (λ n is. copies) refl key after free m.makes)
 
 -- ---- the calls
 
 -- a pool on no chain is on none that there is
-on_none : {A : Type 0} (number : ℕ) → None ≡ Some number → A
+pub on_none : {A : Type 0} (number : ℕ) → None ≡ Some number → A
 on_none number is = absurd (none-some number is)
 
 -- in each world where this number means the format
@@ -328,7 +341,7 @@ pool_is_right layout h name kind format number result after making =
     (MeansLayout number (layout format)) refl refl
     (λ w past means parts reached.
     pool_alike layout h name (pool.Automatic kind format) w past parts reached
-    (record { kind = Collected kind; format = number; chain = None }) (refl, means) None refl on_none (call.Pool name kind number) refl)
+    (record { kind = Collected kind; format = number; chain = None }) (refl, means) None refl on_none refl (call.Pool name kind number) refl)
     result after making
 
 pub pool_mfs_is_right : {F : Type 0} (layout : F → Layout) (h : HeapState F) (name : Name) (words : ℕ) (result : Result ℕ Refusal)
@@ -339,7 +352,7 @@ pool_mfs_is_right layout h name words result after making =
     refl
     (λ w past parts reached.
     pool_of_size_alike layout h name (pool.OneSize words) w past parts reached
-    (record { kind = OneSize words; format = 0; chain = None }) refl None refl on_none words refl)
+    (record { kind = OneSize words; format = 0; chain = None }) refl None refl on_none refl words refl)
     result after making
 
 pub pool_mvff_is_right : {F : Type 0} (layout : F → Layout) (h : HeapState F) (name : Name) (result : Result ℕ Refusal)
@@ -348,8 +361,8 @@ pub pool_mvff_is_right : {F : Type 0} (layout : F → Layout) (h : HeapState F) 
 pool_mvff_is_right layout h name result after making =
     making_is_right layout h (call.PoolMvff name) (check_pool h name) (MakesPool h name pool.AnySize None) refl refl
     (λ w past parts reached.
-    pool_alike layout h name pool.AnySize w past parts reached (record { kind = AnySize; format = 0; chain = None }) refl None refl on_none
-    (call.PoolMvff name) refl)
+    pool_alike layout h name pool.AnySize w past parts reached (record { kind = AnySize; format = 0; chain = None }) (inl refl) None refl
+    on_none refl (call.PoolMvff name) refl)
     result after making
 
 -- a copying pool on a chain

@@ -1,20 +1,22 @@
 -- `table`, `area` and `blocks`: what is made stands for what the model makes.
-use Rattle.std.proofs.Common.{◌≡◌, ◌≢◌, ◌∙◌, ℕ, ◌+◌, ◌<◌, refl, sym, ap, subst, List, [], ◌∷◌, ◌++◌, length, map, Option, Some, None, Ok, IsSome, is_some, arith}
-use Rattle.std.proofs.lemmas.List.{length-map, length-append}
-use Rattle.std.specs.Prelude.{Result, replicate}
+use Rattle.std.proofs.Common.{◌≡◌, ◌≢◌, ◌∙◌, ℕ, ◌+◌, ◌<◌, ◌≤◌, refl, sym, ap, subst, List, [], ◌∷◌, ◌++◌, length, map, Option, Some, None, Ok, IsSome, is_some, arith}
+use Rattle.std.proofs.lemmas.Bool.{ltb-false}
+use Rattle.std.proofs.lemmas.List.{length-map, length-append, length-replicate}
+use Rattle.std.specs.Prelude.{Result, nat_lt, replicate, sum_by}
 use Rattle.mps_base.specs.Address.{Address}
 use Rattle.mps_base.specs.declared.names.Name.{Name}
 use Rattle.mps_base.specs.declared.refusal.Refusal.{Refusal}
+use Rattle.mps_base.specs.declared.refusal.Refusal.TheVariants as refusal
 use Rattle.mps_abstract.proofs.Calls.ClientLists.{map-replicate}
 use Rattle.mps_format.specs.Layout.{Layout}
 use Rattle.mps_laws.proofs.Lookups.{map-with_last}
 use Rattle.mps_laws.proofs.Same.{same_next}
 use Rattle.mps_model.specs.declared.call.Call.TheVariants as call
-use Rattle.mps_model.specs.Checked.{◌>>◌, done, with_graph}
+use Rattle.mps_model.specs.Checked.{◌>>◌, done, refuse_when, with_graph}
 use Rattle.mps_model.specs.Graph as graph
 use Rattle.mps_model.specs.Graph.{AreaWord, PlainWord, Slots, with_last}
 use Rattle.mps_model.specs.Making as model
-use Rattle.mps_model.specs.Making.{graph_with_area, graph_with_blocks, graph_with_table}
+use Rattle.mps_model.specs.Making.{graph_with_area, graph_with_blocks, graph_with_table, most_roots, most_slots, refuse_at_limit}
 use Rattle.mps_model.specs.World.{World}
 use Rattle.mps_names.specs.declared.names.Thing.TheVariants as thing
 use Rattle.mps_root.specs.State.{RootsState, kept, no_word}
@@ -25,10 +27,12 @@ use Rattle.mps_refinement.specs.Making.{IsRightMaking}
 use Rattle.mps_refinement.specs.Numbering.{AreOrdered, renumbered}
 use Rattle.mps_refinement.specs.StandsFor.{AreParts, AreSlots, AreWords, Past, address_of_target, stored_word, collector_of}
 use Rattle.mps_refinement.proofs.Parts.Counts.{area_made_roots, area_made_slots, blocks_made_roots, blocks_made_slots, table_made_roots, table_made_slots}
-use Rattle.mps_refinement.proofs.Calls.MakingSteps.{MakesAlike, checks_then, first_passed, free_name, making_is_right, root_same, taken_same}
+use Rattle.mps_refinement.proofs.Calls.MakingSteps.{MakesAlike, checks_then, first_passed, free_name, making_is_right, refused_not, root_same, taken_same}
 use Rattle.mps_refinement.proofs.Parts.Named.{ThingsStay, areas_renumbered, named_made, nothing_there, tables_renumbered}
 use Rattle.mps_refinement.proofs.Parts.Numbering.{kept_alike, numbered_made, renumbered_here}
 use Rattle.mps_refinement.proofs.Parts.Ordering.{ordered_alike, ordered_made}
+use Rattle.mps_refinement.specs.Framed.{AreFramed}
+use Rattle.mps_refinement.proofs.Parts.FramedParts.{framed_added}
 use Rattle.mps_refinement.proofs.Parts.PartsMade.{AreOtherRoots, past_of_roots, roots_changed}
 use Rattle.mps_refinement.proofs.Worlds.Steps.{HasParts}
 
@@ -44,6 +48,18 @@ module _ {F : Type 0} (layout : F → Layout) (h : HeapState F) (name : Name) (s
   free_root passed = free_name h name (first_passed (refuse_taken h name) (refuse_root h slots) tt passed).1
 
   module _ (w : World) (past : Past) (parts : AreParts layout past h w) where
+    -- there are no more places than there may be
+    few_slots : check_root h name slots ≡ Ok tt
+        → sum_by length w.graph.blocks + length (replicate {A = Option ℕ} slots None) ≤ most_slots
+    few_slots passed =
+        let over = nat_lt most_slots (h.live_slots + slots) in
+        let root = (first_passed (refuse_taken h name) (refuse_root h slots) tt passed).2 in
+        let last = (first_passed (refuse_at_limit h.live_roots most_roots) (refuse_when over (refusal.TooMany most_slots)) tt root).2 in
+        let fits = ltb-false most_slots (h.live_slots + slots) (refused_not over (refusal.TooMany most_slots) last) in
+        let counted = parts.slots_counted in
+        let long = length-replicate {A = Option ℕ} slots None in
+        omega (arith, fits, counted, long)
+
     -- ---- tables
 
     table_parts : (key : ℕ) (after : HeapState F) → check_root h name slots ≡ Ok tt → MakesTable h name slots key after
@@ -96,6 +112,7 @@ module _ {F : Type 0} (layout : F → Layout) (h : HeapState F) (name : Name) (s
           blocks_are = makes.table.blocks ∙ parts.blocks;
           roots_counted = ap (λ n. n + 1) parts.roots_counted ∙ sym (table_made_roots w.graph name slots);
           slots_counted = ap (λ n. n + slots) parts.slots_counted ∙ sym (table_made_slots w.graph name slots);
+          framed_are = subst (λ bs. AreFramed h.beside.frames bs w.graph.blocks w.pools w.graph.frames) (sym makes.table.blocks) parts.framed;
           names_are = named_made past (past_of_roots layout past h w parts numbers past.area_number) h made w.graph.names w.graph.labels
               parts.names name
               (thing.Table key) (graph.TableThing number) makes.names (free_root passed)
@@ -168,6 +185,7 @@ module _ {F : Type 0} (layout : F → Layout) (h : HeapState F) (name : Name) (s
           blocks_are = makes.area.blocks ∙ parts.blocks;
           roots_counted = ap (λ n. n + 1) parts.roots_counted ∙ sym (area_made_roots w.graph name slots);
           slots_counted = ap (λ n. n + slots) parts.slots_counted ∙ sym (area_made_slots w.graph name slots);
+          framed_are = subst (λ bs. AreFramed h.beside.frames bs w.graph.blocks w.pools w.graph.frames) (sym makes.area.blocks) parts.framed;
           names_are = named_made past (past_of_roots layout past h w parts past.table_number numbers) h made w.graph.names w.graph.labels
               parts.names name
               (thing.Area key) (graph.AreaThing number) makes.names (free_root passed)
@@ -248,6 +266,8 @@ module _ {F : Type 0} (layout : F → Layout) (h : HeapState F) (name : Name) (s
               ∙ sym (map-with_last (map (address_of_target w.addresses)) w.graph.blocks (replicate slots None));
           roots_counted = ap (λ n. n + 1) parts.roots_counted ∙ sym (blocks_made_roots w.graph name slots);
           slots_counted = ap (λ n. n + slots) parts.slots_counted ∙ sym (blocks_made_slots w.graph name slots);
+          framed_are = framed_added h.beside.frames h.roots.blocks w.graph.blocks w.pools w.graph.frames parts.framed (replicate slots None)
+              (replicate slots 0) (few_slots passed);
           names_are = named_made past past h made w.graph.names w.graph.labels parts.names name (thing.Blocks number)
               (graph.BlocksThing count)
               makes.names (free_root passed) (ap graph.BlocksThing same_count) (λ other there. refl) stay

@@ -21,6 +21,7 @@ use Rattle.mps_names.specs.declared.names.Thing.TheVariants as thing
 use Rattle.mps_heap_spec.specs.Arena.{new_heap}
 use Rattle.mps_refinement.specs.NewHeap.{NoNames, arena_step, new_world}
 use Rattle.mps_refinement.specs.Beside.{nothing_is_beside}
+use Rattle.mps_refinement.specs.Framed.{nothing_is_framed}
 use Rattle.mps_refinement.proofs.Parts.TransformParts.{no_transforms_yet}
 use Rattle.mps_refinement.specs.Numbering.{AreNumbered}
 use Rattle.mps_refinement.specs.RightStep.{IsRightIn}
@@ -109,6 +110,7 @@ module _ {F : Type 0} (layout : F → Layout) (formats : ℕ → Layout) (lawful
     };
     state = refl;
     beside = nothing_is_beside;
+    framed = nothing_is_framed;
     transforms = no_transforms_yet (λ key. key) (is_copying_object world_then) [];
   }
 

@@ -46,7 +46,7 @@ use Rattle.mps_refinement.proofs.Worlds.Known.{IsKnown}
 use Rattle.mps_refinement.proofs.Worlds.Steps.{Leads, quiet_is_right}
 
 -- a check that both make alike, and what comes next where it passes
-same_unless : {A B : Type 0} {Fits : A → B → Type 0} {x : Checked A} {y : Checked B} (these those : Bool) (why : Refusal) → these ≡ those
+pub same_unless : {A B : Type 0} {Fits : A → B → Type 0} {x : Checked A} {y : Checked B} (these those : Bool) (why : Refusal) → these ≡ those
     → (these ≡ false → Same Fits x y) → Same Fits (refuse_when these why >> x) (refuse_when those why >> y)
 same_unless {Fits = Fits} {x = x} {y = y} these those why same next =
     subst (λ b. Same Fits (refuse_when these why >> x) (refuse_when b why >> y)) same (of_bool these next)

@@ -221,7 +221,7 @@ state_dropped arena.Clamped (world.Parked pairs) number e = absurd cc
 
 module _ {F : Type 0} (layout : F → Layout) (h : HeapState F) (name : Name) (w : World) (past : Past)
     (parts : AreParts layout past h w) where
-  dropped_parts : (key number : ℕ) → IsTransform layout past h w parts name key number → (names : NamesState)
+  pub dropped_parts : (key number : ℕ) → IsTransform layout past h w parts name key number → (names : NamesState)
       → Updates h.names names name None
       → AreParts layout past (record (with_transforms h (ours.without_transform h.beside.transforms key)) { names = names })
       (without_transform w name (past.transform_number key))

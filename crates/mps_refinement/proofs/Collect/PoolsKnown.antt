@@ -80,7 +80,7 @@ module _ {F : Type 0} (layout : F → Layout) (pools : List (Pool F)) (kept : Ch
       by_cases : AtNumber layout pools w are number → is_automatic t.formats number ≡ pool_is is_automatic_kind w number
       by_cases (both p q e f is) =
           format_there t.formats number (Some (policy_of_pool p)) (format_at number (Some p) e) ∙ has_format p
-          ∙ ap is_automatic_kind (sym (kinds_alike layout w.formats p q is)) ∙ sym (kind_at number q f)
+          ∙ sym (kinds_alike is_automatic_kind refl layout w.formats p q is) ∙ sym (kind_at number q f)
       by_cases (neither e f) =
           format_there t.formats number None (format_at number None e)
           ∙ sym (ap (λ (o : Option world.Pool). option_map_or (λ p. is_automatic_kind p.kind) o false) f)

@@ -120,6 +120,7 @@ module _ {F : Type 0} (layout : F → Layout) (h : HeapState F) where
                 image_now j from there,
           );
           there = refl;
+          framed = parts.framed;
         })
 
     store_leads : (place : Slot) (k value : ℕ) → Same (Leads layout says_ok h past w) (word_stored h place k value)

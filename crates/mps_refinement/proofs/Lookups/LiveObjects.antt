@@ -49,12 +49,14 @@ use Rattle.mps_refinement.proofs.Lookups.Lookups.{IsSlotEntry, slot_same}
 -- ---- the pool of an object
 
 -- an automatic pool has a format, which its number means
-format_there : {F : Type 0} (layout : F → Layout) (formats : ℕ → Layout) (p : Pool F) (q : world.Pool) → IsPool layout formats p q
+pub format_there : {F : Type 0} (layout : F → Layout) (formats : ℕ → Layout) (p : Pool F) (q : world.Pool) → IsPool layout formats p q
     → is_automatic_kind q.kind ≡ true → (format : F) × (format_of_pool p ≡ Some format) × (formats q.format ≡ layout format)
 format_there layout formats (pool.Automatic kind format) q is automatic = (format, refl, is.1)
 format_there layout formats (pool.OneSize words) q is automatic =
     absurd (false≢true (sym (ap (λ (x : world.Pool). is_automatic_kind x.kind) is) ∙ automatic))
-format_there layout formats pool.AnySize q is automatic =
+format_there layout formats pool.AnySize q (inl is) automatic =
+    absurd (false≢true (sym (ap (λ (x : world.Pool). is_automatic_kind x.kind) is) ∙ automatic))
+format_there layout formats pool.AnySize q (inr is) automatic =
     absurd (false≢true (sym (ap (λ (x : world.Pool). is_automatic_kind x.kind) is) ∙ automatic))
 
 -- the pool of an object, where a test of it holds
@@ -72,7 +74,7 @@ pub record IsRightAutomatic (w : World) (q : world.Pool) (o : Object) : Type 0 w
   pub valid : (w.formats q.format).is_valid head ≡ true
   pub shaped : are_shaped (new_cells (w.formats q.format) head) cells ≡ true
 
-right_automatic : (w : World) (q : world.Pool) (o : Object) (b : Body) → o.body ≡ b → is_automatic_body b ≡ true
+pub right_automatic : (w : World) (q : world.Pool) (o : Object) (b : Body) → o.body ≡ b → is_automatic_body b ≡ true
     → is_right_body w q b ≡ true → IsRightAutomatic w q o
 right_automatic w q o (Manual words) e automatic right = absurd (false≢true automatic)
 right_automatic w q o (Automatic head cells is_weak) e automatic right =

@@ -1,5 +1,5 @@
 -- The pool of a point: automatic in both, with the same format, and with blocks without references in both or in neither.
-use Rattle.std.proofs.Common.{◌≡◌, ◌∙◌, ℕ, true, false, refl, sym, ap, subst, Option, Some, None, arith}
+use Rattle.std.proofs.Common.{◌≡◌, ◌∙◌, ℕ, true, false, refl, sym, ap, subst, Option, Some, None, inl, inr, arith}
 use Rattle.std.proofs.lemmas.Bool.{false≢true}
 use Rattle.std.proofs.lemmas.Option.{same_Some, slice_get_within}
 use Rattle.std.specs.Prelude.{slice_get}
@@ -35,7 +35,9 @@ module _ {F : Type 0} (layout : F → Layout) where
   }
   automatic_pool formats (pool.OneSize words) q is automatic =
       absurd (false≢true (sym (ap (λ (x : world.Pool). is_automatic_kind x.kind) is) ∙ automatic))
-  automatic_pool formats pool.AnySize q is automatic =
+  automatic_pool formats pool.AnySize q (inl is) automatic =
+      absurd (false≢true (sym (ap (λ (x : world.Pool). is_automatic_kind x.kind) is) ∙ automatic))
+  automatic_pool formats pool.AnySize q (inr is) automatic =
       absurd (false≢true (sym (ap (λ (x : world.Pool). is_automatic_kind x.kind) is) ∙ automatic))
 
   -- the pool of a point

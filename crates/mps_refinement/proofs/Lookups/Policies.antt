@@ -78,7 +78,7 @@ module _ {F : Type 0} (layout : F → Layout) (pools : List (Pool F)) (w : World
       by_cases : AtNumber number → (policy : Policy F) × (slice_get (map policy_of_pool pools) number ≡ Some (Some policy))
       by_cases (both p q e f is) =
           let kind : is_automatic_kind (kind_of p) ≡ true =
-          ap is_automatic_kind (sym (kinds_alike layout w.formats p q is))
+          sym (kinds_alike is_automatic_kind refl layout w.formats p q is)
           ∙ sym (ap (λ (o : Option world.Pool). option_map_or (λ p. is_automatic_kind p.kind) o false) f) ∙ automatic in
           let policy = policy_where_automatic p kind in
           (policy.0, policy_at pools number (Some p) e ∙ ap Some policy.1)
@@ -122,6 +122,6 @@ module _ {F : Type 0} (layout : F → Layout) (pools : List (Pool F)) (w : World
       by_cases : AtNumber number → pool_is is_automatic_kind w number ≡ true
       by_cases (both p q e f is) =
           ap (λ (o : Option world.Pool). option_map_or (λ x. is_automatic_kind x.kind) o false) f
-          ∙ ap is_automatic_kind (kinds_alike layout w.formats p q is)
+          ∙ kinds_alike is_automatic_kind refl layout w.formats p q is
           ∙ automatic_by p format (same_Some (policy_of_pool p) (Some format) (sym (policy_at pools number (Some p) e) ∙ there))
       by_cases (neither e f) = absurd (none-some (Some format) (sym (policy_at pools number None e) ∙ there))

@@ -1,14 +1,13 @@
 -- What the kind of a pool says, in a heap and in the model.
-use Rattle.std.proofs.Common.{◌≡◌, ◌∙◌, ℕ, false, refl, sym, ap, List, Some}
+use Rattle.std.proofs.Common.{◌≡◌, ◌∙◌, ℕ, false, refl, sym, ap, Some, inl, inr}
 use Rattle.std.specs.Prelude.{◌&&◌, ◌||◌, not, slice_get}
 use Rattle.std.specs.Option.{option_map_or}
 use Rattle.mps_base.specs.declared.names.Rank.{Rank}
 use Rattle.mps_format.specs.Layout.{Layout}
 use Rattle.mps_model.specs.Making as model
-use Rattle.mps_model.specs.Graph.{PoolFrames}
-use Rattle.mps_model.specs.Making.{frames_with, is_weak_rank}
+use Rattle.mps_model.specs.Making.{is_weak_rank}
 use Rattle.mps_model.specs.World as world
-use Rattle.mps_model.specs.World.{World, PoolKind, Collected, OneSize, AnySize, has_frames, is_automatic_kind, is_copying_kind, is_weak_kind}
+use Rattle.mps_model.specs.World.{World, PoolKind, Collected, OneSize, AnySize, Frames, is_automatic_kind, is_copying_kind, is_weak_kind}
 use Rattle.mps_heap_spec.specs.Making.{may_have_point}
 use Rattle.mps_format.specs.Pools.{is_automatic_pool, is_copying_pool, is_weak_pool}
 use Rattle.mps_format.specs.declared.pool.Pool.{Pool}
@@ -16,28 +15,19 @@ use Rattle.mps_format.specs.declared.pool.Pool.TheVariants as pool
 use Rattle.mps_refinement.specs.StandsFor.{IsPool}
 
 module _ {F : Type 0} where
-  -- the kind of a pool in the model
+  -- the kind of a pool in the model, where it has no frames
   abbrev pub kind_of : Pool F → PoolKind
   kind_of (pool.Automatic kind format) = Collected kind
   kind_of (pool.OneSize words) = OneSize words
   kind_of pool.AnySize = AnySize
 
-  pub kinds_alike : (layout : F → Layout) (formats : ℕ → Layout) (p : Pool F) (q : world.Pool) → IsPool layout formats p q
-      → q.kind ≡ kind_of p
-  kinds_alike layout formats (pool.Automatic kind format) q is = ap (λ (x : world.Pool). x.kind) is.0
-  kinds_alike layout formats (pool.OneSize words) q is = ap (λ (x : world.Pool). x.kind) is
-  kinds_alike layout formats pool.AnySize q is = ap (λ (x : world.Pool). x.kind) is
-
-  -- no pool of a heap has frames
-  frameless : (p : Pool F) → has_frames (kind_of p) ≡ false
-  frameless (pool.Automatic kind format) = refl
-  frameless (pool.OneSize words) = refl
-  frameless pool.AnySize = refl
-
-  made_frameless : (p : Pool F) (frames : List PoolFrames) (number : ℕ) → frames_with frames (kind_of p) number ≡ frames
-  made_frameless (pool.Automatic kind format) frames number = refl
-  made_frameless (pool.OneSize words) frames number = refl
-  made_frameless pool.AnySize frames number = refl
+  -- what is the same of pools of any sizes with frames and without is the same in both
+  pub kinds_alike : {X : Type 0} (of : PoolKind → X) → of Frames ≡ of AnySize → (layout : F → Layout) (formats : ℕ → Layout) (p : Pool F)
+      (q : world.Pool) → IsPool layout formats p q → of q.kind ≡ of (kind_of p)
+  kinds_alike of same layout formats (pool.Automatic kind format) q is = ap (λ (x : world.Pool). of x.kind) is.0
+  kinds_alike of same layout formats (pool.OneSize words) q is = ap (λ (x : world.Pool). of x.kind) is
+  kinds_alike of same layout formats pool.AnySize q (inl is) = ap (λ (x : world.Pool). of x.kind) is
+  kinds_alike of same layout formats pool.AnySize q (inr is) = ap (λ (x : world.Pool). of x.kind) is ∙ same
 
   automatic_alike : (p : Pool F) → is_automatic_pool p ≡ is_automatic_kind (kind_of p)
   automatic_alike (pool.Automatic kind format) = refl
@@ -55,24 +45,16 @@ module _ {F : Type 0} where
   copying_alike pool.AnySize = refl
 
   module _ (layout : F → Layout) (formats : ℕ → Layout) (p : Pool F) (q : world.Pool) (is : IsPool layout formats p q) where
-    pub no_frames : has_frames q.kind ≡ false
-    no_frames = ap has_frames (kinds_alike layout formats p q is) ∙ frameless p
-
-    -- so frames are what they were, where it is made
-    pub same_frames : (frames : List PoolFrames) (number : ℕ) → frames_with frames q.kind number ≡ frames
-    same_frames frames number =
-        ap (λ k. frames_with frames k number) (kinds_alike layout formats p q is) ∙ made_frameless p frames number
-
     -- whether it may have a point of a rank
     pub may_have_point_alike : (at_rank : Rank) → may_have_point p at_rank ≡ model.may_have_point q.kind at_rank
     may_have_point_alike at_rank =
         ap (λ b. b && (not (is_weak_rank at_rank) || is_weak_pool p)) (automatic_alike p)
         ∙ ap (λ b. is_automatic_kind (kind_of p) && (not (is_weak_rank at_rank) || b)) (weak_alike p)
-        ∙ ap (λ k. model.may_have_point k at_rank) (sym (kinds_alike layout formats p q is))
+        ∙ sym (kinds_alike (λ k. model.may_have_point k at_rank) refl layout formats p q is)
 
     -- whether a collection moves its blocks
     pub copying_by_number : (w : World) (number : ℕ) → slice_get w.pools number ≡ Some q
         → is_copying_pool p ≡ world.is_copying_pool w number
     copying_by_number w number there =
-        copying_alike p ∙ ap is_copying_kind (sym (kinds_alike layout formats p q is))
+        copying_alike p ∙ sym (kinds_alike is_copying_kind refl layout formats p q is)
         ∙ sym (ap (λ o. option_map_or (λ (x : world.Pool). is_copying_kind x.kind) o false) there)

@@ -28,24 +28,26 @@ use Rattle.mps_abstract.specs.Colours.{is_white}
 
 -- ---- pools
 
-same_automatic : {F : Type 0} (layout : F → Layout) (formats : ℕ → Layout) (p : Pool F) (q : world.Pool) → IsPool layout formats p q
+pub same_automatic : {F : Type 0} (layout : F → Layout) (formats : ℕ → Layout) (p : Pool F) (q : world.Pool) → IsPool layout formats p q
     → is_automatic_kind q.kind ≡ is_automatic_pool p
 same_automatic layout formats (pool.Automatic kind format) q is = ap (λ (x : world.Pool). is_automatic_kind x.kind) is.0
 same_automatic layout formats (pool.OneSize words) q is = ap (λ (x : world.Pool). is_automatic_kind x.kind) is
-same_automatic layout formats pool.AnySize q is = ap (λ (x : world.Pool). is_automatic_kind x.kind) is
+same_automatic layout formats pool.AnySize q (inl is) = ap (λ (x : world.Pool). is_automatic_kind x.kind) is
+same_automatic layout formats pool.AnySize q (inr is) = ap (λ (x : world.Pool). is_automatic_kind x.kind) is
 
 same_copying : {F : Type 0} (layout : F → Layout) (formats : ℕ → Layout) (p : Pool F) (q : world.Pool) → IsPool layout formats p q
     → is_copying_kind q.kind ≡ is_copying_pool p
 same_copying layout formats (pool.Automatic kind format) q is = ap (λ (x : world.Pool). is_copying_kind x.kind) is.0
 same_copying layout formats (pool.OneSize words) q is = ap (λ (x : world.Pool). is_copying_kind x.kind) is
-same_copying layout formats pool.AnySize q is = ap (λ (x : world.Pool). is_copying_kind x.kind) is
+same_copying layout formats pool.AnySize q (inl is) = ap (λ (x : world.Pool). is_copying_kind x.kind) is
+same_copying layout formats pool.AnySize q (inr is) = ap (λ (x : world.Pool). is_copying_kind x.kind) is
 
 not_true : (b : Bool) → not b ≡ true → b ≡ false
 not_true true e = absurd (false≢true e)
 not_true false e = refl
 
 -- an object of a right body is automatic where its pool is
-body_of_kind : (w : World) (q : world.Pool) (b : Body) → is_right_body w q b ≡ true → is_automatic_body b ≡ is_automatic_kind q.kind
+pub body_of_kind : (w : World) (q : world.Pool) (b : Body) → is_right_body w q b ≡ true → is_automatic_body b ≡ is_automatic_kind q.kind
 body_of_kind w q (Automatic head cells is_weak) right =
     let first = (and_parts (is_automatic_kind q.kind && are_right_cells w q head cells) (not is_weak || is_weak_kind q.kind) right).0 in
     sym (and_parts (is_automatic_kind q.kind) (are_right_cells w q head cells) first).0
@@ -78,7 +80,7 @@ found_none test (x ∷ xs) none =
 -- ---- where a word lies
 
 -- a word that lies in a block lies in its words
-within_words : (copying : Bool) (at words word : ℕ) → at ≡ 8 * word_of at → 0 < words → is_word_in copying at words word ≡ true
+pub within_words : (copying : Bool) (at words word : ℕ) → at ≡ 8 * word_of at → 0 < words → is_word_in copying at words word ≡ true
     → (at ≤ word) × (word_of at ≤ word_of word) × (word_of word < word_of at + words)
 within_words true at words word aligned some is =
     let parts = and_parts (nat_le at word) (nat_lt word (at + 8 * words)) is in
@@ -89,7 +91,7 @@ within_words false at words word aligned some is =
     let same = eqb-true word at is in (omega (arith, same), omega (arith, same), omega (arith, same, some))
 
 -- in a block that moves by bytes, else at its address alone
-is_in_block : (copying : Bool) (at words word : ℕ) → at ≡ 8 * word_of at → word_of at ≤ word_of word → word_of word < word_of at + words
+pub is_in_block : (copying : Bool) (at words word : ℕ) → at ≡ 8 * word_of at → word_of at ≤ word_of word → word_of word < word_of at + words
     → is_word_in copying at words word ≡ (if copying then true else word == at)
 is_in_block true at words word aligned above below =
     ap₂ (λ (a b : Bool). a && b) (le-leb at word (omega (arith, aligned, above)))

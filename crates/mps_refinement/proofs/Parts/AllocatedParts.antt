@@ -1,5 +1,5 @@
 -- After an `alloc` the parts of a heap stand for those of the world after it.
-use Rattle.std.proofs.Common.{◌≡◌, ◌∙◌, ℕ, zero, suc, ◌+◌, ◌-◌, ◌*◌, ◌%◌, ◌<◌, ◌≤◌, Bool, true, false, refl, sym, ap, subst, List, length, map, replicate, Option, Some, Contains, arith, slice_index}
+use Rattle.std.proofs.Common.{◌≡◌, ◌∙◌, ℕ, zero, suc, ◌+◌, ◌-◌, ◌*◌, ◌%◌, ◌<◌, ◌≤◌, Bool, true, false, refl, sym, ap, subst, List, length, map, replicate, Option, Some, None, Contains, arith, slice_index}
 use Rattle.std.proofs.lemmas.Bool.{false≢true, and_parts}
 use Rattle.std.proofs.lemmas.List.{length-replicate}
 use Rattle.std.proofs.lemmas.Option.{none-some, same_Some, slice_get_within, slice_get-map}
@@ -35,6 +35,9 @@ use Rattle.mps_heap_spec.specs.State.{HeapState}
 use Rattle.mps_root.specs.State.{with_place}
 use Rattle.mps_seg.specs.Segs.{SegsState, noted_for, segments_after}
 use Rattle.mps_refinement.specs.StandsFor.{AreParts, Past, address_of_target, StandsAt, setting_at, IsInTime, rests, runs, collector_of}
+use Rattle.mps_changes.proofs.Frames.{blocks_in}
+use Rattle.mps_refinement.specs.Framed.{AreFramed}
+use Rattle.mps_refinement.proofs.Parts.FramedParts.{all_true, framed_written}
 use Rattle.mps_refinement.proofs.Parts.BlockParts.{blocks_changed, with_blocks, world_with_blocks}
 use Rattle.mps_refinement.proofs.Parts.BlockPlaces.{place_length, place_written, places_count, places_counted}
 use Rattle.mps_refinement.proofs.Parts.ClearedWords.{cleared_long, cleared_word, other_word}
@@ -420,11 +423,11 @@ module _ {F : Type 0} (layout : F → Layout) (past : Past) (h : HeapState F) (w
         entry_at-last w.addresses (Some at) j (omega (arith, low, lengths))
 
     pub parts_made : (index : ℕ) (entry : Entry Address) (found : Found (Option ℕ)) → IsPlaceEntry past h w index entry found
-        → HasLayout (w.grains + 1) w
+        → found.value ≡ None → HasLayout (w.grains + 1) w
         → HasLayout (w.grains + 1) (world_with (slice_set w.graph.blocks found.number (slice_set found.list found.index (Some new))))
         → AreParts layout past (with_blocks h segs (with_place h.roots.blocks entry.key entry.index at))
         (world_with (slice_set w.graph.blocks found.number (slice_set found.list found.index (Some new))))
-    parts_made index entry found is laid after =
+    parts_made index entry found is empty laid after =
         let places = slice_set w.graph.blocks found.number (slice_set found.list found.index (Some new)) in
         let same_key : entry.key ≡ found.number = sym is.number in
         let same_index : entry.index ≡ found.index = is.index_is ∙ sym is.found_index in
@@ -477,4 +480,15 @@ module _ {F : Type 0} (layout : F → Layout) (past : Past) (h : HeapState F) (w
               ap (λ n. length (with_place h.roots.blocks n entry.index at)) same_key
               ∙ ap (λ i. length (with_place h.roots.blocks found.number i at)) same_index
               ∙ place_length w.graph.blocks found.number found.index found.list (Some new) has h.roots.blocks at;
+          framed =
+              subst (λ n. AreFramed h.beside.frames (with_place h.roots.blocks n entry.index at) places w.pools w.graph.frames)
+              (sym same_key)
+              (subst (λ i. AreFramed h.beside.frames (with_place h.roots.blocks found.number i at) places w.pools w.graph.frames)
+              (sym same_index)
+              (framed_written h.beside.frames h.roots.blocks w.graph.blocks w.pools w.graph.frames parts.framed found.number found.index
+              found.list is.list (Some new) at has (ap (slice_get h.roots.blocks) is.number ∙ is.kept) (λ j. true)
+              (all_true (blocks_in w.graph.frames)) (λ j entry passes.
+              none-some j (sym empty ∙ same_Some found.value (Some j) (sym is.there ∙ ap (slice_get found.list) (sym is.found_index)
+              ∙ entry)))
+              (places_counted w.graph.blocks found.number found.index found.list (Some new) has)));
         })

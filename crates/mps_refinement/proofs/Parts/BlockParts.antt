@@ -10,15 +10,18 @@ use Rattle.mps_model.specs.Making.{length_of}
 use Rattle.mps_model.specs.World.{World, is_copying_object, pairs_in}
 use Rattle.mps_root.specs.State.{kept}
 use Rattle.mps_seg.specs.Segs.{SegsState}
+use Rattle.mps_snc.specs.State.{Pools}
+use Rattle.mps_heap_spec.specs.Framing.{with_frames}
 use Rattle.mps_heap_spec.specs.State.{HeapState}
 use Rattle.mps_heap_spec.specs.declared.arena.ArenaState.{ArenaState}
 use Rattle.mps_heap_spec.specs.declared.arena.ArenaState.TheVariants as arena
+use Rattle.mps_refinement.specs.Framed.{AreFramed}
 use Rattle.mps_refinement.specs.Numbering.{AreNumbered}
 use Rattle.mps_refinement.specs.StandsFor.{Past, AreParts, AreSlots, AreWords, IsArena, address_of_id, address_of_target, StandsAt, AreRegisteredAt, state_of}
 use Rattle.mps_refinement.proofs.Parts.Named.{named_alike}
-use Rattle.mps_refinement.proofs.Parts.BesideParts.{beside_still}
+use Rattle.mps_refinement.proofs.Parts.BesideParts.{beside_framed, beside_still}
 use Rattle.mps_refinement.proofs.Parts.TransformParts.{KeepsPaired, transforms_still}
-use Rattle.mps_refinement.proofs.Parts.PartsByKind.{parts_of_kinds, points_of, pools_of}
+use Rattle.mps_refinement.proofs.Parts.PartsByKind.{arena_of, finals_of, image_of, parts_of_kinds, points_of, pools_of, roots_of}
 use Rattle.mps_trace_laws.specs.Summaries.Summed.{AreWordsSummed}
 use Rattle.mps_format.specs.Pools.{policy_of_pool}
 use Rattle.mps_refinement.specs.Beside.{kept_cache}
@@ -52,6 +55,7 @@ pub record AreBlocks {F : Type 0} (layout : F → Layout) (past : Past) (h : Hea
   pub registered : AreRegisteredAt past.time addresses h.finals.registered w.graph.registered
   pub messages : h.finals.messages ≡ map (address_of_id addresses) w.graph.messages
   pub there : length blocks ≡ length h.roots.blocks
+  pub framed : AreFramed h.beside.frames blocks places w.pools w.graph.frames
   -- objects in pairs of transforms are what they were, where they were
   pub paired : KeepsPaired (is_copying_object w) (is_copying_object (world_with_blocks w objects addresses places segments)) w.addresses
       addresses (pairs_in w.state)
@@ -84,10 +88,11 @@ blocks_changed layout past h w segs blocks objects addresses places segments par
       parts.flips,
       parts.point_flips,
       parts.state,
-      beside_still _ _ _ _ _ _ parts.beside _ _ _ _ _ are.cached,
+      beside_still _ _ _ parts.beside _ _ are.cached,
       transforms_still past.transform_number (is_copying_object w)
           (is_copying_object (world_with_blocks w objects addresses places segments))
           w.addresses addresses h.beside.transforms w.graph.transforms (pairs_in w.state) are.paired parts.transforms,
+      are.framed,
     )
 
 -- an arena has no pairs of transforms but those that are given
@@ -131,41 +136,27 @@ parts_with_pairs layout past h w pairs unpaired p = record {
   state = p.state;
   beside = p.beside;
   transforms = p.transforms;
+  framed = p.framed;
 }
 
 -- a world with other frames of pools
 abbrev pub world_with_frames : World → List PoolFrames → World
 world_with_frames w frames = record w { graph = record w.graph { frames = frames } }
 
-pub parts_with_frames : {F : Type 0} (layout : F → Layout) (past : Past) (h : HeapState F) (w : World) (frames : List PoolFrames)
-    → AreParts layout past h w → AreParts layout past h (world_with_frames w frames)
-parts_with_frames layout past h w frames p = record {
-  grains = p.grains;
-  limit = p.limit;
-  segments = p.segments;
-  image = p.image;
-  arena = p.arena;
-  summed = p.summed;
-  tables = p.tables;
-  ordered = p.ordered;
-  areas = p.areas;
-  blocks = p.blocks;
-  roots_counted = p.roots_counted;
-  slots_counted = p.slots_counted;
-  points = p.points;
-  points_counted = p.points_counted;
-  registered = p.registered;
-  messages = p.messages;
-  flips = p.flips;
-  point_flips = p.point_flips;
-  dependencies = p.dependencies;
-  lawful = p.lawful;
-  pools = p.pools;
-  sizes = p.sizes;
-  chains = p.chains;
-  dependents = p.dependents;
-  names = p.names;
-  state = p.state;
-  beside = beside_still _ _ _ _ _ _ p.beside _ _ _ _ _ refl;
-  transforms = p.transforms;
-}
+pub parts_with_frames : {F : Type 0} (layout : F → Layout) (past : Past) (h : HeapState F) (w : World) (ours : Pools)
+    (frames : List PoolFrames) → AreFramed ours h.roots.blocks w.graph.blocks w.pools frames → AreParts layout past h w
+    → AreParts layout past (with_frames h ours) (world_with_frames w frames)
+parts_with_frames layout past h w ours frames framed p =
+    parts_of_kinds (arena_of p) (image_of p) (roots_of p) (points_of p) (finals_of p) p.dependencies (pools_of p)
+    (named_alike h (with_frames h ours) past w.graph.names w.graph.labels p.names (λ name. refl) refl (record {
+      pools = λ n low. low;
+      caches = omega arith;
+      tables = λ key some. some;
+      areas = λ key some. some;
+      blocks = λ n low. low;
+      points = λ key some. some;
+      dependencies = λ n low. low;
+      chains = λ n low. low;
+      transforms = refl;
+    }))
+    (p.flips, p.point_flips, p.state, beside_framed _ _ _ p.beside ours, p.transforms, framed)

@@ -102,6 +102,7 @@ module _ {F : Type 0} (layout : F → Layout) (past : Past) (h : HeapState F) (w
               (image_stored k value low) j from there,
         );
         there = refl;
+        framed = parts.framed;
       })
 
 -- ---- all its words

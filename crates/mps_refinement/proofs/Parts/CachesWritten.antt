@@ -42,7 +42,7 @@ caches_written layout past h w parts ours caches are no_fewer =
       record {
         dependents = parts.beside.dependents;
         caches = are;
-        frames = parts.beside.frames;
       },
       parts.transforms,
+      parts.framed,
     )

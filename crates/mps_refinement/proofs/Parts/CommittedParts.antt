@@ -330,7 +330,7 @@ module _ {F : Type 0} (layout : F → Layout) (past : Past) (h : HeapState F) (w
         parts.flips,
         parts.point_flips,
         parts.state,
-        beside_still _ _ _ _ _ _ parts.beside _ _ _ _ _
+        beside_still _ _ _ parts.beside _ _
             (same_caches w.addresses (with_last w.addresses (Some at)) w.graph.caches (λ id cached.
             address_still w.addresses at id (list_all-contains (is_live w) (graph.ids_in_caches w.graph) id
             (parts_pass (is_live w) (graph.ids_in_places w.graph) (graph.ids_in_caches w.graph) known.live.blocks).1 cached))),
@@ -340,4 +340,5 @@ module _ {F : Type 0} (layout : F → Layout) (past : Past) (h : HeapState F) (w
               address_still w.addresses at id (ap is_some there) ∙ there,
               kind_with_last (is_copying_pool w) w.graph.objects new_object id o.0 o.1,
             )) parts.transforms,
+        parts.framed,
       )

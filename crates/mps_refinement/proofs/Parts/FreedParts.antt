@@ -1,6 +1,6 @@
 -- After a `free` the parts of a heap stand for those of the world after it.
 use Rattle.std.proofs.Common.{◌≡◌, ◌∙◌, ℕ, ◌+◌, ◌*◌, Bool, true, false, refl, sym, ap, subst, List, [], ◌∷◌, map, Option, Some, None, inl, inr, arith, length, ◌⊎◌, ◌<◌}
-use Rattle.std.proofs.lemmas.Bool.{cases_lt, false≢true, le-leb, lt-leb, lt-ltb, le-ltb, ltb-true, ne_eqb, and_parts, cases_Bool, cases_eq, leb-true}
+use Rattle.std.proofs.lemmas.Bool.{cases_lt, eq-eqb, false≢true, le-leb, lt-leb, lt-ltb, le-ltb, ltb-true, ne_eqb, and_parts, cases_Bool, cases_eq, leb-true}
 use Rattle.std.proofs.lemmas.Option.{none-some, same_Some}
 use Rattle.std.specs.Prelude.{◌==◌, ◌&&◌, ◌||◌, not, nat_le, nat_lt, slice_get, slice_set, option_map, if◌then◌else◌, ◌≢◌}
 use Rattle.std.specs.List.{list_any}
@@ -24,7 +24,7 @@ use Rattle.mps_laws.proofs.Sound.SoundGraph.{IsSoundGraph, auto}
 use Rattle.mps_pools.specs.Manual.{any_size, block_removed, segs_after_free, given_back, is_none, is_unused}
 use Rattle.mps_model.specs.Graph.{Object, entry_at, is_automatic, is_automatic_body, size_of, ids_in_caches}
 use Rattle.mps_model.specs.World as world
-use Rattle.mps_model.specs.World.{World, OneSize, AnySize, begins_in, is_any_size_kind, is_automatic_kind, object_is, is_copying_object, is_copying_pool, is_live}
+use Rattle.mps_model.specs.World.{World, OneSize, AnySize, begins_in, is_any_size_kind, is_automatic_kind, object_is, is_copying_object, is_copying_pool, is_live, has_frames, pool_is, pool_of}
 use Rattle.mps_model.specs.Effect.{with_address}
 use Rattle.mps_seg.specs.Segs.{SegsState}
 use Rattle.mps_heap_spec.specs.declared.found.Entry.{Entry}
@@ -35,7 +35,12 @@ use Rattle.mps_format.specs.declared.pool.Pool.TheVariants as pool
 use Rattle.mps_model.specs.Checked.{Found}
 use Rattle.mps_root.specs.State.{with_place}
 use Rattle.mps_refinement.specs.StandsFor.{AreParts, IsPool, Past, address_of_target, StandsAt, setting_at, AreOfFlip, IsInTime, collector_of}
+use Rattle.mps_refinement.proofs.Parts.FreedSegments as freed
+use Rattle.mps_refinement.proofs.Parts.FreedSegments.{HasShapes}
+pub use Rattle.mps_refinement.proofs.Parts.FreedSegments.{any_size_alike, freed_is, segments_freed}
 use Rattle.mps_refinement.proofs.Parts.BlockParts.{blocks_changed, with_blocks, world_with_blocks}
+use Rattle.mps_refinement.specs.Framed.{AreFramed}
+use Rattle.mps_refinement.proofs.Parts.FramedParts.{framed_written, frames_others}
 use Rattle.mps_refinement.proofs.Parts.BlockPlaces.{place_length, place_written, places_count, places_counted}
 use Rattle.mps_refinement.proofs.Worlds.Known.{IsKnown}
 use Rattle.mps_refinement.proofs.Lookups.Lookups.{IsPlaceEntry}
@@ -60,213 +65,51 @@ use Rattle.mps_refinement.proofs.Summaries.FreedBlocks.{given_summed, removed_su
 use Rattle.mps_refinement.proofs.Parts.CachesStill.{same_caches, others_in}
 use Rattle.mps_refinement.proofs.Parts.ObjectKinds.{paired_automatic}
 
--- ---- whether a segment is given back
-
--- whether a run begins in a segment, by words and by bytes
-begins_alike : (t : Segment) → IsAligned t → (r : Run)
-    → (nat_le (word_of t.base) r.from && nat_lt r.from (word_of (end_of_segment t))) ≡ begins_in t r
-begins_alike t aligned r = ap (λ b. b && nat_lt r.from (word_of (end_of_segment t))) low ∙ ap (λ b. nat_le t.base (8 * r.from) && b) high
-  where
-    low : nat_le (word_of t.base) r.from ≡ nat_le t.base (8 * r.from)
-    low = elim (cases_lt r.from (word_of t.base)) [
-      | inl before ↦ lt-leb (word_of t.base) r.from before ∙ sym (lt-leb t.base (8 * r.from) (omega (arith, before, aligned)))
-      | inr after ↦ le-leb (word_of t.base) r.from after ∙ sym (le-leb t.base (8 * r.from) (omega (arith, after, aligned)))
-    ]
-
-    high : nat_lt r.from (word_of (end_of_segment t)) ≡ nat_lt (8 * r.from) (end_of_segment t)
-    high = elim (cases_lt r.from (word_of (end_of_segment t))) [
-      | inl before ↦
-          lt-ltb r.from (word_of (end_of_segment t)) before ∙ sym (lt-ltb (8 * r.from) (end_of_segment t) (omega (arith, before, aligned)))
-      | inr after ↦
-          le-ltb r.from (word_of (end_of_segment t)) after ∙ sym (le-ltb (8 * r.from) (end_of_segment t) (omega (arith, after, aligned)))
-    ]
-
--- nothing is left in a segment, for the segments and for the model
-unused_alike : (t : Segment) → IsAligned t → (covered : List Run) → is_unused covered t ≡ not (list_any (begins_in t) covered)
-unused_alike t aligned [] = refl
-unused_alike t aligned (r ∷ rs) =
-    ap (λ b. is_none (if b then r ∷ runs_within (word_of t.base) (word_of (end_of_segment t)) rs
-    else runs_within (word_of t.base) (word_of (end_of_segment t)) rs)) (begins_alike t aligned r)
-    ∙ elim (begins_in t r) as (λ b. is_none (if b then r ∷ runs_within (word_of t.base) (word_of (end_of_segment t)) rs
-    else runs_within (word_of t.base) (word_of (end_of_segment t)) rs) ≡ not (b || list_any (begins_in t) rs)) [
-      | true ↦ refl
-      | false ↦ unused_alike t aligned rs
-    ]
-
--- a manual pool has blocks of any sizes exactly where its size is so
-pub any_size_alike : {F : Type 0} (layout : F → Layout) (formats : ℕ → Layout) (p : Pool F) (q : world.Pool) → IsPool layout formats p q
-    → is_automatic_kind q.kind ≡ false → is_sized q.kind ≡ true → (size_of_pool p == any_size) ≡ is_any_size_kind q.kind
-any_size_alike layout formats (pool.Automatic kind format) q is manual sized =
-    absurd (false≢true (sym manual ∙ ap (λ (x : world.Pool). is_automatic_kind x.kind) is.0))
-any_size_alike layout formats (pool.OneSize words) q is manual sized =
-    let kind : q.kind ≡ OneSize words = ap (λ (x : world.Pool). x.kind) is in
-    not_any (sym (ap is_sized kind) ∙ sized) ∙ sym (ap is_any_size_kind kind)
-  where
-    not_any : nat_lt 0 words ≡ true → (words == any_size) ≡ false
-    not_any some = ne_eqb words 0
-        (λ e. let low = ltb-true 0 words some in omega (arith, e, low))
-any_size_alike layout formats pool.AnySize q is manual sized = sym (ap (λ (x : world.Pool). is_any_size_kind x.kind) is)
-
--- ---- the segments
-
--- the segments after a block is freed, whose segment is given back or not
-abbrev pub segments_freed : SegsState → (at : Address) → Segment → (given : Bool) → SegsState
-segments_freed s at t given =
-    if given then record (block_removed s at) { segments = without_segment s.segments t.base } else block_removed s at
-
-pub freed_is : (size : ℕ) (s : SegsState) (at : Address) (t : Segment) → segment_over s.segments at ≡ Some t
-    → segs_after_free size s at ≡ segments_freed s at t (size == any_size && is_unused (block_removed s at).covered t)
-freed_is size s at t over =
-    elim (size == any_size) as (λ b. (if b then given_back (block_removed s at) (segment_over s.segments at) else block_removed s at)
-    ≡ segments_freed s at t (b && is_unused (block_removed s at).covered t)) [
-      | true ↦ ap (given_back (block_removed s at)) over
-      | false ↦ refl
-    ]
-
 module _ {F : Type 0} (layout : F → Layout) (past : Past) (h : HeapState F) (w : World) (parts : AreParts layout past h w)
     (known : IsKnown past.time w) (graph : IsSoundGraph w) (at : Address) (id : Id) (b : IsBlock w at id)
     (time : IsInTime past.time (collector_of h) w) where
-  manual : is_automatic b.object ≡ false
-  manual = ap is_automatic_body b.right.body
+  shapes : HasShapes w
+  shapes = record {
+    right = known.formed.objects;
+    lawful = parts.lawful;
+    reserved = λ point i r u tag live cell. reservation_targets w graph point i r u tag live cell;
+  }
+
+  of_flip : AreOfFlip past.time.at_flip w
+  of_flip = flip_known past.time (collector_of h) w time
 
   pub not_automatic : auto w id ≡ false
-  not_automatic = ap (λ o. option_map_or is_automatic o false) b.there ∙ manual
+  not_automatic = freed.not_automatic past.time h.segs w parts.image parts.segments shapes of_flip at id b
 
   abbrev addresses_after : List (Option Address)
   addresses_after = slice_set w.addresses id None
 
-  -- the words without the block
-  pub image_removed : StandsAt past.time (block_removed h.segs at) (with_address w id None)
-  image_removed =
-      let clears = removing_clears h.segs at in
-      manual_block_is_freed (setting layout past h w parts known) (memory_in h.segs) w.addresses past.time.colours id at b.object
-      (memory_in (block_removed h.segs at)).kept (memory_in (block_removed h.segs at)).grey parts.image
-      (are_shaped_objects w parts.lawful known.formed.objects)
-      (λ point i r u tag live cell. reservation_targets w graph point i r u tag live cell) b.address b.there manual clears.0 clears.1
-
   -- whether its segment is given back is the same in both
   pub unused_is : (t : Segment) → IsAligned t
       → is_unused (block_removed h.segs at).covered t ≡ world.is_empty_segment (with_address w id None) t
-  unused_is t aligned =
-      ap (λ rs. is_unused rs t) image_removed.runs.covered ∙ unused_alike t aligned (world.covered (with_address w id None))
+  unused_is = freed.unused_is past.time h.segs w parts.image parts.segments shapes of_flip at id b
 
-  -- automatic objects stay where they are
   still : (j : Id) → auto w j ≡ true → entry_at addresses_after j ≡ entry_at w.addresses j
-  still j is =
-      entry_at-set_other w.addresses id j None (λ same. false≢true (sym not_automatic ∙ ap (auto w) same ∙ is))
+  still = freed.still past.time h.segs w parts.image parts.segments shapes of_flip at id b
 
-  -- what has an address after it had it before
-  still_there : (j : Id) (to : Address) → entry_at addresses_after j ≡ Some to → entry_at w.addresses j ≡ Some to
-  still_there j to f =
-      elim (cases_eq j id) [
-        | inl same ↦
-            absurd (none-some to (sym (entry_at-written w.addresses id at None b.address)
-            ∙ ap (entry_at addresses_after) (sym same) ∙ f))
-        | inr apart ↦ sym (entry_at-set_other w.addresses id j None (λ same. apart (sym same))) ∙ f
-      ]
-
-  -- so what is known of the addresses at the flip stays true
+  -- what is known of the addresses at the flip stays true
   pub flip_after : (places : List (List (Option ℕ))) (segments : List Segment) → AreOfFlip past.time.at_flip w
       → AreOfFlip past.time.at_flip (world_with_blocks w w.graph.objects addresses_after places segments)
-  flip_after places segments of = record {
-    made = of.made;
-    still = λ j from to moves was now. of.still j from to moves was (still_there j to now);
-  }
+  flip_after = freed.flip_after past.time h.segs w parts.image parts.segments shapes of_flip at id b
 
   -- the segment over a word of a block stays, where it isn't given back
   over_still : (base : Address) (v : World) → v.segments ≡ without_segment w.segments base → v.graph.objects ≡ w.graph.objects
       → v.addresses ≡ addresses_after → HasLayout (w.grains + 1) w → HasLayout (v.grains + 1) v → (j k : ℕ) (o : Object) (n : Word)
       → Lies w.graph.objects addresses_after j k o n
       → segment_over (without_segment h.segs.segments base) (address_of_word n) ≡ segment_over h.segs.segments (address_of_word n)
-  over_still base v segments objects addresses laid after j k o n l =
-      let c = block_covers (occupancy_of v) w.graph.objects addresses_after j k o n
-      (ap (map shape_of) objects) addresses l in
-      let home = after.placed.homes (OfBlock j) (omega (arith, c.0, c.1)) in
-      let inside : Covers (words_of_segment home.segment) n = (omega (arith, home.above, c.0), omega (arith, home.below, c.1)) in
-      let here : segment_over v.segments (address_of_word n) ≡ Some home.segment =
-      found_segment 1 (v.grains + 1) v.segments home.segment after.ascending after.aligned home.held n inside in
-      let before : segment_over w.segments (address_of_word n) ≡ Some home.segment =
-      found_segment 1 (w.grains + 1) w.segments home.segment laid.ascending laid.aligned
-      (among_without base home.segment w.segments (subst (IsAmong home.segment) segments home.held)) n inside in
-      ap (λ ss. segment_over (without_segment ss base) (address_of_word n)) parts.segments
-      ∙ ap (λ ss. segment_over ss (address_of_word n)) (sym segments) ∙ here ∙ sym before
-      ∙ ap (λ ss. segment_over ss (address_of_word n)) (sym parts.segments)
-
-  -- the segment over an old word of a block that has moved stays too: it isn't of this pool
-  old_over : (t : Segment) → IsAmong t w.segments → is_copying_pool w t.pool ≡ false → HasLayout (w.grains + 1) w
-      → (j : Id) (from to : Address) (o : Object) (k : ℕ) → entry_at past.time.at_flip j ≡ Some from → entry_at w.addresses j ≡ Some to
-      → from ≢ to → slice_get w.graph.objects j ≡ Some o → k < size_of o
-      → segment_over (without_segment h.segs.segments t.base) (address_of_word (word_of from + k))
-      ≡ segment_over h.segs.segments (address_of_word (word_of from + k))
-  old_over t held not_copying laid j from to o k was now apart there low =
-      let n = word_of from + k in
-      let home = (parts.image.words.forwarded j from to o was now apart there).home k low in
-      of_one n (segment_over h.segs.segments (address_of_word n)) refl home
-    where
-      copying : is_copying_pool w o.pool ≡ true
-      copying = of_bool (cases_Bool (is_copying_object w j))
-        where
-          of_bool : (is_copying_object w j ≡ true) ⊎ (is_copying_object w j ≡ false) → is_copying_pool w o.pool ≡ true
-          of_bool (inl is) = sym (ap (λ x. option_map_or (λ (y : Object). is_copying_pool w y.pool) x false) there) ∙ is
-          of_bool (inr isnt) = absurd (apart ((flip_known past.time (collector_of h) w time).still j from to isnt was now))
-
-      of_one : (n : Word) (x : Option Segment) → segment_over h.segs.segments (address_of_word n) ≡ x
-          → option_map (λ (u : Segment). u.pool) x ≡ Some o.pool
-          → segment_over (without_segment h.segs.segments t.base) (address_of_word n)
-          ≡ segment_over h.segs.segments (address_of_word n)
-      of_one n None e pool = absurd (none-some o.pool pool)
-      of_one n (Some u) e pool =
-          let over : segment_over w.segments (address_of_word n) ≡ Some u =
-          ap (λ ss. segment_over ss (address_of_word n)) (sym parts.segments) ∙ e in
-          let found = found_among (λ v. is_in_segment v (address_of_word n)) w.segments u over in
-          let other : not (u.base == t.base) ≡ true =
-          ap not (ne_eqb u.base t.base (λ same.
-          let one : u ≡ t = same_by_base 1 (w.grains + 1) w.segments u t laid.ascending found.0 held same in
-          false≢true (sym not_copying ∙ ap (λ (v : Segment). is_copying_pool w v.pool) (sym one)
-          ∙ ap (is_copying_pool w) (same_Some u.pool o.pool pool) ∙ copying))) in
-          let inside = and_parts (nat_le u.base (address_of_word n)) (nat_lt (address_of_word n) (end_of_segment u)) found.1 in
-          let low = leb-true u.base (address_of_word n) inside.0 in
-          let high = ltb-true (address_of_word n) (end_of_segment u) inside.1 in
-          let a = among_aligned u w.segments laid.aligned found.0 in
-          ap (λ ss. segment_over (without_segment ss t.base) (address_of_word n)) parts.segments
-          ∙ found_segment 1 (w.grains + 1) (without_segment w.segments t.base) u
-          (ascending_without 1 (w.grains + 1) t.base w.segments laid.ascending) (all_without IsAligned t.base w.segments laid.aligned)
-          (among_kept t.base u w.segments other found.0) n (omega (arith, low, a), omega (arith, high, a)) ∙ sym e
-
-  -- the words with the segment given back
-  image_given : (t : Segment) (v : World) → IsAmong t w.segments → is_copying_pool w t.pool ≡ false
-      → v.segments ≡ without_segment w.segments t.base → v.graph.objects ≡ w.graph.objects
-      → v.addresses ≡ addresses_after → HasLayout (w.grains + 1) w → HasLayout (v.grains + 1) v
-      → StandsAt past.time (segments_freed h.segs at t true) (with_address w id None)
-  image_given t v held not_copying segments objects addresses laid after =
-      let segs = segments_freed h.segs at t true in
-      let s : Setting = setting_at past.time (block_removed h.segs at) (with_address w id None) in
-      let kept : AreSegmentsKept s addresses_after (pool_over_word segs) (is_condemned_word segs) = record {
-        pool = λ j k o n l. ap (option_map (λ (x : Segment). x.pool)) (over_still t.base v segments objects addresses laid after j k o n l);
-        is_condemned = λ j k o n l.
-            ap (λ (x : Option Segment). bit_of h.segs.condemned
-            (option_map (λ (y : Segment). grain_of y.base) x))
-            (over_still t.base v segments objects addresses laid after j k o n l);
-        old_pool = λ j from to o k e f apart there low.
-            ap (option_map (λ (x : Segment). x.pool))
-            (old_over t held not_copying laid j from to o k e (still_there j to f) apart there low);
-        was_condemned = λ j from to o k e f apart there low.
-            ap (λ (x : Option Segment). bit_of h.segs.condemned
-            (option_map (λ (y : Segment). grain_of y.base) x))
-            (old_over t held not_copying laid j from to o k e (still_there j to f) apart there low);
-      } in
-      segments_change s (memory_in (block_removed h.segs at)) addresses_after past.time.colours
-      (black_cells past.time.condemned past.time.colours) (pool_over_word segs)
-      (is_condemned_word segs) image_removed kept
+  over_still = freed.over_still past.time h.segs w parts.image parts.segments shapes of_flip at id b
 
   -- the words after the free
-  pub image_after : (t : Segment) (given : Bool) (v : World) → IsAmong t w.segments → is_copying_pool w t.pool ≡ false
+  image_after : (t : Segment) (given : Bool) (v : World) → IsAmong t w.segments → is_copying_pool w t.pool ≡ false
       → v.segments ≡ (if given then without_segment w.segments t.base else w.segments) → v.graph.objects ≡ w.graph.objects
       → v.addresses ≡ addresses_after → HasLayout (w.grains + 1) w → HasLayout (v.grains + 1) v
       → StandsAt past.time (segments_freed h.segs at t given) (with_address w id None)
-  image_after t true v held not_copying segments objects addresses laid after =
-      image_given t v held not_copying segments objects addresses laid after
-  image_after t false v held not_copying segments objects addresses laid after = image_removed
+  image_after = freed.image_after past.time h.segs w parts.image parts.segments shapes of_flip at id b
 
   -- ---- the parts
 
@@ -339,7 +182,7 @@ module _ {F : Type 0} (layout : F → Layout) (past : Past) (h : HeapState F) (w
 
   pub parts_freed : (index : ℕ) (entry : Entry Address) (found : Found (Option ℕ)) → IsPlaceEntry past h w index entry found
       → found.value ≡ Some id → ArePlacedOnce (places_of w) → (t : Segment) (given : Bool) → IsAmong t w.segments
-      → is_copying_pool w t.pool ≡ false
+      → is_copying_pool w t.pool ≡ false → pool_is has_frames w (pool_of w id) ≡ false
       → HasLayout (w.grains + 1) w
       → HasLayout (w.grains + 1) (world_with_blocks w w.graph.objects addresses_after
       (slice_set w.graph.blocks found.number (slice_set found.list found.index None))
@@ -349,7 +192,7 @@ module _ {F : Type 0} (layout : F → Layout) (past : Past) (h : HeapState F) (w
       (world_with_blocks w w.graph.objects addresses_after
       (slice_set w.graph.blocks found.number (slice_set found.list found.index None))
       (if given then without_segment w.segments t.base else w.segments))
-  parts_freed index entry found is value once t given held not_copying laid after =
+  parts_freed index entry found is value once t given held not_copying frameless laid after =
       let places = slice_set w.graph.blocks found.number (slice_set found.list found.index None) in
       let segments = if given then without_segment w.segments t.base else w.segments in
       let v = world_with_blocks w w.graph.objects addresses_after places segments in
@@ -403,4 +246,16 @@ module _ {F : Type 0} (layout : F → Layout) (past : Past) (h : HeapState F) (w
             ap (λ n. length (with_place h.roots.blocks n entry.index 0)) same_key
             ∙ ap (λ i. length (with_place h.roots.blocks found.number i 0)) same_index
             ∙ place_length w.graph.blocks found.number found.index found.list None has h.roots.blocks 0;
+        framed =
+            subst (λ n. AreFramed h.beside.frames (with_place h.roots.blocks n entry.index 0) places w.pools w.graph.frames) (sym same_key)
+            (subst (λ i. AreFramed h.beside.frames (with_place h.roots.blocks found.number i 0) places w.pools w.graph.frames)
+            (sym same_index)
+            (framed_written h.beside.frames h.roots.blocks w.graph.blocks w.pools w.graph.frames parts.framed found.number found.index
+            found.list is.list None 0 has (ap (slice_get h.roots.blocks) is.number ∙ is.kept) (λ j. not (id == j))
+            (frames_others w id frameless w.graph.frames known.formed.frames) (λ j entry passes.
+            let same : id ≡ j =
+            same_Some id j (sym value ∙ same_Some found.value (Some j) (sym is.there ∙ ap (slice_get found.list) (sym is.found_index)
+            ∙ entry)) in
+            false≢true (ap not (sym (eq-eqb id j same)) ∙ passes))
+            (places_counted w.graph.blocks found.number found.index found.list None has)));
       })

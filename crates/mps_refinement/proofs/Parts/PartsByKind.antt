@@ -12,6 +12,7 @@ use Rattle.mps_heap_spec.specs.State.{HeapState}
 use Rattle.mps_format.specs.Pools.{policy_of_pool, size_of_pool}
 use Rattle.mps_trace_laws.specs.Summaries.Summed.{AreWordsSummed}
 use Rattle.mps_refinement.specs.Beside.{IsBeside}
+use Rattle.mps_refinement.specs.Framed.{AreFramed}
 use Rattle.mps_refinement.specs.Numbering.{AreNumbered, AreOrdered}
 use Rattle.mps_refinement.specs.Transforms.{AreTransforms}
 use Rattle.mps_refinement.specs.StandsFor.{AreChains, AreNamed, AreParts, ArePools, AreSlots, AreWords, IsArena, IsPoint, Past, address_of_id, address_of_target, kept_of, state_of, AreRegisteredAt, StandsAt}
@@ -53,13 +54,14 @@ module _ {F : Type 0} (layout : F → Layout) (past : Past) (h : HeapState F) (w
       ((number : ℕ) → IsLawful (w.formats number)) × ArePools layout w.formats h.pools w.pools × (h.sizes ≡ map size_of_pool h.pools)
       × AreChains h.chains w.chains w.pools × (w.graph.dependents ≡ [])
 
-  -- flips, the arena's state, what stands beside the blocks, and transforms
+  -- flips, the arena's state, what stands beside the blocks, transforms, and pools of frames
   abbrev pub StateParts : Type 0
   StateParts =
       AreFlips h.epochs w.flips × (h.points.flips ≡ length w.flips) × (w.state ≡ state_of h.arena (world.pairs_in w.state))
-      × IsBeside h.beside w.addresses w.graph.transforms (world.pairs_in w.state) w.graph.caches w.graph.frames
+      × IsBeside h.beside w.addresses w.graph.caches
       × AreTransforms past.transform_number (world.is_copying_object w) w.addresses h.beside.transforms w.graph.transforms
       (world.pairs_in w.state)
+      × AreFramed h.beside.frames h.roots.blocks w.graph.blocks w.pools w.graph.frames
 
 module _ {F : Type 0} {layout : F → Layout} {past : Past} {h : HeapState F} {w : World} where
   pub parts_of_kinds : ArenaParts layout past h w → ImageParts layout past h w → RootParts layout past h w → PointParts layout past h w
@@ -95,6 +97,7 @@ module _ {F : Type 0} {layout : F → Layout} {past : Past} {h : HeapState F} {w
     state = state.2;
     beside = state.3;
     transforms = state.4;
+    framed = state.5;
   }
 
 module _ {F : Type 0} {layout : F → Layout} {past : Past} {h : HeapState F} {w : World} (parts : AreParts layout past h w) where
@@ -117,4 +120,4 @@ module _ {F : Type 0} {layout : F → Layout} {past : Past} {h : HeapState F} {w
   pools_of = (parts.lawful, parts.pools, parts.sizes, parts.chains, parts.dependents)
 
   pub states_of : StateParts layout past h w
-  states_of = (parts.flips, parts.point_flips, parts.state, parts.beside, parts.transforms)
+  states_of = (parts.flips, parts.point_flips, parts.state, parts.beside, parts.transforms, parts.framed)

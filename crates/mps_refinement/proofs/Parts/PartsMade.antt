@@ -6,7 +6,7 @@ use Rattle.mps_buffer.specs.declared.point.Point.{Point}
 use Rattle.mps_format.specs.Layout.{Layout}
 use Rattle.mps_ld.specs.State.{LdState}
 use Rattle.mps_model.specs.Graph as graph
-use Rattle.mps_model.specs.Graph.{AreaWord, NamedThing, Slots}
+use Rattle.mps_model.specs.Graph.{AreaWord, NamedThing, PoolFrames, Slots}
 use Rattle.mps_model.specs.Making.{live_points, live_roots, live_slots}
 use Rattle.mps_model.specs.World as world
 use Rattle.mps_model.specs.World.{World, Dependency, PointMemory}
@@ -14,6 +14,7 @@ use Rattle.mps_model.specs.Checked.{with_graph}
 use Rattle.mps_names.specs.State.{NamesState, IsSameMap}
 use Rattle.mps_neighbours.specs.Beside.{BesideState}
 use Rattle.mps_root.specs.State.{RootsState, kept}
+use Rattle.mps_snc.specs.State.{Pools}
 use Rattle.mps_heap_spec.specs.Making.{IsUntouched}
 use Rattle.mps_heap_spec.specs.State.{HeapState}
 use Rattle.mps_heap_spec.specs.Transforming.{with_transforms}
@@ -25,11 +26,12 @@ use Rattle.mps_format.specs.declared.pool.Pool.{Pool}
 use Rattle.mps_trace.specs.AmcState.{with_pool}
 use Rattle.mps_trace.specs.GenState.{ChainsState}
 use Rattle.mps_pools.specs.Pools.{tails_on, with_pool_on}
+use Rattle.mps_refinement.specs.Framed.{AreFramed}
 use Rattle.mps_refinement.specs.Numbering.{AreNumbered, AreOrdered}
 use Rattle.mps_refinement.specs.Transforms.{AreTransforms}
 use Rattle.mps_refinement.specs.StandsFor.{AreChains, AreNamed, AreParts, ArePools, AreSlots, AreWords, IsPoint, Past, StandsFor, address_of_target, kept_of, state_of, IsArena, IsInTime, StandsAt, collector_of}
 use Rattle.mps_refinement.proofs.Parts.Named.{ThingsStay, named_alike}
-use Rattle.mps_refinement.proofs.Parts.BesideParts.{beside_others, beside_still}
+use Rattle.mps_refinement.proofs.Parts.BesideParts.{beside_framed, beside_others}
 use Rattle.mps_refinement.proofs.Parts.PartsByKind.{parts_of_kinds, arena_of, finals_of, image_of, points_of, pools_of, roots_of, states_of}
 use Rattle.mps_trace_laws.specs.Summaries.Summed.{AreWordsSummed}
 
@@ -72,6 +74,7 @@ module _ {F : Type 0} (layout : F → Layout) (past : Past) (h : HeapState F) (w
     pub blocks_are : roots.blocks ≡ map (map (address_of_target w.addresses)) blocks
     pub roots_counted : roots_live ≡ live_roots (record w.graph { tables = tables; areas = areas; blocks = blocks })
     pub slots_counted : slots_live ≡ live_slots (record w.graph { tables = tables; areas = areas; blocks = blocks })
+    pub framed_are : AreFramed h.beside.frames roots.blocks blocks w.pools w.graph.frames
     pub names_are : AreNamed (past_of_roots table_number area_number) (state_of_roots roots roots_live slots_live names) named
         w.graph.labels
 
@@ -83,7 +86,8 @@ module _ {F : Type 0} (layout : F → Layout) (past : Past) (h : HeapState F) (w
   roots_changed table_number area_number roots roots_live slots_live names tables areas blocks named are =
       parts_of_kinds (arena_of parts) (image_of parts)
       (are.tables_are, are.ordered, are.areas_are, are.blocks_are, are.roots_counted, are.slots_counted) (points_of parts)
-      (finals_of parts) parts.dependencies (pools_of parts) are.names_are (states_of parts)
+      (finals_of parts) parts.dependencies (pools_of parts) are.names_are
+      (parts.flips, parts.point_flips, parts.state, parts.beside, parts.transforms, are.framed_are)
 
   -- ---- points
 
@@ -129,39 +133,44 @@ module _ {F : Type 0} (layout : F → Layout) (past : Past) (h : HeapState F) (w
 
   -- ---- pools
 
-  abbrev pub state_of_pools : List (Pool F) → (sizes : List ℕ) → (chain : Option ℕ) → NamesState → HeapState F
-  state_of_pools pools sizes chain names = record h {
+  -- the state with other pools, some of them of frames
+  abbrev pub state_of_pools : List (Pool F) → (sizes : List ℕ) → (chain : Option ℕ) → Pools → NamesState → HeapState F
+  state_of_pools pools sizes chain frames names = record h {
     pools = pools;
     sizes = sizes;
     chains = with_pool_on h.chains chain;
     tails = with_pool h.tails (tails_on h.chains chain);
     names = names;
+    beside = record h.beside { frames = frames };
   }
 
-  abbrev pub world_of_pools : List world.Pool → List NamedThing → World
-  world_of_pools pools named = record w { graph = record w.graph { names = named }; pools = pools }
+  abbrev pub world_of_pools : List world.Pool → List PoolFrames → List NamedThing → World
+  world_of_pools pools framed named = record w { graph = record w.graph { names = named; frames = framed }; pools = pools }
 
-  pub record AreOtherPools (pools : List (Pool F)) (sizes : List ℕ) (chain : Option ℕ) (names : NamesState)
-      (numbered : List world.Pool) (named : List NamedThing) : Type 0 where
+  pub record AreOtherPools (pools : List (Pool F)) (sizes : List ℕ) (chain : Option ℕ) (frames : Pools) (names : NamesState)
+      (numbered : List world.Pool) (framed : List PoolFrames) (named : List NamedThing) : Type 0 where
     pub pools_are : ArePools layout w.formats pools numbered
     pub sizes_are : sizes ≡ map size_of_pool pools
     pub chains_are : AreChains (with_pool_on h.chains chain) w.chains numbered
-    pub points_are : AreNumbered (IsPoint (length w.flips) (world.is_copying_pool (world_of_pools numbered w.graph.names)) w.point_memories)
+    pub points_are : AreNumbered
+        (IsPoint (length w.flips) (world.is_copying_pool (world_of_pools numbered framed w.graph.names)) w.point_memories)
         past.point_number (kept h.points.points) w.graph.points
-    pub image_stands : StandsAt past.time h.segs (world_of_pools numbered w.graph.names)
+    pub image_stands : StandsAt past.time h.segs (world_of_pools numbered framed w.graph.names)
     pub words_summed : AreWordsSummed layout (map policy_of_pool pools) h.segs
-    pub transforms_are : AreTransforms past.transform_number (world.is_copying_object (world_of_pools numbered w.graph.names)) w.addresses
-        h.beside.transforms w.graph.transforms (world.pairs_in w.state)
-    pub names_are : AreNamed past (state_of_pools pools sizes chain names) named w.graph.labels
+    pub transforms_are : AreTransforms past.transform_number (world.is_copying_object (world_of_pools numbered framed w.graph.names))
+        w.addresses h.beside.transforms w.graph.transforms (world.pairs_in w.state)
+    pub framed_are : AreFramed frames h.roots.blocks w.graph.blocks numbered framed
+    pub names_are : AreNamed past (state_of_pools pools sizes chain frames names) named w.graph.labels
 
-  pub pools_changed : (pools : List (Pool F)) (sizes : List ℕ) (chain : Option ℕ) (names : NamesState) (numbered : List world.Pool)
-      (named : List NamedThing) → AreOtherPools pools sizes chain names numbered named
-      → AreParts layout past (state_of_pools pools sizes chain names) (world_of_pools numbered named)
-  pools_changed pools sizes chain names numbered named are =
+  pub pools_changed : (pools : List (Pool F)) (sizes : List ℕ) (chain : Option ℕ) (frames : Pools) (names : NamesState)
+      (numbered : List world.Pool) (framed : List PoolFrames) (named : List NamedThing)
+      → AreOtherPools pools sizes chain frames names numbered framed named
+      → AreParts layout past (state_of_pools pools sizes chain frames names) (world_of_pools numbered framed named)
+  pools_changed pools sizes chain frames names numbered framed named are =
       parts_of_kinds (arena_of parts) (are.image_stands, parts.arena, are.words_summed) (roots_of parts)
       (are.points_are, parts.points_counted)
       (finals_of parts) parts.dependencies (parts.lawful, are.pools_are, are.sizes_are, are.chains_are, parts.dependents) are.names_are
-      (parts.flips, parts.point_flips, parts.state, parts.beside, are.transforms_are)
+      (parts.flips, parts.point_flips, parts.state, beside_framed _ _ _ parts.beside frames, are.transforms_are, are.framed_are)
 
   -- ---- dependencies
 
@@ -214,8 +223,9 @@ module _ {F : Type 0} (layout : F → Layout) (past : Past) (h : HeapState F) (w
         parts.flips,
         parts.point_flips,
         is,
-        beside_others _ _ _ _ _ _ transforms (beside_still _ _ _ _ _ _ parts.beside _ _ _ _ _ refl),
+        beside_others _ _ _ transforms parts.beside,
         are,
+        parts.framed,
       )
 
   -- ---- the arena's limit and state, pairs of transforms, and names in another order
@@ -249,8 +259,9 @@ module _ {F : Type 0} (layout : F → Layout) (past : Past) (h : HeapState F) (w
         parts.flips,
         parts.point_flips,
         is,
-        beside_others _ _ _ _ _ _ transforms (beside_still _ _ _ _ _ _ parts.beside _ _ _ _ _ refl),
+        beside_others _ _ _ transforms parts.beside,
         are,
+        parts.framed,
       )
 
   -- what stands for the world stands for it with other names of the same meaning

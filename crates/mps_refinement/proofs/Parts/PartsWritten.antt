@@ -21,6 +21,7 @@ use Rattle.mps_heap_spec.specs.declared.found.Entry.{Entry}
 use Rattle.mps_heap_spec.specs.Objects as ours
 use Rattle.mps_heap_spec.specs.State.{HeapState}
 use Rattle.mps_refinement.specs.StandsFor.{Past, AreParts, AreSlots, AreWords, address_of_id, address_of_target, kept_of, stored_word, AreRegisteredAt, StandsAt}
+use Rattle.mps_refinement.specs.Framed.{AreFramed}
 use Rattle.mps_refinement.specs.Numbering.{AreNumbered, AreOrdered}
 use Rattle.mps_refinement.proofs.Parts.Counts.{slot_written_roots, slot_written_slots, word_written_roots, word_written_slots}
 use Rattle.mps_refinement.proofs.Parts.EntryWritten.{entry_written, kept_still}
@@ -44,6 +45,7 @@ module _ {F : Type 0} (layout : F → Layout) (past : Past) (h : HeapState F) (w
     pub blocks_are : roots.blocks ≡ map (map (address_of_target w.addresses)) blocks
     pub roots_counted : live_roots (record w.graph { tables = tables; areas = areas; blocks = blocks }) ≡ live_roots w.graph
     pub slots_counted : live_slots (record w.graph { tables = tables; areas = areas; blocks = blocks }) ≡ live_slots w.graph
+    pub framed_are : AreFramed h.beside.frames roots.blocks blocks w.pools w.graph.frames
     pub stay : ThingsStay h (record h { roots = roots })
 
   pub roots_written : (roots : RootsState) (tables : List (Option Slots)) (areas : List (Option (List AreaWord))) (blocks : List Slots)
@@ -61,7 +63,7 @@ module _ {F : Type 0} (layout : F → Layout) (past : Past) (h : HeapState F) (w
       )
       (points_of parts) (finals_of parts) parts.dependencies (pools_of parts)
       (named_alike h (record h { roots = roots }) past w.graph.names w.graph.labels parts.names (λ name. refl) refl are.stay)
-      (states_of parts)
+      (parts.flips, parts.point_flips, parts.state, parts.beside, parts.transforms, are.framed_are)
 
   -- other words, and other objects where they lie, where what words refer to is in summaries
   pub words_written : (words summaries : List ℕ) (objects : List Object)
@@ -85,6 +87,7 @@ module _ {F : Type 0} (layout : F → Layout) (past : Past) (h : HeapState F) (w
               there,
               kinds_by_images past.time h.segs (record h.segs { words = words }) w objects refl parts.image image id at there,
             )) parts.transforms,
+        parts.framed,
       )
 
   -- other registrations and messages
@@ -135,6 +138,7 @@ module _ {F : Type 0} (layout : F → Layout) (past : Past) (h : HeapState F) (w
         blocks_are = parts.blocks;
         roots_counted = slot_written_roots w.graph found target is.has;
         slots_counted = slot_written_slots w.graph found target is.has;
+        framed_are = parts.framed;
         stay = record {
           pools = λ n low. low;
           caches = omega arith;
@@ -162,6 +166,7 @@ module _ {F : Type 0} (layout : F → Layout) (past : Past) (h : HeapState F) (w
         blocks_are = parts.blocks;
         roots_counted = word_written_roots w.graph found word is.has;
         slots_counted = word_written_slots w.graph found word is.has;
+        framed_are = parts.framed;
         stay = record {
           pools = λ n low. low;
           caches = omega arith;

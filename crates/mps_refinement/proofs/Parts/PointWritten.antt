@@ -207,4 +207,4 @@ module _ {F : Type 0} (layout : F → Layout) (past : Past) (h : HeapState F) (w
       (roots_of parts) (anew.are, parts.points_counted ∙ sym anew.counted) (finals_of parts) parts.dependencies (pools_of parts)
       (named_alike h (points_heap segs points) past w.graph.names w.graph.labels parts.names (λ name. refl) refl
       (points_stay segs points anew.there))
-      (parts.flips, anew.flips ∙ parts.point_flips, parts.state, parts.beside, parts.transforms)
+      (parts.flips, anew.flips ∙ parts.point_flips, parts.state, parts.beside, parts.transforms, parts.framed)

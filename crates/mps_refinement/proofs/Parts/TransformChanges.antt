@@ -177,7 +177,7 @@ module _ (number : ℕ → ℕ) (moves : Id → Bool) (addresses : List (Option 
         let one = ap (λ b. live_count (slice_set transforms (number key) false) + (if b then 1 else 0)) is in omega (arith, e, one)
 
     -- a pair is of this transform in both, or in neither
-    same_transform : (q : Pair) (p : TransformPair) → IsPairOf number moves addresses t.live q p
+    pub same_transform : (q : Pair) (p : TransformPair) → IsPairOf number moves addresses t.live q p
         → is_of key q ≡ (p.transform == number key)
     same_transform q p is =
         elim (cases_eq q.transform key) [

@@ -140,12 +140,13 @@ module _ {F : Type 0} (layout : F → Layout) (past : Past) (h : HeapState F) (x
           parts.flips,
           parts.point_flips,
           parts.state,
-          beside_still _ _ _ _ _ _ parts.beside _ _ _ _ _
+          beside_still _ _ _ parts.beside _ _
               (same_caches w.addresses v.addresses w.graph.caches in_caches),
           transforms_still past.transform_number (is_copying_object w) (is_copying_object v) w.addresses v.addresses h.beside.transforms
               w.graph.transforms (pairs_in w.state) (none_paired (is_copying_object w) (is_copying_object v) w.addresses v.addresses
               (pairs_in w.state) (pairs_unparked w.state
               (running_unparked w formed (still_runs w x.running run.runs)))) parts.transforms,
+          parts.framed,
         )
 
     pub parts_moved : AreParts layout (record past { time = t }) (collected_heap h c finals) after

@@ -25,9 +25,11 @@ use Rattle.mps_model.specs.World.{World}
 use Rattle.mps_model.specs.Checked.{Checked, ◌>>=◌, ◌>>◌, refuse_when, required}
 use Rattle.mps_seg.specs.Placing.{placement_in_gaps}
 use Rattle.mps_seg.specs.Segs.{SegsState, moves_after}
+use Rattle.mps_snc.specs.State.{has_room, max_notes, pool_at}
 use Rattle.mps_heap_spec.specs.Allocating.{after_reserve, after_commit, check_reserve}
 use Rattle.mps_heap_spec.specs.Coming.{Moved, ComesMoving, answer_moved, state_moved, trail_moved}
 use Rattle.mps_heap_spec.specs.Finding.{block_place_in, point_named, pool_named, slot_in}
+use Rattle.mps_heap_spec.specs.Framing.{frames_after_alloc, has_frames, with_frames}
 use Rattle.mps_heap_spec.specs.Manual.{block_allocated, block_freed, block_in, with_block_place}
 use Rattle.mps_heap_spec.specs.State.{HeapState}
 use Rattle.mps_format.specs.Pools.{is_automatic_pool}
@@ -76,20 +78,25 @@ given_back_appends covered (Some s) ms t u is = of_use (is_unused covered s)
     of_use true = move_appends ms t u (moves.Unseg (record { 0 = s.base })) is
     of_use false = is
 
-pub freed_appends : (size : ℕ) (s : SegsState) (trail : Moves) (at : Addr)
-    → moves_freed size s trail at ≡ after_moves trail.moves (moves_freed size s (fresh trail) at)
-freed_appends size s trail at = of_size (size == any_size)
+-- the moves of a free over a trail with these moves before, and over one without them
+pub free_appends_to : (size : ℕ) (s : SegsState) (at : Addr) (ms : List Move) (t u : Moves) → t ≡ after_moves ms u
+    → moves_freed size s t at ≡ after_moves ms (moves_freed size s u at)
+free_appends_to size s at ms t u is = of_size (size == any_size)
   where
-    freeing : with_move trail (moves.Free at) ≡ after_moves trail.moves (with_move (fresh trail) (moves.Free at))
-    freeing = refl
+    freeing : with_move t (moves.Free at) ≡ after_moves ms (with_move u (moves.Free at))
+    freeing = move_appends ms t u (moves.Free at) is
 
     of_size : (any : Bool)
-        → (if any then moves_given_back (block_removed s at.0).covered (segment_over s.segments at.0) (with_move trail (moves.Free at))
-        else with_move trail (moves.Free at))
-        ≡ after_moves trail.moves (if any then moves_given_back (block_removed s at.0).covered (segment_over s.segments at.0)
-        (with_move (fresh trail) (moves.Free at)) else with_move (fresh trail) (moves.Free at))
-    of_size true = given_back_appends _ (segment_over s.segments at.0) trail.moves _ _ freeing
+        → (if any then moves_given_back (block_removed s at.0).covered (segment_over s.segments at.0) (with_move t (moves.Free at))
+        else with_move t (moves.Free at))
+        ≡ after_moves ms (if any then moves_given_back (block_removed s at.0).covered (segment_over s.segments at.0)
+        (with_move u (moves.Free at)) else with_move u (moves.Free at))
+    of_size true = given_back_appends _ (segment_over s.segments at.0) ms _ _ freeing
     of_size false = freeing
+
+pub freed_appends : (size : ℕ) (s : SegsState) (trail : Moves) (at : Addr)
+    → moves_freed size s trail at ≡ after_moves trail.moves (moves_freed size s (fresh trail) at)
+freed_appends size s trail at = free_appends_to size s at trail.moves trail (fresh trail) (unmoved trail)
 
 -- ---- outcomes
 
@@ -223,11 +230,13 @@ module _ {F : Type 0} (layout : F → Layout) (h : HeapState F) (trail : Moves) 
       after_check trail.moves (required (slice_get h.sizes from.key) refusal.BadName) _ _ (λ size.
       after_refusal trail.moves (refuse_when (not (has_blocks_of size words)) refusal.BadSize) _ _ (
       after_refusal trail.moves (refuse_when (not (into.value == 0)) refusal.NameTaken) _ _ (
+      after_refusal trail.moves (refuse_when (not (has_room (pool_at h.beside.frames from.key))) (refusal.TooMany max_notes)) _ _ (
       after_check trail.moves (answer_of_alloc size h.segs from.key words) _ _ (λ at.
-      ok_appends trail.moves tt (with_block_place (record h { segs = segs_after_alloc h.segs from.key words at }) into at.0) _ _
+      ok_appends trail.moves tt (with_frames (with_block_place (record h { segs = segs_after_alloc h.segs from.key words at }) into at.0)
+      (frames_after_alloc h from.key into at)) _ _
       (move_appends trail.moves _ _ (moves.Alloc at words from.key)
       (moves_after-appends (placement_in_gaps h.segs from.key rank.Exact words) from.key 0 trail.moves trail (fresh trail)
-      (unmoved trail))))))))))
+      (unmoved trail)))))))))))
 
   pub alloc_is_right_after : (pool : Name) (words : ℕ) (place : Slot) (result : Checked (Unit {0})) (after : HeapState F)
       (trail_after : Moves) → ComesMoving h trail (block_allocated h trail pool words place) result after trail_after
@@ -242,8 +251,9 @@ module _ {F : Type 0} (layout : F → Layout) (h : HeapState F) (trail : Moves) 
       after_check trail.moves (block_place_in h place) _ _ (λ from.
       after_check trail.moves (block_in h from) _ _ (λ at.
       after_check trail.moves (required (segment_over h.segs.segments at) refusal.NotABlock) _ _ (λ s.
+      after_refusal trail.moves (refuse_when (has_frames h s.pool) refusal.WrongPool) _ _ (
       after_check trail.moves (required (slice_get h.sizes s.pool) refusal.NotABlock) _ _ (λ size.
-      ok_appends trail.moves tt _ _ _ (freed_appends size h.segs trail (record { 0 = at }))))))
+      ok_appends trail.moves tt _ _ _ (freed_appends size h.segs trail (record { 0 = at })))))))
 
   pub free_is_right_after : (place : Slot) (result : Checked (Unit {0})) (after : HeapState F) (trail_after : Moves)
       → ComesMoving h trail (block_freed h trail place) result after trail_after

@@ -19,9 +19,11 @@ use Rattle.mps_format.specs.Layout.{Layout}
 use Rattle.mps_model.specs.Checked.{Checked, ◌>>=◌, ◌>>◌, refuse_when, required}
 use Rattle.mps_seg.specs.Placing.{placement_in_gaps}
 use Rattle.mps_seg.specs.Segs.{SegsState, moves_after}
+use Rattle.mps_snc.specs.State.{has_room, max_notes, pool_at}
 use Rattle.mps_heap_spec.specs.Allocating.{after_reserve, after_commit, check_reserve}
 use Rattle.mps_heap_spec.specs.Coming.{Moved, ComesMoving, trail_moved}
 use Rattle.mps_heap_spec.specs.Finding.{block_place_in, point_named, pool_named, slot_in}
+use Rattle.mps_heap_spec.specs.Framing.{has_frames}
 use Rattle.mps_heap_spec.specs.Manual.{block_allocated, block_freed, block_in}
 use Rattle.mps_heap_spec.specs.State.{HeapState}
 use Rattle.mps_format.specs.Pools.{is_automatic_pool}
@@ -133,13 +135,15 @@ module _ {F : Type 0} (layout : F → Layout) (h : HeapState F) (trail : Moves) 
       after_check trail (required (slice_get h.sizes from.key) refusal.BadName) _ (λ size.
       after_refusal trail (refuse_when (not (has_blocks_of size words)) refusal.BadSize) _ (
       after_refusal trail (refuse_when (not (into.value == 0)) refusal.NameTaken) _ (
+      after_refusal trail (refuse_when (not (has_room (pool_at h.beside.frames from.key))) (refusal.TooMany max_notes)) _ (
       after_check trail (answer_of_alloc size h.segs from.key words) _ (λ at.
-      alloc_keeps h.segs trail from.key words at some)))))))
+      alloc_keeps h.segs trail from.key words at some))))))))
 
   pub free_keeps_room : (place : Slot) → 1 < trail.spare → Keeps trail (block_freed h trail place)
   free_keeps_room place some =
       after_check trail (block_place_in h place) _ (λ from.
       after_check trail (block_in h from) _ (λ at.
       after_check trail (required (segment_over h.segs.segments at) refusal.NotABlock) _ (λ s.
+      after_refusal trail (refuse_when (has_frames h s.pool) refusal.WrongPool) _ (
       after_check trail (required (slice_get h.sizes s.pool) refusal.NotABlock) _ (λ size.
-      freed_keeps size h.segs trail (record { 0 = at }) some))))
+      freed_keeps size h.segs trail (record { 0 = at }) some)))))
