@@ -2,13 +2,13 @@
 use Rattle.std.proofs.Common.{◌≡◌, inl, inr, ℕ, Bool, true, false, refl, sym, ◌∙◌, ap, subst, List, [], ◌∷◌, ◌++◌, map, Option, Some, None}
 use Rattle.std.proofs.lemmas.Bool.{true≢false, and_parts, and_from, or_cases}
 use Rattle.std.proofs.Common.{append-nil}
-use Rattle.std.specs.Prelude.{IsTrue, MatchBool, ◌||◌, option_map, is_some}
+use Rattle.std.specs.Prelude.{MatchBool, ◌||◌, option_map, is_some}
 use Rattle.std.specs.Option.{option_map_or}
 use Rattle.std.specs.List.{list_all, flat_map, list_any}
 use Rattle.mps_base.specs.declared.moves.Move.{Move}
 use Rattle.mps_model.proofs.Reaching.{PathLeads-holds, list_all-contains}
 use Rattle.mps_model.specs.Reachable.{begins, goes_on}
-use Rattle.mps_model.specs.Graph.{Point, Reservation, contains, ids_in_reservations, ids_of_client, is_automatic, strong_targets, targets, targets_of, targets_of_point, targets_of_reservation, strong_targets_of, object_at, Object, is_weak_object}
+use Rattle.mps_model.specs.Graph.{Point, Reservation, contains, ids_in_reservations, ids_of_client, strong_targets, targets, targets_of, targets_of_point, targets_of_reservation, strong_targets_of, object_at, Object, is_weak_object}
 use Rattle.mps_model.specs.World.{World, has_area_word, ids_of_area_words, is_live, is_running, live_automatic_ids, live_ids, address_of, area_words, is_copying_object, is_live_and, is_word_in, lies_in, words_of}
 use Rattle.mps_model.specs.WellFormed.{is_live_automatic}
 use Rattle.mps_model.specs.Effect.{Everything, doomed, world_after_moves}

@@ -39,3 +39,4 @@ pub mod ReservationsStay
 pub mod Reservations
 pub mod Initialising
 pub mod Substituting
+pub mod Dependents

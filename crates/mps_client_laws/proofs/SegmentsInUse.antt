@@ -13,7 +13,7 @@ use Rattle.mps_base.specs.declared.moves.Move.TheVariants as moves
 use Rattle.mps_model.specs.declared.call.Call.TheVariants as call
 use Rattle.mps_model.specs.Graph.{Automatic, Body, Manual, Object, contains, entry_at, is_automatic, is_automatic_body, object_at}
 use Rattle.mps_model.specs.Collection.{Collection}
-use Rattle.mps_model.specs.World.{World, Pool, PoolKind, Collected, OneSize, AnySize, Frames, address_of, begins_in, id_at, is_any_size_kind, is_automatic_kind, is_copying_kind, is_copying_object, is_copying_pool, is_empty_segment, is_live_and, live_ids, object_is, pool_at, pool_is, pool_of, with_tail}
+use Rattle.mps_model.specs.World.{World, Pool, PoolKind, Collected, OneSize, AnySize, Frames, address_of, id_at, is_any_size_kind, is_automatic_kind, is_copying_pool, object_is, pool_at, pool_is, pool_of, with_tail}
 use Rattle.mps_model.specs.WellFormed.{is_right_body}
 use Rattle.mps_model.specs.Effect.{after_free, after_moved, after_post, after_segment, after_splat, condemnation_of, condemned_by, giving_back, holding, placing, posting, reclaiming, registration_of, segment_base_of, segment_of_move, splatting, where_one, with_collection, without_object, world_after_move, world_after_moves, world_flipped, lies_in_one}
 use Rattle.mps_model.specs.LegalMove.{AreLegalMoves, IsLegalMove, IsLegalMoved, IsLegalSweep, IsSegmentForMove, first_move}

@@ -9,3 +9,4 @@ pub mod Committing
 pub mod Reservations
 pub mod Initialising
 pub mod Substituting
+pub mod Dependents

@@ -7,6 +7,7 @@ ghost use Rattle.mps_client_laws.specs.Addresses.{ObjectsLiveOn, AddressesStay, 
 ghost use Rattle.mps_client_laws.specs.Collecting.{CollectLeavesWhatIsReached, WhatDependentsReachStays, WhatIsNotReachedIsGone};
 ghost use Rattle.mps_client_laws.specs.Complete.{LiveObjectsAreReached, OthersWereKeptByMoves, PinnedObjectsStay, ReachedObjectsAreLive, RegisteredObjectsAreLive, SegmentsHaveLiveBlocks, StillReachedObjectsAreLive, TargetsAreLive};
 ghost use Rattle.mps_client_laws.specs.Committing.{CommitMakesTheObject, FlippedMakesNone};
+ghost use Rattle.mps_client_laws.specs.Dependents.{ValuesGoWithTheirKeys};
 ghost use Rattle.mps_client_laws.specs.Initialising.{InitWritesTheNumber, InitWritesTheReference};
 ghost use Rattle.mps_client_laws.specs.ReadingBack.{GetGivesWhatWasPut, NumAnswersWhatWasSet, LoadAnswersWhatWasStored};
 ghost use Rattle.mps_client_laws.specs.Refusals.{RefusalsAreListed, RefusedStepsAreListed, NoneIsOutOfMemory, RefusedStepsMakeNoMoves, RefusedStepsChangeNothing, RefusedStepsLeaveTheirMoves, RefusedPollsHaveNoPlace};
@@ -134,4 +135,10 @@ pub fn a_transapply_replaces_once()
     ensures slots { NoSlotRefersToOld }
     ensures references { NoReferenceIsToOld }
     ensures blocked { NoChangesNothing }
+{}
+
+/// A value goes with its key. A weak object may have a dependent, whose reference in a cell is the value of the key in the same cell. In
+/// each world that a legal history reaches, and after any moves from there, a value that was null with its key is so after one move more.
+pub fn values_go_with_their_keys()
+    ensures { ValuesGoWithTheirKeys }
 {}
