@@ -203,7 +203,7 @@ module _ {F : Type 0} (layout : F → Layout) (h : HeapState F) (w : World) (st 
     leaf_is =
         ap (λ (x : Option (Pool F)). option_map_or is_leaf_pool x false) is.block.pool_is
         ∙ leaf_of_kind is.block.pool
-        ∙ sym (ap is_leaf_kind (kinds_alike layout w.formats is.block.pool is.block.models is.block.fit))
+        ∙ sym (kinds_alike is_leaf_kind refl layout w.formats is.block.pool is.block.models is.block.fit)
         ∙ sym (ap (λ (x : Option world.Pool). option_map_or (λ (p : world.Pool). is_leaf_kind p.kind) x false) is.block.has)
 
     over_is : is_block_over h.segs b.at b.at ≡ true

@@ -8,6 +8,7 @@ mod caching;
 mod collecting;
 mod depending;
 mod finalizing;
+mod framing;
 mod labelling;
 mod lending;
 mod making;

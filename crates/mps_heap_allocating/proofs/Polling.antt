@@ -15,7 +15,7 @@ use Rattle.mps_trace.specs.declared.condemn.Condemn.TheVariants.{Generations}
 use Rattle.mps_trace.specs.declared.running.Running.{Running}
 use Rattle.mps_heap_spec.specs.Allocating.{after_reserve, check_reserve}
 use Rattle.mps_heap_spec.specs.Checked.{Checked, ◌>>=◌}
-use Rattle.mps_heap_spec.specs.Collecting.{CanStart, IsStarted}
+use Rattle.mps_heap_spec.specs.Collecting.{CanStart}
 use Rattle.mps_heap_spec.specs.Coming.{ComesMoving, Moved}
 use Rattle.mps_heap_spec.specs.Polling.{HasFlipped, HasPolled, HasReserved, IsPolled, MayFlip, condemned_by, due_in, polls_for, units_of_poll}
 use Rattle.mps_heap_spec.specs.State.{HeapState}
@@ -31,10 +31,6 @@ is_due None found e = absurd (none-some found e)
 is_due (Some due) found e =
     (due, refl, ap (λ (d : DueGeneration). Generations d.chain d.generation) (sym (same_Some (in_numbers due) found e)))
 
-pub none_is_due : (o : Option Due) → option_map in_numbers o ≡ None → o ≡ None
-none_is_due None e = refl
-none_is_due (Some due) e = absurd (none-some (in_numbers due) (sym e))
-
 module _ {F : Type 0} (layout : F → Layout) (h : HeapState F) (m : Moves) where
   -- ---- a poll
 
@@ -47,12 +43,6 @@ module _ {F : Type 0} (layout : F → Layout) (h : HeapState F) (m : Moves) wher
   nothing_polled rests none =
       subst (λ b. MatchBool b (HasDoneUnits layout h m units_of_poll h m) (HasFlipped layout h m (due_in h) h m)) (sym rests)
       (subst (λ o. HasFlipped layout h m o h m) (sym none) (refl, refl))
-
-  pub flip_polled : (h' : HeapState F) (m' : Moves) (due : Due) → is_some h.running ≡ false → due_in h ≡ Some due
-      → IsStarted layout (condemned_by due) h m h' m' → HasPolled layout h m h' m'
-  flip_polled h' m' due rests is started =
-      subst (λ b. MatchBool b (HasDoneUnits layout h m units_of_poll h' m') (HasFlipped layout h m (due_in h) h' m')) (sym rests)
-      (subst (λ o. HasFlipped layout h m o h' m') (sym is) started)
 
   none_runs : (o : Option Running) → is_some o ≡ false → o ≡ None
   none_runs None e = refl

@@ -114,12 +114,40 @@ fn use_block(rt: &impl Abort, alloc: Global, heap: &mut Heap<Tail>) {
     assert!(rt; heap.lend(place(1)) == Ok(&[0, 0]));
 }
 
+/// Allocates a block of a pool of frames in a place, and frees what is there, each with a trail of its own.
+fn allocate_framed(alloc: Global, heap: &mut Heap<Tail>, at: Slot) -> Result<(), Refusal> {
+    let mut trail = Trail::new(alloc, 2).map_err(|_| Refusal::OutOfMemory)?;
+    heap.alloc(&mut trail, named(b's'), 3, at)
+}
+
+fn free_one(alloc: Global, heap: &mut Heap<Tail>, at: Slot) -> Result<(), Refusal> {
+    let mut trail = Trail::new(alloc, 2).map_err(|_| Refusal::OutOfMemory)?;
+    heap.free(&mut trail, at)
+}
+
+/// Frames of a pool are opened, and a block of it isn't freed alone.
+fn use_frames(rt: &impl Abort, alloc: Global, heap: &mut Heap<Tail>) {
+    assert!(rt; heap.pool_snc(named(b's')) == Ok(()));
+    assert!(rt; heap.pool_snc(named(b's')) == Err(Refusal::NameTaken));
+    assert!(rt; heap.push(named(b's')) == Ok(0));
+    assert!(rt; heap.push(named(b's')) == Ok(1));
+    assert!(rt; heap.push(named(b'v')) == Err(Refusal::WrongPool));
+    assert!(rt; heap.push(named(b'b')) == Err(Refusal::BadName));
+    assert!(rt; allocate_framed(alloc, heap, place(1)) == Err(Refusal::NameTaken));
+    assert!(rt; free_one(alloc, heap, place(1)) == Ok(()));
+    assert!(rt; allocate_framed(alloc, heap, place(1)) == Ok(()));
+    assert!(rt; free_one(alloc, heap, place(1)) == Err(Refusal::WrongPool));
+    assert!(rt; heap.load(place(1), 2) == Ok(0));
+    assert!(rt; free_one(alloc, heap, place(0)) == Ok(()));
+}
+
 #[test]
 fn a_heap_over_a_format_of_its_own(rt: HostRuntime) -> Result<(), AllocError> {
     let mut heap = Heap::<Tail>::new(rt.alloc(), 8, 8)?;
     use_list(&rt, rt.alloc(), &mut heap);
     use_labels(&rt, &mut heap);
     use_block(&rt, rt.alloc(), &mut heap);
+    use_frames(&rt, rt.alloc(), &mut heap);
     heap.finish();
     Ok(())
 }

@@ -30,7 +30,8 @@ impl<F: Format> Heap<F> {
         manual::alloc(&mut self.state, trail, pool, words, place)
     }
 
-    /// Frees the block in a place, which is empty then. Refuses `NotABlock` if it was empty.
+    /// Frees the block in a place, which is empty then. Refuses `NotABlock` if it was empty, and `WrongPool` if the block's pool is one of
+    /// frames.
     pub fn free(&mut self, trail: &mut Trail, place: Slot) -> Result<(), Refusal>
         requires fits { 1 < trail.old.spare }
         ensures right { IsRightMoving F.layout self.old (call.Free place) trail.old.moves trail.new.moves

@@ -4,7 +4,7 @@
 ghost use Rattle.std.specs.Prelude.{[]};
 ghost use Rattle.mps_model.specs.declared.call.Call.TheVariants as call;
 ghost use Rattle.mps_refinement.specs.RightStep.{IsRight};
-ghost use Rattle.mps_refinement.specs.Answering.{answer_to, says_ok};
+ghost use Rattle.mps_refinement.specs.Answering.{answer_to, says_bool, says_ok};
 
 use super::Heap;
 use mps_base::{Name, Refusal, Slot};
@@ -34,5 +34,16 @@ impl<F: Format> Heap<F> {
         ensures right { IsRight F.layout self.old (call.TransformDrop x) [] (answer_to says_ok result) self.new }
     {
         transforming::transdrop(&mut self.state, x)
+    }
+
+    /// Replaces the old objects of a transform by its new ones, all at once: each reference to an old one, in a slot or in an object of an
+    /// automatic pool, weak or not, leads to its new one, and keeps its tag. The transform is dropped then, and the answer is true. If a
+    /// word of an area lies in an old object nothing changes, and the answer is false. It takes no memory and moves nothing. Refuses
+    /// `BadName` if no transform has this name, `NotParked` if the arena isn't parked, and `Open` if a point has a reservation that no
+    /// flip ended.
+    pub fn transapply(&mut self, x: Name) -> Result<bool, Refusal>
+        ensures right { IsRight F.layout self.old (call.TransformApply x) [] (answer_to says_bool result) self.new }
+    {
+        transforming::transapply(&mut self.state, x)
     }
 }

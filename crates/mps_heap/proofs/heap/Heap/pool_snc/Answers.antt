@@ -1,0 +1,23 @@
+use Rattle.std.proofs.Common.{subst}
+use Rattle.mps_model.specs.declared.call.Call.TheVariants as call
+use Rattle.mps_refinement.specs.Making.{IsRightMaking}
+use Rattle.mps_refinement.proofs.Calls.FramedPools.{pool_snc_is_right}
+use Rattle.mps_refinement.proofs.Worlds.Staying.{making_stays}
+use Rattle.mps_heap.proofs.Results.{making_without_key}
+use Rattle.mps_heap.proofs.heap.Heap.pool_snc.Goals as goal
+
+pub invariant_of-self : goal.invariant_of-self
+invariant_of-self g c =
+    making_stays g.F.Format.layout c.self.inside.state c.pool_snc.new.state (call.PoolFrames c.args.name) c.pool_snc.result
+    c.self.invariant
+    (pool_snc_is_right g.F.Format.layout c.self.inside.state c.args.name c.pool_snc.result c.pool_snc.new.state c.pool_snc.ensures)
+
+pub returns : goal.returns
+returns g c = record {
+  right = subst (λ h. IsRightMaking g.F.Format.layout h (call.PoolFrames c.args.name) c.without_key.result c.pool_snc.new.state)
+      c.self.view_is
+      (making_without_key g.F.Format.layout c.self.inside.state c.pool_snc.new.state (call.PoolFrames c.args.name) c.pool_snc.result
+      c.without_key.result
+      c.without_key.ensures.value
+      (pool_snc_is_right g.F.Format.layout c.self.inside.state c.args.name c.pool_snc.result c.pool_snc.new.state c.pool_snc.ensures));
+}
