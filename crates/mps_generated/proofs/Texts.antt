@@ -1,7 +1,7 @@
 -- The lines of a generated script, each with its line feed.
 use Rattle.std.proofs.Common.{◌≡◌, ℕ, ◌+◌, ◌-◌, ◌^◌, ◌<◌, ◌≤◌, codes, List, [], ◌∷◌, ◌++◌, length, take, drop, refl, sym, ap, ◌∙◌, arith, append_assoc}
 use Rattle.std.proofs.Math.Seq.{take-append_seam}
-use Rattle.std.proofs.lemmas.List.{length-append, length-take-le, take-take}
+use Rattle.std.proofs.lemmas.List.{length-append}
 use Rattle.mps_script.specs.Line.{lines_of}
 use Rattle.mps_workload.specs.Script.{lines_from, script_lines}
 use Rattle.mps_run.specs.Script.{Line}
@@ -41,30 +41,3 @@ lines_more (text ∷ texts) all some =
 pub texts_later : (texts : List (List ℕ)) → AreLineTexts texts → AreLineTexts (drop 1 texts)
 texts_later [] all = tt
 texts_later (text ∷ texts) all = all.1
-
--- ---- a line that was written in a buffer
-
--- it has at least its line feed
-pub has_line_feed : (texts : List (List ℕ)) (n : ℕ) (buffer : List ℕ) (later : List (List ℕ)) → AreLineTexts texts
-    → texts ≡ take n buffer ∷ later → n ≤ length buffer → 1 ≤ n
-has_line_feed [] n buffer later all is fits = absurd (let wrong : [] ≡ take n buffer ∷ later = is in cc)
-has_line_feed (text ∷ texts) n buffer later all is fits =
-    let whole : text ∷ texts ≡ take n buffer ∷ later = is in
-    let same : text ≡ take n buffer = cc in
-    let size : length (all.0.line ++ 10 ∷ []) ≡ length all.0.line + 1 = length-append all.0.line (10 ∷ []) in
-    omega (arith, size, ap length all.0.is, ap length same, length-take-le n buffer fits)
-
--- without it, it is the first line
-pub line_read : (texts : List (List ℕ)) (n : ℕ) (buffer : List ℕ) (later : List (List ℕ)) → texts ≡ take n buffer ∷ later
-    → n ≤ length buffer → 1 ≤ n → take (n - 1) buffer ≡ first_line texts
-line_read [] n buffer later is fits some = absurd (let wrong : [] ≡ take n buffer ∷ later = is in cc)
-line_read (text ∷ texts) n buffer later is fits some =
-    let whole : text ∷ texts ≡ take n buffer ∷ later = is in
-    let same : text ≡ take n buffer = cc in
-    let size : length text - 1 ≡ n - 1 = omega (arith, ap length same, length-take-le n buffer fits) in
-    sym (ap (λ k. take k text) size ∙ (ap (take (n - 1)) same ∙ take-take (n - 1) n buffer (omega arith)))
-
--- the lines after it
-pub later_read : (texts : List (List ℕ)) (n : ℕ) (buffer : List ℕ) (later : List (List ℕ)) → texts ≡ take n buffer ∷ later
-    → later ≡ drop 1 texts
-later_read texts n buffer later is = ap (drop 1) (sym is)

@@ -157,16 +157,19 @@ c_in_range = (
       (
         two_in_range name_of slot_of call.CacheFree (λ x y. tt),
         (
-          cache_in_range,
+          one_in_range name_of call.CacheFlush (λ x. tt),
           (
-            chain_in_range,
+            cache_in_range,
             (
-              none_in_range call.Clamp tt,
+              chain_in_range,
               (
-                one_in_range slot_of call.Clear (λ x. tt),
+                none_in_range call.Clamp tt,
                 (
-                  none_in_range call.Collect tt,
-                  (none_in_range call.Committed tt, tt),
+                  one_in_range slot_of call.Clear (λ x. tt),
+                  (
+                    none_in_range call.Collect tt,
+                    (none_in_range call.Committed tt, tt),
+                  ),
                 ),
               ),
             ),
@@ -281,7 +284,19 @@ s_to_z_in_range = (
               one_in_range decimal_number call.Step (λ x. tt),
               (
                 table_in_range,
-                (two_in_range slot_of slot_of call.Take (λ x y. tt), tt),
+                (
+                  two_in_range slot_of slot_of call.Take (λ x y. tt),
+                  (
+                    three_in_range name_of slot_of slot_of call.TransformAdd (λ x y z. tt),
+                    (
+                      one_in_range name_of call.TransformApply (λ x. tt),
+                      (
+                        one_in_range name_of call.TransformDrop (λ x. tt),
+                        (one_in_range name_of call.Transform (λ x. tt), tt),
+                      ),
+                    ),
+                  ),
+                ),
               ),
             ),
           ),

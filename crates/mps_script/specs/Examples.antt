@@ -136,12 +136,13 @@ no_manual_blocks = refl
 
 caches :
     calls (codes "cache a b 0 0" ∷ codes "cache a b 65536 64 65537 1" ∷ codes "cache a b 18446744073709551615 3"
-    ∷ codes "cache a b 1 1 2 2 3 3 4 4 5 5 6 6 7 7 8 8" ∷ codes "calloc a 18446744073709551615 t.0" ∷ codes "cfree a t.0" ∷ [])
+    ∷ codes "cache a b 1 1 2 2 3 3 4 4 5 5 6 6 7 7 8 8" ∷ codes "calloc a 18446744073709551615 t.0" ∷ codes "cfree a t.0"
+    ∷ codes "cflush a" ∷ [])
     ≡ Some (call.Cache a b 1 (0 ∷ 0 ∷ 0 ∷ 0 ∷ 0 ∷ 0 ∷ 0 ∷ 0 ∷ []) (0 ∷ 0 ∷ 0 ∷ 0 ∷ 0 ∷ 0 ∷ 0 ∷ 0 ∷ []))
     ∷ Some (call.Cache a b 2 (65536 ∷ 65537 ∷ 0 ∷ 0 ∷ 0 ∷ 0 ∷ 0 ∷ 0 ∷ []) (64 ∷ 1 ∷ 0 ∷ 0 ∷ 0 ∷ 0 ∷ 0 ∷ 0 ∷ []))
     ∷ Some (call.Cache a b 1 (65537 ∷ 0 ∷ 0 ∷ 0 ∷ 0 ∷ 0 ∷ 0 ∷ 0 ∷ []) (3 ∷ 0 ∷ 0 ∷ 0 ∷ 0 ∷ 0 ∷ 0 ∷ 0 ∷ []))
     ∷ Some (call.Cache a b 8 (1 ∷ 2 ∷ 3 ∷ 4 ∷ 5 ∷ 6 ∷ 7 ∷ 8 ∷ []) (1 ∷ 2 ∷ 3 ∷ 4 ∷ 5 ∷ 6 ∷ 7 ∷ 8 ∷ []))
-    ∷ Some (call.CacheAlloc a 18446744073709551615 (t 0)) ∷ Some (call.CacheFree a (t 0)) ∷ []
+    ∷ Some (call.CacheAlloc a 18446744073709551615 (t 0)) ∷ Some (call.CacheFree a (t 0)) ∷ Some (call.CacheFlush a) ∷ []
 caches = refl
 
 no_caches :
@@ -149,9 +150,22 @@ no_caches :
     ∷ codes "cache a b 1 0x1" ∷ codes "cache a b 0x1 1" ∷ codes "cache a b 18446744073709551616 1" ∷ codes "cache 1 b 1 1"
     ∷ codes "cache a 1 1 1" ∷ codes "cache a b 1 1 2 2 3 3 4 4 5 5 6 6 7 7 8 8 9" ∷ codes "cache a b 1 1 2 2 3 3 4 4 5 5 6 6 7 7 8 8 9 9"
     ∷ codes "calloc a 1" ∷ codes "calloc 1 1 t.0" ∷ codes "calloc a 18446744073709551616 t.0" ∷ codes "calloc a 1 t"
-    ∷ codes "calloc a 1 t.0 1" ∷ codes "cfree a" ∷ codes "cfree 1 t.0" ∷ codes "cfree a t" ∷ codes "cfree a t.0 1" ∷ [])
+    ∷ codes "calloc a 1 t.0 1" ∷ codes "cfree a" ∷ codes "cfree 1 t.0" ∷ codes "cfree a t" ∷ codes "cfree a t.0 1"
+    ∷ codes "cflush" ∷ codes "cflush 1" ∷ codes "cflush a b" ∷ [])
     ≡ true
 no_caches = refl
+
+transforms :
+    calls (codes "transform a" ∷ codes "transadd a t.0 t.1" ∷ codes "transapply a" ∷ codes "transdrop a" ∷ [])
+    ≡ Some (call.Transform a) ∷ Some (call.TransformAdd a (t 0) (t 1)) ∷ Some (call.TransformApply a) ∷ Some (call.TransformDrop a) ∷ []
+transforms = refl
+
+no_transforms :
+    are_wrong (codes "transform" ∷ codes "transform 1" ∷ codes "transform a b" ∷ codes "transadd a t.0" ∷ codes "transadd 1 t.0 t.1"
+    ∷ codes "transadd a t t.1" ∷ codes "transadd a t.0 t" ∷ codes "transadd a t.0 t.1 t.2" ∷ codes "transapply" ∷ codes "transapply 1"
+    ∷ codes "transapply a b" ∷ codes "transdrop" ∷ codes "transdrop 1" ∷ codes "transdrop a b" ∷ codes "transforms a" ∷ [])
+    ≡ true
+no_transforms = refl
 
 cells :
     calls (codes "get t.0 t.1 2" ∷ codes "put t.0 2 t.1" ∷ codes "num t.0 2" ∷ codes "setnum t.0 2 3" ∷ codes "setnum t.0 2 0x3" ∷ [])

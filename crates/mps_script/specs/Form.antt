@@ -160,6 +160,7 @@ c_forms =
     ∷ (codes "copy", two slot_of slot_of call.Copy)
     ∷ (codes "calloc", three name_of decimal_number slot_of call.CacheAlloc)
     ∷ (codes "cfree", two name_of slot_of call.CacheFree)
+    ∷ (codes "cflush", one name_of call.CacheFlush)
     ∷ (codes "cache", cache)
     ∷ (codes "chain", chain)
     ∷ (codes "clamp", none call.Clamp)
@@ -229,6 +230,10 @@ s_to_z_forms =
     ∷ (codes "step", one decimal_number call.Step)
     ∷ (codes "table", two name_of length_of_root call.Table)
     ∷ (codes "take", two slot_of slot_of call.Take)
+    ∷ (codes "transadd", three name_of slot_of slot_of call.TransformAdd)
+    ∷ (codes "transapply", one name_of call.TransformApply)
+    ∷ (codes "transdrop", one name_of call.TransformDrop)
+    ∷ (codes "transform", one name_of call.Transform)
     ∷ []
 
 -- all of them

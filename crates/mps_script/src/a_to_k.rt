@@ -10,7 +10,7 @@ ghost use Rattle.mps_script.specs.Calls.{none, one, two, three};
 ghost use Rattle.mps_script.specs.Filled.{filled};
 ghost use Rattle.mps_script.specs.Form.{call_in, grains_from, length_of_root, ranks, a_to_b_forms, c_forms, d_to_f_forms, g_to_k_forms};
 
-use crate::caches::{cache, cache_alloc, cache_free};
+use crate::caches::{cache, cache_alloc, cache_flush, cache_free};
 use crate::chain::chain;
 use crate::grains::grains_limit;
 use crate::roots::{name_length, name_name_rank};
@@ -55,6 +55,8 @@ pub fn call_of_c(line: &[u8], into: &mut Call) -> Option<()>
         cache_alloc(arguments, into)
     } else if let Some(arguments) = strip_word(line, b"cfree") {
         cache_free(arguments, into)
+    } else if let Some(arguments) = strip_word(line, b"cflush") {
+        cache_flush(arguments, into)
     } else if let Some(arguments) = strip_word(line, b"cache") {
         cache(arguments, into)
     } else if let Some(arguments) = strip_word(line, b"chain") {

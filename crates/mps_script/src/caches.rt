@@ -4,11 +4,11 @@ ghost use Rattle.mps_model.specs.declared.call.Call.TheVariants as call;
 ghost use Rattle.mps_numerals.specs.Decimal.{decimal_number as decimal_in};
 ghost use Rattle.mps_line_words.specs.Word.{words};
 ghost use Rattle.mps_line_words.specs.Name.{name_of as name_in, slot_of};
-ghost use Rattle.mps_script.specs.Calls.{two, three};
+ghost use Rattle.mps_script.specs.Calls.{one, two, three};
 ghost use Rattle.mps_script.specs.Filled.{filled};
 ghost use Rattle.mps_script.specs.Form.{cache, class_limit, class_size, classes, padded};
 
-use mps_line_words::{name_decimal_slot, name_of, name_slot, next_word, number_within};
+use mps_line_words::{name, name_decimal_slot, name_of, name_slot, next_word, number_within};
 use mps_model::Call;
 use mps_numerals::decimal_number;
 
@@ -98,6 +98,17 @@ pub fn cache_alloc(arguments: &[u8], into: &mut Call) -> Option<()>
         cache: cache.name(),
         words,
         place: place.slot(),
+    };
+    Some(())
+}
+
+/// `cflush Q`, after `cflush`.
+pub fn cache_flush(arguments: &[u8], into: &mut Call) -> Option<()>
+    ensures { filled result into.new ≡ one name_in call.CacheFlush (words arguments.now) }
+{
+    let cache = name(arguments)?;
+    *into = Call::CacheFlush {
+        cache: cache.name(),
     };
     Some(())
 }

@@ -16,6 +16,7 @@ use crate::pools::pool;
 use crate::roots::name_length;
 use crate::several::{alone, name_head, start};
 use crate::tags::slot_decimal_tag;
+use crate::transforms::{transform, transform_add, transform_apply, transform_drop};
 use mps_line_words::{
     decimal, name, name_name, name_slot, slot, slot_decimal, slot_decimal_slot, slot_decimal_value,
     slot_slot, slot_value, strip_word,
@@ -115,6 +116,14 @@ pub fn call_of_s_to_z(line: &[u8], into: &mut Call) -> Option<()>
         table(arguments, into)
     } else if let Some(arguments) = strip_word(line, b"take") {
         take(arguments, into)
+    } else if let Some(arguments) = strip_word(line, b"transadd") {
+        transform_add(arguments, into)
+    } else if let Some(arguments) = strip_word(line, b"transapply") {
+        transform_apply(arguments, into)
+    } else if let Some(arguments) = strip_word(line, b"transdrop") {
+        transform_drop(arguments, into)
+    } else if let Some(arguments) = strip_word(line, b"transform") {
+        transform(arguments, into)
     } else {
         None
     }

@@ -15,6 +15,7 @@ mod roots;
 mod script;
 mod several;
 mod tags;
+mod transforms;
 
 pub use laws::a_script_grows_line_by_line;
 pub use line::{BadLine, call_of};
