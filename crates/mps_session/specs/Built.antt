@@ -10,8 +10,7 @@ use Rattle.mps_model.specs.Graph.{empty_graph}
 use Rattle.mps_model.specs.World.{World, Collected, empty_world}
 use Rattle.mps_commands.specs.Built.{Built}
 
--- whether the form of a call is built: all but dependents, transforms, frames and the flush of a cache; what may flip is if one flip
--- more can be counted
+-- whether the form of a call is built: all but dependents and frames; what may flip is if one flip more can be counted
 abbrev pub is_built : (collects : Bool) → Call → Bool
 is_built collects call.Collect = collects
 is_built collects call.Start = collects
@@ -19,11 +18,6 @@ is_built collects (call.StartChain chain generation) = collects
 is_built collects (call.Reserve point head) = collects
 is_built collects (call.Depend holder dependent) = false
 is_built collects (call.Undepend holder) = false
-is_built collects (call.Transform transform) = false
-is_built collects (call.TransformAdd transform old new) = false
-is_built collects (call.TransformApply transform) = false
-is_built collects (call.TransformDrop transform) = false
-is_built collects (call.CacheFlush cache) = false
 is_built collects (call.PoolFrames pool) = false
 is_built collects (call.Push pool) = false
 is_built collects (call.Pop pool frame) = false
@@ -93,6 +87,12 @@ a_collection_of_generations_is chain = refl
 
 pub a_cache_is : (cache pool : Name) → is_unsupported_call example_world (call.Cache cache pool 0 [] []) ≡ false
 a_cache_is cache pool = refl
+
+pub a_transform_is : (transform : Name) → is_unsupported_call example_world (call.Transform transform) ≡ false
+a_transform_is transform = refl
+
+pub and_it_is_applied : (transform : Name) → is_unsupported_call example_world (call.TransformApply transform) ≡ false
+and_it_is_applied transform = refl
 
 pub a_dependent_is_not : (holder dependent : Slot) → is_unsupported_call example_world (call.Depend holder dependent) ≡ true
 a_dependent_is_not holder dependent = refl

@@ -12,7 +12,7 @@ is_collection call.Collect = true
 is_collection call.Park = true
 is_collection _ = false
 
--- a call that makes or ends a block, puts one into a cache or takes it out, or reads a reference, and may make moves
+-- a call that makes or ends a block, puts one into a cache or takes it out, flushes a cache, or reads a reference, and may make moves
 abbrev pub may_move : Call → Bool
 may_move (call.Reserve point head) = true
 may_move (call.Commit point target) = true
@@ -20,6 +20,7 @@ may_move (call.Alloc pool words place) = true
 may_move (call.Free place) = true
 may_move (call.CacheAlloc cache words place) = true
 may_move (call.CacheFree cache place) = true
+may_move (call.CacheFlush cache) = true
 may_move (call.Get target source cell) = true
 may_move _ = false
 
@@ -51,7 +52,7 @@ writes_words _ = false
 abbrev pub is_frequent : Call → Bool
 is_frequent c = reads_words c || may_move c || writes_words c
 
--- a call on an area, a registration, a message or a dependency
+-- a call on an area, a registration, a message, a dependency or a transform
 abbrev pub is_on_areas : Call → Bool
 is_on_areas (call.Poke word value) = true
 is_on_areas (call.Peek word) = true
@@ -64,6 +65,10 @@ is_on_areas (call.DependencyReset dependency) = true
 is_on_areas (call.DependencyAdd dependency slot) = true
 is_on_areas (call.DependencyMerge dependency source) = true
 is_on_areas (call.DependencyStale dependency) = true
+is_on_areas (call.Transform transform) = true
+is_on_areas (call.TransformAdd transform old new) = true
+is_on_areas (call.TransformApply transform) = true
+is_on_areas (call.TransformDrop transform) = true
 is_on_areas _ = false
 
 -- a call on the arena, one that drops a thing, or one that makes a label

@@ -12,8 +12,6 @@ mod making;
 mod moving;
 mod reading;
 mod replies;
-#[cfg(test)]
-mod tests;
 mod writing;
 
 pub use machine::Session;

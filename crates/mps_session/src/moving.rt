@@ -14,8 +14,8 @@ use mps_format::AnyFormat;
 use mps_heap::Heap;
 use mps_model::{Call, Reply};
 
-/// Whether a call makes or ends a block, puts one into a cache or takes it out, or reads a reference, and so may make moves. A collection
-/// isn't one of these.
+/// Whether a call makes or ends a block, puts one into a cache or takes it out, flushes a cache, or reads a reference, and so may make
+/// moves. A collection isn't one of these.
 #[inline(always)]
 pub fn may_move(call: &Call) -> bool
     ensures { result ≡ may_move call.now }
@@ -28,6 +28,7 @@ pub fn may_move(call: &Call) -> bool
             | Call::Free { .. }
             | Call::CacheAlloc { .. }
             | Call::CacheFree { .. }
+            | Call::CacheFlush { .. }
             | Call::Get { .. }
     )
 }
@@ -67,6 +68,10 @@ pub fn answer(heap: &mut Heap<AnyFormat>, trail: &mut Trail, call: &Call, reply:
             place,
         } => done(heap.calloc(trail, cache, words, place)),
         Call::CacheFree { cache, place } => done(heap.cfree(trail, cache, place)),
+        Call::CacheFlush { cache } => {
+            let _ = heap.moves_of_cflush(cache); // at most 1,024
+            done(heap.cflush(trail, cache))
+        }
         Call::Get {
             target,
             source,

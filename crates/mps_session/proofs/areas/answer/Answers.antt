@@ -33,3 +33,16 @@ returns-in-Peek-clause-right c = answered c.in-Peek.is c.word.ensures c.peek.ens
 
 pub returns-in-DependencyStale-clause-right : goal.returns-in-DependencyStale-clause-right
 returns-in-DependencyStale-clause-right c = answered c.in-DependencyStale.is c.yes_or_no.ensures c.ld_stale.ensures.right
+
+pub returns-in-Transform-clause-right : goal.returns-in-Transform-clause-right
+returns-in-Transform-clause-right c = answered c.in-Transform.is c.done-in-Transform.ensures c.transform.ensures.right
+
+pub returns-in-TransformAdd-clause-right : goal.returns-in-TransformAdd-clause-right
+returns-in-TransformAdd-clause-right c = answered c.in-TransformAdd.is c.done-in-TransformAdd.ensures c.transadd.ensures.right
+
+pub returns-in-TransformApply-clause-right : goal.returns-in-TransformApply-clause-right
+returns-in-TransformApply-clause-right c =
+    answered c.in-TransformApply.is c.yes_or_no-in-TransformApply.ensures c.transapply.ensures.right
+
+pub returns-in-TransformDrop-clause-right : goal.returns-in-TransformDrop-clause-right
+returns-in-TransformDrop-clause-right c = answered c.in-TransformDrop.is c.done-in-TransformDrop.ensures c.transdrop.ensures.right

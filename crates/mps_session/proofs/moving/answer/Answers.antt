@@ -35,6 +35,11 @@ returns-in-CacheFree-clause-right c =
     answered_always (can_collect c.args.heap.now) refl c.in-CacheFree.is
     (answered_moving c.in-CacheFree.is c.requires.empty c.done-in-CacheFree.ensures c.cfree.ensures.right)
 
+pub returns-in-CacheFlush-clause-right : goal.returns-in-CacheFlush-clause-right
+returns-in-CacheFlush-clause-right c =
+    answered_always (can_collect c.args.heap.now) refl c.in-CacheFlush.is
+    (answered_moving c.in-CacheFlush.is c.requires.empty c.done-in-CacheFlush.ensures c.cflush.ensures.right)
+
 pub returns-in-Get-clause-right : goal.returns-in-Get-clause-right
 returns-in-Get-clause-right c =
     answered_always (can_collect c.args.heap.now) refl c.in-Get.is

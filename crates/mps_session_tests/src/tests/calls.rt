@@ -2,10 +2,10 @@
 ghost use Rattle.std.specs.Prelude.{IsTrue};
 ghost use Rattle.mps_commands.specs.Range.{IsInRange};
 
-use crate::Session;
 use mps_base::{Addr, Kind, Move, Name, Rank, Refusal, Slot, ZoneSet};
 use mps_commands::Commands;
 use mps_model::{Call, Reply};
+use mps_session::Session;
 use std::alloc::Global;
 use std::process::Abort;
 
