@@ -2,15 +2,8 @@
 //! happened; `mps cnv`, `mps txt` and `mps blocks` read logs; `mps gen` prints a generated script, or runs it.
 #![tactic(auto)]
 
-mod laws;
-mod mps;
-mod over;
-#[cfg(test)]
-mod tests;
-
-use mps::NoWords;
 use mps_desk::HostDesk;
-use over::start_over;
+use mps_program::{NoWords, start_over};
 use std::alloc::AllocError;
 use std::io::ErrorKind;
 use std::process::ExitCode;

@@ -1,0 +1,65 @@
+// Runs and readers over real files and devices that fail: each ends before anything is printed.
+use super::words_of;
+use mps_desk::HostDesk;
+use mps_program::start_over;
+use std::fs::{remove_file, write};
+use std::test::Fail;
+
+const SCRIPT_FILE: &str = "mps_cli_test.script";
+
+/// A line of words, and the status with which it ends.
+struct HostCase {
+    line: &'static str,
+    status: u8,
+}
+
+const HOST_CASES: [HostCase; 9] = [
+    HostCase {
+        line: "run mps_cli_test.absent",
+        status: 3,
+    },
+    HostCase {
+        line: "run .",
+        status: 3,
+    },
+    HostCase {
+        line: "run -o . mps_cli_test.script",
+        status: 5,
+    },
+    HostCase {
+        line: "run -o mps_cli_test.script mps_cli_test.script",
+        status: 5,
+    },
+    HostCase {
+        line: "run -o /dev/full mps_cli_test.script",
+        status: 5,
+    },
+    HostCase {
+        line: "cnv -f mps_cli_test.absent",
+        status: 3,
+    },
+    HostCase {
+        line: "cnv -f mps_cli_test.script",
+        status: 6,
+    },
+    HostCase {
+        line: "blocks -f mps_cli_test.script",
+        status: 6,
+    },
+    HostCase {
+        line: "txt -l mps_cli_test.script",
+        status: 6,
+    },
+];
+
+#[test]
+fn each_call_of_the_real_desk_may_fail(rt: HostRuntime) -> Result<(), Fail> {
+    write(&rt, SCRIPT_FILE, b"arena 8 8\n")?;
+    for case in &HOST_CASES {
+        let words = words_of(rt.alloc(), case.line)?;
+        let (status, _) = start_over(rt.alloc(), Ok(words), HostDesk::new(&rt));
+        assert_eq!(rt; status, case.status, "{}", case.line);
+    }
+    remove_file(&rt, SCRIPT_FILE)?;
+    Ok(())
+}
