@@ -127,6 +127,7 @@ SIGNATURE = re.compile(rf"^(\s*)(?:(?:{WORDS}) )*([^\s(){{}}.,;:λ→=]+) :(?: |
 BLOCK = re.compile(r"^(\s*)(?:(?:pub|abbrev|unfoldable) )*(?:data|record) ")
 IMPORT = re.compile(r"^\s*(?:pub |ghost )?use (?:Rattle\.)?([^\s;{}]+?)(?:\.\{(.*)\}|(?: as (\S+?))?);?$")
 TOKEN = re.compile(r"[^\s(){}.,;:λ→=|]+")
+NAME = re.compile(r"[^\s(){}.,;:λ|]+")
 
 
 def indent_of(row):
@@ -200,7 +201,7 @@ def tokens(rows):
     places = collections.defaultdict(set)
     for number, row in enumerate(rows):
         if not row.lstrip().startswith(("--", "use ", "pub use ", "ghost use ", "//")):
-            for word in TOKEN.findall(row) + re.findall(r"\w+", row) + re.findall(r"[^\w\s]+", row):
+            for word in TOKEN.findall(row) + NAME.findall(row) + re.findall(r"\w+", row) + re.findall(r"[^\w\s]+", row):
                 places[word].add(number)
     return places
 

@@ -132,6 +132,7 @@ fn show_transforms(rt: &HostRuntime) -> io::Result<()> {
 }
 
 fn show_making(rt: &HostRuntime) -> io::Result<()> {
+    let _ = fs::read_to_string(rt, "/proc/self/statm")?; // what reading takes is there before
     let before = fs::read_to_string(rt, "/proc/self/statm")?;
     let began = Instant::now(rt)?;
     let beside = Neighbours::new(rt.alloc())?;

@@ -1,0 +1,42 @@
+#!/usr/bin/env python3
+"""Prints the instructions that a collection of a full arena takes, for each object: of 2,048 grains none is free and each object is live, so
+objects of a pool that moves stay where they are. Beside it what the same arena takes with a pool that marks, and the ratio of the two.
+
+full.py PROGRAM: PROGRAM is the program `mps`. Instructions are counted by callgrind of valgrind. The objects are a list, by which each but
+the newest is held. The cost is that of the two collections after the first.
+"""
+import os
+import sys
+
+from instructions import instructions
+
+GRAINS, WORDS_OF_GRAIN = 2048, 512
+SIZES = (8, 64, 512)    # words of an object
+COLLECTIONS = 3
+
+
+def script(pool, words, collections):
+    """A list of objects, as many as fill the arena, which is then collected."""
+    lines = [f"arena {GRAINS} {GRAINS}", "table t 1", f"pool p {pool} front", "ap x p exact"]
+    lines += [f"reserve x f:{words}:1", "init x 1 t.0", "commit x t.0"] * (GRAINS * WORDS_OF_GRAIN // words)
+    return lines + ["collect"] * collections + ["committed", "live"]
+
+
+def cost(program, pool, words):
+    """The instructions that a collection takes for each object."""
+    objects = GRAINS * WORDS_OF_GRAIN // words
+    answers = [str(GRAINS), f"{objects} {objects * words}"]
+    once, often = (instructions(program, script(pool, words, n), answers) for n in (1, COLLECTIONS))
+    return (often - once) / ((COLLECTIONS - 1) * objects)
+
+
+def main():
+    program = os.path.abspath(sys.argv[1])
+    print(f"{'words each':>10}{'objects':>10}{'amc':>10}{'ams':>10}{'ratio':>8}")
+    for words in SIZES:
+        moving, marking = (cost(program, pool, words) for pool in ("amc", "ams"))
+        print(f"{words:10}{GRAINS * WORDS_OF_GRAIN // words:10}{moving:10.0f}{marking:10.0f}{moving / marking:8.2f}")
+
+
+if __name__ == "__main__":
+    main()
