@@ -36,6 +36,10 @@ cfree q b.0
 cfree q b.1
 live
 
+# A flush frees what the cache has.
+cflush q
+live
+
 # What is refused: a size that is none, and classes whose sizes fall.
 calloc q 0 b.0
 cache r v 16 1 8 1
