@@ -23,8 +23,3 @@ pub use pool::{
     Policy, Pool, format_of_pool, is_automatic, is_copying, is_leaf, is_moved_or_manual, is_weak,
     policy_of_pool, size_of_pool,
 };
-
-#[cfg(test)]
-mod method_tests;
-#[cfg(test)]
-mod tests;

@@ -4,6 +4,3 @@
 mod manual;
 
 pub use manual::Manual;
-
-#[cfg(test)]
-mod tests;

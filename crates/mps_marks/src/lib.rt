@@ -5,6 +5,3 @@ mod grey_blocks;
 mod marks;
 
 pub use marks::Marks;
-
-#[cfg(test)]
-mod tests;

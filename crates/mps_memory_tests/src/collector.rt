@@ -26,11 +26,11 @@ fn begin_with(
     requires fits { 1 < trail.old.spare }
     ensures none_open { NoneIsOpen points.new.points }
 {
-    let mut roots = Roots::new(alloc);
     let mut finals = Finals::new(alloc)?;
+    let mut roots = Roots::new(alloc);
     let mut epochs = Epochs::new();
     let mut trace: Trace<Front> = Trace::new(alloc);
-    Ok(trace.begin(
+    let begun = trace.begin(
         segs,
         trail,
         &mut roots,
@@ -38,22 +38,44 @@ fn begin_with(
         &mut finals,
         &mut epochs,
         Condemn::Everything,
-    ))
+    );
+    drop(trace);
+    drop(epochs);
+    drop(roots);
+    drop(finals);
+    Ok(begun)
 }
 
-#[test]
-fn a_collection_of_nothing_ends_at_once(rt: HostRuntime) -> Result<(), AllocError> {
-    let mut segs = Segs::new(rt.alloc(), 8, 8)?;
-    let mut trail = Trail::new(rt.alloc(), 2)?;
-    let mut points = OpenPoints::new(rt.alloc())?;
-    let begun = begin_with(rt.alloc(), &mut segs, &mut trail, &mut points);
-    points.finish(&mut segs);
-    assert!(rt; begun? == None);
+/// Does so with points of its own.
+fn begin(alloc: Global, segs: &mut Segs, trail: &mut Trail) -> Result<Option<Running>, AllocError>
+    requires segs { segs.old ≡ new_segments 8 8 }
+    requires fits { 1 < trail.old.spare }
+{
+    let mut points = OpenPoints::new(alloc)?;
+    let begun = begin_with(alloc, segs, trail, &mut points);
+    points.finish(segs);
+    begun
+}
+
+/// Whether moves are a flip that condemns nothing, and the end of the collection.
+fn are_flip_and_end(moves: &[Move]) -> bool {
     let flip = Move::Flip {
         zones: ZoneSet(0),
         chain: 16,
         generation: 0,
     };
-    assert!(rt; trail.moves() == [flip, Move::End].as_slice());
+    moves == [flip, Move::End].as_slice()
+}
+
+#[test]
+fn a_collection_of_nothing_ends_at_once(rt: HostRuntime) -> Result<(), AllocError> {
+    let mut trail = Trail::new(rt.alloc(), 2)?;
+    let mut segs = Segs::new(rt.alloc(), 8, 8)?;
+    let begun = begin(rt.alloc(), &mut segs, &mut trail);
+    drop(segs);
+    let flipped = are_flip_and_end(trail.moves());
+    drop(trail);
+    assert!(rt; begun? == None);
+    assert!(rt; flipped);
     Ok(())
 }

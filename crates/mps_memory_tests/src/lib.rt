@@ -1,22 +1,14 @@
-//! Tests of points, transforms, dependents, the collector and the table of pools. They stand here since a crate that has tests is
-//! proved twice.
+//! Tests of marks, manual pools, points, the collector and the table of pools. They stand here since a crate that has tests is proved
+//! twice.
 #![tactic(auto)]
 
 #[cfg(test)]
-mod applying;
-#[cfg(test)]
-mod blocking;
-#[cfg(test)]
 mod collector;
 #[cfg(test)]
-mod dependents;
+mod manual;
 #[cfg(test)]
-mod following;
+mod marks;
 #[cfg(test)]
 mod points;
 #[cfg(test)]
 mod pools;
-#[cfg(test)]
-mod slots;
-#[cfg(test)]
-mod transforms;

@@ -79,7 +79,9 @@ fn make(
         return Err(Refusal::BadSize);
     }
     let mut trail = Trail::new(alloc, 2).map_err(|_| Refusal::OutOfMemory)?;
-    make_with(points, segs, &mut trail, key, words)
+    let made = make_with(points, segs, &mut trail, key, words);
+    drop(trail);
+    made
 }
 
 fn compare(
@@ -123,13 +125,22 @@ fn make_all(rt: &impl Abort, alloc: Global, points: &mut OpenPoints, segs: &mut 
     assert!(rt; points.get(key).is_none());
 }
 
+/// Does so with points of its own.
+fn make_and_finish(rt: &impl Abort, alloc: Global, segs: &mut Segs) -> Result<(), AllocError> {
+    let mut points = OpenPoints::new(alloc)?;
+    make_all(rt, alloc, &mut points, segs);
+    points.finish(segs);
+    Ok(())
+}
+
 #[test]
 fn blocks_lie_one_after_the_other(rt: HostRuntime) -> Result<(), AllocError> {
     let mut segs = Segs::new(rt.alloc(), 3, 2)?;
-    let mut points = OpenPoints::new(rt.alloc())?;
-    make_all(&rt, rt.alloc(), &mut points, &mut segs);
-    points.finish(&mut segs);
-    assert_eq!(rt; segs.live_words(), 1023);
+    let made = make_and_finish(&rt, rt.alloc(), &mut segs);
+    let words = segs.live_words();
+    drop(segs);
+    made?;
+    assert_eq!(rt; words, 1023);
     Ok(())
 }
 
@@ -159,6 +170,8 @@ fn words_are_free_once_given_up(rt: HostRuntime) -> Result<(), AllocError> {
     let mut segs = Segs::new(rt.alloc(), 3, 2)?;
     let fits = give_up(&mut points, &mut segs, &mut trail);
     drop(segs);
+    drop(trail);
+    drop(points);
     assert!(rt; fits == Ok([false, false, true]));
     Ok(())
 }

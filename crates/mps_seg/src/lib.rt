@@ -12,6 +12,3 @@ mod segs;
 pub use buffer::{Buffer, Placed};
 pub use segment_info::{Owner, SegmentInfo};
 pub use segs::{Block, Segs};
-
-#[cfg(test)]
-mod tests;

@@ -1,6 +1,0 @@
--- What `pad` leaves is a whole pad.
-use Rattle.mps_format.specs.Blocks.{whole_pad}
-use Rattle.mps_format.proofs.method_tests.pad_and_skip.Goals as goal
-
-pub skip-requires : goal.skip-requires
-skip-requires g c = whole_pad _ c.pad.ensures

@@ -1,0 +1,6 @@
+use Rattle.mps_seg.proofs.BlockOver.{block_found}
+use Rattle.mps_segment_tests.proofs.tests.calls.free_over.Goals as goal
+use Rattle.mps_base.specs.Address.{word_of}
+
+pub block_words-words-requires : goal.block_words-words-requires
+block_words-words-requires c = block_found c.args.segs.now.blocks (word_of c.args.n) c.in_ok-at.at c.in_ok-at.ensures

@@ -1,0 +1,5 @@
+use Rattle.mps_seg.proofs.SegmentOver.{segment_found}
+use Rattle.mps_segment_tests.proofs.tests.calls.grey_all_over.Goals as goal
+
+pub grey_segment-requires : goal.grey_segment-requires
+grey_segment-requires c = segment_found c.args.segs.now.segments c.args.at.0 c.in-Some.base c.in-Some.ensures
