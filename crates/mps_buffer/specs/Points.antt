@@ -230,7 +230,8 @@ too_early = record {
 
 abbrev reserved_after : (flips : ℕ) → PointsState
 reserved_after flips = record {
-  points = None ∷ Some (record a_point { reservation = Some (record { at = record { 0 = 0x1040 }; head = 1; words = 2; flips = flips }) }) ∷ [];
+  points = None
+      ∷ Some (record a_point { reservation = Some (record { at = record { 0 = 0x1040 }; head = 1; words = 2; flips = flips }) }) ∷ [];
   flips = 2;
 }
 

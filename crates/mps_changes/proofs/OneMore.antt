@@ -4,10 +4,10 @@ use Rattle.std.proofs.lemmas.Bool.{and_parts, and_from, false≢true}
 use Rattle.std.proofs.lemmas.Option.{none-some, same_Some}
 use Rattle.std.specs.Prelude.{◌==◌, nat_lt, if◌then◌else◌, slice_get, slice_set, option_map}
 use Rattle.std.specs.List.{list_all, flat_map}
-use Rattle.mps_model.specs.Graph.{Graph, Cache, CacheClass, Slots, entries, ids_of_cache, ids_in_caches, ids_in_places, occurrences, with_last}
+use Rattle.mps_model.specs.Graph.{Graph, Cache, CacheClass, Slots, entries, from_last, ids_of_cache, ids_in_caches, ids_in_places, occurrences, with_last}
 use Rattle.mps_model.specs.Checked.{Found, Numbered}
 use Rattle.mps_model.specs.Allocating.{with_block_place}
-use Rattle.mps_model.specs.Caches.{emptied, from_last, kept_in, last_of, taken_from, with_classes, without_last}
+use Rattle.mps_model.specs.Caches.{emptied, kept_in, last_of, taken_from, with_classes, without_last}
 use Rattle.mps_changes.specs.Change.{are_empty_classes, is_empty_list}
 
 pub append_assoc : {A : Type 0} (xs ys zs : List A) → (xs ++ ys) ++ zs ≡ xs ++ (ys ++ zs)

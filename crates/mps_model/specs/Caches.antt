@@ -7,7 +7,7 @@ use Rattle.mps_base.specs.Address.{Id}
 use Rattle.mps_base.specs.declared.names.Name.{Name}
 use Rattle.mps_base.specs.declared.names.Slot.{Slot}
 use Rattle.mps_base.specs.declared.refusal.Refusal.TheVariants as refusal
-use Rattle.mps_model.specs.Graph.{Graph, Body, Automatic, Manual, Cache, CacheClass, CacheThing, for_object, with_last}
+use Rattle.mps_model.specs.Graph.{Graph, Body, Automatic, Manual, Cache, CacheClass, CacheThing, for_object, from_last, with_last}
 use Rattle.mps_model.specs.World.{World, PoolKind, AnySize, pool_at, pool_of, words_of}
 use Rattle.mps_model.specs.Placement.{ForAlloc, placement_of}
 use Rattle.mps_model.specs.Making.{is_block_size, most_caches, refuse_at_limit, refuse_taken}
@@ -61,11 +61,6 @@ kept_in (k ∷ ks) words block =
 -- a class in which nothing lies
 abbrev pub emptied : CacheClass → CacheClass
 emptied k = record k { cached = [] }
-
--- ids from the last to the first
-abbrev pub from_last : List Id → List Id
-from_last [] = []
-from_last (id ∷ ids) = with_last (from_last ids) id
 
 -- the blocks in a cache in the order in which they are freed: class by class, the last cached first
 abbrev pub flushed : Cache → List Id

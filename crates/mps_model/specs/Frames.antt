@@ -4,11 +4,10 @@ use Rattle.mps_base.specs.Address.{Id}
 use Rattle.mps_base.specs.declared.names.Name.{Name}
 use Rattle.mps_base.specs.declared.refusal.Refusal.TheVariants as refusal
 use Rattle.mps_model.specs.declared.reply.Reply.TheVariants as reply
-use Rattle.mps_model.specs.Graph.{Graph, PoolFrames, Slots, contains, frames_changed, with_last}
+use Rattle.mps_model.specs.Graph.{Graph, PoolFrames, Slots, contains, frames_changed, from_last, with_last}
 use Rattle.mps_model.specs.World.{World, has_frames}
 use Rattle.mps_model.specs.Making.{most_frames, refuse_at_limit}
 use Rattle.mps_model.specs.Allocating.{with_block_noted}
-use Rattle.mps_model.specs.Caches.{from_last}
 use Rattle.mps_model.specs.Checked.{Act, Checked, ◌>>=◌, ◌>>◌, done, pool_named, refuse_when, required, says, with_graph}
 
 -- ---- frames

@@ -1,6 +1,6 @@
 -- The object graph: what a client sees of a heap in which nothing ever moves or is freed. An object is known by its id, its
 -- position in the list of objects. The graph has no address, segment, mark, forwarding word or generation.
-use Rattle.std.specs.Prelude.{ℕ, zero, suc, ◌+◌, ◌-◌, Bool, true, false, not, filter, ◌&&◌, ◌==◌, if◌then◌else◌, Option, Some, None, option_and_then, option_map, is_some, List, [], ◌∷◌, ◌++◌, map, length, slice_get, slice_set}
+use Rattle.std.specs.Prelude.{◌≡◌, ℕ, zero, suc, ◌+◌, ◌-◌, Bool, true, false, not, filter, ◌&&◌, ◌==◌, if◌then◌else◌, Option, Some, None, option_and_then, option_map, is_some, List, [], ◌∷◌, ◌++◌, map, length, slice_get, slice_set, refl}
 use Rattle.std.specs.List.{list_any, flat_map}
 use Rattle.std.specs.Option.{option_map_or}
 use Rattle.mps_base.specs.Address.{Id}
@@ -129,6 +129,11 @@ entry_at entries number = option_and_then (λ entry. entry) (slice_get entries n
 -- one more at the end
 abbrev pub with_last : {X : Type 0} → List X → X → List X
 with_last xs x = xs ++ x ∷ []
+
+-- from the last to the first
+abbrev pub from_last : {X : Type 0} → List X → List X
+from_last [] = []
+from_last (x ∷ xs) = with_last (from_last xs) x
 
 -- whether a number is in a list
 abbrev pub contains : List ℕ → ℕ → Bool
@@ -380,3 +385,14 @@ empty_graph = record {
   caches = [];
   frames = [];
 }
+
+-- ---- vectors
+
+pub the_last_comes_first : from_last {X = ℕ} (7 ∷ 9 ∷ 8 ∷ []) ≡ 8 ∷ 9 ∷ 7 ∷ []
+the_last_comes_first = refl
+
+pub nothing_comes_of_nothing : ◌≡◌ {A = List ℕ} (from_last []) []
+nothing_comes_of_nothing = refl
+
+pub the_first_does_not_come_first : from_last {X = ℕ} (7 ∷ 9 ∷ []) ≡ 7 ∷ 9 ∷ [] → ⊥
+the_first_does_not_come_first e = absurd cc

@@ -120,9 +120,6 @@ weak_is_legal = (
   ),
 )
 
-pinned_leaves : world_after_steps weak_world pinned_link ≡ pinned_world
-pinned_leaves = refl
-
 pinned_is_legal : IsLegalFrom weak_world pinned_link
 pinned_is_legal = (
   answered tt refl refl tt refl refl refl refl refl refl,

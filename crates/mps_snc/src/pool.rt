@@ -40,8 +40,8 @@ impl Model for Pool {
 
     ghost view = { λ p. record { blocks = p.blocks.items; frames = p.frames.items } };
 
-    ghost invariant = { λ p. (length p.frames.items ≤ max_frames) × (length p.blocks.items ≤ max_notes) × (max_notes ≤ vec_capacity p.blocks)
-        × (max_frames ≤ vec_capacity p.frames) };
+    ghost invariant = { λ p. (length p.frames.items ≤ max_frames) × (length p.blocks.items ≤ max_notes)
+        × (max_notes ≤ vec_capacity p.blocks) × (max_frames ≤ vec_capacity p.frames) };
 }
 
 impl Pool {

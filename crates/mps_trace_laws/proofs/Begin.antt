@@ -9,7 +9,6 @@ pub mod FlippedSegments
 pub mod FlippedImage
 pub mod FlipStands
 pub mod RootsHeld
-pub mod RootsReady
 pub mod FinalsThen
 pub mod Acted
 pub mod OverAtOnce

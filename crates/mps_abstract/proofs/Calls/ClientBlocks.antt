@@ -37,10 +37,6 @@ module _ (x : Collecting) (run : Running x) (formed : IsWellFormed x.world) wher
   abbrev P : World → Type 0
   P v = Running (record x { world = v })
 
-  -- where no two objects have one address
-  abbrev Q : World → Type 0
-  Q v = AreDifferent v.addresses → P v
-
   -- ---- commit
 
   module _ (point : Numbered Point) (found : entry_at w.graph.points point.number ≡ Some point.value) (r : Reservation)

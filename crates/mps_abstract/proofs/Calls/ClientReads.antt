@@ -110,9 +110,6 @@ object_value w (Some id) object h = of_object (object_at w.graph id) refl h
 module _ (x : Collecting) (run : Running x) (judged : World) (tables : HasTables judged x.world) (target source : Slot) (k : ℕ)
     (read_kept : (from : Found (Option ℕ)) (id read : Id) → slot_in x.world source ≡ Ok from → from.value ≡ Some id
     → contains (targets x.world.graph id) read ≡ true → is_white_in x read ≡ false) where
-  abbrev P : World → Type 0
-  P v = Running (record x { world = v })
-
   pub read_right : (from : Found (Option ℕ)) (now : Numbered Object) (reference : Option ℕ) → slot_in x.world source ≡ Ok from
       → object_in x.world from.value ≡ Ok now → reference_at (cells_of_body now.value.body) k ≡ Ok reference → (id : Id)
       → reference ≡ Some id

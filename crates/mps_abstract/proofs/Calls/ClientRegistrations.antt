@@ -60,9 +60,6 @@ module _ (x : Collecting) (run : Running x) where
   abbrev w : World
   w = x.world
 
-  abbrev P : World → Type 0
-  P v = Running (record x { world = v })
-
   -- the collection with other counts
   abbrev counting : (before examined : ℕ) → Collection
   counting before examined = record x.running { registered_before = before; examined = examined }

@@ -2,7 +2,6 @@
 use Rattle.std.proofs.Common.{◌≡◌, ◌∙◌, ◌⊎◌, ℕ, ◌+◌, ◌<◌, false, sym, ap, List, Option, Some, subst, inl, inr, arith, slice_index}
 use Rattle.std.proofs.lemmas.Bool.{false≢true, cases_Bool, cases_eq, and_left, or_cases, and_parts, eqb-true}
 use Rattle.std.proofs.lemmas.Option.{same_Some}
-use Rattle.std.proofs.lemmas.List.{get_or-drop}
 use Rattle.std.specs.Prelude.{slice_get, not, ◌&&◌, ◌==◌, ◌≢◌, IsTrue}
 use Rattle.mps_base.specs.Address.{Address, Word, word_of}
 use Rattle.mps_format.specs.Layout.{IsBlockSize}
@@ -10,7 +9,7 @@ use Rattle.mps_model.specs.Graph.{Cell, HeadCell, Object, entry_at, size_of}
 use Rattle.mps_model.specs.Checked.{head_of_body}
 use Rattle.mps_abstract.specs.Colours.{Colours, is_white}
 use Rattle.mps_trace_laws.specs.Image.Memory.{Setting, Memory, Lies, all_cells}
-use Rattle.mps_trace_laws.specs.Image.Image.{AreShaped, IsForwardedObject, IsFixedWord, CellSet, with_cell, FixedCellsStand, ImageStands, is_white_over}
+use Rattle.mps_trace_laws.specs.Image.Image.{AreShaped, IsForwardedObject, IsFixedWord, CellSet, with_cell, FixedCellsStand, ImageStands}
 use Rattle.mps_trace_laws.specs.Image.Fixing.{Target, IsNotForwarded}
 
 -- ---- the words of an object
@@ -134,21 +133,6 @@ module _ (s : Setting) (m : Memory) (addresses : List (Option Address)) (k : Col
             absurd (not_forwarded_there size sizes
             (subst (λ n. slice_index m.words (word_of n) ≡ (s.layout p.pool).forwarded_head size) same e))
         | inr f ↦ (f.2.leads, moved_not_white f.0 f.1)
-      ]
-
-  -- it isn't forwarded: the object is there, and its colour is what its mark says
-  pub is_there : IsNotForwarded s m.words address p.pool
-      → (address ≡ now) × (is_white s.condemned k t ≡ is_white_over s.is_condemned_over m.kept (word_of address))
-  is_there n =
-      elim there_or_moved [
-        | inl e ↦ (
-          e,
-          st.marks.white_there t now x.there ∙ ap (λ q. is_white_over s.is_condemned_over m.kept (word_of q)) (sym e),
-        )
-        | inr f ↦
-            absurd (n (size_of p) (shaped.sizes t p x.object x.automatic)
-            (ap (slice_index m.words) (let e : word_of address ≡ word_of address + 0 = omega arith in e)
-            ∙ sym (get_or-drop (word_of address) m.words 0 0) ∙ f.2.begins.head))
       ]
 
   -- the segment over the address is of the object's pool, wherever the object is now

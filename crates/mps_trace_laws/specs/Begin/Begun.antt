@@ -17,7 +17,7 @@ use Rattle.mps_abstract.specs.Collecting.{Collecting, units_left}
 use Rattle.mps_abstract.specs.FlipLaws.{collecting_after_flip, FixesHeld}
 use Rattle.mps_trace_laws.specs.Image.AtRest.{StandsAtRest}
 use Rattle.mps_trace_laws.specs.Image.Image.{black_cells}
-use Rattle.mps_trace.specs.Begin.{marked_at_flip, Begins, EndsAtOnce, CanFixRoots}
+use Rattle.mps_trace.specs.Begin.{marked_at_flip, Begins, EndsAtOnce}
 use Rattle.mps_trace.specs.Roots.{key_at, slot_of}
 use Rattle.mps_trace.specs.Trace.{TraceState, Traced, traced}
 use Rattle.mps_trace.specs.declared.condemn.Condemn.{Condemn}
@@ -68,15 +68,6 @@ pub record AreRootsHeld (w : World) (roots : RootsState) (finals : FinalsState) 
   pub all : entries (flat_map (λ row. row) rows) ≡ ids_in_slots w.graph
   pub waiting : length finals.messages ≡ length w.graph.messages
   pub registered : finals.registered ≡ map (address_of_id w.addresses) w.graph.registered
-
--- the roots can be fixed after the flip
-abbrev pub RootsCanBeFixed : (F : Type 0) → Type 0
-RootsCanBeFixed F =
-    (layout : F → Layout) (t : TraceState F) (s : SegsState) (m : Moves) (points : PointsState) (roots : RootsState) (finals : FinalsState)
-    (w : World) (rows : List (List (Option Id))) (what : Condemn)
-    → StandsBefore layout t s m points w → MayCondemn t s w what → AreWordsShown (words_of_areas roots.areas) (area_words w)
-    → AreRootsHeld w roots finals rows → is_nothing (condemned_by w (condemnation what)) ≡ false
-    → CanFixRoots layout t roots finals (marked_at_flip t.formats t.chains what points roots (traced t s m))
 
 -- the act of the flip is done, by the moves of the trail: the state represents the abstract collector before its first unit, and slots and
 -- messages hold where their objects are then
