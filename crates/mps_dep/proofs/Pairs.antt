@@ -1,9 +1,9 @@
 -- Pairs by their addresses and marks.
 use Rattle.std.proofs.Common.{ℕ, ◌≡◌, ◌≢◌, ◌<◌, ◌≤◌, ◌==◌, Bool, true, false, not, ◌||◌, List, [], ◌∷◌, ◌++◌, length, get_or, set, filter, cond, Option, Some, None, inl, inr, refl, sym, ap, ◌∙◌, arith}
-use Rattle.std.specs.Prelude.{option_map, slice_set, is_some, OnSome}
+use Rattle.std.specs.Prelude.{◌&&◌, nat_le, option_map, slice_set, is_none, is_some, OnSome}
 use Rattle.mps_base.specs.declared.address.Addr.{Addr}
 use Rattle.std.specs.List.{All, find, list_any}
-use Rattle.std.proofs.lemmas.Bool.{false≢true, eq-eqb}
+use Rattle.std.proofs.lemmas.Bool.{false≢true, eq-eqb, lt-leb}
 use Rattle.std.proofs.lemmas.Bool.Decides.{eqb_tells}
 use Rattle.std.proofs.lemmas.List.{length-append, length-set, get_or-set_same, get_or-set_other}
 use Rattle.std.proofs.lemmas.List.Elements.{All-head, All-tail, All-cons, All-nil, All-filter, All-push, All-weaker}
@@ -13,7 +13,7 @@ use Rattle.mps_dep.specs.declared.dependents.Pair.{Pair}
 use Rattle.mps_address_marks.specs.Marks.{mark_of}
 use Rattle.mps_dep.specs.Marks.{marks_count}
 use Rattle.mps_dep.specs.Inside.{IsMarked, IsSoundDependents, has_mark}
-use Rattle.mps_dep.specs.State.{max_pairs, is_of, has_name, dependent_of, without_holder, without_address}
+use Rattle.mps_dep.specs.State.{max_pairs, is_of, has_name, dependent_of, is_full_for, without_holder, without_address}
 
 passes : {A : Type 0} (b : Bool) (x y : A) → b ≡ true → cond b x y ≡ x
 passes true x y is = refl
@@ -219,3 +219,19 @@ none_before (Some at) before none is = absurd (false≢true (sym none))
 pub for_some : {P : Type 0} (o : Option Addr) → is_some o ≡ true → OnSome o P → P
 for_some (Some at) is holds = holds
 for_some None is holds = absurd (false≢true is)
+
+-- ---- room for a pair
+
+-- a holder gets a dependent in place of the one that it had
+pub is_replaced : (o : Option Addr) (pairs : List Pair) (holder : Address) → is_some o ≡ true
+    → option_map (λ at. at.0) o ≡ dependent_of pairs holder → is_full_for pairs holder ≡ false
+is_replaced (Some at) pairs holder is value = ap (λ x. is_none x && nat_le max_pairs (length pairs)) (sym value)
+is_replaced None pairs holder is value = absurd (false≢true is)
+
+-- and where there are fewer pairs than there may be
+pub has_room : (pairs : List Pair) (holder : Address) → length pairs < max_pairs → is_full_for pairs holder ≡ false
+has_room pairs holder few = of_test (is_none (dependent_of pairs holder))
+  where
+    of_test : (b : Bool) → (b && nat_le max_pairs (length pairs)) ≡ false
+    of_test true = lt-leb max_pairs (length pairs) few
+    of_test false = refl

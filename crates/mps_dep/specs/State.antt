@@ -1,5 +1,5 @@
 -- What a caller sees of the pairs of dependents, and the results of the calls.
-use Rattle.std.specs.Prelude.{ℕ, ◌≡◌, ◌==◌, Bool, not, ◌||◌, Option, Some, None, List, [], ◌∷◌, ◌++◌, filter, refl}
+use Rattle.std.specs.Prelude.{ℕ, ◌≡◌, ◌==◌, Bool, true, false, not, ◌&&◌, ◌||◌, nat_le, is_none, Option, Some, None, List, [], ◌∷◌, ◌++◌, filter, length, replicate, refl}
 use Rattle.std.specs.List.{find}
 use Rattle.std.specs.Option.{option_map}
 use Rattle.mps_base.specs.Address.{Address}
@@ -37,6 +37,10 @@ without_address pairs at = filter (λ p. not (has_name at p)) pairs
 abbrev pub with_pair : List Pair → (holder dependent : Address) → List Pair
 with_pair pairs holder dependent = without_holder pairs holder ++ the_pair holder dependent ∷ []
 
+-- whether a holder gets no dependent: it has none, and there are as many pairs as there may be
+abbrev pub is_full_for : List Pair → (holder : Address) → Bool
+is_full_for pairs holder = is_none (dependent_of pairs holder) && nat_le max_pairs (length pairs)
+
 -- two holders with one dependent, and one with another
 abbrev example : List Pair
 example = the_pair 8 16 ∷ the_pair 24 16 ∷ the_pair 32 40 ∷ []
@@ -49,6 +53,12 @@ a_dependent_has_none = refl
 
 pub another_takes_its_place : with_pair example 8 48 ≡ the_pair 24 16 ∷ the_pair 32 40 ∷ the_pair 8 48 ∷ []
 another_takes_its_place = refl
+
+pub a_pair_too_many : is_full_for (replicate max_pairs (the_pair 8 16)) 24 ≡ true
+a_pair_too_many = refl
+
+pub one_in_place_of_another_fits : is_full_for (replicate max_pairs (the_pair 8 16)) 8 ≡ false
+one_in_place_of_another_fits = refl
 
 pub a_freed_dependent_ends_both_pairs : without_address example 16 ≡ the_pair 32 40 ∷ []
 a_freed_dependent_ends_both_pairs = refl

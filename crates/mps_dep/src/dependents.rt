@@ -1,10 +1,10 @@
 // The pairs of holders and dependents.
 #![tactic(auto)]
 
-ghost use Rattle.std.specs.Prelude.{◌≡◌, ◌<◌, ◌≤◌, [], None, Some, length, filter, not, IfOk, IfErr, IsOk, IsSome, OnSome, MatchResult, vec_capacity};
+ghost use Rattle.std.specs.Prelude.{◌≡◌, ◌<◌, ◌≤◌, ◌==◌, [], None, Some, false, length, filter, not, IfOk, IfErr, IsOk, IsSome, OnOk, OnSome, MatchResult, vec_capacity};
 ghost use Rattle.std.specs.List.{list_any};
 ghost use Rattle.std.specs.Option.{MatchOption, option_map};
-ghost use Rattle.mps_dep.specs.State.{max_pairs, dependent_of, without_holder, without_address, with_pair, has_name};
+ghost use Rattle.mps_dep.specs.State.{max_pairs, dependent_of, is_full_for, without_holder, without_address, with_pair, has_name};
 ghost use Rattle.mps_dep.specs.Inside.{has_mark};
 
 use crate::marks::{self, MARKS};
@@ -55,6 +55,14 @@ impl Dependents {
         })
     }
 
+    /// Whether there is no pair.
+    #[inline(always)]
+    pub fn is_empty(&self) -> bool
+        ensures { result ≡ (length self.now == 0) }
+    {
+        self.pairs.is_empty()
+    }
+
     /// The dependent of a holder.
     pub fn dependent(&self, holder: Addr) -> Option<Addr>
         ensures { option_map (λ at. at.0) result ≡ dependent_of self.now holder.0 }
@@ -70,6 +78,7 @@ impl Dependents {
         ensures state { MatchResult result (λ _. self.new ≡ with_pair self.old holder.0 dependent.0) (λ _. self.new ≡ self.old) }
         ensures fits { length self.old < max_pairs → IsOk result }
         ensures replaces { IsSome (dependent_of self.old holder.0) → IsOk result }
+        ensures room { OnOk result (is_full_for self.old holder.0 ≡ false) }
         ensures full { IfErr result (λ why. (why ≡ Refusal.TooMany max_pairs) × (length self.old ≡ max_pairs)
             × (dependent_of self.old holder.0 ≡ None)) }
     {

@@ -1,5 +1,7 @@
 -- `get`: what its barrier needs and leaves, and what the call comes to by that.
-use Rattle.std.proofs.Common.{◌≡◌, ◌∙◌, ℕ, Some, None, Ok, Err, refl, sym, ap, subst}
+use Rattle.std.proofs.Common.{◌≡◌, ◌∙◌, ℕ, Some, None, Ok, Err, length, refl, sym, ap, subst}
+use Rattle.std.proofs.Math.Seq.{drop-length}
+use Rattle.std.specs.Prelude.{drop}
 use Rattle.std.proofs.lemmas.Option.{none-some, same_Some}
 use Rattle.mps_base.specs.Address.{Address}
 use Rattle.mps_base.specs.Segment.{Segment, segment_over}
@@ -14,7 +16,8 @@ use Rattle.mps_trace.specs.declared.running.Running.{Running}
 use Rattle.mps_heap_spec.specs.Checked.{Checked, ◌>>=◌}
 use Rattle.mps_heap_spec.specs.Coming.{Comes, Outcome, answered, done, state_from}
 use Rattle.mps_heap_spec.specs.Finding.{object_in, reference_cell_at, slot_in}
-use Rattle.mps_heap_spec.specs.Getting.{CanGet, IsAccessed, IsGot, is_refused, reads, with_traced}
+use Rattle.mps_heap_spec.specs.Following.{made_since, moves_followed}
+use Rattle.mps_heap_spec.specs.Getting.{CanGet, IsAccessed, IsGot, after_access, is_refused, reads, with_traced}
 use Rattle.mps_heap_spec.specs.Objects.{reference_got, with_slot}
 use Rattle.mps_heap_spec.specs.State.{HeapState}
 use Rattle.mps_heap_spec.specs.Units.{IsWhole, trace_in, traced_in}
@@ -133,11 +136,18 @@ module _ {F : Type 0} (layout : F → Layout) (h : HeapState F) (m : Moves) (tar
               whole = λ run running. absurd (none-some run (sym none ∙ running));
               runs = λ run running. absurd (none-some run (sym none ∙ running));
             };
-          }) comes refl
+          }) (subst (λ v. Comes v (reference_got layout v target source k) result after)
+          (sym (ap (moves_followed layout h) (drop-length m.moves))) comes) refl
 
-  -- the barrier was done
-  pub got_after : (result : Checked (Unit {0})) (between after : HeapState F) (m' : Moves)
-      → ((z : Traced) × IsAccessed layout h m target source k z × (between ≡ with_traced h z) × (m' ≡ z.moves))
+  -- the barrier was done, and its moves were followed
+  pub got_after : (result : Checked (Unit {0})) (left between after : HeapState F) (m' : Moves) (first : ℕ) → first ≡ length m.moves
+      → ((z : Traced) × IsAccessed layout h m target source k z × (left ≡ with_traced h z) × (m' ≡ z.moves))
+      → between ≡ moves_followed layout left (drop first m'.moves)
       → Comes between (reference_got layout between target source k) result after → IsGot layout h m target source k result after m'
-  got_after result between after m' accessed comes =
-      reads accessed.0 accessed.1 (subst (λ v. Comes v (reference_got layout v target source k) result after) accessed.2 comes) accessed.3
+  got_after result left between after m' first count accessed followed comes =
+      let z = accessed.0 in
+      let same : between ≡ after_access layout h m z =
+      followed ∙ ap (λ v. moves_followed layout v (drop first m'.moves)) accessed.2
+      ∙ ap (λ n. moves_followed layout (with_traced h z) (drop n m'.moves)) count
+      ∙ ap (λ (t : Moves). moves_followed layout (with_traced h z) (made_since m t)) accessed.3 in
+      reads z accessed.1 (subst (λ v. Comes v (reference_got layout v target source k) result after) same comes) accessed.3

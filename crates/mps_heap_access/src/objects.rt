@@ -13,6 +13,7 @@ use mps_heap_spec::{
     number_cell_at, reference_cell_at, tag_of, with_tag, write_reference, write_word,
 };
 use mps_heap_state::State;
+use mps_heap_state::following::follow;
 use mps_heap_state::units::is_whole;
 use mps_trace::Band;
 
@@ -142,7 +143,7 @@ fn access<F: Format>(
     Ok(())
 }
 
-/// `get` while a collection runs.
+/// `get` while a collection runs: the moves of its barrier are followed before the cell is read.
 #[inline(never)]
 fn get_after_barrier<F: Format>(
     state: &mut State<F>,
@@ -156,8 +157,12 @@ fn get_after_barrier<F: Format>(
     requires can { CanGet F.layout state.old trail.old target source k }
     ensures { IsGot F.layout state.old trail.old target source k result state.new trail.new }
 {
+    let first = trail.moves().len();
     match access(state, trail, band, target, source, k) {
-        Ok(()) => read_reference(state, target, source, k),
+        Ok(()) => {
+            follow(state, trail, first);
+            read_reference(state, target, source, k)
+        }
         Err(why) => Err(why),
     }
 }

@@ -17,6 +17,7 @@ use Rattle.mps_heap_spec.specs.Allocating.{after_reserve, check_reserve}
 use Rattle.mps_heap_spec.specs.Checked.{Checked, ◌>>=◌}
 use Rattle.mps_heap_spec.specs.Collecting.{CanStart}
 use Rattle.mps_heap_spec.specs.Coming.{ComesMoving, Moved}
+use Rattle.mps_heap_spec.specs.Following.{Follows}
 use Rattle.mps_heap_spec.specs.Polling.{HasFlipped, HasPolled, HasReserved, IsPolled, MayFlip, condemned_by, due_in, polls_for, units_of_poll}
 use Rattle.mps_heap_spec.specs.State.{HeapState}
 use Rattle.mps_heap_spec.specs.Units.{HasDoneUnits}
@@ -34,14 +35,16 @@ is_due (Some due) found e =
 module _ {F : Type 0} (layout : F → Layout) (h : HeapState F) (m : Moves) where
   -- ---- a poll
 
-  pub units_polled : (h' : HeapState F) (m' : Moves) → is_some h.running ≡ true → HasDoneUnits layout h m units_of_poll h' m'
-      → HasPolled layout h m h' m'
+  pub units_polled : (h' : HeapState F) (m' : Moves) → is_some h.running ≡ true
+      → Follows layout m (HasDoneUnits layout h m units_of_poll) h' m' → HasPolled layout h m h' m'
   units_polled h' m' runs units =
-      subst (λ b. MatchBool b (HasDoneUnits layout h m units_of_poll h' m') (HasFlipped layout h m (due_in h) h' m')) (sym runs) units
+      subst (λ b. MatchBool b (Follows layout m (HasDoneUnits layout h m units_of_poll) h' m') (HasFlipped layout h m (due_in h) h' m'))
+      (sym runs) units
 
   pub nothing_polled : is_some h.running ≡ false → due_in h ≡ None → HasPolled layout h m h m
   nothing_polled rests none =
-      subst (λ b. MatchBool b (HasDoneUnits layout h m units_of_poll h m) (HasFlipped layout h m (due_in h) h m)) (sym rests)
+      subst (λ b. MatchBool b (Follows layout m (HasDoneUnits layout h m units_of_poll) h m) (HasFlipped layout h m (due_in h) h m))
+      (sym rests)
       (subst (λ o. HasFlipped layout h m o h m) (sym none) (refl, refl))
 
   none_runs : (o : Option Running) → is_some o ≡ false → o ≡ None

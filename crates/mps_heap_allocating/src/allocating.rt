@@ -73,7 +73,8 @@ fn polls<F: Format>(state: &State<F>, r: Reserving) -> bool
     state.arena.is_unclamped() && !state.points.fits(&state.segs, r.point.key, r.words)
 }
 
-/// A poll: the collection that runs does 64 units, or fewer if it ends in them. If none runs, one of the generation that is due begins.
+/// A poll: the collection that runs does 64 units, or fewer if it ends in them, and their moves are followed. If none runs, one of the
+/// generation that is due begins.
 fn poll<F: Format>(state: &mut State<F>, trail: &mut Trail)
     requires units { CanDoUnits F.layout state.old trail.old units_of_poll }
     requires flip { MayFlip F.layout state.old trail.old }

@@ -1,12 +1,14 @@
 // A full collection, and one that is begun alone.
 ghost use Rattle.std.specs.Prelude.{◌≡◌, ◌^◌, ◌<◌, ◌≤◌, IsTrue, IfOk};
 ghost use Rattle.mps_heap_spec.specs.Collecting.{can_collect, check_start, check_start_chain, CanCollectAll, CanStart, IsCollected, Starts};
+ghost use Rattle.mps_heap_spec.specs.Following.{Follows};
 ghost use Rattle.mps_trace.specs.Collect.{most_moves};
 
 use mps_base::{Name, Refusal, Trail};
 use mps_format::Format;
 use mps_heap_spec::ArenaState;
 use mps_heap_state::State;
+use mps_heap_state::following::follow;
 use mps_heap_state::units::begin;
 use mps_trace::{Condemn, most_units};
 
@@ -28,15 +30,16 @@ pub fn most_moves<F: Format>(state: &State<F>) -> u32
     mps_trace::most_moves(state.segs.grains())
 }
 
-/// Collects everything, from the flip to the end, parks the arena, and takes all pairs from its transforms.
+/// Collects everything, from the flip to the end, parks the arena, takes all pairs from its transforms, and follows the moves.
 pub fn collect<F: Format>(state: &mut State<F>, trail: &mut Trail)
     requires built { IsTrue (can_collect state.old) }
     requires few_epochs { state.old.epochs.count < 2 ^ 63 }
     requires can { CanCollectAll F.layout state.old trail.old }
-    ensures collected { IsCollected F.layout state.old trail.old state.new trail.new }
+    ensures collected { Follows F.layout trail.old (IsCollected F.layout state.old trail.old) state.new trail.new }
 {
     state.finals.registrations_are_few();
     let most = most_units(state.segs.grains(), state.finals.registered() as u32);
+    let first = trail.moves().len();
     state.pools.collect(
         &mut state.segs,
         trail,
@@ -48,6 +51,7 @@ pub fn collect<F: Format>(state: &mut State<F>, trail: &mut Trail)
     );
     state.arena = ArenaState::Parked;
     state.beside.transforms.empty_all();
+    follow(state, trail, first);
 }
 
 /// Begins a collection of everything: the flip alone, and no unit. The arena is unclamped then. Refuses `Running` if a collection runs.

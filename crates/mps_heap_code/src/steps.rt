@@ -12,6 +12,7 @@ use mps_final::Finals;
 use mps_format::Format;
 use mps_heap_spec::{ArenaState, Progress};
 use mps_heap_state::State;
+use mps_heap_state::following::follow;
 use mps_pools::Pools;
 use mps_seg::Segs;
 use mps_trace::Running;
@@ -100,7 +101,7 @@ fn progress<F: Format>(state: &State<F>) -> Progress
 }
 
 /// Has an unclamped arena do n units of the collection that runs, or fewer if it ends in them, and says whether one is in progress then.
-/// Each unit ticks.
+/// Each unit ticks. The moves that were made are followed.
 pub fn step<F: Format, L: Ledger>(
     state: &mut State<F>,
     trail: &mut Trail,
@@ -117,6 +118,7 @@ pub fn step<F: Format, L: Ledger>(
     let Some(running) = state.running else {
         return Progress::Idle;
     };
+    let first = trail.moves().len();
     state.running = count_units(
         &mut state.pools,
         &mut state.segs,
@@ -126,5 +128,6 @@ pub fn step<F: Format, L: Ledger>(
         n,
         steps,
     );
+    follow(state, trail, first);
     progress(state)
 }

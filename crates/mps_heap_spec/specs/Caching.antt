@@ -11,6 +11,7 @@ use Rattle.mps_base.specs.declared.refusal.Refusal.{Refusal}
 use Rattle.mps_base.specs.declared.refusal.Refusal.TheVariants as refusal
 use Rattle.mps_manual.specs.Manual.{has_blocks_of, answer_of_alloc, segs_after_alloc, moves_allocated, segs_after_free, moves_freed}
 use Rattle.mps_model.specs.Checked.{Checked, ◌>>=◌, ◌>>◌, required, refuse_when}
+use Rattle.mps_model.specs.Graph.{from_last}
 use Rattle.mps_model.specs.Making.{is_block_size, most_caches}
 use Rattle.mps_names.specs.State.{Updates, own_room}
 use Rattle.mps_names.specs.declared.names.Thing.TheVariants as thing
@@ -29,11 +30,6 @@ use Rattle.mps_heap_spec.specs.declared.found.Entry.{Entry}
 use Rattle.mps_heap_spec.specs.declared.found.Kept.{Kept}
 
 -- ---- a cache is flushed
-
--- addresses from the last to the first
-abbrev pub from_last : List Address → List Address
-from_last [] = []
-from_last (at ∷ ats) = from_last ats ++ at ∷ []
 
 -- the blocks of some classes in the order in which a flush frees them: class by class, the last cached first
 abbrev pub flushed : List ClassState → List Address

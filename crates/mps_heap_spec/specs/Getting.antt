@@ -1,4 +1,4 @@
--- The outcome of `get`: the read barrier of the collection that runs, if one does, and then the read.
+-- The outcome of `get`: the read barrier of the collection that runs, if one does, whose moves are followed, and then the read.
 use Rattle.std.specs.Prelude.{◌≡◌, ℕ, Some, None, Ok, Err}
 use Rattle.std.proofs.Common.{◌∙◌, ap, subst, sym}
 use Rattle.mps_base.specs.Address.{Address}
@@ -17,6 +17,7 @@ use Rattle.mps_trace.specs.declared.running.Running.{Running}
 use Rattle.mps_heap_spec.specs.State.{HeapState}
 use Rattle.mps_heap_spec.specs.Coming.{Comes, Outcome}
 use Rattle.mps_heap_spec.specs.Finding.{object_in}
+use Rattle.mps_heap_spec.specs.Following.{made_since, moves_followed}
 use Rattle.mps_heap_spec.specs.Objects.{reference_got}
 use Rattle.mps_heap_spec.specs.Units.{IsWhole, trace_in, traced_in}
 use Rattle.mps_heap_spec.specs.declared.found.Block.{Block}
@@ -32,6 +33,10 @@ module _ {F : Type 0} (layout : F → Layout) (h : HeapState F) (m : Moves) wher
   CanAccessAt at =
       (run : Running) → h.running ≡ Some run → (t : Segment) → segment_over h.segs.segments at ≡ Some t
       → CanAccess layout run.band (trace_in h) h.segs m t
+
+  -- the heap after a read barrier changed this, and its moves were followed
+  abbrev pub after_access : Traced → HeapState F
+  after_access x = moves_followed layout (with_traced h x) (made_since m x.moves)
 
   -- this is left by the read barrier for a block at an address: what was there, if no collection runs
   pub record IsAccessedAt (at : Address) (x : Traced) : Type 0 where
@@ -57,7 +62,7 @@ module _ {F : Type 0} (layout : F → Layout) (h : HeapState F) (m : Moves) wher
     pub data IsGot (result : Checked (Unit {0})) (after : HeapState F) (m' : Moves) : Type 0 where
       is_refused : (why : Refusal) → reference_got layout h target source k ≡ Err why → result ≡ Err why → after ≡ h → m' ≡ m
           → IsGot result after m'
-      reads : (x : Traced) → IsAccessed x → Comes (with_traced h x) (reference_got layout (with_traced h x) target source k) result after
+      reads : (x : Traced) → IsAccessed x → Comes (after_access x) (reference_got layout (after_access x) target source k) result after
           → m' ≡ x.moves → IsGot result after m'
 
 -- ---- vectors

@@ -2,6 +2,7 @@ pub mod State
 pub mod Finding
 pub mod Referring
 pub mod Objects
+pub mod Following
 pub mod Getting
 pub mod Areas
 pub mod Framing
@@ -13,6 +14,7 @@ pub mod Making
 pub mod Labelling
 pub mod Finalizing
 pub mod Depending
+pub mod Pairing
 pub mod Arena
 pub mod Coming
 pub mod Collecting

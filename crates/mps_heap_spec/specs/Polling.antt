@@ -20,6 +20,7 @@ use Rattle.mps_heap_spec.specs.declared.found.Reserving.{Reserving}
 use Rattle.mps_heap_spec.specs.Allocating.{after_reserve, check_reserve}
 use Rattle.mps_heap_spec.specs.Collecting.{CanStart, IsStarted}
 use Rattle.mps_heap_spec.specs.Coming.{ComesMoving}
+use Rattle.mps_heap_spec.specs.Following.{Follows}
 use Rattle.mps_heap_spec.specs.Units.{CanDoUnits, HasDoneUnits}
 
 abbrev pub is_unclamped : ArenaState → Bool
@@ -47,10 +48,12 @@ module _ {F : Type 0} where
     HasFlipped None h' trail' = (h' ≡ h) × (trail' ≡ trail)
     HasFlipped (Some due) h' trail' = IsStarted layout (condemned_by due) h trail h' trail'
 
-    -- a poll: where a collection runs, its units were done, or fewer if it ended in them, and else the generation that is due was flipped
+    -- a poll: where a collection runs, its units were done, or fewer if it ended in them, and their moves were followed; else the generation
+    -- that is due was flipped
     abbrev pub HasPolled : (h' : HeapState F) (trail' : Moves) → Type 0
     HasPolled h' trail' =
-        MatchBool (is_some h.running) (HasDoneUnits layout h trail units_of_poll h' trail') (HasFlipped (due_in h) h' trail')
+        MatchBool (is_some h.running) (Follows layout trail (HasDoneUnits layout h trail units_of_poll) h' trail')
+        (HasFlipped (due_in h) h' trail')
 
     -- where no collection runs, one of the generation that is due can begin
     abbrev pub MayFlip : Type 0

@@ -1,22 +1,18 @@
 -- The outcome of `pop`: a frame is closed with those above it, and the blocks that were made since are freed, the latest first.
-use Rattle.std.specs.Prelude.{ℕ, ◌≡◌, ◌+◌, ◌-◌, ◌*◌, Ok, Err, List, [], ◌∷◌, ◌++◌, map, length, take, drop, slice_get, refl}
+use Rattle.std.specs.Prelude.{ℕ, ◌≡◌, ◌+◌, ◌-◌, ◌*◌, Ok, Err, List, [], ◌∷◌, map, length, take, drop, slice_get, refl}
 use Rattle.mps_base.specs.Address.{Address}
 use Rattle.mps_base.specs.Trail.{Moves}
 use Rattle.mps_base.specs.declared.names.Name.{Name}
 use Rattle.mps_base.specs.declared.refusal.Refusal.TheVariants as refusal
 use Rattle.mps_model.specs.Checked.{Checked, ◌>>=◌, required}
+use Rattle.mps_model.specs.Graph.{from_last}
 use Rattle.mps_root.specs.State.{with_place}
-use Rattle.mps_snc.specs.State.{PoolState, opened_at, state_of, with_pool}
+use Rattle.mps_snc.specs.State.{PoolState, state_of, with_pool}
 use Rattle.mps_snc.specs.declared.pool.Block.{Block}
 use Rattle.mps_heap_spec.specs.State.{HeapState}
 use Rattle.mps_heap_spec.specs.Coming.{Moved}
 use Rattle.mps_heap_spec.specs.Framing.{frames_named, with_frames}
 use Rattle.mps_heap_spec.specs.Manual.{Freeing, row_freed}
-
--- blocks from the last to the first
-abbrev pub from_last : List Block → List Block
-from_last [] = []
-from_last (b ∷ bs) = from_last bs ++ b ∷ []
 
 -- the blocks of a pool of which n came before, the latest first
 abbrev pub blocks_after : PoolState → (before : ℕ) → List Block

@@ -12,6 +12,7 @@ use Rattle.mps_trace.specs.Trace.{TraceState, Traced, traced}
 use Rattle.mps_trace.specs.Unit.{AreUnitsReady, EndsWithin, UnitsTo}
 use Rattle.mps_trace.specs.declared.running.Running.{Running}
 use Rattle.mps_heap_spec.specs.State.{HeapState}
+use Rattle.mps_heap_spec.specs.Following.{Follows}
 use Rattle.mps_heap_spec.specs.declared.arena.ArenaState.TheVariants as arena
 use Rattle.mps_heap_spec.specs.declared.arena.Progress.{Progress}
 use Rattle.mps_heap_spec.specs.declared.arena.Progress.TheVariants.{Idle, More}
@@ -61,9 +62,9 @@ module _ {F : Type 0} where
   abbrev pub progress_of : HeapState F → Progress
   progress_of h = if is_some h.running then More else Idle
 
-  -- a step of n units: an arena that is unclamped has its collection do them, and any other does nothing
+  -- a step of n units: an arena that is unclamped has its collection do them, and their moves are followed; any other does nothing
   pub record HasStepped (layout : F → Layout) (h : HeapState F) (m : Moves) (n : ℕ) (h' : HeapState F) (m' : Moves) (answer : Progress)
       : Type 0 where
-    pub done : h.arena ≡ arena.Unclamped → HasDoneUnits layout h m n h' m'
+    pub done : h.arena ≡ arena.Unclamped → Follows layout m (HasDoneUnits layout h m n) h' m'
     pub still : h.arena ≢ arena.Unclamped → (h' ≡ h) × (m' ≡ m)
     pub answered : answer ≡ progress_of h'

@@ -2,9 +2,11 @@
 ghost use Rattle.std.specs.Prelude.{◌≡◌};
 ghost use Rattle.mps_buffer.specs.Points.{WereMadeBefore};
 ghost use Rattle.mps_heap_spec.specs.Collecting.{CanStart, IsStarted};
+ghost use Rattle.mps_heap_spec.specs.Following.{Follows};
 ghost use Rattle.mps_heap_spec.specs.Units.{CanDoUnits, HasDoneUnits, IsWhole, units_to_end};
 
 use crate::State;
+use crate::following::follow;
 use mps_base::Trail;
 use mps_format::Format;
 use mps_heap_spec::ArenaState;
@@ -41,23 +43,25 @@ pub fn begin<F: Format>(state: &mut State<F>, trail: &mut Trail, what: Condemn)
     state.beside.transforms.empty_all();
 }
 
-/// Does n units of the collection that runs, or fewer if it ends in them.
+/// Does n units of the collection that runs, or fewer if it ends in them, and follows their moves.
 pub fn do_units<F: Format>(state: &mut State<F>, trail: &mut Trail, n: u64)
     requires { CanDoUnits F.layout state.old trail.old n }
-    ensures { HasDoneUnits F.layout state.old trail.old n state.new trail.new }
+    ensures { Follows F.layout trail.old (HasDoneUnits F.layout state.old trail.old n) state.new trail.new }
 {
     let Some(running) = state.running else {
         return;
     };
+    let first = trail.moves().len();
     state.running = state
         .pools
         .finish(&mut state.segs, trail, &mut state.finals, running, n);
+    follow(state, trail, first);
 }
 
-/// Ends the collection that runs: does the most units that it can have.
+/// Ends the collection that runs: does the most units that it can have, and follows their moves.
 pub fn end_collection<F: Format>(state: &mut State<F>, trail: &mut Trail)
     requires { CanDoUnits F.layout state.old trail.old (units_to_end state.old) }
-    ensures { HasDoneUnits F.layout state.old trail.old (units_to_end state.old) state.new trail.new }
+    ensures { Follows F.layout trail.old (HasDoneUnits F.layout state.old trail.old (units_to_end state.old)) state.new trail.new }
 {
     state.finals.registrations_are_few();
     let most = most_units(state.segs.grains(), state.finals.registered() as u32);

@@ -114,7 +114,7 @@ impl<F: Format> State<F> {
 
     /// The format of the objects in the segment that is held over an address.
     #[inline(always)]
-    fn format_over(&self, at: u64) -> Option<F>
+    pub(crate) fn format_over(&self, at: u64) -> Option<F>
         ensures { result ≡ format_over self.now at }
     {
         format_of_pool(self.pool_over(at)?)

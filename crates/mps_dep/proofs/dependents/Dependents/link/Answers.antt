@@ -7,7 +7,7 @@ use Rattle.mps_dep.specs.Inside.{IsSoundDependents}
 use Rattle.mps_address_marks.specs.Marks.{mark_of}
 use Rattle.mps_dep.specs.Marks.{marks_count}
 use Rattle.mps_dep.specs.State.{dependent_of, max_pairs}
-use Rattle.mps_dep.proofs.Pairs.{added_stays_sound, for_some, none_before, none_to_end}
+use Rattle.mps_dep.proofs.Pairs.{added_stays_sound, for_some, has_room, is_replaced, none_before, none_to_end}
 use Rattle.mps_dep.proofs.dependents.Dependents.link.Goals as goal
 use Rattle.mps_dep.proofs.dependents.Dependents.link.Goals.{else-is_none-via-then-is_none+else-len-eq-MAX_PAIRS, else-is_none-via-else-is_none}
 
@@ -44,6 +44,19 @@ fits c =
           for_some c.unlink-before.result w.if-is_none.ensures c.unlink-before.ensures.room
           in
           omega (arith, room, ap length c.self.view_is)
+    ]
+
+pub returns-clause-room : goal.returns-clause-room
+returns-clause-room c =
+    elim c.else-is_none.branch [
+      | else-is_none-via-then-is_none+else-len-eq-MAX_PAIRS w ↦
+          let none = none_before c.unlink-before.result (dependent_of c.args.self.now c.args.holder.0) w.if-is_none.ensures
+          c.unlink-before.ensures.value in
+          let same = c.unlink-before.ensures.state ∙ sym (none_to_end c.args.self.now c.args.holder.0 none) in
+          let room = fits c in
+          has_room c.args.self.now c.args.holder.0 (omega (arith, room, ap length c.self.view_is, ap length same))
+      | else-is_none-via-else-is_none w ↦
+          is_replaced c.unlink-before.result c.args.self.now c.args.holder.0 w.if-is_none.ensures c.unlink-before.ensures.value
     ]
 
 pub invariant_of-self : goal.invariant_of-self
