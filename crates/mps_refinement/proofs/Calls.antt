@@ -24,6 +24,7 @@ pub mod RightInit
 pub mod Committing
 pub mod CommitKept
 pub mod RightCommit
+pub mod BlockPlaced
 pub mod AllocatingStep
 pub mod Allocs
 pub mod LoanSteps
@@ -45,3 +46,5 @@ pub mod LiveBlocks
 pub mod NewHeap
 pub mod FramedPools
 pub mod Pushes
+pub mod RowsFreed
+pub mod Pops

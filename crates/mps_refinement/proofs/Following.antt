@@ -10,6 +10,11 @@ pub mod Held
 pub mod Due
 pub mod Laws
 pub mod Pairs
+pub mod PairsByMoves
 pub mod Running
+pub mod Unread
 pub mod Words
+pub mod FollowedCells
+pub mod FewerAddresses
+pub mod FollowedMoves
 pub mod Times

@@ -7,6 +7,7 @@ pub mod Ordering
 pub mod EntryWritten
 pub mod PartsByKind
 pub mod BesideParts
+pub mod PairsKept
 pub mod FramedParts
 pub mod CachesStill
 pub mod TransformParts
@@ -27,6 +28,7 @@ pub mod CachesWritten
 pub mod PlaceWritten
 pub mod EmptiedPlaces
 pub mod BlockWritten
+pub mod CachedTaken
 pub mod StillHeld
 pub mod FreedSegments
 pub mod FreedParts

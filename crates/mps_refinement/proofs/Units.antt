@@ -15,6 +15,7 @@ pub mod Accesses
 pub mod Ready
 pub mod Gets
 pub mod GetCalls
+pub mod Followed
 pub mod Outcomes
 pub mod FlipMoves
 pub mod Flips

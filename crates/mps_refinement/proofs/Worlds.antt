@@ -23,6 +23,7 @@ pub mod Staying
 pub mod Appending
 pub mod Room
 pub mod Unreserved
+pub mod LikeReached
 pub mod InSteps
 pub mod CollectorKept
 pub mod BlockMade
@@ -32,3 +33,5 @@ pub mod OneFree
 pub mod RowOfFrees
 pub mod CachingTrails
 pub mod FlushTrails
+pub mod FramedBlocks
+pub mod PopTrails

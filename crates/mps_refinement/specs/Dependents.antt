@@ -1,4 +1,4 @@
--- When the pairs of dependents that a heap keeps represent those of a world. No heap makes a pair yet.
+-- When the pairs of dependents that a heap keeps represent those of a world.
 use Rattle.std.specs.Prelude.{◌≡◌, ℕ, Option, Some, List, [], ◌∷◌, map, slice_index, refl}
 use Rattle.std.proofs.Common.{ap, arith}
 use Rattle.mps_base.specs.Address.{Address, Id}

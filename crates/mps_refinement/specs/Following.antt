@@ -16,6 +16,7 @@ use Rattle.mps_model.specs.Effect.{Condemnation, world_after_move, world_after_m
 use Rattle.mps_model.specs.Flip.{flip_act}
 use Rattle.mps_model.specs.LegalMove.{AreLegalMoves}
 use Rattle.mps_model.specs.History.{AreMovesOfGet, AreMovesOfStep, FinishesCollection, HeldAreLive, IsFullCollection, IsPoll, are_held_kept, asking, has_units_left, with_client_remembered}
+use Rattle.mps_laws.specs.Staying.{is_flip}
 
 -- a cell of an object
 abbrev pub CellOf : Type 0
@@ -86,10 +87,6 @@ following w f [] = f
 following w f (m ∷ ms) = following (world_after_move w m) (following_move w f m) ms
 
 -- ---- moves of one collection
-
-abbrev pub is_flip : Move → Bool
-is_flip (moves.Flip zones chain generation) = true
-is_flip _ = false
 
 -- none of these is a flip
 abbrev pub none_flips : List Move → Bool

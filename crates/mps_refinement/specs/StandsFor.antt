@@ -286,7 +286,7 @@ pub record AreParts {F : Type 0} (layout : F → Layout) (past : Past) (h : Heap
   pub names : AreNamed past h w.graph.names w.graph.labels
   pub state : w.state ≡ state_of h.arena (world.pairs_in w.state)
   -- what stands beside the blocks
-  pub beside : IsBeside h.beside w.addresses w.graph.caches
+  pub beside : IsBeside h.beside w.addresses w.graph.caches w.graph.dependents
   pub transforms : AreTransforms past.transform_number (world.is_copying_object w) w.addresses h.beside.transforms w.graph.transforms
       (world.pairs_in w.state)
   -- the pools of frames

@@ -1,12 +1,12 @@
 -- `alloc`: from its outcome to a right step.
-use Rattle.std.proofs.Common.{◌≡◌, ◌∙◌, ℕ, ◌<◌, Bool, true, false, refl, sym, ap, subst, [], ◌∷◌, ◌++◌, Option, Some, None, Ok, Err, is_some, arith, ◌+◌, List, length, inl, inr}
-use Rattle.std.proofs.lemmas.Bool.{and_parts, false≢true, leb-true, lt-ltb, ltb-true, ne_eqb}
+use Rattle.std.proofs.Common.{◌≡◌, ◌∙◌, ℕ, Bool, true, false, refl, sym, ap, subst, [], Option, Some, None, Ok, Err, is_some, arith, ◌+◌, List, length, inl, inr}
+use Rattle.std.proofs.lemmas.Bool.{false≢true, lt-ltb, ltb-true, ne_eqb}
 use Rattle.std.proofs.lemmas.List.{length-map}
 use Rattle.std.proofs.lemmas.Option.{slice_get-map, slice_get_within}
-use Rattle.std.specs.Prelude.{◌==◌, ◌&&◌, ◌||◌, nat_le, not, slice_get, slice_set, option_map, if◌then◌else◌}
+use Rattle.std.specs.Prelude.{◌==◌, ◌&&◌, ◌||◌, not, slice_get, slice_set, option_map, if◌then◌else◌}
 use Rattle.std.specs.Option.{option_map_or}
 use Rattle.mps_seg.specs.Arena.{answer_of_placement}
-use Rattle.mps_base.specs.Address.{Address, address_of_word}
+use Rattle.mps_base.specs.Address.{Address}
 use Rattle.mps_base.specs.Placement.{Placement, Place, NewSegment, OverLimit, NoFreeRun}
 use Rattle.mps_base.specs.Trail.{Moves, with_move}
 use Rattle.mps_base.specs.declared.address.Addr.{Addr}
@@ -17,11 +17,9 @@ use Rattle.mps_base.specs.declared.names.Slot.{Slot}
 use Rattle.mps_base.specs.declared.refusal.Refusal.{Refusal}
 use Rattle.mps_base.specs.declared.refusal.Refusal.TheVariants as refusal
 use Rattle.mps_format.specs.Layout.{Layout}
-use Rattle.mps_changes.proofs.OneMore.{parts_pass}
 use Rattle.mps_laws.proofs.Sound.PoolsThere.{all-at}
 use Rattle.mps_laws.proofs.Same as same
 use Rattle.mps_laws.proofs.Same.{Same, fits}
-use Rattle.mps_laws.proofs.Sound.SoundGraph.{PassesOrNull, all-at as all-in, entry-passes}
 use Rattle.mps_pools.specs.Manual.{has_blocks_of}
 use Rattle.mps_model.specs.declared.call.Call.TheVariants as call
 use Rattle.mps_model.specs.declared.reply.Reply.TheVariants as reply
@@ -29,12 +27,11 @@ use Rattle.mps_model.specs.Allocating.{act_alloc, address_of_placement, allows_s
 use Rattle.mps_model.specs.Answer.{Answer, Replied}
 use Rattle.mps_model.specs.Checked as checked
 use Rattle.mps_model.specs.Checked.{Checked, Found, Numbered, ◌>>=◌, ◌>>◌, refuse_when, required}
-use Rattle.mps_model.specs.Graph.{ids_in_caches, ids_in_places, entries, entry_at}
 use Rattle.mps_model.specs.History.{alloc_at, moves_of_alloc, unless_refused, with_client_remembered}
 use Rattle.mps_model.specs.Making.{is_block_size}
 use Rattle.mps_model.specs.Placement.{ForAlloc, placement_of}
 use Rattle.mps_model.specs.World as world
-use Rattle.mps_model.specs.World.{World, Collected, OneSize, AnySize, Frames, PoolKind, is_automatic_kind, is_live, is_copying_pool, pool_is as is_pool}
+use Rattle.mps_model.specs.World.{World, OneSize, AnySize, Frames, is_automatic_kind, is_copying_pool, pool_is as is_pool}
 use Rattle.mps_heap_spec.specs.Coming.{ComesMoving, Moved}
 use Rattle.mps_heap_spec.specs.Finding.{block_place_in, pool_named}
 use Rattle.mps_heap_spec.specs.declared.found.Entry.{Entry}
@@ -52,36 +49,31 @@ use Rattle.mps_seg.specs.Placing.{placement_in_gaps}
 use Rattle.mps_seg.specs.Segs.{moves_after, segments_after}
 use Rattle.mps_refinement.specs.Answering.{answer_to, says_ok}
 use Rattle.mps_refinement.specs.RightStep.{IsRight, IsRightIn, step_of}
-use Rattle.mps_refinement.specs.StandsFor.{AreParts, IsPool, IsReached, Past, address_of_target, AreOfFlip, IsInTime, collector_of}
+use Rattle.mps_refinement.specs.StandsFor.{AreParts, IsPool, IsReached, Past, address_of_target, IsInTime, collector_of}
 use Rattle.mps_refinement.specs.Framed.{AreFramed, IsNoted}
 use Rattle.mps_refinement.proofs.Parts.BlockParts.{parts_with_frames, world_with_frames}
 use Rattle.mps_refinement.proofs.Parts.FramedParts.{framed_noted, listed_found, noted_alike, noted_there}
 use Rattle.mps_refinement.proofs.Worlds.RoomForNotes.{reached_frames, room_for_notes}
-use Rattle.mps_refinement.proofs.Parts.AllocatedParts.{parts_made, segments_made, noted_clear}
+use Rattle.mps_refinement.proofs.Parts.AllocatedParts.{parts_made, segments_made}
 use Rattle.mps_refinement.proofs.Calls.AllocatingStep as allocating
 use Rattle.mps_refinement.proofs.Calls.AllocatingStep.{alloc_empty, alloc_from, alloc_in, alloc_manual, alloc_placed, alloc_sized}
-use Rattle.mps_refinement.proofs.Lookups.Found.{some_there}
 use Rattle.mps_refinement.proofs.Worlds.Known.{IsKnown}
 use Rattle.mps_refinement.proofs.Lookups.Lookups.{IsPlaceEntry, IsPlaceFound, IsPoolFound, place_same, pool_same}
 use Rattle.mps_refinement.proofs.Worlds.PlacedOnce.{is_sized}
-use Rattle.mps_refinement.proofs.Worlds.Placing.{IsSameArena, gaps_agree}
+use Rattle.mps_refinement.proofs.Worlds.Placing.{gaps_agree}
 use Rattle.mps_base.specs.declared.moves.Move.{Move}
 use Rattle.mps_model.specs.Effect.{world_after_moves}
-use Rattle.mps_model.specs.Reply.{act, answer_from, world_from}
-use Rattle.mps_laws.proofs.Acts.{for_world, pool_named-is}
+use Rattle.mps_model.specs.Reply.{answer_from, world_from}
+use Rattle.mps_laws.proofs.Acts.{pool_named-is}
 use Rattle.mps_laws.proofs.Positions.LaidOut.{IsLaidOut}
 use Rattle.mps_laws.proofs.Positions.LegalMoves.{HasLayout}
 use Rattle.mps_laws.proofs.Replays.ManualSteps.{alloc_step}
 use Rattle.mps_laws.proofs.Sound.PoolKinds.{manual_not_copying}
 use Rattle.mps_laws.proofs.QuietSteps.{IsSound}
-use Rattle.mps_laws.proofs.Positions.Segments.{IsAmong}
 use Rattle.mps_laws.proofs.Replays.Steps.{remembered_kept}
-use Rattle.mps_refinement.proofs.Worlds.FlipKept.{flips_kept}
-use Rattle.mps_refinement.proofs.Parts.SegmentsTaken.{condemned_held, condemned_stay, over_same}
 use Rattle.mps_refinement.proofs.Worlds.RestingActs.{resting_sound}
+use Rattle.mps_refinement.proofs.Calls.BlockPlaced.{arena_is, empty_same, moves_are, none_where, placed_keeps, some_words, taken_where, untaken, with_true}
 use Rattle.mps_refinement.proofs.Calls.RightOwn.{IsOwn, IsRightOutcome, done_is_right, outcome_is_right, refusal_is_right}
-use Rattle.mps_refinement.proofs.Parts.GreyRanks.{ranks_stay}
-use Rattle.mps_base.specs.Segment.{segment_over}
 
 -- ---- each check, against the model's
 
@@ -91,10 +83,6 @@ automatic_alike layout formats (pool.Automatic kind format) q is = sym (ap (λ (
 automatic_alike layout formats (pool.OneSize words) q is = sym (ap (λ (x : world.Pool). is_automatic_kind x.kind) is)
 automatic_alike layout formats pool.AnySize q (inl is) = sym (ap (λ (x : world.Pool). is_automatic_kind x.kind) is)
 automatic_alike layout formats pool.AnySize q (inr is) = sym (ap (λ (x : world.Pool). is_automatic_kind x.kind) is)
-
-with_true : (b : Bool) → (b && true) ≡ b
-with_true true = refl
-with_true false = refl
 
 -- a pool has blocks of a size exactly where the model's has
 size_alike : {F : Type 0} (layout : F → Layout) (formats : ℕ → Layout) (p : Pool F) (q : world.Pool) (words : ℕ) → IsPool layout formats p q
@@ -112,35 +100,6 @@ size_alike layout formats pool.AnySize q words (inl is) manual sized =
 size_alike layout formats pool.AnySize q words (inr is) manual sized =
     let kind : q.kind ≡ Frames = ap (λ (x : world.Pool). x.kind) is in
     with_true (is_block_size words) ∙ sym (ap (λ k. allows_size k words) kind)
-
-none_of : (o : Option ℕ) → is_some o ≡ false → o ≡ None
-none_of None e = refl
-none_of (Some id) e = absurd (false≢true (sym e))
-
-some_words : (k : PoolKind) (words : ℕ) → allows_size k words ≡ true → 0 < words
-some_words (Collected kind) words h = absurd (false≢true h)
-some_words (OneSize size) words h =
-    let parts = and_parts (is_block_size words) (words == size) h in
-    let sized = and_parts (nat_le 1 words) (nat_le words 65536) parts.0 in
-    let some = leb-true 1 words sized.0 in
-    omega (arith, some)
-some_words AnySize words h =
-    let sized = and_parts (nat_le 1 words) (nat_le words 65536) h in let some = leb-true 1 words sized.0 in omega (arith, some)
-some_words Frames words h =
-    let sized = and_parts (nat_le 1 words) (nat_le words 65536) h in let some = leb-true 1 words sized.0 in omega (arith, some)
-
--- ---- the moves, where the trail had none
-
-moves_are : (trail : Moves) (q : Placement) (number words : ℕ) → trail.moves ≡ [] → refuse_without_place q ≡ Ok tt
-    → (with_move (moves_after q number 0 trail) (moves.Alloc (record { 0 = address_of_placement q }) words number)).moves
-    ≡ alloc_at number words q
-moves_are trail (Place word) number words none room =
-    ap (λ ms. ms ++ moves.Alloc (record { 0 = address_of_placement (Place word) }) words number ∷ []) none
-moves_are trail (NewSegment grain grains) number words none room =
-    ap (λ ms. (ms ++ moves.Seg (record { 0 = address_of_placement (NewSegment grain grains) }) grains number 0 ∷ [])
-    ++ moves.Alloc (record { 0 = address_of_placement (NewSegment grain grains) }) words number ∷ []) none
-moves_are trail (OverLimit committed need limit) number words none room = absurd cc
-moves_are trail (NoFreeRun need longest) number words none room = absurd cc
 
 module _ {F : Type 0} (layout : F → Layout) (h : HeapState F) (trail : Moves) (none : trail.moves ≡ []) (name : Name) (words : ℕ)
     (place : Slot) where
@@ -207,14 +166,6 @@ module _ {F : Type 0} (layout : F → Layout) (h : HeapState F) (trail : Moves) 
     refused_outcome why e =
         refusal_is_right layout h trail none (call.Alloc name words place) w line past parts own reach time is_own why e
 
-    arena_is : IsSameArena h.segs w
-    arena_is = record {
-      grains = parts.grains;
-      limit = parts.limit;
-      segments = parts.segments;
-      covered = parts.image.runs.covered;
-    }
-
     -- ---- where the pool is manual
 
     module _ (from : Kept (Pool F)) (p : Numbered world.Pool) (pool_found : IsPoolFound layout h w from p)
@@ -246,20 +197,6 @@ module _ {F : Type 0} (layout : F → Layout) (h : HeapState F) (trail : Moves) 
           (place_is : checked.block_place_in w place ≡ Ok found) where
         to_place : act_alloc w w name words place ≡ alloc_sized w w words place p found (allows_size p.value.kind words)
         to_place = to_manual ∙ ap (alloc_in w w words place p) place_is
-
-        -- the place is empty in both, or in neither
-        empty_same : (into.value == 0) ≡ not (is_some found.value)
-        empty_same = of_value found.value refl is.value
-          where
-            of_value : (o : Option ℕ) → found.value ≡ o → into.value ≡ address_of_target w.addresses o → (into.value == 0) ≡ not (is_some o)
-            of_value None e value = ap (λ a. a == 0) value
-            of_value (Some id) e value =
-                let live = subst (PassesOrNull (is_live w)) e (entry-passes (is_live w) found.list place.index found.value
-                (all-in (is_live w) entries w.graph.blocks found.number found.list
-                (parts_pass (is_live w) (ids_in_places w.graph) (ids_in_caches w.graph) own.live.blocks).0 is.has) is.there) in
-                let at = some_there (entry_at w.addresses id) live in
-                let address : into.value ≡ at.0 = value ∙ ap (λ o. option_map_or (λ x. x) o 0) at.1 in
-                ne_eqb into.value 0 (λ z. let low = (parts.image.placed.address id at.0 at.1).not_null in omega (arith, z, address, low))
 
         -- ---- where the size is allowed and the place empty
 
@@ -308,7 +245,7 @@ module _ {F : Type 0} (layout : F → Layout) (h : HeapState F) (trail : Moves) 
                   timed = refl;
                   parts = let made = parts_made layout past h w parts own own.graph own.once p.number words
                       (some_words p.value.kind words allowed) q time automatic not_copying place.index into found is
-                      (none_of found.value empty) own.laid after in
+                      (none_where found.value empty) own.laid after in
                       parts_with_frames layout past
                       (with_block_place (record h { segs = segments_made h.segs q p.number words (address_of_placement q) }) into
                       (address_of_placement q))
@@ -316,35 +253,9 @@ module _ {F : Type 0} (layout : F → Layout) (h : HeapState F) (trail : Moves) 
                       (frames_after_alloc h p.number into (record { 0 = address_of_placement q })) v.graph.frames
                       (noted_made q made.framed) made;
                 };
-                keeps = record {
-                  rest = λ rest. rest;
-                  not_condemned = λ not_condemned grain. noted_clear q h.segs.condemned grain (not_condemned grain);
-                  not_kept = λ not_condemned not_kept. not_kept;
-                  running = refl;
-                  tails = λ pool generation. refl;
-                  world_tails = λ pool generation. refl;
-                  ranked = λ y r.
-                      ranks_stay layout past h w parts (made_at p.number into q (record { 0 = address_of_placement q })).state.segs
-                      (λ n is. is) (λ n is. is) (λ n grey.
-                      ap (λ ss. segment_over (segments_after q p.number 0 rank.Exact ss) (address_of_word n)) parts.segments
-                      ∙ over_same q p.number 0 rank.Exact (w.grains + 1) w.segments h.segs.condemned own.laid.aligned own.laid.ascending
-                      after.aligned after.ascending n grey.segment
-                      (ap (λ ss. segment_over ss (address_of_word n)) (sym parts.segments) ∙ grey.over));
-                  flip = λ of.
-                      let moved : AreOfFlip past.time.at_flip (world_after_moves w ms) =
-                      subst (AreOfFlip past.time.at_flip) (sym (moved_is w sound q q_is room))
-                      (record { made = of.made; still = of.still }) in
-                      subst (λ x. AreOfFlip past.time.at_flip (world_from (world_after_moves w ms) x)) comes
-                      (for_world (AreOfFlip past.time.at_flip) (world_after_moves w ms)
-                      (act false w (world_after_moves w ms) (call.Alloc name words place))
-                      (flips_kept false w (world_after_moves w ms) (call.Alloc name words place) past.time.at_flip
-                      (lengths_moved w sound q q_is room) moved) moved);
-                  condemned = λ y same run marked.
-                      condemned_stay q p.number 0 rank.Exact (w.grains + 1) w.segments h.segs.condemned own.laid.aligned
-                      own.laid.ascending after.aligned after.ascending y.running.condemned_segments marked
-                      (λ base held. let u = condemned_held y run base held in
-                      (u.0, subst (λ (x : World). IsAmong u.0 x.segments) same u.1, u.2));
-                };
+                keeps =
+                    placed_keeps layout past h w parts own (call.Alloc name words place) p.number words q v.graph v.addresses
+                    (moved_is w sound q q_is room) comes after;
                 formats = refl;
               }))
             where
@@ -385,14 +296,6 @@ module _ {F : Type 0} (layout : F → Layout) (h : HeapState F) (trail : Moves) 
                   allocating.moved_at w sound own.live.blocks own.formed.addresses name words place p pool_is manual found place_is is.has
                   allowed empty q q_is room q
 
-              lengths_moved : (u : World) (sound : w.collection ≡ None → IsSound w) (q : Placement)
-                  → placement_of w (ForAlloc p.number words) ≡ q → refuse_without_place q ≡ Ok tt
-                  → length (world_after_moves w (alloc_at p.number words q)).addresses
-                  ≡ length (world_after_moves w (alloc_at p.number words q)).graph.objects
-              lengths_moved u sound q q_is room =
-                  subst (λ (x : World). length x.addresses ≡ length x.graph.objects) (sym (moved_is u sound q q_is room))
-                  own.formed.addresses
-
               layout_made : (v : World) (ms : List Move) → ms ≡ unless_refused ok (moves_of_alloc w (checked.pool_named w name) words)
                   → act_alloc w (world_after_moves w ms) name words place ≡ checked.done v → HasLayout (w.grains + 1) v
               layout_made v ms due comes =
@@ -411,7 +314,8 @@ module _ {F : Type 0} (layout : F → Layout) (h : HeapState F) (trail : Moves) 
 
           placed_outcome : IsRightAlloc w line (placed_at p.number into (placement_in_gaps h.segs p.number rank.Exact words))
           placed_outcome =
-              subst (λ q. IsRightAlloc w line (placed_at p.number into q)) (sym (gaps_agree h.segs w arena_is p.number rank.Exact words))
+              subst (λ q. IsRightAlloc w line (placed_at p.number into q))
+              (sym (gaps_agree h.segs w (arena_is layout past h w parts own) p.number rank.Exact words))
               (of_placement (placement_of w (ForAlloc p.number words)) refl)
 
         -- there is room for a note where the place is empty
@@ -426,7 +330,7 @@ module _ {F : Type 0} (layout : F → Layout) (h : HeapState F) (trail : Moves) 
                 framed.listed in
                 let alike = noted_alike h.roots.blocks w.graph.blocks x.blocks f.0.blocks f.2.blocks in
                 let few = room_for_notes w (reached_frames w reach) framed.few found.number found.index found.list is.has
-                (ap (slice_get found.list) is.found_index ∙ is.there ∙ ap (λ o. Some o) (none_of found.value empty)) p.number f.0
+                (ap (slice_get found.list) is.found_index ∙ is.there ∙ ap (λ o. Some o) (none_where found.value empty)) p.number f.0
                 f.1 in
                 lt-ltb (length x.blocks) max_notes (omega (arith, alike, few))
 
@@ -435,19 +339,11 @@ module _ {F : Type 0} (layout : F → Layout) (h : HeapState F) (trail : Moves) 
         of_size false empty e f = refused_outcome refusal.BadSize (to_place ∙ ap (alloc_sized w w words place p found) e)
         of_size true false e f =
             refused_outcome refusal.NameTaken
-            (to_place ∙ ap (alloc_sized w w words place p found) e ∙ ap (alloc_empty w w words place p found) (taken
-            (is_some found.value) f))
-          where
-            taken : (b : Bool) → not b ≡ false → b ≡ true
-            taken true g = refl
-            taken false g = absurd (false≢true (sym g))
+            (to_place ∙ ap (alloc_sized w w words place p found) e ∙ ap (alloc_empty w w words place p found)
+            (taken_where (is_some found.value) f))
         of_size true true e f =
             subst (λ b. IsRightAlloc w line (from_size p.number into true true b)) (sym (room_is (untaken (is_some found.value) f)))
             (placed_outcome e (untaken (is_some found.value) f))
-          where
-            untaken : (b : Bool) → not b ≡ true → b ≡ false
-            untaken true g = absurd (false≢true g)
-            untaken false g = refl
 
         sized_outcome : IsRightAlloc w line (from_place from into)
         sized_outcome =
@@ -455,7 +351,7 @@ module _ {F : Type 0} (layout : F → Layout) (h : HeapState F) (trail : Moves) 
             from_size from.key into (has_blocks_of n words) (into.value == 0) (room_in from.key))) size_is))
             (subst (λ b. IsRightAlloc w line (from_size from.key into b (into.value == 0) (room_in from.key))) (sym has_same)
             (subst (λ b. IsRightAlloc w line (from_size from.key into (allows_size p.value.kind words) b (room_in from.key)))
-            (sym empty_same)
+            (sym (empty_same layout past h w parts own place.index into found is))
             (subst (λ n. IsRightAlloc w line (from_size n into (allows_size p.value.kind words) (not (is_some found.value)) (room_in n)))
             (sym same_number)
             (of_size (allows_size p.value.kind words) (not (is_some found.value)) refl refl))))

@@ -13,7 +13,7 @@ use Rattle.mps_format.specs.Pools.{policy_of_pool}
 use Rattle.mps_laws.proofs.Same.{Same, fits, same_err, same_then}
 use Rattle.mps_model.specs.declared.call.Call.TheVariants as call
 use Rattle.mps_model.specs.declared.reply.Reply.TheVariants as reply
-use Rattle.mps_model.specs.Answer.{Answer, Replied}
+use Rattle.mps_model.specs.Answer.{Replied}
 use Rattle.mps_model.specs.Answer as answers
 use Rattle.mps_model.specs.Checked.{Act, says, with_graph}
 use Rattle.mps_model.specs.Graph.{Object, entry_at}

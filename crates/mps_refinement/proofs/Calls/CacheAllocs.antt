@@ -1,14 +1,14 @@
 -- `calloc`: from its outcome to a right step. A cached block comes without a move; a new one with those of an `alloc`.
-use Rattle.std.proofs.Common.{◌≡◌, ◌∙◌, ℕ, ◌+◌, ◌<◌, Bool, true, false, refl, sym, ap, subst, List, [], ◌∷◌, ◌++◌, length, map, Option, Some, None, Ok, Err, is_some, arith}
-use Rattle.std.proofs.lemmas.Bool.{and_parts, eqb-true, false≢true, le-leb, leb-true, ne_eqb}
-use Rattle.std.proofs.lemmas.Option.{none-some, same_Some, slice_get-map}
-use Rattle.std.specs.Prelude.{◌==◌, ◌&&◌, nat_le, not, slice_get, slice_set, option_map, if◌then◌else◌}
+use Rattle.std.proofs.Common.{◌≡◌, ◌∙◌, ℕ, ◌+◌, ◌<◌, Bool, true, false, refl, sym, ap, subst, List, [], length, map, Option, Some, None, Ok, Err, is_some, arith}
+use Rattle.std.proofs.lemmas.Bool.{and_parts, false≢true}
+use Rattle.std.proofs.lemmas.Option.{slice_get-map}
+use Rattle.std.specs.Prelude.{◌==◌, not, slice_get, slice_set, option_map, if◌then◌else◌}
 use Rattle.std.specs.List.{list_all}
 use Rattle.std.specs.Option.{option_map_or}
-use Rattle.mps_seg.specs.Arena.{answer_of_placement, cleared_words}
-use Rattle.mps_base.specs.Address.{Address, Id, address_of_word, word_of}
+use Rattle.mps_seg.specs.Arena.{answer_of_placement}
+use Rattle.mps_base.specs.Address.{Address, Id}
 use Rattle.mps_base.specs.Placement.{Placement, Place, NewSegment, OverLimit, NoFreeRun}
-use Rattle.mps_base.specs.Segment.{Segment, segment_over}
+use Rattle.mps_base.specs.Segment.{Segment}
 use Rattle.mps_base.specs.Trail.{Moves, with_move}
 use Rattle.mps_base.specs.declared.address.Addr.{Addr}
 use Rattle.mps_base.specs.declared.moves.Move.TheVariants as moves
@@ -18,40 +18,34 @@ use Rattle.mps_base.specs.declared.names.Slot.{Slot}
 use Rattle.mps_base.specs.declared.refusal.Refusal.{Refusal}
 use Rattle.mps_base.specs.declared.refusal.Refusal.TheVariants as refusal
 use Rattle.mps_format.specs.Layout.{Layout}
-use Rattle.mps_changes.proofs.Frames.{blocks_in}
-use Rattle.mps_changes.proofs.OneMore.{parts_pass}
 use Rattle.mps_laws.proofs.Acts.{for_world}
-use Rattle.mps_laws.proofs.Lookups.{length-slice_set}
 use Rattle.mps_laws.proofs.Positions.LegalMoves.{HasLayout}
-use Rattle.mps_laws.proofs.Positions.Segments.{IsAmong}
 use Rattle.mps_laws.proofs.QuietSteps.{IsSound}
 use Rattle.mps_laws.proofs.Same as same
 use Rattle.mps_laws.proofs.Same.{Same, fits}
 use Rattle.mps_laws.proofs.Sound.PoolKinds.{manual_not_copying}
-use Rattle.mps_laws.proofs.Sound.SoundGraph.{PassesOrNull, all-at as all-in, entry-passes}
 use Rattle.mps_pools.specs.Manual.{any_size, has_blocks_of}
 use Rattle.mps_model.specs.declared.call.Call.TheVariants as call
 use Rattle.mps_model.specs.declared.reply.Reply.TheVariants as reply
 use Rattle.mps_model.specs.Allocating.{address_of_placement, allows_size, graph_allocated, refuse_without_place, with_block_noted}
 use Rattle.mps_model.specs.Answer.{Answer, Replied}
 use Rattle.mps_model.specs.Caches as models
-use Rattle.mps_model.specs.Caches.{act_cache_alloc, act_taken, graph_cleared, taken_from}
+use Rattle.mps_model.specs.Caches.{act_cache_alloc, act_taken, taken_from}
 use Rattle.mps_model.specs.Checked as checked
-use Rattle.mps_model.specs.Checked.{Act, Checked, Found, Numbered, ◌>>=◌, ◌>>◌, done, refuse_when, required, with_graph}
+use Rattle.mps_model.specs.Checked.{Act, Checked, Found, Numbered, ◌>>=◌, ◌>>◌, done, refuse_when, required}
 use Rattle.mps_model.specs.Effect.{world_after_moves}
-use Rattle.mps_model.specs.Graph.{Cache, CacheClass, Object, entries, entry_at, ids_in_caches, ids_in_places, is_automatic, size_of, size_of_body, with_last}
+use Rattle.mps_model.specs.Graph.{Cache, CacheClass, with_last}
 use Rattle.mps_model.specs.History.{alloc_at, moves_if_not_taken, moves_of_cache_alloc, unless_refused}
 use Rattle.mps_model.specs.Making.{is_block_size}
 use Rattle.mps_model.specs.Placement.{ForAlloc, placement_of}
 use Rattle.mps_model.specs.Reply.{act, world_from}
 use Rattle.mps_model.specs.WellFormed.{is_right_cache, is_right_class}
 use Rattle.mps_model.specs.World as world
-use Rattle.mps_model.specs.World.{World, PoolKind, Collected, OneSize, AnySize, Frames, is_automatic_kind, is_copying_pool, is_live, object_is, pool_at, pool_is}
-use Rattle.mps_neighbours.specs.Caches as caches
+use Rattle.mps_model.specs.World.{World, PoolKind, Collected, OneSize, AnySize, Frames, is_automatic_kind, is_copying_pool, pool_at, pool_is}
 use Rattle.mps_neighbours.specs.Caches.{blocks_of_size, classes_of, last_of}
-use Rattle.mps_heap_spec.specs.Caching.{block_from_cache, block_taken, cache_named, taken_into, with_block_taken, words_cleared}
+use Rattle.mps_heap_spec.specs.Caching.{block_from_cache, block_taken, cache_named, taken_into, with_block_taken}
 use Rattle.mps_heap_spec.specs.Coming.{ComesMoving, Moved}
-use Rattle.mps_heap_spec.specs.Finding.{block_place_in, with_words}
+use Rattle.mps_heap_spec.specs.Finding.{block_place_in}
 use Rattle.mps_heap_spec.specs.declared.found.Entry.{Entry}
 use Rattle.mps_heap_spec.specs.declared.found.Kept.{Kept}
 use Rattle.mps_heap_spec.specs.Manual.{with_block_place}
@@ -63,32 +57,27 @@ use Rattle.mps_seg.specs.Placing.{placement_in_gaps}
 use Rattle.mps_seg.specs.Segs.{moves_after, segments_after}
 use Rattle.mps_trace_laws.proofs.Image.Shaped.{all_at}
 use Rattle.mps_refinement.specs.Answering.{answer_to, says_ok}
-use Rattle.mps_refinement.specs.Beside.{kept_cache, kept_class}
+use Rattle.mps_refinement.specs.Beside.{kept_class}
 use Rattle.mps_snc.specs.State.{pool_at as framed_at}
 use Rattle.mps_refinement.specs.Framed.{AreFramed}
 use Rattle.mps_refinement.specs.RightStep.{IsRight, IsRightIn, step_of}
-use Rattle.mps_refinement.specs.StandsFor.{AreOfFlip, AreParts, IsInTime, IsPool, IsReached, Past, address_of_id, address_of_target, collector_of}
+use Rattle.mps_refinement.specs.StandsFor.{AreOfFlip, AreParts, IsInTime, IsPool, IsReached, Past, address_of_id, collector_of}
+use Rattle.mps_refinement.proofs.Calls.BlockPlaced.{arena_is, empty_same, moves_are, none_where, placed_keeps, some_words, taken_where, untaken, with_true}
+use Rattle.mps_refinement.proofs.Parts.CachedTaken.{taken_parts}
 use Rattle.mps_refinement.proofs.Calls.RightOwn.{IsOwn, IsRightOutcome, done_is_right, outcome_is_right, refusal_is_right}
-use Rattle.mps_refinement.proofs.Lookups.CachesFound.{IsCacheFound, IsTakenAlike, cache_same, classes_kept, classes_written, taken_alike}
-use Rattle.mps_refinement.proofs.Lookups.Found.{some_there}
+use Rattle.mps_refinement.proofs.Lookups.CachesFound.{IsCacheFound, IsTakenAlike, cache_same, classes_kept, taken_alike}
 use Rattle.mps_refinement.proofs.Lookups.LiveObjects.{pool_kept}
 use Rattle.mps_refinement.proofs.Lookups.Lookups.{IsPlaceEntry, IsPlaceFound, place_same}
-use Rattle.mps_refinement.proofs.Lookups.ManualBlocks.{IsBlock, block_is, passes_there}
-use Rattle.mps_refinement.proofs.Parts.AllocatedParts.{noted_clear, parts_made, segments_made}
+use Rattle.mps_refinement.proofs.Lookups.ManualBlocks.{passes_there}
+use Rattle.mps_refinement.proofs.Parts.AllocatedParts.{parts_made, segments_made}
 use Rattle.mps_refinement.proofs.Parts.BlockParts.{parts_with_frames, world_with_frames}
-use Rattle.mps_refinement.proofs.Parts.BlockWritten.{block_cleared, block_within}
-use Rattle.mps_refinement.proofs.Parts.CachesWritten.{caches_written, heap_with_caches, world_with_caches}
-use Rattle.mps_refinement.proofs.Parts.FramedParts.{all_true, changed_absent, listed_absent}
-use Rattle.mps_refinement.proofs.Parts.GreyRanks.{ranks_stay}
-use Rattle.mps_refinement.proofs.Parts.PlaceWritten.{block_place_written}
-use Rattle.mps_refinement.proofs.Parts.SegmentsTaken.{condemned_held, condemned_stay, over_same}
+use Rattle.mps_refinement.proofs.Parts.FramedParts.{changed_absent, listed_absent}
 use Rattle.mps_refinement.proofs.Worlds.BlockMade as made
-use Rattle.mps_refinement.proofs.Worlds.CachedBlocks.{blocks_taken, live_taken, taken_laid, taken_passes, taken_right, world_taken}
+use Rattle.mps_refinement.proofs.Worlds.CachedBlocks.{blocks_taken, live_taken, taken_laid, world_taken}
 use Rattle.mps_refinement.proofs.Worlds.FlipKept.{flips_kept}
 use Rattle.mps_refinement.proofs.Worlds.Known.{IsKnown}
-use Rattle.mps_refinement.proofs.Worlds.Placing.{IsSameArena, gaps_agree}
+use Rattle.mps_refinement.proofs.Worlds.Placing.{gaps_agree}
 use Rattle.mps_refinement.proofs.Worlds.RestingActs.{resting_sound}
-use Rattle.mps_refinement.proofs.Worlds.ZeroedWords.{zeroed_cleared}
 
 abbrev ok : Answer
 ok = Replied reply.Ok
@@ -112,35 +101,6 @@ no_size layout formats (pool.OneSize words) q is any =
     ap models.may_have_cache (sym (ap (λ (x : world.Pool). x.kind) is) ∙ any) in absurd cc
 no_size layout formats pool.AnySize q is any = refl
 
-with_true : (b : Bool) → (b && true) ≡ b
-with_true true = refl
-with_true false = refl
-
-untaken : (b : Bool) → not b ≡ true → b ≡ false
-untaken true g = absurd (false≢true g)
-untaken false g = refl
-
-taken_where : (b : Bool) → not b ≡ false → b ≡ true
-taken_where true g = refl
-taken_where false g = absurd (false≢true (sym g))
-
-none_where : {A : Type 0} (o : Option A) → is_some o ≡ false → o ≡ None
-none_where None e = refl
-none_where (Some x) e = absurd (false≢true (sym e))
-
--- ---- the moves of a new block, where the trail had none
-
-moves_are : (trail : Moves) (q : Placement) (number words : ℕ) → trail.moves ≡ [] → refuse_without_place q ≡ Ok tt
-    → (with_move (moves_after q number 0 trail) (moves.Alloc (record { 0 = address_of_placement q }) words number)).moves
-    ≡ alloc_at number words q
-moves_are trail (Place word) number words none room =
-    ap (λ ms. ms ++ moves.Alloc (record { 0 = address_of_placement (Place word) }) words number ∷ []) none
-moves_are trail (NewSegment grain grains) number words none room =
-    ap (λ ms. (ms ++ moves.Seg (record { 0 = address_of_placement (NewSegment grain grains) }) grains number 0 ∷ [])
-    ++ moves.Alloc (record { 0 = address_of_placement (NewSegment grain grains) }) words number ∷ []) none
-moves_are trail (OverLimit committed need limit) number words none room = absurd cc
-moves_are trail (NoFreeRun need longest) number words none room = absurd cc
-
 -- ---- the checks of the model, from each on, where the call takes effect in a world
 
 module _ (w v : World) (words : ℕ) (place : Slot) where
@@ -158,9 +118,6 @@ module _ (w v : World) (words : ℕ) (place : Slot) where
 
   abbrev take_from : Checked (Numbered Cache) → Checked Act
   take_from x = x >>= (λ (q : Numbered Cache). take_pool q (pool_at w q.value.pool))
-
-  take_is : (name : Name) → act_cache_alloc w v name words place ≡ take_from (checked.cache_named v name)
-  take_is name = refl
 
 module _ {F : Type 0} (layout : F → Layout) (h : HeapState F) (trail : Moves) (none : trail.moves ≡ []) (name : Name) (words : ℕ)
     (place : Slot) where
@@ -209,14 +166,6 @@ module _ {F : Type 0} (layout : F → Layout) (h : HeapState F) (trail : Moves) 
     refused_outcome why e =
         refusal_is_right layout h trail none (call.CacheAlloc name words place) w line past parts own reach time is_own why e
 
-    arena_is : IsSameArena h.segs w
-    arena_is = record {
-      grains = parts.grains;
-      limit = parts.limit;
-      segments = parts.segments;
-      covered = parts.image.runs.covered;
-    }
-
     -- ---- where the cache is found
 
     module _ (from : Kept ℕ) (q : Numbered Cache) (found : IsCacheFound h w from q) (cache_is : checked.cache_named w name ≡ Ok q) where
@@ -260,20 +209,6 @@ module _ {F : Type 0} (layout : F → Layout) (h : HeapState F) (trail : Moves) 
         to_place : act_cache_alloc w w name words place ≡ take_sized w w words place q pl (allows_size p.0.kind words)
         to_place = to_pool ∙ ap (take_placed w w words place q p.0) place_is
 
-        -- the place is empty in both, or in neither
-        empty_same : (into.value == 0) ≡ not (is_some pl.value)
-        empty_same = of_value pl.value refl is.value
-          where
-            of_value : (o : Option ℕ) → pl.value ≡ o → into.value ≡ address_of_target w.addresses o → (into.value == 0) ≡ not (is_some o)
-            of_value None e value = ap (λ a. a == 0) value
-            of_value (Some id) e value =
-                let live = subst (PassesOrNull (is_live w)) e (entry-passes (is_live w) pl.list place.index pl.value
-                (all-in (is_live w) entries w.graph.blocks pl.number pl.list
-                (parts_pass (is_live w) (ids_in_places w.graph) (ids_in_caches w.graph) own.live.blocks).0 is.has) is.there) in
-                let at = some_there (entry_at w.addresses id) live in
-                let address : into.value ≡ at.0 = value ∙ ap (λ o. option_map_or (λ x. x) o 0) at.1 in
-                ne_eqb into.value 0 (λ z. let low = (parts.image.placed.address id at.0 at.1).not_null in omega (arith, z, address, low))
-
         -- ---- where the size is allowed and the place empty
 
         module _ (allowed : allows_size p.0.kind words ≡ true) (empty : is_some pl.value ≡ false) where
@@ -294,33 +229,12 @@ module _ {F : Type 0} (layout : F → Layout) (h : HeapState F) (trail : Moves) 
           -- ---- a block of the class
 
           module _ (id : Id) (left : List CacheClass) (taken : taken_from q.value.classes words ≡ Some (id, left)) where
-            block : (at : Address) × IsBlock w at id
-            block =
-                block_is layout past h w parts own id
-                (taken_passes w q found.has pl is.has words id left taken (is_live w)
-                (parts_pass (is_live w) (ids_in_places w.graph) (ids_in_caches w.graph) own.live.blocks).1)
-                (taken_passes w q found.has pl is.has words id left taken (object_is (λ o. not (is_automatic o)) w)
-                (parts_pass (object_is (λ o. not (is_automatic o)) w) (ids_in_places w.graph) (ids_in_caches w.graph)
-                own.formed.blocks).1)
+            block : (at : Address) × (address_of_id w.addresses id ≡ at)
+                × AreParts layout past (with_block_taken h from.key words into at) (world_taken w q found.has pl is.has words id left taken)
+            block = taken_parts layout past h w parts own from q found right_parts.1 words place.index into pl is empty_entry id left taken
 
             abbrev at : Address
             at = block.0
-
-            abbrev b : IsBlock w block.0 id
-            b = block.1
-
-            address_is : address_of_id w.addresses id ≡ at
-            address_is = ap (λ o. option_map_or (λ a. a) o 0) b.address
-
-            -- it has the words of its class
-            count_is : length b.right.words ≡ words
-            count_is =
-                let right_block = taken_right w q.value.pool words q.value.classes id left right_parts.1 taken in
-                let of_object : (b.object.pool == q.value.pool && size_of b.object == words) ≡ true =
-                sym (ap (λ o. option_map_or (λ (x : Object). x.pool == q.value.pool && size_of x == words) o false)
-                b.there) ∙ right_block in
-                sym (ap (λ body. size_of_body body) b.right.body)
-                ∙ eqb-true (size_of b.object) words (and_parts (b.object.pool == q.value.pool) (size_of b.object == words) of_object).1
 
             abbrev v : World
             v = world_taken w q found.has pl is.has words id left taken
@@ -330,61 +244,6 @@ module _ {F : Type 0} (layout : F → Layout) (h : HeapState F) (trail : Moves) 
 
             comes : act_cache_alloc w w name words place ≡ done v
             comes = to_taken w.segments ∙ ap (act_taken w w q words pl) taken
-
-            cleared : words_cleared h.segs.words at words ≡ cleared_words h.segs.words (word_of at) (length b.right.words)
-            cleared =
-                let within = block_within layout past h w parts own.laid at id b in
-                let few = count_is in
-                ap (λ c. if c then cleared_words h.segs.words (word_of at) words else h.segs.words)
-                (le-leb (word_of at + words) (length h.segs.words) (omega (arith, within, few)))
-                ∙ ap (cleared_words h.segs.words (word_of at)) (sym few)
-
-            abbrev heap_cleared : HeapState F
-            heap_cleared = with_words h (words_cleared h.segs.words at words)
-
-            abbrev world_cleared : World
-            world_cleared = with_graph w (graph_cleared w.graph id)
-
-            parts_cleared : AreParts layout past heap_cleared world_cleared
-            parts_cleared =
-                subst (λ ws. AreParts layout past (with_words h ws) world_cleared) (sym cleared)
-                (subst (λ os. AreParts layout past (with_words h (cleared_words h.segs.words (word_of at) (length b.right.words)))
-                (with_graph w (record w.graph { objects = os })))
-                (zeroed_cleared w.graph id b.object b.right.words b.there b.right.body)
-                (block_cleared layout past h w parts own.laid at id b))
-
-            taken_same : IsTakenAlike w.addresses words q.value.classes (Some (id, left))
-            taken_same = subst (IsTakenAlike w.addresses words q.value.classes) taken (taken_alike w.addresses words q.value.classes)
-
-            key_is : from.key ≡ q.number
-            key_is = sym found.number
-
-            abbrev caches_now : List caches.CacheState
-            caches_now = caches.with_classes h.beside.caches from.key
-                (caches.without_last_of_size (classes_of h.beside.caches from.key) words)
-
-            caches_fit : caches_now
-                ≡ map (kept_cache w.addresses) (models.with_classes w.graph q left).caches
-            caches_fit =
-                ap (λ n. caches.with_classes h.beside.caches n
-                (caches.without_last_of_size (classes_of h.beside.caches n) words)) key_is
-                ∙ classes_written layout past h w parts q.number q.value found.has
-                (caches.without_last_of_size (classes_of h.beside.caches q.number) words) left
-                (ap (λ ks. caches.without_last_of_size ks words)
-                (classes_kept layout past h w parts q.number q.value found.has) ∙ taken_same.1)
-
-            parts_taken : AreParts layout past (with_block_taken h from.key words into at) v
-            parts_taken =
-                block_place_written layout past (heap_with_caches heap_cleared caches_now)
-                (world_with_caches world_cleared (models.with_classes w.graph q left).caches)
-                (caches_written layout past heap_cleared world_cleared parts_cleared caches_now (models.with_classes w.graph q left).caches
-                caches_fit
-                (let e = length-slice_set h.beside.caches from.key
-                (record (caches.cache_at h.beside.caches from.key) {
-                  classes = caches.without_last_of_size (classes_of h.beside.caches from.key) words;
-                }) in omega (arith, e)))
-                into pl (is.number) (is.index_is ∙ sym is.found_index) is.has at (Some id) (sym address_is) (λ j. true)
-                (all_true (blocks_in w.graph.frames)) (λ j entry passes. none-some j (same_Some None (Some j) (sym empty_entry ∙ entry)))
 
             done_outcome : IsRightTake w line (block_taken h trail from any_size words into (Some at))
             done_outcome =
@@ -397,7 +256,7 @@ module _ {F : Type 0} (layout : F → Layout) (h : HeapState F) (trail : Moves) 
                   sound = λ rest. resting_sound v rest (live_taken w q found.has pl is.has words id left taken own.live empty_entry);
                   blocks = blocks_taken w q found.has pl is.has words id left taken own.live.blocks empty_entry;
                   laid = taken_laid w line own.laid name place v [] words due comes;
-                  has = record { past = past; timed = refl; parts = parts_taken };
+                  has = record { past = past; timed = refl; parts = block.2 };
                   keeps = record {
                     rest = λ rest. rest;
                     not_condemned = λ clear. clear;
@@ -422,10 +281,7 @@ module _ {F : Type 0} (layout : F → Layout) (h : HeapState F) (trail : Moves) 
             number = q.value.pool
 
             some : 0 < words
-            some =
-                let sized = subst (λ k. allows_size k words ≡ true) kind allowed in
-                let both = and_parts (nat_le 1 words) (nat_le words 65536) sized in
-                let low = leb-true 1 words both.0 in omega (arith, low)
+            some = some_words p.0.kind words allowed
 
             not_copying : is_copying_pool w q.value.pool ≡ false
             not_copying = manual_not_copying w.pools q.value.pool p.0 p.1 manual
@@ -502,36 +358,9 @@ module _ {F : Type 0} (layout : F → Layout) (h : HeapState F) (trail : Moves) 
                         (slice_set w.graph.blocks pl.number (slice_set pl.list pl.index (Some (length w.graph.objects)))) w.pools)
                         (sym unnoted) built.framed) built;
                   };
-                  keeps = record {
-                    rest = λ rest. rest;
-                    not_condemned = λ not_condemned grain. noted_clear x h.segs.condemned grain (not_condemned grain);
-                    not_kept = λ not_condemned not_kept. not_kept;
-                    running = refl;
-                    tails = λ pool generation. refl;
-                    world_tails = λ pool generation. refl;
-                    ranked = λ y r.
-                        ranks_stay layout past h w parts (made_at q.value.pool into x (record { 0 = address_of_placement x })).state.segs
-                        (λ n is. is) (λ n is. is) (λ n grey.
-                        ap (λ ss. segment_over (segments_after x q.value.pool 0 rank.Exact ss) (address_of_word n)) parts.segments
-                        ∙ over_same x q.value.pool 0 rank.Exact (w.grains + 1) w.segments h.segs.condemned own.laid.aligned
-                        own.laid.ascending after.aligned after.ascending n grey.segment
-                        (ap (λ ss. segment_over ss (address_of_word n)) (sym parts.segments) ∙ grey.over));
-                    flip = λ of.
-                        let moved : AreOfFlip past.time.at_flip (world_after_moves w ms) =
-                        subst (AreOfFlip past.time.at_flip) (sym (moved_is x))
-                        (record { made = of.made; still = of.still }) in
-                        subst (λ y. AreOfFlip past.time.at_flip (world_from (world_after_moves w ms) y)) comes
-                        (for_world (AreOfFlip past.time.at_flip) (world_after_moves w ms)
-                        (act false w (world_after_moves w ms) (call.CacheAlloc name words place))
-                        (flips_kept false w (world_after_moves w ms) (call.CacheAlloc name words place) past.time.at_flip
-                        (subst (λ (m : World). length m.addresses ≡ length m.graph.objects) (sym (moved_is x)) own.formed.addresses) moved)
-                        moved);
-                    condemned = λ y same run marked.
-                        condemned_stay x q.value.pool 0 rank.Exact (w.grains + 1) w.segments h.segs.condemned own.laid.aligned
-                        own.laid.ascending after.aligned after.ascending y.running.condemned_segments marked
-                        (λ base held. let t = condemned_held y run base held in
-                        (t.0, subst (λ (m : World). IsAmong t.0 m.segments) same t.1, t.2));
-                  };
+                  keeps =
+                      placed_keeps layout past h w parts own (call.CacheAlloc name words place) q.value.pool words x v.graph v.addresses
+                      (moved_is x) comes after;
                   formats = refl;
                 }))
 
@@ -551,7 +380,7 @@ module _ {F : Type 0} (layout : F → Layout) (h : HeapState F) (trail : Moves) 
                 subst (λ n. IsRightTake w line (sized_as n into (has_blocks_of any_size words))) (sym found.fit)
                 (subst (λ c. IsRightTake w line (sized_as q.value.pool into c)) (sym (has_same ∙ allowed))
                 (subst (λ x. IsRightTake w line (placed_at q.value.pool into x))
-                (sym (gaps_agree h.segs w arena_is q.value.pool rank.Exact words))
+                (sym (gaps_agree h.segs w (arena_is layout past h w parts own) q.value.pool rank.Exact words))
                 (of_placement (placement_of w (ForAlloc q.value.pool words)) refl)))
 
           -- ---- either
@@ -570,7 +399,7 @@ module _ {F : Type 0} (layout : F → Layout) (h : HeapState F) (trail : Moves) 
                   ∙ ap (λ ks. last_of (blocks_of_size ks words)) (classes_kept layout past h w parts q.number q.value found.has)
           of_taken (Some taken) e alike =
               subst (λ x. IsRightTake w line (block_taken h trail from any_size words into x))
-              (sym (blocks_are ∙ alike.0 ∙ ap Some (address_is taken.0 taken.1 e))) (done_outcome taken.0 taken.1 e)
+              (sym (blocks_are ∙ alike.0 ∙ ap Some (block taken.0 taken.1 e).1)) (done_outcome taken.0 taken.1 e)
             where
               blocks_are : last_of (blocks_of_size (classes_of h.beside.caches from.key) words)
                   ≡ last_of (blocks_of_size (map (kept_class w.addresses) q.value.classes) words)
@@ -598,7 +427,8 @@ module _ {F : Type 0} (layout : F → Layout) (h : HeapState F) (trail : Moves) 
             (subst (λ c. IsRightTake w line (from_size from into any_size c (into.value == 0)
             (last_of (blocks_of_size (classes_of h.beside.caches from.key) words)))) (sym has_same)
             (subst (λ c. IsRightTake w line (from_size from into any_size (allows_size p.0.kind words) c
-            (last_of (blocks_of_size (classes_of h.beside.caches from.key) words)))) (sym empty_same)
+            (last_of (blocks_of_size (classes_of h.beside.caches from.key) words))))
+            (sym (empty_same layout past h w parts own place.index into pl is))
             (of_size (allows_size p.0.kind words) (not (is_some pl.value)) refl refl)))
 
       of_place : (x : Checked (Entry Address)) (y : Checked (Found (Option ℕ))) → checked.block_place_in w place ≡ y

@@ -1,31 +1,25 @@
 -- `cflush`: from its outcome to a right step. The blocks leave the cache first, and then are freed one after the other.
 use Rattle.std.proofs.Common.{◌≡◌, ◌∙◌, ℕ, ◌+◌, ◌≤◌, Bool, true, false, refl, sym, ap, subst, List, [], ◌∷◌, ◌++◌, map, Option, Some, None, Ok, Err, arith}
-use Rattle.std.proofs.lemmas.Bool.{and_parts, eq-eqb, eqb-true, false≢true}
+use Rattle.std.proofs.lemmas.Bool.{and_parts, eqb-true, false≢true}
 use Rattle.std.proofs.lemmas.List.{map-append}
-use Rattle.std.proofs.lemmas.Option.{slice_get-map}
-use Rattle.std.specs.Prelude.{◌==◌, ◌&&◌, ◌||◌, not, option_map, slice_get, if◌then◌else◌}
+use Rattle.std.specs.Prelude.{◌==◌, ◌&&◌, not, slice_get}
 use Rattle.std.specs.List.{flat_map, list_all}
 use Rattle.std.specs.Option.{option_map_or}
-use Rattle.mps_base.specs.Address.{Address, Id, grain_of}
+use Rattle.mps_base.specs.Address.{Address, Id}
 use Rattle.mps_base.specs.Trail.{Moves}
-use Rattle.mps_base.specs.declared.moves.Move.{Move}
 use Rattle.mps_base.specs.declared.names.Name.{Name}
 use Rattle.mps_base.specs.declared.refusal.Refusal.{Refusal}
 use Rattle.mps_base.specs.declared.refusal.Refusal.TheVariants as refusal
-use Rattle.mps_extents.specs.Table.{bit}
 use Rattle.mps_format.specs.Layout.{Layout}
 use Rattle.mps_format.specs.Pools.{size_of_pool}
 use Rattle.mps_format.specs.declared.pool.Pool.{Pool}
-use Rattle.mps_abstract.specs.Colours.{is_grey}
-use Rattle.mps_changes.proofs.OneMore.{both_pass, cache_passes, flush_occurs, flush_passes, flushed_pass, last_more, occurrences-append, occurs_more, parts_pass}
+use Rattle.mps_changes.proofs.OneMore.{both_pass, cache_passes, flush_occurs, flush_passes, flushed_pass, occurrences-append, parts_pass}
 use Rattle.mps_laws.proofs.Lookups.{length-slice_set}
 use Rattle.mps_laws.proofs.OnePlace.{AreInOnePlace, in_one_place}
-use Rattle.mps_laws.proofs.QuietSteps.{IsSound}
 use Rattle.mps_laws.proofs.Same as same
 use Rattle.mps_laws.proofs.Same.{Same, fits}
 use Rattle.mps_laws.proofs.Sound.HeldIds.{All, all-append, all-weaker}
-use Rattle.mps_laws.proofs.Sound.PoolKinds.{manual_not_copying}
-use Rattle.mps_laws.proofs.Sound.SoundGraph.{IsSoundGraph, auto}
+use Rattle.mps_laws.proofs.Sound.SoundGraph.{auto}
 use Rattle.mps_trace_laws.proofs.Image.Shaped.{all_at}
 use Rattle.mps_model.specs.declared.call.Call.TheVariants as call
 use Rattle.mps_model.specs.declared.reply.Reply.TheVariants as reply
@@ -35,15 +29,13 @@ use Rattle.mps_model.specs.Caches as models
 use Rattle.mps_model.specs.Caches.{act_cache_flush, may_have_cache}
 use Rattle.mps_model.specs.Checked as checked
 use Rattle.mps_model.specs.Checked.{Checked, Numbered, ◌>>=◌, done, required, with_graph}
-use Rattle.mps_model.specs.Effect.{world_after_moves}
-use Rattle.mps_model.specs.Graph.{Cache, CacheClass, Object, contains, entry_at, ids_in_blocks, ids_in_caches, ids_in_places, is_automatic, is_automatic_body, occurrences, size_of}
-use Rattle.mps_model.specs.History.{moves_of_cache_flush, moves_of_frees, unless_refused}
+use Rattle.mps_model.specs.Graph.{Cache, CacheClass, Object, contains, from_last, ids_in_blocks, ids_in_caches, ids_in_places, is_automatic, is_automatic_body, occurrences, size_of}
+use Rattle.mps_model.specs.History.{moves_of_cache_flush}
 use Rattle.mps_model.specs.WellFormed.{is_right_cache, is_right_class}
 use Rattle.mps_model.specs.World as world
-use Rattle.mps_model.specs.World.{World, PoolKind, Collected, OneSize, AnySize, Frames, is_any_size_kind, is_automatic_kind, is_copying_pool, is_live, object_is, pool_at, pool_is}
+use Rattle.mps_model.specs.World.{World, PoolKind, Collected, OneSize, AnySize, Frames, is_automatic_kind, is_live, object_is, pool_at, pool_is}
 use Rattle.mps_neighbours.specs.Caches as caches
 use Rattle.mps_neighbours.specs.Caches.{classes_of}
-use Rattle.mps_pools.specs.Manual.{any_size}
 use Rattle.mps_heap_spec.specs.Caching as ours
 use Rattle.mps_heap_spec.specs.Caching.{cache_flushed, cache_named, with_cache_flushed}
 use Rattle.mps_heap_spec.specs.Coming.{ComesMoving, Moved}
@@ -52,27 +44,17 @@ use Rattle.mps_heap_spec.specs.State.{HeapState}
 use Rattle.mps_heap_spec.specs.declared.found.Kept.{Kept}
 use Rattle.mps_refinement.specs.Answering.{answer_to, says_ok}
 use Rattle.mps_refinement.specs.Beside.{kept_cache, kept_class}
-use Rattle.mps_refinement.specs.RightStep.{IsRight, IsRightIn, step_of}
-use Rattle.mps_refinement.specs.StandsFor.{AreParts, IsInTime, IsPool, IsReached, Past, address_of_id, collector_of}
-use Rattle.mps_refinement.proofs.Calls.RightOwn.{IsOwn, IsRightOutcome, done_is_right, outcome_is_right, refusal_is_right}
-use Rattle.mps_refinement.proofs.Collect.SameAddresses.{AreSame}
+use Rattle.mps_refinement.specs.RightStep.{IsRight}
+use Rattle.mps_refinement.specs.StandsFor.{AreParts, IsInTime, IsReached, Past, address_of_id, collector_of}
+use Rattle.mps_refinement.proofs.Calls.RightOwn.{IsOwn, IsRightOutcome, outcome_is_right, refusal_is_right}
+use Rattle.mps_refinement.proofs.Calls.RowsFreed.{AreUnheld, IsManualPool, frees_are_right, manual_pool, size_kept}
 use Rattle.mps_refinement.proofs.Lookups.CachesFound.{IsCacheFound, cache_same, classes_kept, classes_written}
-use Rattle.mps_refinement.proofs.Lookups.LiveObjects.{pool_kept}
 use Rattle.mps_refinement.proofs.Lookups.ManualBlocks.{IsBlock, block_is, passes_there}
-use Rattle.mps_refinement.proofs.Parts.CachesStill.{none_equal}
+use Rattle.mps_refinement.proofs.Parts.CachesStill.{none_equal, occurs_there, reversed_occurs}
 use Rattle.mps_refinement.proofs.Parts.CachesWritten.{caches_written, heap_with_caches, world_with_caches}
-use Rattle.mps_refinement.proofs.Parts.CommittedParts.{segment_there}
-use Rattle.mps_refinement.proofs.Parts.FreedSegments.{HasShapes, any_size_alike}
-use Rattle.mps_refinement.proofs.Parts.ObjectKinds.{manual_unpaired, paired_automatic}
-use Rattle.mps_refinement.proofs.Parts.RowParts.{row_parts, row_ranked}
-use Rattle.mps_refinement.proofs.Parts.SegmentsTaken.{contained_among}
-use Rattle.mps_refinement.proofs.Parts.StillHeld.{reservation_targets}
-use Rattle.mps_refinement.proofs.Parts.Unforwarded.{flip_known}
 use Rattle.mps_refinement.proofs.Worlds.Known.{IsKnown}
-use Rattle.mps_refinement.proofs.Worlds.OneFree.{outside_known}
 use Rattle.mps_refinement.proofs.Worlds.PlacedOnce.{is_sized}
-use Rattle.mps_refinement.proofs.Worlds.RestingActs.{resting_sound}
-use Rattle.mps_refinement.proofs.Worlds.RowOfFrees.{AreFreed, AreLoose, AreRow, all_gone, all_live, all_sound, gone_as_row, gone_holding, gone_unpaired, loose_of, others_still, row_is_freed, row_of, world_holding, world_row}
+use Rattle.mps_refinement.proofs.Worlds.RowOfFrees.{AreRow, row_of, world_row}
 
 abbrev ok : Answer
 ok = Replied reply.Ok
@@ -80,21 +62,21 @@ ok = Replied reply.Ok
 -- ---- the blocks of a cache, in both
 
 module _ (f : Id → Address) where
-  reversed_alike : (ids : List Id) → ours.from_last (map f ids) ≡ map f (models.from_last ids)
+  reversed_alike : (ids : List Id) → from_last (map f ids) ≡ map f (from_last ids)
   reversed_alike [] = refl
   reversed_alike (id ∷ ids) =
-      ap (λ ats. ats ++ f id ∷ []) (reversed_alike ids) ∙ sym (map-append f (models.from_last ids) (id ∷ []))
+      ap (λ ats. ats ++ f id ∷ []) (reversed_alike ids) ∙ sym (map-append f (from_last ids) (id ∷ []))
 
 module _ (addresses : List (Option Address)) where
   flushed_alike : (ks : List CacheClass)
       → ours.flushed (map (kept_class addresses) ks)
-      ≡ map (address_of_id addresses) (flat_map (λ (k : CacheClass). models.from_last k.cached) ks)
+      ≡ map (address_of_id addresses) (flat_map (λ (k : CacheClass). from_last k.cached) ks)
   flushed_alike [] = refl
   flushed_alike (k ∷ ks) =
       ap (λ ats. ats ++ ours.flushed (map (kept_class addresses) ks)) (reversed_alike (address_of_id addresses) k.cached)
-      ∙ ap (λ ats. map (address_of_id addresses) (models.from_last k.cached) ++ ats) (flushed_alike ks)
-      ∙ sym (map-append (address_of_id addresses) (models.from_last k.cached)
-      (flat_map (λ (k : CacheClass). models.from_last k.cached) ks))
+      ∙ ap (λ ats. map (address_of_id addresses) (from_last k.cached) ++ ats) (flushed_alike ks)
+      ∙ sym (map-append (address_of_id addresses) (from_last k.cached)
+      (flat_map (λ (k : CacheClass). from_last k.cached) ks))
 
   emptied_alike : (ks : List CacheClass) → map ours.emptied (map (kept_class addresses) ks) ≡ map (kept_class addresses)
       (map models.emptied ks)
@@ -102,34 +84,16 @@ module _ (addresses : List (Option Address)) where
   emptied_alike (k ∷ ks) = ap (λ cs. kept_class addresses (models.emptied k) ∷ cs) (emptied_alike ks)
 
 -- a block is freed as often as it is cached
-reversed_occurs : (j : ℕ) (ids : List ℕ) → occurrences (models.from_last ids) j ≡ occurrences ids j
-reversed_occurs j [] = refl
-reversed_occurs j (id ∷ ids) =
-    let more = occurs_more j (last_more (models.from_last ids) id) in
-    let rest = reversed_occurs j ids in
-    omega (arith, more, rest)
-
 flushed_occurs : (j : ℕ) (ks : List CacheClass)
-    → occurrences (flat_map (λ (k : CacheClass). models.from_last k.cached) ks) j
+    → occurrences (flat_map (λ (k : CacheClass). from_last k.cached) ks) j
     ≡ occurrences (flat_map (λ (k : CacheClass). k.cached) ks) j
 flushed_occurs j [] = refl
 flushed_occurs j (k ∷ ks) =
     let own = reversed_occurs j k.cached in
     let rest = flushed_occurs j ks in
-    let left = occurrences-append j (models.from_last k.cached) (flat_map (λ (k : CacheClass). models.from_last k.cached) ks) in
+    let left = occurrences-append j (from_last k.cached) (flat_map (λ (k : CacheClass). from_last k.cached) ks) in
     let right = occurrences-append j k.cached (flat_map (λ (k : CacheClass). k.cached) ks) in
     omega (arith, own, rest, left, right)
-
--- what is in a list stands there
-occurs_there : (ids : List ℕ) (id : ℕ) → contains ids id ≡ true → 1 ≤ occurrences ids id
-occurs_there [] id there = absurd (false≢true there)
-occurs_there (n ∷ ids) id there = of_test (n == id) refl (λ later. occurs_there ids id later) there
-  where
-    of_test : (b : Bool) → (n == id) ≡ b → (contains ids id ≡ true → 1 ≤ occurrences ids id)
-        → (b || contains ids id) ≡ true → 1 ≤ occurrences (n ∷ ids) id
-    of_test true e later is =
-        let one : ◌≡◌ {A = ℕ} (if n == id then 1 else 0) 1 = ap (λ c. if c then 1 else 0) e in omega (arith, one)
-    of_test false e later is = let some = later is in omega (arith, some)
 
 -- the pool of a cache has blocks of any sizes
 any_size_pool : (kind : PoolKind) → may_have_cache kind ≡ true → (is_automatic_kind kind ≡ false) × (is_sized kind ≡ true)
@@ -213,29 +177,10 @@ module _ {F : Type 0} (layout : F → Layout) (h : HeapState F) (trail : Moves) 
       of_pool : (p : world.Pool) × (pool_at w pool ≡ Some p) × (may_have_cache p.kind ≡ true)
       of_pool = passes_there (λ (p : world.Pool). may_have_cache p.kind) (pool_at w pool) right_parts.0
 
-      kept_pool : (p : Pool F) × (slice_get h.pools pool ≡ Some p)
-          × IsPool layout w.formats p of_pool.0
-      kept_pool = pool_kept layout past h w parts pool of_pool.0 of_pool.1
-
-      size : ℕ
-      size = size_of_pool kept_pool.0
-
-      size_is : slice_get h.sizes of.value ≡ Some size
-      unfolding size
-      size_is =
-          ap (slice_get h.sizes) found.fit
-          ∙ ap (λ xs. slice_get xs pool) parts.sizes ∙ slice_get-map size_of_pool h.pools pool
-          ∙ ap (option_map size_of_pool) kept_pool.1
-
-      any : (size == any_size) ≡ pool_is is_any_size_kind w pool
-      unfolding size
-      any =
+      manual : IsManualPool layout h w pool
+      manual =
           let kind = any_size_pool of_pool.0.kind of_pool.2 in
-          any_size_alike layout w.formats kept_pool.0 of_pool.0 kept_pool.2 kind.0 kind.1
-          ∙ sym (ap (λ o. option_map_or (λ (p : world.Pool). is_any_size_kind p.kind) o false) of_pool.1)
-
-      staying : is_copying_pool w pool ≡ false
-      staying = manual_not_copying w.pools pool of_pool.0 of_pool.1 (any_size_pool of_pool.0.kind of_pool.2).0
+          manual_pool layout past h w parts pool of_pool.0 of_pool.1 kind.0 kind.1
 
       -- ---- the blocks
 
@@ -309,41 +254,6 @@ module _ {F : Type 0} (layout : F → Layout) (h : HeapState F) (trail : Moves) 
           let zero_left : occurrences (ids_in_blocks u.graph) id ≡ 0 = omega (arith, sum, most, some) in
           none_equal id (ids_in_blocks u.graph) zero_left
 
-      loose : AreLoose u ids
-      loose = loose_of u ids (λ id there. record {
-        manual = manual_of id there;
-        unheld = unheld id there;
-        unpaired = manual_unpaired w own.formed id (manual_of id there);
-      })
-
-      graph_left : IsSoundGraph u
-      graph_left = record {
-        objects = own.graph.objects;
-        reservations = own.graph.reservations;
-        points = own.graph.points;
-        slots = own.graph.slots;
-        words = own.graph.words;
-        blocks =
-            let parts = parts_pass is_manual (ids_in_places w.graph) (ids_in_caches w.graph) own.graph.blocks in
-            both_pass is_manual (ids_in_places w.graph) (ids_in_caches u.graph) parts.0
-            (flush_passes w.graph q found.has is_manual parts.1);
-        registered = own.graph.registered;
-        messages = own.graph.messages;
-      }
-
-      live_left : All (is_live u) (ids_in_blocks u.graph)
-      live_left =
-          both_pass (is_live w) (ids_in_places w.graph) (ids_in_caches u.graph) placed_live.0
-          (flush_passes w.graph q found.has (is_live w) placed_live.1)
-
-      sound_left : w.collection ≡ None → IsSound u
-      sound_left rest = resting_sound u rest (record {
-        client = own.live.client;
-        blocks = live_left;
-        referred = own.live.referred;
-        transforms = own.live.transforms;
-      })
-
       caches_fit : caches.with_classes h.beside.caches of.key (map ours.emptied (classes_of h.beside.caches of.key))
           ≡ map (kept_cache w.addresses) left_caches
       caches_fit =
@@ -365,117 +275,47 @@ module _ {F : Type 0} (layout : F → Layout) (h : HeapState F) (trail : Moves) 
 
       -- ---- the frees
 
+      passes : (test : Id → Bool) → All test (ids_in_blocks w.graph) → All test (ids_in_blocks u.graph)
+      passes test all =
+          let parts = parts_pass test (ids_in_places w.graph) (ids_in_caches w.graph) all in
+          both_pass test (ids_in_places w.graph) (ids_in_caches u.graph) parts.0 (flush_passes w.graph q found.has test parts.1)
+
+      are_unheld : AreUnheld layout past h w pool ids ats h.roots (record h.beside { caches = caches_now }) w.graph.blocks left_caches
+          w.graph.frames
+      are_unheld = record {
+        of_pool = manual;
+        row = row;
+        manual = manual_of;
+        unheld = unheld;
+        passes = passes;
+        parts = parts_left;
+      }
+
+      size_is : slice_get h.sizes of.value ≡ Some (size_of_pool are_unheld.of_pool.ours)
+      size_is = ap (slice_get h.sizes) found.fit ∙ size_kept layout past h w parts pool are_unheld.of_pool
+
       abbrev start : Freeing
       start = record { segs = h.segs; trail = trail }
 
-      abbrev freed : Freeing
-      freed = row_freed size start ats
-
-      abbrev ms : List Move
-      ms = moves_of_frees w ids
-
-      abbrev addresses : List (Option Address)
-      addresses = (all_gone w ids).addresses
-
-      abbrev v_moved : World
-      v_moved = world_row w addresses (all_gone w ids).segments (all_gone w ids).graph.dependents
-
-      shapes : HasShapes w
-      shapes = record {
-        right = own.formed.objects;
-        lawful = parts.lawful;
-        reserved = λ point i r x tag live cell. reservation_targets w own.graph point i r x tag live cell;
-      }
-
-      are_freed : AreFreed past.time start w ms freed v_moved
-      are_freed =
-          subst (AreFreed past.time start w ms freed) (gone_as_row w ids)
-          (row_is_freed past.time pool size ids ats start w (record {
-            image = parts.image;
-            segments = parts.segments;
-            shapes = shapes;
-            flip = flip_known past.time (collector_of h) w time;
-            laid = own.laid;
-            outside = outside_known past (collector_of h) w own time;
-          }) any staying row)
-
-      abbrev v : World
-      v = world_with_caches v_moved left_caches
-
-      gone_is : all_gone u ids ≡ v
-      gone_is =
-          gone_holding w w.graph.blocks left_caches w.graph.frames ids
-          ∙ ap (λ x. world_holding x w.graph.blocks left_caches w.graph.frames) (gone_as_row w ids)
-
-      still : (j : Id) → auto w j ≡ true → entry_at addresses j
-          ≡ entry_at w.addresses j
-      still j automatic =
-          others_still w ids j (λ id there same. false≢true (sym (manual_of id there) ∙ ap (auto w) same ∙ automatic))
-
-      held_still : AreSame u.addresses addresses (ids_in_blocks u.graph)
-      held_still j held =
-          others_still w ids j (λ id there same.
-          false≢true (sym (ap not (eq-eqb id j same))
-          ∙ list_all-contains (λ k. not (id == k)) (ids_in_blocks u.graph) j (unheld id there) held))
-
-      due : ms ≡ unless_refused ok (moves_of_cache_flush w (checked.cache_named w name))
-      due = sym (ap (moves_of_cache_flush w) cache_is)
-
-      comes : act_cache_flush (world_after_moves w ms) name ≡ done v
-      comes =
-          ap (λ (x : World). act_cache_flush x name) are_freed.moved
-          ∙ ap (λ x. x >>= (λ (from : Numbered Cache). done (with_graph v_moved (models.with_classes v_moved.graph from
-          (map models.emptied from.value.classes))))) cache_is
-
-      abbrev h_left : HeapState F
-      h_left = heap_with_caches h caches_now
-
-      parts_then : AreParts layout past (record h_left { segs = freed.segs }) v
-      parts_then =
-          row_parts layout past h_left u parts_left graph_left own.formed.registered (paired_automatic w own.formed) own.laid freed.segs
-          addresses (all_gone w ids).segments (all_gone w ids).graph.dependents are_freed.left.image are_freed.left.segments
-          are_freed.fewer still held_still (gone_unpaired w ids)
-
-      done_outcome : IsRightFlush w line (Ok (with_cache_flushed h of.key freed))
+      done_outcome : IsRightFlush w line (Ok (with_cache_flushed h of.key (row_freed (size_of_pool are_unheld.of_pool.ours) start
+          ats)))
       done_outcome =
-          subst (λ ns. IsRightIn layout w (step_of line (call.CacheFlush name) ns ok) (record h_left { segs = freed.segs }))
-          (sym (are_freed.moves ∙ ap (λ ns. ns ++ ms) none))
-          (done_is_right layout h trail none (call.CacheFlush name) w line past parts own reach time is_own ms
-          (record h_left { segs = freed.segs }) v (record {
-            due = due;
-            comes = comes;
-            sound = λ rest. subst IsSound gone_is (all_sound u graph_left ids loose (sound_left rest));
-            blocks = subst (λ (x : World). All (is_live x) (ids_in_blocks x.graph)) gone_is (all_live u graph_left ids loose live_left);
-            laid = are_freed.left.laid;
-            has = record { past = past; timed = refl; parts = parts_then };
-            keeps = record {
-              rest = λ rest. rest;
-              not_condemned = λ clear grain. ap (λ bits. bit bits grain) are_freed.fewer.condemned ∙ clear grain;
-              not_kept = λ clear unmarked n. are_freed.fewer.kept n (unmarked n);
-              running = refl;
-              tails = λ number generation. refl;
-              world_tails = λ number generation. refl;
-              ranked = λ y r.
-                  row_ranked layout past h w parts own.graph own.formed.registered (paired_automatic w own.formed) own.laid freed.segs
-                  addresses (all_gone w ids).segments (all_gone w ids).graph.dependents are_freed.left.image are_freed.left.segments
-                  are_freed.fewer still are_freed.left.laid (λ j grey.
-                  ap (λ (x : World). object_is is_automatic x j) (sym r.world)
-                  ∙ r.invariant.grey.grey_automatic j (ap (λ k. is_grey k j) (sym r.colours) ∙ grey));
-              flip = λ of_flip. record { made = are_freed.left.flip.made; still = are_freed.left.flip.still };
-              condemned = λ y same run marked t there.
-                  ap (λ bits. bit bits (grain_of t.base)) are_freed.fewer.condemned
-                  ∙ marked t (segment_there t w.segments (are_freed.fewer.among t
-                  (contained_among (all_gone w ids).segments t there)));
-            };
-            formats = refl;
-          }))
+          frees_are_right layout h trail none (call.CacheFlush name) w line past parts own reach time is_own pool ids ats h.roots
+          (record h.beside { caches = caches_now }) w.graph.blocks left_caches w.graph.frames are_unheld
+          (sym (ap (moves_of_cache_flush w) cache_is))
+          (λ addresses segments pairs moved.
+          ap (λ (x : World). act_cache_flush x name) moved
+          ∙ ap (λ x. x >>= (λ (from : Numbered Cache). done (with_graph (world_row w addresses segments pairs)
+          (models.with_classes (world_row w addresses segments pairs).graph from (map models.emptied from.value.classes))))) cache_is)
 
       flushed_outcome : IsRightFlush w line (required (slice_get h.sizes of.value) refusal.BadName >>= (λ n.
           Ok (with_cache_flushed h of.key (row_freed n start (ours.flushed (classes_of h.beside.caches of.key))))))
       flushed_outcome =
           subst (λ o. IsRightFlush w line (required o refusal.BadName >>= (λ n.
           Ok (with_cache_flushed h of.key (row_freed n start (ours.flushed (classes_of h.beside.caches of.key))))))) (sym size_is)
-          (subst (λ xs. IsRightFlush w line (Ok (with_cache_flushed h of.key (row_freed size start xs)))) (sym ats_are) done_outcome)
+          (subst (λ xs. IsRightFlush w line (Ok (with_cache_flushed h of.key (row_freed (size_of_pool are_unheld.of_pool.ours) start
+          xs))))
+          (sym ats_are) done_outcome)
 
     -- ---- the check
 

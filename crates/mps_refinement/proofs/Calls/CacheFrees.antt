@@ -33,7 +33,7 @@ use Rattle.mps_model.specs.Caches.{act_cache_free, act_kept, kept_by, kept_in}
 use Rattle.mps_model.specs.Checked as checked
 use Rattle.mps_model.specs.Checked.{Act, Checked, Found, Numbered, ◌>>=◌, ◌>>◌, done, refuse_when, required}
 use Rattle.mps_model.specs.Effect.{world_after_moves}
-use Rattle.mps_model.specs.Graph.{Cache, CacheClass, Object, entry_at, size_of, without_named}
+use Rattle.mps_model.specs.Graph.{Cache, CacheClass, Object, entry_at, size_of}
 use Rattle.mps_model.specs.History.{free_of, moves_if_not_kept, moves_of_cache_free, moves_of_free, unless_refused}
 use Rattle.mps_model.specs.WellFormed.{is_right_cache, is_right_class}
 use Rattle.mps_model.specs.World as world
@@ -62,6 +62,7 @@ use Rattle.mps_refinement.proofs.Lookups.CachesFound.{IsCacheFound, IsKeptAlike,
 use Rattle.mps_refinement.proofs.Lookups.Lookups.{IsPlaceEntry, IsPlaceFound, place_same}
 use Rattle.mps_refinement.proofs.Lookups.ManualBlocks.{IsBlock, block_same, passes_there, setting}
 use Rattle.mps_refinement.proofs.Parts.ObjectKinds.{manual_unpaired}
+use Rattle.mps_refinement.proofs.Parts.PairsKept.{none_ends}
 use Rattle.mps_refinement.proofs.Parts.BlockParts.{parts_with_pairs, world_with_blocks}
 use Rattle.mps_refinement.proofs.Parts.CachesWritten.{caches_written, heap_with_caches, world_with_caches}
 use Rattle.mps_refinement.proofs.Parts.CommittedParts.{segment_there}
@@ -97,9 +98,6 @@ module _ (w : World) (place : Slot) where
 
   abbrev keep_from : Checked (Numbered Cache) → Checked Act
   keep_from x = x >>= (λ (q : Numbered Cache). keep_placed q (checked.block_place_in w place))
-
-  keep_is : (name : Name) → act_cache_free w name place ≡ keep_from (checked.cache_named w name)
-  keep_is name = refl
 
 module _ {F : Type 0} (layout : F → Layout) (h : HeapState F) (trail : Moves) (none : trail.moves ≡ []) (name : Name) (place : Slot)
     (words : ℕ)
@@ -334,7 +332,7 @@ module _ {F : Type 0} (layout : F → Layout) (h : HeapState F) (trail : Moves) 
                   timed = refl;
                   parts = parts_with_pairs layout past (with_block_place (record h { segs = segments_freed h.segs at t g }) from 0)
                       (world_with_blocks w w.graph.objects v.addresses v.graph.blocks v.segments) v.graph.dependents
-                      (λ unpaired. ap (λ ps. without_named ps id) unpaired)
+                      (none_ends w own.graph own.formed.dependents id manual)
                       (parts_freed layout past h w parts own own.graph at id b time place.index from pl is value own.once t g among
                       not_copying frameless own.laid layout_freed);
                 };

@@ -1,38 +1,36 @@
 -- A `free` where no collection runs: a legal step, whose moves free the block, and give its segment back where nothing is left in it.
 use Rattle.std.proofs.Common.{◌≡◌, ◌∙◌, ℕ, zero, suc, Bool, true, false, refl, sym, ap, List, [], ◌∷◌, Option, Some, None, Ok, inl, inr}
-use Rattle.std.proofs.lemmas.Bool.{ne_eqb, and_from, and_parts}
+use Rattle.std.proofs.lemmas.Bool.{ne_eqb, and_from}
 use Rattle.std.proofs.lemmas.Option.{none-some}
-use Rattle.std.specs.Prelude.{◌==◌, ◌&&◌, not, slice_get, if◌then◌else◌, option_map}
+use Rattle.std.specs.Prelude.{◌==◌, ◌&&◌, not, slice_get, if◌then◌else◌}
 use Rattle.std.specs.List.{flat_map, list_all}
 use Rattle.std.specs.Option.{option_map_or}
 use Rattle.mps_base.specs.Address.{Address, Id}
-use Rattle.mps_base.specs.Segment.{Segment, segment_over, without_segment, is_in_segment}
+use Rattle.mps_base.specs.Segment.{Segment, segment_over, without_segment}
 use Rattle.mps_base.specs.declared.moves.Move.{Move}
 use Rattle.mps_base.specs.declared.moves.Move.TheVariants as moves
 use Rattle.mps_base.specs.declared.names.Slot.{Slot}
-use Rattle.mps_laws.proofs.Finding.{id_at-there}
 use Rattle.mps_laws.proofs.Sound.HeldIds.{All, all-append, held_again, all-weaker, place_written}
 use Rattle.mps_laws.proofs.QuietSteps.{IsSound}
 use Rattle.mps_laws.proofs.Sound.SoundChanges.{gone_sound, sound_again, lives_otherwise, others_live}
 use Rattle.mps_laws.proofs.Sound.SoundEffects.{place_sound}
 use Rattle.mps_laws.proofs.Sound.SoundGraph.{IsSoundGraph, all-both, auto}
-use Rattle.mps_model.proofs.AtRest.{with_collection-none}
 use Rattle.mps_model.specs.declared.reply.Reply.TheVariants as reply
 use Rattle.mps_model.specs.Answer.{Answer, Replied}
-use Rattle.mps_model.specs.Graph.{Slots, entries, entry_at, ids_in_blocks, contains, without_first, ids_in_caches, ids_in_places}
-use Rattle.mps_model.specs.World.{World, is_any_size_kind, is_empty_segment, has_frames, pool_is, pool_of, segment_of, is_live, ids_in_pairs}
+use Rattle.mps_model.specs.Graph.{Slots, entries, entry_at, ids_in_blocks, contains, ids_in_caches, ids_in_places}
+use Rattle.mps_model.specs.World.{World, is_any_size_kind, is_empty_segment, has_frames, pool_is, pool_of, is_live, ids_in_pairs}
 use Rattle.mps_model.specs.Checked.{Found, ◌>>=◌, ◌>>◌, block_place_in, done, with_graph, refuse_when, required}
 use Rattle.mps_model.specs.Allocating.{act_free, block_in, with_block_place}
 use Rattle.mps_model.specs.Accessing.{address_or_null}
-use Rattle.mps_model.specs.Effect.{after_free, after_unseg, giving_back, reclaiming, segment_base_of, where_one, with_address, with_collection, world_after_move, world_after_moves, without_object}
+use Rattle.mps_model.specs.Effect.{with_address, world_after_moves, without_object}
 use Rattle.mps_model.specs.Flip.{at_address}
-use Rattle.mps_model.specs.History.{free_of, give_back_empty, moves_of_free, unless_refused}
+use Rattle.mps_model.specs.History.{free_of, moves_of_free, unless_refused}
 use Rattle.mps_refinement.proofs.Worlds.OneFree as one
 use Rattle.mps_refinement.proofs.Worlds.PlacedOnce.{ArePlacedOnce, IsIn, written_cases}
 use Rattle.mps_refinement.proofs.Worlds.PlacesByMoves.{places_of}
 use Rattle.mps_refinement.proofs.Parts.StillHeld.{held_others, target_others}
 use Rattle.mps_base.specs.declared.refusal.Refusal.TheVariants as refusal
-use Rattle.mps_laws.proofs.Positions.Segments.{IsAmong, found_among}
+use Rattle.mps_laws.proofs.Positions.Segments.{IsAmong}
 use Rattle.mps_model.specs.Collection.{Collection}
 use Rattle.mps_refinement.proofs.Parts.CachesStill.{none_equal}
 

@@ -1,6 +1,6 @@
 -- `free`: from its outcome to a right step.
-use Rattle.std.proofs.Common.{◌≡◌, ◌∙◌, ℕ, Bool, true, false, refl, sym, ap, subst, [], ◌∷◌, ◌++◌, Option, Some, None, Ok, Err, ◌⊎◌, ◌+◌, List, Contains, inl, inr}
-use Rattle.std.proofs.lemmas.Option.{slice_get-map, same_Some, none-some}
+use Rattle.std.proofs.Common.{◌≡◌, ◌∙◌, ℕ, Bool, true, false, refl, sym, ap, subst, [], ◌∷◌, ◌++◌, Option, Some, None, Ok, Err, ◌+◌, List, Contains}
+use Rattle.std.proofs.lemmas.Option.{slice_get-map, same_Some}
 use Rattle.std.specs.Prelude.{◌==◌, ◌&&◌, slice_get, option_map, if◌then◌else◌}
 use Rattle.std.specs.Option.{option_map_or}
 use Rattle.mps_base.specs.Address.{Address, Id, grain_of, word_of}
@@ -15,7 +15,7 @@ use Rattle.mps_laws.proofs.Acts.{required-is}
 use Rattle.mps_laws.proofs.Sound.PoolsThere.{all-at}
 use Rattle.mps_laws.proofs.Same as same
 use Rattle.mps_laws.proofs.Same.{Same, fits}
-use Rattle.mps_laws.proofs.Positions.Segments.{among_aligned, found_among, IsAmong, among_without, same_by_base}
+use Rattle.mps_laws.proofs.Positions.Segments.{among_aligned, found_among, IsAmong, among_without}
 use Rattle.mps_base.specs.Segment.{is_in_segment, without_segment}
 use Rattle.mps_pools.specs.Manual.{any_size, block_removed, segs_after_free, is_unused, moves_freed, moves_given_back}
 use Rattle.mps_model.specs.Allocating as model
@@ -34,7 +34,7 @@ use Rattle.mps_format.specs.Pools.{size_of_pool}
 use Rattle.mps_refinement.specs.Answering.{answer_to, says_ok}
 use Rattle.mps_refinement.specs.Framed.{is_framed}
 use Rattle.mps_refinement.specs.RightStep.{IsRight, step_of, IsRightIn}
-use Rattle.mps_refinement.specs.StandsFor.{AreParts, IsReached, Past, IsInTime, Time, rests, runs, collector_of}
+use Rattle.mps_refinement.specs.StandsFor.{AreParts, IsReached, Past, IsInTime, collector_of}
 use Rattle.mps_refinement.proofs.Lookups.Blocks.{same_address}
 use Rattle.mps_refinement.proofs.Parts.FreedParts.{any_size_alike, freed_is, not_automatic, parts_freed, segments_freed, unused_is, flip_after, segs_condemned, segs_kept, ranks_freed}
 use Rattle.mps_refinement.proofs.Calls.FreeingStep as freeing
@@ -47,10 +47,8 @@ use Rattle.mps_refinement.proofs.Worlds.PlacedOnce.{is_sized, ArePlacedOnce}
 use Rattle.mps_seg.specs.Segs.{SegsState}
 use Rattle.mps_model.specs.Answer.{Replied}
 use Rattle.mps_model.specs.declared.reply.Reply.TheVariants as reply
-use Rattle.std.proofs.lemmas.Bool.{cases_Bool}
 use Rattle.mps_base.specs.declared.moves.Move.{Move}
 use Rattle.mps_extents.specs.Table.{bit}
-use Rattle.mps_abstract.proofs.Calls.ClientFrees.{pool_exclusive}
 use Rattle.mps_laws.proofs.Replays.FreeSteps.{free_step}
 use Rattle.mps_laws.proofs.Positions.LaidOut.{IsLaidOut}
 use Rattle.mps_laws.proofs.Positions.LegalMoves.{HasLayout}
@@ -58,20 +56,19 @@ use Rattle.mps_laws.proofs.Sound.PoolKinds.{manual_not_copying}
 use Rattle.mps_laws.proofs.QuietSteps.{IsSound}
 use Rattle.mps_laws.proofs.Sound.SoundGraph.{IsSoundGraph, auto}
 use Rattle.mps_laws.proofs.Replays.Steps.{remembered_kept}
-use Rattle.mps_model.specs.Collection as model_collection
-use Rattle.mps_model.specs.Collection.{Collection}
-use Rattle.mps_model.specs.Graph.{without_named, contains, entry_at, is_automatic, Object}
+use Rattle.mps_model.specs.Graph.{entry_at, is_automatic, Object}
 use Rattle.mps_model.specs.History.{moves_of_free, unless_refused, with_client_remembered}
 use Rattle.mps_model.specs.Reply.{world_from}
 use Rattle.mps_refinement.proofs.Worlds.PlacesByMoves.{places_of}
 use Rattle.mps_refinement.proofs.Parts.CommittedParts.{segment_there}
 use Rattle.mps_refinement.proofs.Parts.PointWritten.{none_set}
-use Rattle.mps_refinement.proofs.Parts.SegmentsTaken.{condemned_held, contained_among}
+use Rattle.mps_refinement.proofs.Parts.SegmentsTaken.{contained_among}
 use Rattle.mps_refinement.proofs.Worlds.RestingActs.{resting_sound}
 use Rattle.mps_refinement.proofs.Calls.RightOwn.{IsOwn, IsRightOutcome, done_is_right, outcome_is_right, refusal_is_right}
-use Rattle.mps_refinement.proofs.Parts.BlockParts.{parts_with_pairs, world_with_blocks, unpaired}
+use Rattle.mps_refinement.proofs.Parts.BlockParts.{parts_with_pairs, world_with_blocks}
 use Rattle.mps_abstract.specs.Colours.{is_grey}
 use Rattle.mps_refinement.proofs.Parts.ObjectKinds.{manual_unpaired}
+use Rattle.mps_refinement.proofs.Parts.PairsKept.{none_ends}
 
 -- the moves of a free, where the trail had none
 pub moves_are : (size : ℕ) (s : SegsState) (trail : Moves) (at : Address) (t : Segment) → trail.moves ≡ []
@@ -296,7 +293,7 @@ module _ {F : Type 0} (layout : F → Layout) (h : HeapState F) (trail : Moves) 
                   timed = refl;
                   parts = parts_with_pairs layout past (with_block_place (record h { segs = segments_freed h.segs at t given }) entry 0)
                       (world_with_blocks w w.graph.objects v.addresses v.graph.blocks v.segments) v.graph.dependents
-                      (λ unpaired. ap (λ ps. without_named ps id) unpaired)
+                      (none_ends w own.graph own.formed.dependents id manual)
                       (parts_freed layout past h w parts own graph at id b time place.index entry found is value once t given among
                       not_copying frameless own.laid layout_freed);
                 };

@@ -341,7 +341,8 @@ pool_is_right layout h name kind format number result after making =
     (MeansLayout number (layout format)) refl refl
     (λ w past means parts reached.
     pool_alike layout h name (pool.Automatic kind format) w past parts reached
-    (record { kind = Collected kind; format = number; chain = None }) (refl, means) None refl on_none refl (call.Pool name kind number) refl)
+    (record { kind = Collected kind; format = number; chain = None })
+    (refl, means) None refl on_none refl (call.Pool name kind number) refl)
     result after making
 
 pub pool_mfs_is_right : {F : Type 0} (layout : F → Layout) (h : HeapState F) (name : Name) (words : ℕ) (result : Result ℕ Refusal)

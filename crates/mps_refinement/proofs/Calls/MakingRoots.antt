@@ -112,7 +112,8 @@ module _ {F : Type 0} (layout : F → Layout) (h : HeapState F) (name : Name) (s
           blocks_are = makes.table.blocks ∙ parts.blocks;
           roots_counted = ap (λ n. n + 1) parts.roots_counted ∙ sym (table_made_roots w.graph name slots);
           slots_counted = ap (λ n. n + slots) parts.slots_counted ∙ sym (table_made_slots w.graph name slots);
-          framed_are = subst (λ bs. AreFramed h.beside.frames bs w.graph.blocks w.pools w.graph.frames) (sym makes.table.blocks) parts.framed;
+          framed_are =
+              subst (λ bs. AreFramed h.beside.frames bs w.graph.blocks w.pools w.graph.frames) (sym makes.table.blocks) parts.framed;
           names_are = named_made past (past_of_roots layout past h w parts numbers past.area_number) h made w.graph.names w.graph.labels
               parts.names name
               (thing.Table key) (graph.TableThing number) makes.names (free_root passed)
@@ -185,7 +186,8 @@ module _ {F : Type 0} (layout : F → Layout) (h : HeapState F) (name : Name) (s
           blocks_are = makes.area.blocks ∙ parts.blocks;
           roots_counted = ap (λ n. n + 1) parts.roots_counted ∙ sym (area_made_roots w.graph name slots);
           slots_counted = ap (λ n. n + slots) parts.slots_counted ∙ sym (area_made_slots w.graph name slots);
-          framed_are = subst (λ bs. AreFramed h.beside.frames bs w.graph.blocks w.pools w.graph.frames) (sym makes.area.blocks) parts.framed;
+          framed_are =
+              subst (λ bs. AreFramed h.beside.frames bs w.graph.blocks w.pools w.graph.frames) (sym makes.area.blocks) parts.framed;
           names_are = named_made past (past_of_roots layout past h w parts past.table_number numbers) h made w.graph.names w.graph.labels
               parts.names name
               (thing.Area key) (graph.AreaThing number) makes.names (free_root passed)

@@ -23,7 +23,6 @@ use Rattle.mps_neighbours.specs.Transforms as ours
 use Rattle.mps_neighbours.specs.Transforms.{has_old}
 use Rattle.mps_xform.specs.declared.transforms.Pair.{Pair}
 use Rattle.mps_format.specs.declared.pool.Pool.{Pool}
-use Rattle.mps_heap_spec.specs.Coming as heap
 use Rattle.mps_heap_spec.specs.Coming.{Comes}
 use Rattle.mps_heap_spec.specs.State.{HeapState}
 use Rattle.mps_heap_spec.specs.Transforming.{is_moved_at, is_parked, pair_added, pair_of_objects, with_pair_checked, with_transforms}
@@ -46,7 +45,8 @@ use Rattle.mps_refinement.proofs.Worlds.Known.{IsKnown}
 use Rattle.mps_refinement.proofs.Worlds.Steps.{Leads, quiet_is_right}
 
 -- a check that both make alike, and what comes next where it passes
-pub same_unless : {A B : Type 0} {Fits : A → B → Type 0} {x : Checked A} {y : Checked B} (these those : Bool) (why : Refusal) → these ≡ those
+pub same_unless : {A B : Type 0} {Fits : A → B → Type 0} {x : Checked A} {y : Checked B} (these those : Bool) (why : Refusal)
+    → these ≡ those
     → (these ≡ false → Same Fits x y) → Same Fits (refuse_when these why >> x) (refuse_when those why >> y)
 same_unless {Fits = Fits} {x = x} {y = y} these those why same next =
     subst (λ b. Same Fits (refuse_when these why >> x) (refuse_when b why >> y)) same (of_bool these next)

@@ -28,6 +28,7 @@ use Rattle.mps_refinement.specs.StandsFor.{AreChains, AreParts, AreRegisteredAt,
 use Rattle.mps_refinement.specs.Transforms.{AreTransforms}
 use Rattle.mps_neighbours.specs.Beside.{BesideState}
 use Rattle.mps_refinement.specs.Beside.{IsBeside}
+use Rattle.mps_refinement.specs.Dependents.{kept_pair}
 use Rattle.mps_refinement.specs.Framed.{AreFramed}
 use Rattle.mps_refinement.proofs.Parts.BesideParts.{beside_others, beside_still}
 use Rattle.mps_neighbours.specs.Transforms.{emptied}
@@ -183,11 +184,13 @@ module _ {F : Type 0} (layout : F → Layout) (past : Past) (h after : HeapState
           (named_alike h after past w.graph.names w.graph.labels parts.names (λ name. ap (λ ns. thing_named ns name) heap.names)
           (ap (λ (ns : NamesState). ns.counts) heap.names) stay);
       state = heap.state ∙ ap (state_of after.arena) (sym no_pairs);
-      beside = subst (λ (b : BesideState). IsBeside b v.addresses v.graph.caches)
-          (sym heap.beside) (beside_others _ _ _ (emptied h.beside.transforms)
-          (beside_still _ _ _ parts.beside _ _
+      beside = subst (λ (b : BesideState). IsBeside b v.addresses v.graph.caches v.graph.dependents)
+          (sym heap.beside) (beside_others _ _ _ _ (emptied h.beside.transforms)
+          (beside_still _ _ _ _ parts.beside _ _ _
           (same_caches w.addresses left.addresses w.graph.caches (λ id there. places.manual id (blocks_are_manual w formed id
-          (contains_right (ids_in_places w.graph) (ids_in_caches w.graph) id there))))));
+          (contains_right (ids_in_places w.graph) (ids_in_caches w.graph) id there))))
+          (ap (map (kept_pair w.addresses)) parts.dependents
+          ∙ sym (ap (map (kept_pair left.addresses)) (left.unpaired parts.dependents)))));
       transforms = subst (λ (b : BesideState). AreTransforms past.transform_number (world.is_copying_object v) v.addresses b.transforms
           v.graph.transforms (pairs_in v.state)) (sym heap.beside)
           (transforms_emptied past.transform_number (world.is_copying_object w) (world.is_copying_object v) w.addresses v.addresses

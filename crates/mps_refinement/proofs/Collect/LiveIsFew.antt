@@ -30,7 +30,7 @@ contained_at (y ∷ ys) x (suc k, within, is) =
     let later = contained_at ys x (k, omega (arith, within), is) in (suc later.0, later.1)
 
 -- each of ascending runs has a number of its own
-runs_are_few : (low high : ℕ) (rs : List Run) → IsAscending low high rs → low + length rs ≤ high
+pub runs_are_few : (low high : ℕ) (rs : List Run) → IsAscending low high rs → low + length rs ≤ high
 runs_are_few low high [] ascending = omega (arith, ascending)
 runs_are_few low high (r ∷ rs) ascending =
     let rest = runs_are_few (end_of r) high rs ascending.2 in

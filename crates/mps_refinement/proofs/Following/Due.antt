@@ -18,7 +18,8 @@ use Rattle.mps_model.specs.Placement.{ForMove, placement_of}
 use Rattle.mps_model.specs.Policy.{due_in, units_of_poll}
 use Rattle.mps_model.specs.Units.{AreUnits, AreUnitsToEnd, IsBarrier}
 use Rattle.mps_model.specs.World.{World, is_running, is_unclamped}
-use Rattle.mps_refinement.specs.Following.{Following, are_of_one, followed, following, following_move, is_flip, none_flips}
+use Rattle.mps_laws.specs.Staying.{is_flip}
+use Rattle.mps_refinement.specs.Following.{Following, are_of_one, followed, following, following_move, none_flips}
 use Rattle.mps_refinement.proofs.Following.Flips.{act_same, uncleared, whole_still}
 use Rattle.mps_refinement.proofs.Following.Kept.{IsFollowable}
 use Rattle.mps_refinement.proofs.Following.Legal.{for_one, running_same}

@@ -16,7 +16,8 @@ use Rattle.mps_model.specs.Accessing.{address_or_null}
 use Rattle.mps_model.specs.Effect.{Condemnation, condemned_by, world_after_move, world_after_moves}
 use Rattle.mps_model.specs.Flip.{at_address, end_where, fix, fix_all, flip_act, flip_of, is_nothing, moves_to, must_be_fixed, segment_for_move, world_at_flip}
 use Rattle.mps_model.specs.Posts.{ArePostsExact, BeginsWithPost, IsDecided, IsWhole}
-use Rattle.mps_refinement.specs.Following.{Following, followed, following_move, is_flip, paired_at_flip}
+use Rattle.mps_laws.specs.Staying.{is_flip}
+use Rattle.mps_refinement.specs.Following.{Following, followed, following_move, paired_at_flip}
 use Rattle.mps_refinement.proofs.Following.Moves.{move_follows}
 use Rattle.mps_refinement.proofs.Following.Kept.{move_left}
 

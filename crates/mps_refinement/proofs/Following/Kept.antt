@@ -13,7 +13,8 @@ use Rattle.mps_model.specs.Graph.{contains, dependent_in, is_automatic, is_weak_
 use Rattle.mps_model.specs.World.{World, id_at, is_copying_pool, object_is, with_tail}
 use Rattle.mps_model.specs.LegalMove.{is_tracing}
 use Rattle.mps_model.specs.Effect.{after_free, after_moved, after_post, after_segment, after_splat, giving_back, holding, placing, reclaiming, segment_base_of, segment_of_move, where_one, with_collection, without_object, world_after_move}
-use Rattle.mps_refinement.specs.Following.{CellOf, Following, clearing, ending, following_move, is_flip}
+use Rattle.mps_laws.specs.Staying.{is_flip}
+use Rattle.mps_refinement.specs.Following.{CellOf, Following, clearing, ending, following_move}
 use Rattle.mps_refinement.proofs.Following.Cleared.{nulled_alike}
 use Rattle.mps_refinement.proofs.Following.Moves.{splat_alone, weak_ignores}
 

@@ -15,7 +15,8 @@ use Rattle.mps_model.specs.LegalMove.{ForOne, AreLegalMoves}
 use Rattle.mps_model.specs.Policy.{due_in, units_of_poll}
 use Rattle.mps_model.specs.Units.{AreUnits, IsBarrier}
 use Rattle.mps_model.specs.World.{World, is_running, is_unclamped}
-use Rattle.mps_refinement.specs.Following.{DueMovesFollow, FlipActsAreSame, FollowedWorldsStayRight, SplatsFollow, are_of_one, followed, is_flip, none_flips, nothing_followed, unpaired}
+use Rattle.mps_laws.specs.Staying.{is_flip}
+use Rattle.mps_refinement.specs.Following.{DueMovesFollow, FlipActsAreSame, FollowedWorldsStayRight, SplatsFollow, are_of_one, followed, none_flips, nothing_followed, unpaired}
 use Rattle.mps_refinement.proofs.Following.Due.{act_is_of_one, finish_flips_none, finish_follows, full_follows, full_is_of_one, get_follows, poll_follows, step_follows}
 use Rattle.mps_refinement.proofs.Following.Flips.{act_same}
 use Rattle.mps_refinement.proofs.Following.Held.{asked_follows, held_kept_same, held_still, remembered_follows, units_left_same}

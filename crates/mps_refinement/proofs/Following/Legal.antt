@@ -17,7 +17,8 @@ use Rattle.mps_model.specs.Reachable.{IsReachableWith, PathLeads, begins, goes_o
 use Rattle.mps_model.specs.World.{World, begins_in, covered, extent, extents_of, id_at, is_copying_object, is_copying_pool, is_empty_segment, is_running, live_automatic_ids, live_ids, object_is, reserved_extents, segment_at}
 use Rattle.mps_model.specs.LegalMove.{ForOne, IsGone, IsLegalEnd, IsLegalMove, IsLegalMoved, IsLegalPost, IsLegalSplat, IsLegalStay, IsLegalSweep, IsLegalUnseg, IsLost, IsSegmentForMove, MayBeScanned, AreLegalMoves, first_move, holds_something, ids_kept, is_tracing, live_condemned, target_in_cell}
 use Rattle.mps_model.specs.Effect.{world_after_move}
-use Rattle.mps_refinement.specs.Following.{CellOf, Following, followed, following_move, is_flip, none_flips, objects_cleared, paired_at_flip}
+use Rattle.mps_laws.specs.Staying.{is_flip}
+use Rattle.mps_refinement.specs.Following.{CellOf, Following, followed, following_move, none_flips, objects_cleared, paired_at_flip}
 use Rattle.mps_refinement.proofs.Following.Cleared.{cleared_alike, cleared_sizes, cleared_strong_targets, ignores_body, nulled_other}
 use Rattle.mps_refinement.proofs.Following.Moves.{automatic_ignores, move_follows, needs_none, none_cleared, weak_ignores}
 use Rattle.mps_refinement.proofs.Following.Kept.{IsFollowable, followable_after, traces}

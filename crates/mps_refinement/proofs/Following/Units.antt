@@ -16,7 +16,8 @@ use Rattle.mps_model.specs.LegalMove.{ForOne, AreLegalMoves, IsLegalMove, MayBeS
 use Rattle.mps_model.specs.Effect.{world_after_move, world_after_moves}
 use Rattle.mps_model.specs.Flip.{at_address, end_where}
 use Rattle.mps_model.specs.Units.{AreUnits, AreUnitsToEnd, IsBarrier, IsExamination, posts, stays_and_posts, moves_and_posts, moves_to_segment_and_posts, IsReclaim, IsScannedByBarrier, IsScannedByUnit, IsScannedTarget, IsUnitPiece, examines, splats, scans, reclaims, does_nothing, Scans, scans_no_more, moves_target, moves_target_to_segment, makes_target_stay, UnitsDone, none_yet, one_more, ends_in, frees_at, give_back_where, is_last_condemned, nothing_left, refers_to, splats_in, splats_of}
-use Rattle.mps_refinement.specs.Following.{Following, followed, following, following_move, is_flip, none_flips, paired_at_flip}
+use Rattle.mps_laws.specs.Staying.{is_flip}
+use Rattle.mps_refinement.specs.Following.{Following, followed, following, following_move, none_flips, paired_at_flip}
 use Rattle.mps_refinement.proofs.Following.Moves.{move_follows, none_cleared}
 use Rattle.mps_refinement.proofs.Following.Kept.{IsFollowable, followable_after}
 use Rattle.mps_refinement.proofs.Following.Legal.{automatic_same, before_moved, empty_same, for_changed, needs_tracing, not_flip, running_same, scanned_still, weak_same, while_tracing}

@@ -28,10 +28,12 @@ use Rattle.mps_refinement.specs.UnitsLeft.{StepsDown, units_from, units_left}
 use Rattle.mps_refinement.proofs.Left.Alike.{units_alike}
 use Rattle.mps_refinement.proofs.Units.FromUnits.{collector_after}
 use Rattle.mps_refinement.proofs.Units.Ready.{units_are_few}
+use Rattle.mps_refinement.proofs.Units.Followed.{no_pair, units_alone}
 use Rattle.mps_refinement.proofs.Units.UnitsDone as going
 use Rattle.mps_refinement.proofs.Worlds.InSteps.{known_after_asked_units}
 use Rattle.mps_refinement.proofs.Worlds.Reached.{reached_well_formed}
 use Rattle.mps_refinement.proofs.Worlds.RunningNow.{running_now}
+use Rattle.mps_refinement.proofs.Worlds.LikeReached.{IsLikeReached, like_reached}
 
 -- at rest none is left
 pub none_at_rest : {F : Type 0} (h : HeapState F) → h.running ≡ None → units_left h ≡ 0
@@ -46,25 +48,28 @@ module _ {F : Type 0} (layout : F → Layout) (past : Past) (h : HeapState F) (x
     (m : Moves) (room : most_moves h.segs.grains ≤ m.spare) (n : ℕ) (z : Traced) (f : FinalsState) (run : RunningState)
     (units : UnitsTo layout (trace_of h.pools h.chains h.tails).formats (trace_of h.pools h.chains h.tails).chains
     (traced (trace_of h.pools h.chains h.tails) h.segs m) h.finals r.run n z f run) where
+  abbrev like : IsLikeReached x.world
+  like = like_reached x.world reach
+
   abbrev heap_after : HeapState F
-  heap_after = going.heap_after layout past h x parts reach r of marked m room n z f run units
+  heap_after = going.heap_after layout past h x parts like r of marked m room n z f run units
 
   abbrev later : Collecting
-  later = going.later layout past h x parts reach r of marked m room n z f run units
+  later = going.later layout past h x parts like r of marked m room n z f run units
 
   left_after : units_left heap_after ≡ abstract.units_left later
   left_after =
-      let done = going.done layout past h x parts reach r of marked m room n z f run units in
-      let time = going.time_after layout past h x parts reach r of marked m room n z f run units in
-      let on = going.runs_later layout past h x parts reach r of marked m room n z f run units in
+      let done = going.done layout past h x parts like r of marked m room n z f run units in
+      let time = going.time_after layout past h x parts like r of marked m room n z f run units in
+      let on = going.runs_later layout past h x parts like r of marked m room n z f run units in
       units_alike layout (record past { time = time }) heap_after later
-      (going.parts_later layout past h x parts reach r of marked m room n z f run units)
-      (known_after_asked_units x done.after n done.moves reach r.invariant done.units time (collector_after z run) (runs later on)).formed
+      (going.parts_later layout past h x parts like r of marked m room n z f run units)
+      (known_after_asked_units x done.after n done.moves like r.invariant done.units time (collector_after z run) (runs later on)).formed
       on
 
   goes_down : (n + units_left heap_after ≤ units_left h) × (n < units_left h)
   goes_down =
-      let shown = going.shown layout past h x parts reach r of marked m room n z f run units in
+      let shown = going.shown layout past h x parts like r of marked m room n z f run units in
       let fewer = shown.fewer in
       let some = shown.some_left in
       let before = units_alike layout past h x parts (reached_well_formed x.world reach) r in
@@ -109,10 +114,13 @@ module _ {F : Type 0} (layout : F → Layout) (h : HeapState F) (whole : IsWhole
       → StepsDown h n answer h'
   steps_down n h' m' answer stepped = record {
     no_more = of_arena h.arena refl;
-    below = λ unclamped more. (units_go_down n h' m' (stepped.done unclamped)).below (on more);
-    fewer = λ unclamped more. (units_go_down n h' m' (stepped.done unclamped)).fewer (on more);
+    below = λ unclamped more. (units_go_down n h' m' (done unclamped)).below (on more);
+    fewer = λ unclamped more. (units_go_down n h' m' (done unclamped)).fewer (on more);
   }
     where
+      done : h.arena ≡ arena.Unclamped → HasDoneUnits layout h m n h' m'
+      done unclamped = units_alone layout h (no_pair layout st.past h w st.parts) m (stepped.done unclamped)
+
       said : (o : Option RunningState) → (if is_some o then More else Idle) ≡ More → is_some o ≡ true
       said (Some run) more = refl
       said None more = absurd cc
@@ -124,7 +132,7 @@ module _ {F : Type 0} (layout : F → Layout) (h : HeapState F) (whole : IsWhole
       kept other = subst (λ g. units_left g ≤ units_left h) (sym (stepped.still other).0) (omega arith)
 
       of_arena : (a : ArenaState) → h.arena ≡ a → units_left h' ≤ units_left h
-      of_arena arena.Unclamped is = (units_go_down n h' m' (stepped.done is)).no_more
+      of_arena arena.Unclamped is = (units_go_down n h' m' (done is)).no_more
       of_arena arena.Clamped is = kept (λ e. let apart : arena.Clamped ≡ arena.Unclamped = sym is ∙ e in absurd cc)
       of_arena arena.Parked is = kept (λ e. let apart : arena.Parked ≡ arena.Unclamped = sym is ∙ e in absurd cc)
 
@@ -135,7 +143,7 @@ module _ {F : Type 0} (layout : F → Layout) (h : HeapState F) (whole : IsWhole
   few_are_left run is =
       let g = running_now layout h w st run is in
       let same = units_alike layout g.past h g.collecting g.parts (reached_well_formed g.collecting.world g.reached) g.runs in
-      let few = units_are_few layout g.past h g.collecting g.parts g.reached g.runs in
+      let few = units_are_few layout g.past h g.collecting g.parts (like_reached g.collecting.world g.reached) g.runs in
       omega (arith, same, few)
 
   pub rests_at_the_end : (between : HeapState F) (m' : Moves) → HasDoneUnits layout h m (units_to_end h) between m'

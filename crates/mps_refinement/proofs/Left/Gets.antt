@@ -17,7 +17,7 @@ use Rattle.mps_abstract.specs.Collecting.{Collecting}
 use Rattle.mps_abstract.proofs.Barrier.{barrier_is_done}
 use Rattle.mps_heap_spec.specs.Coming.{Outcome, done, state_from}
 use Rattle.mps_heap_spec.specs.Finding.{object_in, reference_cell_at, slot_in}
-use Rattle.mps_heap_spec.specs.Getting.{IsGot, is_refused, reads, with_traced}
+use Rattle.mps_heap_spec.specs.Getting.{IsGot, is_refused, reads, with_traced, after_access}
 use Rattle.mps_heap_spec.specs.Objects.{reference_got, with_slot}
 use Rattle.mps_heap_spec.specs.State.{HeapState}
 use Rattle.mps_heap_spec.specs.declared.found.Block.{Block}
@@ -34,6 +34,8 @@ use Rattle.mps_refinement.proofs.Units.Gets.{its_segment}
 use Rattle.mps_refinement.proofs.Units.MovedParts.{collected_heap}
 use Rattle.mps_refinement.proofs.Worlds.InSteps.{known_after_barrier}
 use Rattle.mps_refinement.proofs.Worlds.Known.{IsKnown, known_now}
+use Rattle.mps_refinement.proofs.Worlds.LikeReached.{like_reached}
+use Rattle.mps_refinement.proofs.Units.Followed.{access_alone, no_pair}
 
 -- ---- the read
 
@@ -69,7 +71,8 @@ module _ {F : Type 0} (layout : F → Layout) (past : Past) (h : HeapState F) (x
   barrier_leaves_no_more =
       let did = barrier_is_done s x is.after is.moves r.invariant is.barrier in
       let knows_then =
-      known_after_barrier is.time (collector_after z r.run) s x is.after is.moves reach r.invariant is.barrier (runs is.after is.runs)
+      known_after_barrier is.time (collector_after z r.run) s x is.after is.moves (like_reached x.world reach) r.invariant is.barrier
+      (runs is.after is.runs)
       in
       let before = units_alike layout past h x parts knows.formed r in
       let after =
@@ -90,7 +93,10 @@ module _ {F : Type 0} (layout : F → Layout) (h : HeapState F) (m : Moves) (roo
   get_leaves_no_more w st (is_refused why e answer state trail) =
       subst (λ g. units_left g ≤ units_left h) (sym state) (omega arith)
   get_leaves_no_more w st (reads z accessed comes trail) =
-      let read = ap (λ (g : HeapState F). units_left g) comes.state ∙ read_leaves_as_many layout (with_traced h z) target source k in
+      let alone = access_alone layout h (no_pair layout st.past h w st.parts) m z in
+      let read =
+      ap (λ (g : HeapState F). units_left g) comes.state ∙ read_leaves_as_many layout (after_access layout h m z) target source k
+      ∙ ap (λ (g : HeapState F). units_left g) alone in
       let scanned = of_time st.time in
       omega (arith, read, scanned)
     where
@@ -100,7 +106,7 @@ module _ {F : Type 0} (layout : F → Layout) (h : HeapState F) (m : Moves) (roo
           let whole = accessed.accessed.whole r.run r.running in
           let over = its_segment layout st.past h x parts knows reach r 0 target source k accessed.object accessed.found in
           barrier_leaves_no_more layout st.past h x parts knows reach r m over.0 z
-          (access_is_done layout st.past h x parts reach r whole.tails whole.marked m room over.0
+          (access_is_done layout st.past h x parts (like_reached x.world reach) r whole.tails whole.marked m room over.0
           (over_is_there h.segs.segments accessed.object.at over.0 over.1) z (accessed.accessed.runs r.run r.running over.0 over.1))
 
       of_time : IsInTime st.past.time (collector_of h) w → units_left (with_traced h z) ≤ units_left h

@@ -29,6 +29,7 @@ use Rattle.mps_refinement.proofs.Units.FlipPolls as flips
 use Rattle.mps_refinement.proofs.Units.Outcomes.{stepped_is_right}
 use Rattle.mps_refinement.proofs.Units.PolledReserves.{a_reserve_is_right, of_poll}
 use Rattle.mps_refinement.proofs.Worlds.Known.{IsKnown, known_now}
+use Rattle.mps_refinement.proofs.Units.Followed.{no_pair, units_followed}
 
 -- ---- what is said of two heaps with as many units
 
@@ -96,7 +97,7 @@ module _ {F : Type 0} (layout : F → Layout) (h : HeapState F) (whole : IsWhole
   after_units unclamped run is polled trail done =
       standing polled _
       ((stepped_is_right layout h whole m enough w st units_of_poll polled trail (progress_of polled) (record {
-        done = λ e. done;
+        done = λ e. units_followed layout h (no_pair layout st.past h w st.parts) m done;
         still = λ other. absurd (other unclamped);
         answered = refl;
       })).right 0).stands

@@ -1,8 +1,7 @@
 -- What a call of a heap at rest finds at the address of a live object and in its cells, against what the model finds, over the parts of
 -- a heap that stands for a world (`parts`) and what holds of a world that is reached (`known`).
 --
--- live_block: what is at the address of a live object: its pool, and of an automatic one its format and its head.
--- object_at_same, object_same: the object that a slot refers to (`IsObject`).
+-- live_block: the pool at the address of a live object. object_at_same, object_same: the object that a slot refers to (`IsObject`).
 -- number_same, reference_same: cell k of it: its word (`Lies`) and the number or the target there (`IsNumberOf`, `IsReferenceOf`).
 -- tag_same: the tag of the reference in cell k.
 -- slot_passes, word_passes: what stands in a slot or in a word of an area passes each test that all that is held there passes.
@@ -16,9 +15,8 @@ use Rattle.mps_base.specs.Address.{Address, Id, word_of}
 use Rattle.mps_base.specs.Segment.{Segment, segment_over}
 use Rattle.mps_base.specs.declared.names.Slot.{Slot}
 use Rattle.mps_base.specs.declared.refusal.Refusal.TheVariants as refusal
-use Rattle.mps_abstract.specs.Colours.{AreDifferent, is_black, is_white}
+use Rattle.mps_abstract.specs.Colours.{AreDifferent, is_black}
 use Rattle.mps_format.specs.Layout.{Layout, IsLawful}
-use Rattle.mps_trace_laws.proofs.Image.Shaped.{all_at}
 use Rattle.mps_trace_laws.specs.Image.Image.{IsCellWord, IsAddress}
 use Rattle.mps_trace_laws.specs.Image.Memory.{Lies, pool_layout, all_cells}
 use Rattle.mps_laws.proofs.Lookups.{there_is, entry_is_there}
@@ -127,14 +125,13 @@ module _ {F : Type 0} (layout : F → Layout) (past : Past) (h : HeapState F) (w
     pub object : slice_get w.graph.objects n.number ≡ Some n.value
     pub block : IsLiveBlock layout h w n.number b.at n.value
     pub read : past.time.is_read n.number ≡ true
-    pub kept : is_white past.time.condemned past.time.colours n.number ≡ false
     pub cells : List Cell
     pub is_weak : Bool
     pub body : n.value.body ≡ Automatic b.head cells is_weak
     pub layout_is : pool_layout w n.value.pool ≡ layout b.format
     pub are : AreCells (layout b.format) b.head cells
 
-abbrev numbered_object : Id → Object → Numbered Object
+abbrev pub numbered_object : Id → Object → Numbered Object
 numbered_object id o = record { number = id; value = o }
 
 model_reads : (w : World) (id : Id) (o : Object) → slice_get w.graph.objects id ≡ Some o
@@ -350,42 +347,22 @@ module _ {F : Type 0} (layout : F → Layout) (past : Past) (h : HeapState F) (w
     })
 
 module _ {F : Type 0} (layout : F → Layout) (past : Past) (h : HeapState F) (w : World) (parts : AreParts layout past h w)
-    (known : IsKnown past.time w) where
-  -- ---- what is held in slots and in words of areas
-
-  -- what stands in a slot passes each test that all that stands in slots passes
-  pub slot_passes : (test : ℕ → Bool) → All test (ids_in_slots w.graph) → (index : ℕ) (entry : Entry Address) (found : Found (Option ℕ))
-      → IsSlotEntry past h w index entry found → PassesOrNull test found.value
-  slot_passes test all index entry found is =
-      entry-passes test found.list index found.value
-      (all-at test slots_of w.graph.tables found.number (Some found.list) all
-      (entry_is_there w.graph.tables found.number found.list is.has)) is.there
-
-  pub slot_may_read : (index : ℕ) (entry : Entry Address) (found : Found (Option ℕ))
-      → IsSlotEntry past h w index entry found → MayRead past.time w found.value
-  slot_may_read index entry found is = record {
-    live = slot_passes (is_live w) known.held.slots index entry found is;
-    automatic = slot_passes (object_is is_automatic w) known.formed.slots index entry found is;
-    read = slot_passes past.time.is_read known.read.slots index entry found is;
-    kept = slot_passes (is_kept_at past.time) known.kept.slots index entry found is;
-  }
-
+    (right : (id : Id) (o : Object) → slice_get w.graph.objects id ≡ Some o → is_right_object w o ≡ true) where
   -- ---- a live object
 
   -- the model's pool of an object, of which the object's body is right
   models_pool : (id : Id) (o : Object) → slice_get w.graph.objects id ≡ Some o
       → (q : world.Pool) × (pool_at w o.pool ≡ Some q) × (is_right_body w q o.body ≡ true)
   models_pool id o object =
-      pool_there (λ (q : world.Pool). is_right_body w q o.body) (pool_at w o.pool)
-      (all_at (is_right_object w) w.graph.objects id o known.formed.objects object)
+      pool_there (λ (q : world.Pool). is_right_body w q o.body) (pool_at w o.pool) (right id o object)
 
   pool_over_is : (at : Address) (t : Segment) (number : ℕ) (p : Pool F) → segment_over h.segs.segments at ≡ Some t → t.pool ≡ number
       → slice_get h.pools number ≡ Some p → pool_over h at ≡ Some p
   pool_over_is at t number p over of kept =
       ap (option_and_then (λ (s : Segment). slice_get h.pools s.pool)) over ∙ ap (slice_get h.pools) of ∙ kept
 
-  pub live_block : (id : Id) (at : Address) → entry_at w.addresses id ≡ Some at → (o : Object) × IsLiveBlock layout h w id at o
-  live_block id at there =
+  pub block_there : (id : Id) (at : Address) → entry_at w.addresses id ≡ Some at → (o : Object) × IsLiveBlock layout h w id at o
+  block_there id at there =
       let o = parts.image.placed.exists id at there in
       let t = segment_there layout past h w parts id at o.0 there o.1 in
       let q = models_pool id o.0 o.1 in
@@ -424,53 +401,74 @@ module _ {F : Type 0} (layout : F → Layout) (past : Past) (h : HeapState F) (w
       (lies layout past h w parts id 0 at o there object positive) first in
       ap (slice_get h.segs.words) (sym zero) ∙ word_there layout past h w parts id 0 at o there object positive ∙ ap Some (word ∙ is)
 
-  automatic_there : (id : Id) (o : Object) → slice_get w.graph.objects id ≡ Some o → object_is is_automatic w id ≡ true
+  pub automatic_there : (id : Id) (o : Object) → slice_get w.graph.objects id ≡ Some o → object_is is_automatic w id ≡ true
       → is_automatic o ≡ true
-  automatic_there id o object automatic =
-      subst (λ x. option_map_or is_automatic x false ≡ true) object automatic
+  automatic_there id o object automatic = subst (λ x. option_map_or is_automatic x false ≡ true) object automatic
 
   -- an automatic object's head, format and cells, as the heap reads them
-  object_read : (id : Id) (at : Address) (o : Object) → past.time.is_read id ≡ true
-      → is_white past.time.condemned past.time.colours id ≡ false → entry_at w.addresses id ≡ Some at → IsLiveBlock layout h w id at o
-      → is_automatic o ≡ true → (x : Block F) × (object_at layout h at ≡ Ok x) × IsObject layout past h w x (numbered_object id o)
-  object_read id at o read kept there b automatic =
-      let right = right_automatic w b.models o o.body refl automatic b.right in
-      let format = format_there layout w.formats b.pool b.models b.fit right.kind in
+  pub object_read : (id : Id) (at : Address) (o : Object) → past.time.is_read id ≡ true → entry_at w.addresses id ≡ Some at
+      → IsLiveBlock layout h w id at o → is_automatic o ≡ true
+      → (x : Block F) × (object_at layout h at ≡ Ok x) × IsObject layout past h w x (numbered_object id o)
+  object_read id at o read there b automatic =
+      let own = right_automatic w b.models o o.body refl automatic b.right in
+      let format = format_there layout w.formats b.pool b.models b.fit own.kind in
       let positive = parts.image.placed.positive id at o there b.object in
-      let are = subst (λ f. AreCells f right.head right.cells) format.2
-      (are_cells (w.formats b.models.format) (parts.lawful b.models.format) right.head right.cells right.valid right.shaped) in
-      let first = first_cell (layout format.0) right.head right.cells are (subst (λ body. 0 < size_of_body body) right.body positive) in (
-        record { at = at; format = format.0; head = right.head },
-        object_is_read at right.head format.0 (ne_eqb at 0 (λ e. let p = b.address.not_null in omega (arith, e, p)))
+      let are = subst (λ f. AreCells f own.head own.cells) format.2
+      (are_cells (w.formats b.models.format) (parts.lawful b.models.format) own.head own.cells own.valid own.shaped) in
+      let first = first_cell (layout format.0) own.head own.cells are (subst (λ body. 0 < size_of_body body) own.body positive) in (
+        record { at = at; format = format.0; head = own.head },
+        object_is_read at own.head format.0 (ne_eqb at 0 (λ e. let p = b.address.not_null in omega (arith, e, p)))
             (ap (option_and_then format_of_pool) b.pool_is ∙ format.1)
-            (head_read id at o read there b.object positive right.head
-            (ap (λ body. slice_get (all_cells body) 0) right.body ∙ first) (ap model.head_of_body right.body))
-            (subst (λ (f : Layout). f.is_valid right.head ≡ true) format.2 right.valid),
+            (head_read id at o read there b.object positive own.head
+            (ap (λ body. slice_get (all_cells body) 0) own.body ∙ first) (ap model.head_of_body own.body))
+            (subst (λ (f : Layout). f.is_valid own.head ≡ true) format.2 own.valid),
         record {
           address = there;
           object = b.object;
           block = b;
           read = read;
-          kept = kept;
-          cells = right.cells;
-          is_weak = right.is_weak;
-          body = right.body;
+          cells = own.cells;
+          is_weak = own.is_weak;
+          body = own.body;
           layout_is = ap (λ found. w.formats (option_map_or (λ (x : world.Pool). x.format) found 0)) b.has ∙ format.2;
           are = are;
         },
       )
 
-  live_object_same : (id : Id) (at : Address) → past.time.is_read id ≡ true
-      → is_white past.time.condemned past.time.colours id ≡ false → entry_at w.addresses id ≡ Some at → object_is is_automatic w id ≡ true
-      → Same (IsObject layout past h w) (object_at layout h at) (model.object_in w (Some id))
-  live_object_same id at read kept there automatic =
-      let b = live_block id at there in
-      let x = object_read id at b.0 read kept there b.1 (automatic_there id b.0 b.1.object automatic) in
-      same_of (IsObject layout past h w) x.1 (model_reads w id b.0 b.1.object) x.2
+module _ {F : Type 0} (layout : F → Layout) (past : Past) (h : HeapState F) (w : World) (parts : AreParts layout past h w)
+    (known : IsKnown past.time w) where
+  -- ---- what is held in slots and in words of areas
 
-  not_white : (b : Bool) → not b ≡ true → b ≡ false
-  not_white true e = absurd (false≢true e)
-  not_white false e = refl
+  -- what stands in a slot passes each test that all that stands in slots passes
+  pub slot_passes : (test : ℕ → Bool) → All test (ids_in_slots w.graph) → (index : ℕ) (entry : Entry Address) (found : Found (Option ℕ))
+      → IsSlotEntry past h w index entry found → PassesOrNull test found.value
+  slot_passes test all index entry found is =
+      entry-passes test found.list index found.value
+      (all-at test slots_of w.graph.tables found.number (Some found.list) all
+      (entry_is_there w.graph.tables found.number found.list is.has)) is.there
+
+  pub slot_may_read : (index : ℕ) (entry : Entry Address) (found : Found (Option ℕ))
+      → IsSlotEntry past h w index entry found → MayRead past.time w found.value
+  slot_may_read index entry found is = record {
+    live = slot_passes (is_live w) known.held.slots index entry found is;
+    automatic = slot_passes (object_is is_automatic w) known.formed.slots index entry found is;
+    read = slot_passes past.time.is_read known.read.slots index entry found is;
+    kept = slot_passes (is_kept_at past.time) known.kept.slots index entry found is;
+  }
+
+  -- ---- a live object
+
+  pub live_block : (id : Id) (at : Address) → entry_at w.addresses id ≡ Some at → (o : Object) × IsLiveBlock layout h w id at o
+  live_block = block_there layout past h w parts known.graph.objects
+
+  live_object_same : (id : Id) (at : Address) → past.time.is_read id ≡ true → entry_at w.addresses id ≡ Some at
+      → object_is is_automatic w id ≡ true
+      → Same (IsObject layout past h w) (object_at layout h at) (model.object_in w (Some id))
+  live_object_same id at read there automatic =
+      let b = live_block id at there in
+      let is = automatic_there layout past h w parts known.graph.objects id b.0 b.1.object automatic in
+      let x = object_read layout past h w parts known.graph.objects id at b.0 read there b.1 is in
+      same_of (IsObject layout past h w) x.1 (model_reads w id b.0 b.1.object) x.2
 
   pub object_at_same : (address : Address) (target : Option ℕ) → address ≡ address_of_target w.addresses target → MayRead past.time w target
       → Same (IsObject layout past h w) (object_at layout h address) (model.object_in w target)
@@ -480,7 +478,7 @@ module _ {F : Type 0} (layout : F → Layout) (past : Past) (h : HeapState F) (w
       let at = some_there (entry_at w.addresses id) may.live in
       subst (λ x. Same (IsObject layout past h w) (object_at layout h x) (model.object_in w (Some id)))
       (sym (is ∙ ap (λ o. option_map_or (λ x. x) o 0) at.1))
-      (live_object_same id at.0 may.read (not_white (is_white past.time.condemned past.time.colours id) may.kept) at.1 may.automatic)
+      (live_object_same id at.0 may.read at.1 may.automatic)
 
   -- the object that a slot refers to
   pub object_same : (slot : Slot)

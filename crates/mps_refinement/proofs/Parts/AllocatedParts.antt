@@ -67,6 +67,7 @@ use Rattle.mps_refinement.proofs.Parts.ObjectMore.{address_still}
 use Rattle.mps_model.proofs.Reaching.{list_all-contains}
 use Rattle.mps_changes.proofs.OneMore.{parts_pass}
 use Rattle.mps_refinement.proofs.Parts.ObjectKinds.{kind_with_last, paired_automatic}
+use Rattle.mps_refinement.proofs.Parts.PairsKept.{pairs_still}
 
 -- ---- placements
 
@@ -463,6 +464,8 @@ module _ {F : Type 0} (layout : F → Layout) (past : Past) (h : HeapState F) (w
           cached = same_caches w.addresses addresses_after w.graph.caches (λ j cached.
               address_still w.addresses at j (list_all-contains (is_live w) (ids_in_caches w.graph) j
               (parts_pass (is_live w) (ids_in_places w.graph) (ids_in_caches w.graph) known.live.blocks).1 cached));
+          depending = pairs_still w known.graph known.formed.dependents addresses_after
+              (λ j passes. still j (and_parts (is_live w j) (object_is is_automatic w j) passes).1);
           count = places_count w.graph.blocks found.number found.index found.list (Some new) has;
           counted = places_counted w.graph.blocks found.number found.index found.list (Some new) has;
           registered =

@@ -1,6 +1,6 @@
 -- The parts of a heap still stand for those of a world after blocks were changed in both: the segments, what objects there are and
 -- where they lie, and the places of tables of blocks.
-use Rattle.std.proofs.Common.{◌≡◌, ◌∙◌, ℕ, ◌+◌, refl, sym, ap, List, [], map, length, Option, arith}
+use Rattle.std.proofs.Common.{◌≡◌, ◌∙◌, ℕ, ◌+◌, refl, sym, ap, subst, List, [], map, length, Option, arith}
 use Rattle.std.specs.Prelude.{sum_by, count_by, is_some}
 use Rattle.mps_base.specs.Address.{Address, Id}
 use Rattle.mps_base.specs.Segment.{Segment}
@@ -25,6 +25,7 @@ use Rattle.mps_refinement.proofs.Parts.PartsByKind.{arena_of, finals_of, image_o
 use Rattle.mps_trace_laws.specs.Summaries.Summed.{AreWordsSummed}
 use Rattle.mps_format.specs.Pools.{policy_of_pool}
 use Rattle.mps_refinement.specs.Beside.{kept_cache}
+use Rattle.mps_refinement.specs.Dependents.{kept_pair}
 
 module _ {F : Type 0} (h : HeapState F) (segs : SegsState) (blocks : List (List ℕ)) where
   -- the state with these segments and places
@@ -50,6 +51,7 @@ pub record AreBlocks {F : Type 0} (layout : F → Layout) (past : Past) (h : Hea
   pub areas : AreNumbered (AreWords addresses) past.area_number (kept h.roots.areas) w.graph.areas
   pub blocks_are : blocks ≡ map (map (address_of_target addresses)) places
   pub cached : map (kept_cache w.addresses) w.graph.caches ≡ map (kept_cache addresses) w.graph.caches
+  pub depending : map (kept_pair w.addresses) w.graph.dependents ≡ map (kept_pair addresses) w.graph.dependents
   pub count : length places ≡ length w.graph.blocks
   pub counted : sum_by length places ≡ sum_by length w.graph.blocks
   pub registered : AreRegisteredAt past.time addresses h.finals.registered w.graph.registered
@@ -88,7 +90,7 @@ blocks_changed layout past h w segs blocks objects addresses places segments par
       parts.flips,
       parts.point_flips,
       parts.state,
-      beside_still _ _ _ parts.beside _ _ are.cached,
+      beside_still _ _ _ _ parts.beside _ _ _ are.cached are.depending,
       transforms_still past.transform_number (is_copying_object w)
           (is_copying_object (world_with_blocks w objects addresses places segments))
           w.addresses addresses h.beside.transforms w.graph.transforms (pairs_in w.state) are.paired parts.transforms,
@@ -101,43 +103,14 @@ unpaired arena.Unclamped = refl
 unpaired arena.Clamped = refl
 unpaired arena.Parked = refl
 
--- a world with other pairs of dependents, which are none where there were none
+-- a world with other pairs of dependents
 abbrev pub world_with_pairs : World → List (Id × Id) → World
 world_with_pairs w pairs = record w { graph = record w.graph { dependents = pairs } }
 
+-- they are those that it has
 pub parts_with_pairs : {F : Type 0} (layout : F → Layout) (past : Past) (h : HeapState F) (w : World) (pairs : List (Id × Id))
-    → (w.graph.dependents ≡ [] → pairs ≡ []) → AreParts layout past h w → AreParts layout past h (world_with_pairs w pairs)
-parts_with_pairs layout past h w pairs unpaired p = record {
-  grains = p.grains;
-  limit = p.limit;
-  segments = p.segments;
-  image = p.image;
-  arena = p.arena;
-  summed = p.summed;
-  tables = p.tables;
-  ordered = p.ordered;
-  areas = p.areas;
-  blocks = p.blocks;
-  roots_counted = p.roots_counted;
-  slots_counted = p.slots_counted;
-  points = p.points;
-  points_counted = p.points_counted;
-  registered = p.registered;
-  messages = p.messages;
-  flips = p.flips;
-  point_flips = p.point_flips;
-  dependencies = p.dependencies;
-  lawful = p.lawful;
-  pools = p.pools;
-  sizes = p.sizes;
-  chains = p.chains;
-  dependents = unpaired p.dependents;
-  names = p.names;
-  state = p.state;
-  beside = p.beside;
-  transforms = p.transforms;
-  framed = p.framed;
-}
+    → pairs ≡ w.graph.dependents → AreParts layout past h w → AreParts layout past h (world_with_pairs w pairs)
+parts_with_pairs layout past h w pairs same parts = subst (λ ps. AreParts layout past h (world_with_pairs w ps)) (sym same) parts
 
 -- a world with other frames of pools
 abbrev pub world_with_frames : World → List PoolFrames → World
@@ -159,4 +132,4 @@ parts_with_frames layout past h w ours frames framed p =
       chains = λ n low. low;
       transforms = refl;
     }))
-    (p.flips, p.point_flips, p.state, beside_framed _ _ _ p.beside ours, p.transforms, framed)
+    (p.flips, p.point_flips, p.state, beside_framed _ _ _ _ p.beside ours, p.transforms, framed)

@@ -92,6 +92,7 @@ module _ {F : Type 0} (layout : F → Layout) (past : Past) (h : HeapState F) (w
         areas = parts.areas;
         blocks_are = parts.blocks;
         cached = refl;
+        depending = refl;
         count = refl;
         counted = refl;
         registered = parts.registered;

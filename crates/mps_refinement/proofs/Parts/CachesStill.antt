@@ -1,13 +1,15 @@
--- What is kept of caches is the same where the blocks that lie in them have the addresses that they had.
-use Rattle.std.proofs.Common.{◌≡◌, ◌∙◌, ℕ, Bool, true, false, true≢false, refl, sym, ap, List, [], ◌∷◌, map, Option, arith}
-use Rattle.std.proofs.lemmas.Bool.{and_from, eq-eqb, ne_eqb}
-use Rattle.std.specs.Prelude.{◌==◌, ◌≢◌, not, if◌then◌else◌}
+-- What is kept of caches is the same where the blocks that lie in them have the addresses that they had. And how often something stands
+-- in a list.
+use Rattle.std.proofs.Common.{◌≡◌, ◌∙◌, ◌≤◌, ℕ, Bool, true, false, true≢false, refl, sym, ap, List, [], ◌∷◌, map, Option, arith}
+use Rattle.std.proofs.lemmas.Bool.{and_from, eq-eqb, false≢true, ne_eqb}
+use Rattle.std.specs.Prelude.{◌==◌, ◌||◌, ◌≢◌, not, if◌then◌else◌}
 use Rattle.std.specs.List.{flat_map, list_all}
 use Rattle.std.specs.Option.{option_map_or}
 use Rattle.mps_base.specs.Address.{Address, Id}
+use Rattle.mps_changes.proofs.OneMore.{last_more, occurs_more}
 use Rattle.mps_laws.proofs.Sound.HeldIds.{All}
 use Rattle.mps_abstract.proofs.Lists.{contains_here, contains_later, contains_left, contains_right}
-use Rattle.mps_model.specs.Graph.{Cache, CacheClass, contains, ids_of_cache, occurrences}
+use Rattle.mps_model.specs.Graph.{Cache, CacheClass, contains, from_last, ids_of_cache, occurrences}
 use Rattle.mps_model.proofs.Reaching.{list_all-contains}
 use Rattle.mps_refinement.specs.Beside.{kept_cache, kept_class}
 use Rattle.mps_refinement.specs.StandsFor.{address_of_id}
@@ -30,6 +32,25 @@ none_equal id (j ∷ js) none = of_test (j == id) refl (λ rest. none_equal id j
 pub others_in : (id : ℕ) (ids : List ℕ) → occurrences ids id ≡ 0 → (j : ℕ) → contains ids j ≡ true → id ≢ j
 others_in id ids none j there same =
     true≢false (sym (list_all-contains (λ k. not (id == k)) ids j (none_equal id ids none) there) ∙ ap not (eq-eqb id j same))
+
+-- what stands in a list stands there as often from the last to the first
+pub reversed_occurs : (j : ℕ) (ids : List ℕ) → occurrences (from_last ids) j ≡ occurrences ids j
+reversed_occurs j [] = refl
+reversed_occurs j (id ∷ ids) =
+    let more = occurs_more j (last_more (from_last ids) id) in
+    let rest = reversed_occurs j ids in
+    omega (arith, more, rest)
+
+-- what is in a list stands there
+pub occurs_there : (ids : List ℕ) (id : ℕ) → contains ids id ≡ true → 1 ≤ occurrences ids id
+occurs_there [] id there = absurd (false≢true there)
+occurs_there (n ∷ ids) id there = of_test (n == id) refl (λ later. occurs_there ids id later) there
+  where
+    of_test : (b : Bool) → (n == id) ≡ b → (contains ids id ≡ true → 1 ≤ occurrences ids id)
+        → (b || contains ids id) ≡ true → 1 ≤ occurrences (n ∷ ids) id
+    of_test true e later is =
+        let one : ◌≡◌ {A = ℕ} (if n == id then 1 else 0) 1 = ap (λ c. if c then 1 else 0) e in omega (arith, one)
+    of_test false e later is = let some = later is in omega (arith, some)
 
 module _ (before after : List (Option Address)) where
   same_ids : (ids : List Id) → AreSame before after ids → map (address_of_id before) ids ≡ map (address_of_id after) ids

@@ -31,7 +31,7 @@ use Rattle.mps_model.specs.Allocating as model
 use Rattle.mps_model.specs.Graph as graph
 use Rattle.mps_model.specs.Graph.{Object, Reservation, entry_at, with_last}
 use Rattle.mps_model.specs.Making.{is_weak_rank}
-use Rattle.mps_model.specs.World.{World, covered, extent, extents_of, is_copying_pool, is_live, reserved_extents, is_copying_object, pairs_in}
+use Rattle.mps_model.specs.World.{World, covered, extent, extents_of, is_copying_pool, is_live, object_is, reserved_extents, is_copying_object, pairs_in}
 use Rattle.mps_heap_spec.specs.State.{HeapState}
 use Rattle.mps_refinement.specs.StandsFor.{AreParts, NoneHeld, IsArena, IsHeld, IsPoint, Past, StandsAt, setting_at}
 use Rattle.mps_refinement.proofs.Worlds.AtHand.{extent_there, there_after}
@@ -54,6 +54,7 @@ use Rattle.mps_refinement.proofs.Parts.CachesStill.{same_caches}
 use Rattle.mps_model.proofs.Reaching.{list_all-contains}
 use Rattle.mps_refinement.proofs.Parts.TransformParts.{transforms_still}
 use Rattle.mps_refinement.proofs.Parts.ObjectKinds.{kind_with_last}
+use Rattle.mps_refinement.proofs.Parts.PairsKept.{pairs_still}
 
 -- ---- segments
 
@@ -330,10 +331,12 @@ module _ {F : Type 0} (layout : F → Layout) (past : Past) (h : HeapState F) (w
         parts.flips,
         parts.point_flips,
         parts.state,
-        beside_still _ _ _ parts.beside _ _
+        beside_still _ _ _ _ parts.beside _ _ _
             (same_caches w.addresses (with_last w.addresses (Some at)) w.graph.caches (λ id cached.
             address_still w.addresses at id (list_all-contains (is_live w) (graph.ids_in_caches w.graph) id
-            (parts_pass (is_live w) (graph.ids_in_places w.graph) (graph.ids_in_caches w.graph) known.live.blocks).1 cached))),
+            (parts_pass (is_live w) (graph.ids_in_places w.graph) (graph.ids_in_caches w.graph) known.live.blocks).1 cached)))
+            (pairs_still w known.graph known.formed.dependents (with_last w.addresses (Some at)) (λ id passes.
+            address_still w.addresses at id (and_parts (is_live w id) (object_is graph.is_automatic w id) passes).0)),
         transforms_still past.transform_number (is_copying_object w) (is_copying_object world_made) w.addresses world_made.addresses
             h.beside.transforms w.graph.transforms (pairs_in w.state) (λ id was paired there.
             let o = parts.image.placed.exists id was there in (

@@ -1,25 +1,24 @@
 -- The parts of a heap stand for those of a world after the places of several blocks were emptied in both, none of which stands in frames.
-use Rattle.std.proofs.Common.{◌≡◌, ◌∙◌, ◌⊎◌, inl, inr, ℕ, zero, suc, Bool, true, false, refl, sym, ap, subst, List, [], ◌∷◌, ◌++◌, length, map, drop, take, Option, Some, None, arith}
-use Rattle.std.proofs.lemmas.Bool.{cases_Bool, eq-eqb, eqb-true, false≢true, ne_eqb, true≢false}
+use Rattle.std.proofs.Common.{◌≡◌, ◌∙◌, inl, inr, ℕ, zero, suc, Bool, true, false, refl, sym, ap, subst, List, [], ◌∷◌, map, drop, take, Option, Some, None, arith}
+use Rattle.std.proofs.lemmas.Bool.{eq-eqb, false≢true, ne_eqb}
 use Rattle.std.proofs.lemmas.Option.{get_or_from_slice_get, none-some, same_Some}
-use Rattle.std.specs.List.{list_all, list_any}
+use Rattle.std.specs.List.{list_all}
 use Rattle.std.specs.Prelude.{◌==◌, ◌||◌, not, if◌then◌else◌, slice_get, slice_index_or, slice_set}
 use Rattle.mps_base.specs.Address.{Address, Id}
 use Rattle.mps_changes.proofs.Frames.{blocks_in}
 use Rattle.mps_format.specs.Layout.{Layout}
 use Rattle.mps_model.specs.Checked.{Found, with_graph}
-use Rattle.mps_model.specs.Caches as caches
 use Rattle.mps_model.specs.Frames.{place_without, places_without, popped}
-use Rattle.mps_model.specs.Graph.{Slots, contains, frames_changed, with_last}
+use Rattle.mps_model.specs.Graph.{Slots, contains, frames_changed, from_last, with_last}
 use Rattle.mps_model.specs.World.{World}
 use Rattle.mps_root.specs.State.{with_place}
 use Rattle.mps_snc.specs.State.{PoolState, pool_at, with_pool}
 use Rattle.mps_snc.specs.declared.pool.Block.{Block}
 use Rattle.mps_heap_spec.specs.Framing.{with_frames}
-use Rattle.mps_heap_spec.specs.Popping.{closed, from_last, places_emptied}
+use Rattle.mps_heap_spec.specs.Popping.{closed, places_emptied}
 use Rattle.mps_heap_spec.specs.State.{HeapState}
 use Rattle.mps_heap_spec.specs.declared.found.Entry.{Entry}
-use Rattle.mps_refinement.specs.Framed.{AreNoted, IsNoted}
+use Rattle.mps_refinement.specs.Framed.{AreNoted}
 use Rattle.mps_refinement.specs.StandsFor.{AreParts, Past}
 use Rattle.mps_refinement.proofs.Parts.BlockParts.{parts_with_frames, world_with_frames}
 use Rattle.mps_refinement.proofs.Parts.FramedParts.{framed_changed, noted_beside, noted_last, noted_still}
@@ -46,12 +45,12 @@ module _ (places : List (List Address)) (slots : List Slots) where
   noted_after (suc n) (b ∷ bs) (id ∷ ids) are = noted_after n bs ids are.1
 
   pub noted_back : (bs : List Block) (ids : List Id) → AreNoted places slots bs ids
-      → AreNoted places slots (from_last bs) (caches.from_last ids)
+      → AreNoted places slots (from_last bs) (from_last ids)
   noted_back [] [] are = tt
   noted_back [] (id ∷ ids) are = absurd are
   noted_back (b ∷ bs) [] are = absurd are
   noted_back (b ∷ bs) (id ∷ ids) are =
-      noted_last places slots (from_last bs) (caches.from_last ids) b id (noted_back bs ids are.1) are.0
+      noted_last places slots (from_last bs) (from_last ids) b id (noted_back bs ids are.1) are.0
 
 -- ---- places are emptied one after the other
 
@@ -216,10 +215,10 @@ contains_last (k ∷ ids) id j =
     or_assoc true b c = refl
     or_assoc false b c = refl
 
-contains_back : (ids : List Id) (j : ℕ) → contains (caches.from_last ids) j ≡ contains ids j
+pub contains_back : (ids : List Id) (j : ℕ) → contains (from_last ids) j ≡ contains ids j
 contains_back [] j = refl
 contains_back (id ∷ ids) j =
-    contains_last (caches.from_last ids) id j ∙ ap (λ c. c || id == j) (contains_back ids j) ∙ or_comm (contains ids j) (id == j)
+    contains_last (from_last ids) id j ∙ ap (λ c. c || id == j) (contains_back ids j) ∙ or_comm (contains ids j) (id == j)
   where
     or_comm : (a b : Bool) → (a || b) ≡ (b || a)
     or_comm true true = refl
@@ -242,8 +241,8 @@ module _ (gone others : List Id) (same : (j : ℕ) → contains gone j ≡ conta
       ∙ ap (λ rs. map (place_without others) row ∷ rs) (places_alike slots)
 
 -- in whichever order places are emptied, the model's are left
-pub back_alike : (ids : List Id) (slots : List Slots) → places_without (caches.from_last ids) slots ≡ places_without ids slots
-back_alike ids slots = places_alike (caches.from_last ids) ids (contains_back ids) slots
+pub back_alike : (ids : List Id) (slots : List Slots) → places_without (from_last ids) slots ≡ places_without ids slots
+back_alike ids slots = places_alike (from_last ids) ids (contains_back ids) slots
 
 -- ---- frames are closed
 

@@ -1,40 +1,30 @@
 -- After a `free` the parts of a heap stand for those of the world after it.
-use Rattle.std.proofs.Common.{◌≡◌, ◌∙◌, ℕ, ◌+◌, ◌*◌, Bool, true, false, refl, sym, ap, subst, List, [], ◌∷◌, map, Option, Some, None, inl, inr, arith, length, ◌⊎◌, ◌<◌}
-use Rattle.std.proofs.lemmas.Bool.{cases_lt, eq-eqb, false≢true, le-leb, lt-leb, lt-ltb, le-ltb, ltb-true, ne_eqb, and_parts, cases_Bool, cases_eq, leb-true}
-use Rattle.std.proofs.lemmas.Option.{none-some, same_Some}
-use Rattle.std.specs.Prelude.{◌==◌, ◌&&◌, ◌||◌, not, nat_le, nat_lt, slice_get, slice_set, option_map, if◌then◌else◌, ◌≢◌}
-use Rattle.std.specs.List.{list_any}
+use Rattle.std.proofs.Common.{◌≡◌, ◌∙◌, ℕ, ◌+◌, Bool, true, false, refl, sym, ap, subst, List, map, Option, Some, None, arith, length}
+use Rattle.std.proofs.lemmas.Bool.{eq-eqb, false≢true, and_parts}
+use Rattle.std.proofs.lemmas.Option.{same_Some}
+use Rattle.std.specs.Prelude.{◌==◌, not, slice_get, slice_set, if◌then◌else◌, ◌≢◌}
 use Rattle.std.specs.Option.{option_map_or}
-use Rattle.mps_base.specs.Address.{Address, Id, Word, word_of, address_of_word, grain_of}
-use Rattle.mps_base.specs.Run.{Run, Covers, runs_within, IsAscending}
-use Rattle.mps_base.specs.Segment.{Segment, end_of_segment, segment_over, without_segment, words_of_segment, is_in_segment, grains_of_segment}
+use Rattle.mps_base.specs.Address.{Address, Id, Word, word_of, address_of_word}
+use Rattle.mps_base.specs.Run.{IsAscending}
+use Rattle.mps_base.specs.Segment.{Segment, segment_over, without_segment, grains_of_segment}
 use Rattle.mps_format.specs.Layout.{Layout}
-use Rattle.mps_trace_laws.specs.Image.ArenaLaws.{AreSegmentsKept}
-use Rattle.mps_trace_laws.specs.Image.Image.{black_cells}
-use Rattle.mps_trace_laws.specs.Image.Memory.{Lies, Setting, is_condemned_word, memory_in, pool_over_word}
-use Rattle.mps_trace_laws.proofs.Image.ArenaLaws.{segments_change}
-use Rattle.mps_trace_laws.proofs.Image.ClientLaws.{manual_block_is_freed}
-use Rattle.mps_trace_laws.proofs.Image.SegmentMarks.{removing_clears}
-use Rattle.mps_trace_laws.proofs.Image.Shaped.{are_shaped_objects}
+use Rattle.mps_trace_laws.specs.Image.Memory.{Lies}
 use Rattle.mps_laws.proofs.Positions.LegalMoves.{HasLayout}
 use Rattle.mps_laws.proofs.Lookups.{entry_at-set_other}
-use Rattle.mps_laws.proofs.Positions.Occupancy.{OfBlock, occupancy_of, shape_of}
-use Rattle.mps_laws.proofs.Positions.Segments.{IsAligned, IsAmong, among_without, found_segment, all_without, among_aligned, among_kept, ascending_without, found_among, same_by_base, AreAligned}
+use Rattle.mps_laws.proofs.Positions.Segments.{IsAligned, IsAmong, AreAligned}
 use Rattle.mps_laws.proofs.Sound.SoundGraph.{IsSoundGraph, auto}
-use Rattle.mps_pools.specs.Manual.{any_size, block_removed, segs_after_free, given_back, is_none, is_unused}
-use Rattle.mps_model.specs.Graph.{Object, entry_at, is_automatic, is_automatic_body, size_of, ids_in_caches}
+use Rattle.mps_pools.specs.Manual.{block_removed, is_unused}
+use Rattle.mps_model.specs.Graph.{Object, entry_at, is_automatic, ids_in_caches}
 use Rattle.mps_model.specs.World as world
-use Rattle.mps_model.specs.World.{World, OneSize, AnySize, begins_in, is_any_size_kind, is_automatic_kind, object_is, is_copying_object, is_copying_pool, is_live, has_frames, pool_is, pool_of}
+use Rattle.mps_model.specs.World.{World, object_is, is_copying_pool, is_live, has_frames, pool_is, pool_of}
 use Rattle.mps_model.specs.Effect.{with_address}
-use Rattle.mps_seg.specs.Segs.{SegsState}
 use Rattle.mps_heap_spec.specs.declared.found.Entry.{Entry}
 use Rattle.mps_heap_spec.specs.State.{HeapState}
-use Rattle.mps_format.specs.Pools.{size_of_pool, policy_of_pool}
-use Rattle.mps_format.specs.declared.pool.Pool.{Pool}
+use Rattle.mps_format.specs.Pools.{policy_of_pool}
 use Rattle.mps_format.specs.declared.pool.Pool.TheVariants as pool
 use Rattle.mps_model.specs.Checked.{Found}
 use Rattle.mps_root.specs.State.{with_place}
-use Rattle.mps_refinement.specs.StandsFor.{AreParts, IsPool, Past, address_of_target, StandsAt, setting_at, AreOfFlip, IsInTime, collector_of}
+use Rattle.mps_refinement.specs.StandsFor.{AreParts, Past, address_of_target, StandsAt, AreOfFlip, IsInTime, collector_of}
 use Rattle.mps_refinement.proofs.Parts.FreedSegments as freed
 use Rattle.mps_refinement.proofs.Parts.FreedSegments.{HasShapes}
 pub use Rattle.mps_refinement.proofs.Parts.FreedSegments.{any_size_alike, freed_is, segments_freed}
@@ -44,13 +34,10 @@ use Rattle.mps_refinement.proofs.Parts.FramedParts.{framed_written, frames_other
 use Rattle.mps_refinement.proofs.Parts.BlockPlaces.{place_length, place_written, places_count, places_counted}
 use Rattle.mps_refinement.proofs.Worlds.Known.{IsKnown}
 use Rattle.mps_refinement.proofs.Lookups.Lookups.{IsPlaceEntry}
-use Rattle.mps_refinement.proofs.Lookups.ManualBlocks.{IsBlock, setting}
-use Rattle.mps_refinement.proofs.Worlds.PlacedOnce.{ArePlacedOnce, is_sized}
+use Rattle.mps_refinement.proofs.Lookups.ManualBlocks.{IsBlock}
+use Rattle.mps_refinement.proofs.Worlds.PlacedOnce.{ArePlacedOnce}
 use Rattle.mps_refinement.proofs.Worlds.PlacesByMoves.{places_of}
-use Rattle.mps_refinement.proofs.Parts.ReservedImage.{block_covers}
 use Rattle.mps_refinement.proofs.Parts.StillHeld.{messages_still, reservation_targets, slots_still, words_still}
-use Rattle.mps_seg.specs.Collecting.{bit_of}
-use Rattle.mps_laws.proofs.Entries.{entry_at-written}
 use Rattle.mps_refinement.proofs.Parts.Unforwarded.{flip_known}
 use Rattle.mps_refinement.proofs.Parts.Registered.{as_before}
 use Rattle.mps_model.specs.WellFormed.{is_live_automatic}
@@ -64,6 +51,7 @@ use Rattle.mps_trace_laws.specs.Summaries.Summed.{AreWordsSummed}
 use Rattle.mps_refinement.proofs.Summaries.FreedBlocks.{given_summed, removed_summed}
 use Rattle.mps_refinement.proofs.Parts.CachesStill.{same_caches, others_in}
 use Rattle.mps_refinement.proofs.Parts.ObjectKinds.{paired_automatic}
+use Rattle.mps_refinement.proofs.Parts.PairsKept.{pairs_still}
 
 module _ {F : Type 0} (layout : F → Layout) (past : Past) (h : HeapState F) (w : World) (parts : AreParts layout past h w)
     (known : IsKnown past.time w) (graph : IsSoundGraph w) (at : Address) (id : Id) (b : IsBlock w at id)
@@ -233,6 +221,8 @@ module _ {F : Type 0} (layout : F → Layout) (past : Past) (h : HeapState F) (w
               table = has;
               entry = ap (slice_get found.list) is.found_index ∙ is.there ∙ ap Some value;
             })) j cached));
+        depending = pairs_still w known.graph known.formed.dependents addresses_after
+            (λ j passes. still j (and_parts (is_live w j) (object_is is_automatic w j) passes).1);
         count = places_count w.graph.blocks found.number found.index found.list None has;
         counted = places_counted w.graph.blocks found.number found.index found.list None has;
         registered =

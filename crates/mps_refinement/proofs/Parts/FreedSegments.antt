@@ -1,6 +1,6 @@
 -- The segments after a manual block is freed stand for the words that are left, whether its segment is given back or not.
 use Rattle.std.specs.Prelude.{IsTrue}
-use Rattle.std.proofs.Common.{◌≡◌, ◌∙◌, ℕ, ◌+◌, ◌*◌, Bool, true, false, refl, sym, ap, subst, List, [], ◌∷◌, map, Option, Some, None, inl, inr, arith, length, ◌⊎◌, ◌<◌}
+use Rattle.std.proofs.Common.{◌≡◌, ◌∙◌, ℕ, ◌+◌, ◌*◌, Bool, true, false, refl, sym, ap, subst, List, [], ◌∷◌, map, Option, Some, None, inl, inr, arith, ◌⊎◌, ◌<◌}
 use Rattle.std.proofs.lemmas.Bool.{cases_lt, false≢true, le-leb, lt-leb, lt-ltb, le-ltb, ltb-true, ne_eqb, and_parts, cases_Bool, cases_eq, leb-true}
 use Rattle.std.proofs.lemmas.Option.{none-some, same_Some}
 use Rattle.std.specs.Prelude.{◌==◌, ◌&&◌, ◌||◌, not, nat_le, nat_lt, slice_get, slice_set, option_map, if◌then◌else◌, ◌≢◌}
@@ -13,8 +13,8 @@ use Rattle.mps_model.specs.WellFormed.{is_right_object}
 use Rattle.mps_trace_laws.specs.Image.Memory.{live_reservation}
 use Rattle.std.specs.List.{list_all}
 use Rattle.mps_base.specs.Address.{Address, Id, Word, word_of, address_of_word, grain_of}
-use Rattle.mps_base.specs.Run.{Run, Covers, runs_within, IsAscending}
-use Rattle.mps_base.specs.Segment.{Segment, end_of_segment, segment_over, without_segment, words_of_segment, is_in_segment, grains_of_segment}
+use Rattle.mps_base.specs.Run.{Run, Covers, runs_within}
+use Rattle.mps_base.specs.Segment.{Segment, end_of_segment, segment_over, without_segment, words_of_segment, is_in_segment}
 use Rattle.mps_format.specs.Layout.{Layout}
 use Rattle.mps_trace_laws.specs.Image.ArenaLaws.{AreSegmentsKept}
 use Rattle.mps_trace_laws.specs.Image.Image.{black_cells}
@@ -26,46 +26,24 @@ use Rattle.mps_trace_laws.proofs.Image.Shaped.{are_shaped_objects}
 use Rattle.mps_laws.proofs.Positions.LegalMoves.{HasLayout}
 use Rattle.mps_laws.proofs.Lookups.{entry_at-set_other}
 use Rattle.mps_laws.proofs.Positions.Occupancy.{OfBlock, occupancy_of, shape_of}
-use Rattle.mps_laws.proofs.Positions.Segments.{IsAligned, IsAmong, among_without, found_segment, all_without, among_aligned, among_kept, ascending_without, found_among, same_by_base, AreAligned}
-use Rattle.mps_laws.proofs.Sound.SoundGraph.{IsSoundGraph, auto}
+use Rattle.mps_laws.proofs.Positions.Segments.{IsAligned, IsAmong, among_without, found_segment, all_without, among_aligned, among_kept, ascending_without, found_among, same_by_base}
+use Rattle.mps_laws.proofs.Sound.SoundGraph.{auto}
 use Rattle.mps_pools.specs.Manual.{any_size, block_removed, segs_after_free, given_back, is_none, is_unused}
-use Rattle.mps_model.specs.Graph.{Object, entry_at, is_automatic, is_automatic_body, size_of, ids_in_caches}
+use Rattle.mps_model.specs.Graph.{Object, entry_at, is_automatic, is_automatic_body, size_of}
 use Rattle.mps_model.specs.World as world
-use Rattle.mps_model.specs.World.{World, OneSize, AnySize, begins_in, is_any_size_kind, is_automatic_kind, object_is, is_copying_object, is_copying_pool, is_live}
+use Rattle.mps_model.specs.World.{World, OneSize, AnySize, begins_in, is_any_size_kind, is_automatic_kind, is_copying_object, is_copying_pool}
 use Rattle.mps_model.specs.Effect.{with_address}
 use Rattle.mps_seg.specs.Segs.{SegsState}
-use Rattle.mps_heap_spec.specs.declared.found.Entry.{Entry}
-use Rattle.mps_heap_spec.specs.State.{HeapState}
-use Rattle.mps_format.specs.Pools.{size_of_pool, policy_of_pool}
+use Rattle.mps_format.specs.Pools.{size_of_pool}
 use Rattle.mps_format.specs.declared.pool.Pool.{Pool}
 use Rattle.mps_format.specs.declared.pool.Pool.TheVariants as pool
-use Rattle.mps_model.specs.Checked.{Found}
-use Rattle.mps_root.specs.State.{with_place}
-use Rattle.mps_refinement.specs.StandsFor.{AreParts, IsPool, Past, address_of_target, StandsAt, setting_at, AreOfFlip, IsInTime, collector_of}
-use Rattle.mps_refinement.proofs.Parts.BlockParts.{blocks_changed, with_blocks, world_with_blocks}
-use Rattle.mps_refinement.proofs.Parts.BlockPlaces.{place_length, place_written, places_count, places_counted}
-use Rattle.mps_refinement.proofs.Worlds.Known.{IsKnown}
-use Rattle.mps_refinement.proofs.Lookups.Lookups.{IsPlaceEntry}
-use Rattle.mps_refinement.proofs.Lookups.ManualBlocks.{IsBlock, setting}
-use Rattle.mps_refinement.proofs.Worlds.PlacedOnce.{ArePlacedOnce, is_sized}
-use Rattle.mps_refinement.proofs.Worlds.PlacesByMoves.{places_of}
+use Rattle.mps_refinement.specs.StandsFor.{IsPool, StandsAt, setting_at, AreOfFlip}
+use Rattle.mps_refinement.proofs.Parts.BlockParts.{world_with_blocks}
+use Rattle.mps_refinement.proofs.Lookups.ManualBlocks.{IsBlock}
+use Rattle.mps_refinement.proofs.Worlds.PlacedOnce.{is_sized}
 use Rattle.mps_refinement.proofs.Parts.ReservedImage.{block_covers}
-use Rattle.mps_refinement.proofs.Parts.StillHeld.{messages_still, reservation_targets, slots_still, words_still}
 use Rattle.mps_seg.specs.Collecting.{bit_of}
 use Rattle.mps_laws.proofs.Entries.{entry_at-written}
-use Rattle.mps_refinement.proofs.Parts.Unforwarded.{flip_known}
-use Rattle.mps_refinement.proofs.Parts.Registered.{as_before}
-use Rattle.mps_model.specs.WellFormed.{is_live_automatic}
-use Rattle.mps_abstract.specs.Colours.{is_grey}
-use Rattle.mps_refinement.proofs.Parts.GreyRanks.{IsGreyAt, ranks_stay}
-use Rattle.mps_trace_laws.specs.Fix.Ranks.{AreMarksRanked}
-use Rattle.mps_trace_laws.proofs.Fix.Ranks.{was_set}
-use Rattle.mps_seg.specs.Marks.{MarkTables}
-use Rattle.mps_extents.specs.Table.{bit}
-use Rattle.mps_trace_laws.specs.Summaries.Summed.{AreWordsSummed}
-use Rattle.mps_refinement.proofs.Summaries.FreedBlocks.{given_summed, removed_summed}
-use Rattle.mps_refinement.proofs.Parts.CachesStill.{same_caches, others_in}
-use Rattle.mps_refinement.proofs.Parts.ObjectKinds.{paired_automatic}
 
 -- ---- whether a segment is given back
 

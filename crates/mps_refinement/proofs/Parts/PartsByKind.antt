@@ -58,7 +58,7 @@ module _ {F : Type 0} (layout : F → Layout) (past : Past) (h : HeapState F) (w
   abbrev pub StateParts : Type 0
   StateParts =
       AreFlips h.epochs w.flips × (h.points.flips ≡ length w.flips) × (w.state ≡ state_of h.arena (world.pairs_in w.state))
-      × IsBeside h.beside w.addresses w.graph.caches
+      × IsBeside h.beside w.addresses w.graph.caches w.graph.dependents
       × AreTransforms past.transform_number (world.is_copying_object w) w.addresses h.beside.transforms w.graph.transforms
       (world.pairs_in w.state)
       × AreFramed h.beside.frames h.roots.blocks w.graph.blocks w.pools w.graph.frames

@@ -170,7 +170,7 @@ module _ {F : Type 0} (layout : F → Layout) (past : Past) (h : HeapState F) (w
       parts_of_kinds (arena_of parts) (are.image_stands, parts.arena, are.words_summed) (roots_of parts)
       (are.points_are, parts.points_counted)
       (finals_of parts) parts.dependencies (parts.lawful, are.pools_are, are.sizes_are, are.chains_are, parts.dependents) are.names_are
-      (parts.flips, parts.point_flips, parts.state, beside_framed _ _ _ parts.beside frames, are.transforms_are, are.framed_are)
+      (parts.flips, parts.point_flips, parts.state, beside_framed _ _ _ _ parts.beside frames, are.transforms_are, are.framed_are)
 
   -- ---- dependencies
 
@@ -223,7 +223,7 @@ module _ {F : Type 0} (layout : F → Layout) (past : Past) (h : HeapState F) (w
         parts.flips,
         parts.point_flips,
         is,
-        beside_others _ _ _ transforms parts.beside,
+        beside_others _ _ _ _ transforms parts.beside,
         are,
         parts.framed,
       )
@@ -259,7 +259,7 @@ module _ {F : Type 0} (layout : F → Layout) (past : Past) (h : HeapState F) (w
         parts.flips,
         parts.point_flips,
         is,
-        beside_others _ _ _ transforms parts.beside,
+        beside_others _ _ _ _ transforms parts.beside,
         are,
         parts.framed,
       )

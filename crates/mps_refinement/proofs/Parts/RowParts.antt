@@ -1,5 +1,5 @@
 -- After a row of frees of blocks that nobody holds the parts of a heap stand for those of the world after it.
-use Rattle.std.proofs.Common.{◌≡◌, ◌∙◌, ℕ, ◌+◌, true, refl, sym, ap, subst, List, [], map, Option, Some, arith}
+use Rattle.std.proofs.Common.{◌≡◌, ◌∙◌, ℕ, ◌+◌, true, refl, sym, ap, subst, List, map, Option, Some, arith}
 use Rattle.std.proofs.lemmas.Bool.{and_parts}
 use Rattle.mps_base.specs.Address.{Address, Id, Word, address_of_word}
 use Rattle.mps_base.specs.Run.{Covers}
@@ -20,6 +20,7 @@ use Rattle.mps_seg.specs.Segs.{SegsState}
 use Rattle.mps_trace_laws.specs.Fix.Ranks.{AreMarksRanked}
 use Rattle.mps_trace_laws.specs.Summaries.Summed.{AreWordsSummed}
 use Rattle.mps_heap_spec.specs.State.{HeapState}
+use Rattle.mps_refinement.specs.Dependents.{kept_pair}
 use Rattle.mps_refinement.specs.StandsFor.{AreParts, Past, StandsAt}
 use Rattle.mps_refinement.proofs.Collect.SameAddresses.{AreSame, same_places}
 use Rattle.mps_refinement.proofs.Parts.BlockParts.{blocks_changed, parts_with_pairs, world_with_blocks}
@@ -54,11 +55,12 @@ module _ {F : Type 0} (layout : F → Layout) (past : Past) (h : HeapState F) (w
       (λ r t over. over_before r.from t over) fewer.covered
 
   -- where the blocks that are held still are where they were
-  pub row_parts : AreSame w.addresses addresses (ids_in_blocks w.graph) → (w.graph.dependents ≡ [] → pairs ≡ [])
+  pub row_parts : AreSame w.addresses addresses (ids_in_blocks w.graph)
+      → map (kept_pair w.addresses) w.graph.dependents ≡ map (kept_pair addresses) w.graph.dependents → pairs ≡ w.graph.dependents
       → AreParts layout past (record h { segs = after }) (world_row w addresses segments pairs)
-  row_parts held unpaired =
+  row_parts held depending same =
       parts_with_pairs layout past (record h { segs = after })
-      (world_with_blocks w w.graph.objects addresses w.graph.blocks segments) pairs unpaired
+      (world_with_blocks w w.graph.objects addresses w.graph.blocks segments) pairs same
       (blocks_changed layout past h w after h.roots.blocks w.graph.objects addresses w.graph.blocks segments parts (record {
         grains = fewer.grains;
         limit = fewer.limit;
@@ -77,6 +79,7 @@ module _ {F : Type 0} (layout : F → Layout) (past : Past) (h : HeapState F) (w
             (λ j there. held j (contains_left (ids_in_places w.graph) (ids_in_caches w.graph) j there));
         cached = same_caches w.addresses addresses w.graph.caches
             (λ j there. held j (contains_right (ids_in_places w.graph) (ids_in_caches w.graph) j there));
+        depending = depending;
         count = refl;
         counted = refl;
         registered =

@@ -1,6 +1,6 @@
 -- Whether a test holds of something in a list.
 use Rattle.std.proofs.Common.{◌≡◌, ◌∙◌, ℕ, zero, suc, Bool, true, false, refl, sym, ap, List, [], ◌∷◌, Some}
-use Rattle.std.proofs.lemmas.Bool.{false≢true, true≢false}
+use Rattle.std.proofs.lemmas.Bool.{false≢true}
 use Rattle.std.proofs.lemmas.Option.{none-some, same_Some}
 use Rattle.std.specs.Prelude.{◌||◌, slice_get}
 use Rattle.std.specs.List.{list_any}
@@ -29,6 +29,3 @@ module _ {A : Type 0} (test : A → Bool) where
           → (b || list_any test ys) ≡ true → (k : ℕ) × (x : A) × (slice_get (y ∷ ys) k ≡ Some x) × (test x ≡ true)
       of_test later true is e = (0, y, refl, is)
       of_test later false is e = let x = later e in (suc x.0, x.1, x.2, x.3)
-
-  pub none_found : (xs : List A) → list_any test xs ≡ false → (k : ℕ) (x : A) → slice_get xs k ≡ Some x → test x ≡ true → ⊥
-  none_found xs none k x is passes = true≢false (sym (any_there xs k x is passes) ∙ none)

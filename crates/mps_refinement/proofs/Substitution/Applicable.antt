@@ -14,7 +14,7 @@ use Rattle.mps_format.specs.Layout.{Layout}
 use Rattle.mps_format.specs.Pools.{format_of_pool}
 use Rattle.mps_model.specs.Checked.{head_of_body}
 use Rattle.mps_model.specs.Graph.{HeadCell, entry_at, is_automatic, size_of}
-use Rattle.mps_model.specs.World.{TransformPair, World, extent, is_parked, is_running, pairs_in}
+use Rattle.mps_model.specs.World.{TransformPair, World, is_parked, is_running, pairs_in}
 use Rattle.mps_model.specs.WellFormed.{IsWellFormed}
 use Rattle.mps_root.specs.State.{kept}
 use Rattle.mps_trace_laws.proofs.Image.BlockRuns.{IsExtent, run_of_object}
@@ -168,7 +168,8 @@ module _ {F : Type 0} (layout : F → Layout) (past : Past) (h : HeapState F) (w
         → AreOfFormat (layout format) h.segs number
     headed number format has t r there of_pool listed above below_it =
         let P : Run → Type 0 = λ q.
-        IsTrue ((layout format).is_valid (slice_index h.segs.words q.from)) × ((layout format).size (slice_index h.segs.words q.from) ≡ q.count)
+        IsTrue ((layout format).is_valid (slice_index h.segs.words q.from))
+        × ((layout format).size (slice_index h.segs.words q.from) ≡ q.count)
         in
         subst P (sym x.is) (of_kind (is_automatic x.object) refl)
       where

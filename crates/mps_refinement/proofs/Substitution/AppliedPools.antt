@@ -320,7 +320,8 @@ module _ {F : Type 0} (layout : F → Layout) (to : Address → Option Address) 
               let before = below_keeps number in
               let P : SegsState → Type 0 = λ x. zones_meet (zone_bit_of at) (slice_index x.summaries (grain_of u.base)) ≡ true in
               subst P (sym own_step)
-              (pass_notes f to t number (still_have before have) (length t.words) word (let size = before.size in omega (arith, within, size))
+              (pass_notes f to t number (still_have before have) (length t.words) word
+              (let size = before.size in omega (arith, within, size))
               at (replaced_then ∙ is) u
               (ap (λ (ts : List Segment). segment_over ts (address_of_word word)) (same_segments before) ∙ there))
 

@@ -169,10 +169,6 @@ module _ {F : Type 0} (layout : F → Layout) (past : Past) (h : HeapState F) (w
     abbrev by_second : Bool
     by_second = option_map_or (λ p. not p.inside) (pair word) false
 
-    -- the word lies in an old object
-    LiesInOld : Type 0
-    LiesInOld = (id : Id) × (is_old pairs id ≡ true) × (lies_in w word id ≡ true)
-
     found_lies : (id : Id) (at : Address) → entry_at w.addresses id ≡ Some at → object_is is_automatic w id ≡ true
         → is_word_in (is_copying_object w id) at (words_of w id) word ≡ true → lies_in w word id ≡ true
     found_lies id at live is_automatic_object inside =
@@ -185,7 +181,9 @@ module _ {F : Type 0} (layout : F → Layout) (past : Past) (h : HeapState F) (w
         (run_over h.segs.blocks (word_of word)) e in
         let at = address_of_word over.0 in
         let q = some_passes (λ (p : Pair). p.inside) (pair at) over.2 in
-        let x = block_over_found layout past h w parts word at (ap (λ (o : Option ℕ). option_map (λ a. a.0) (option_map at_word o)) over.1) in
+        let x =
+        block_over_found layout past h w parts word at
+        (ap (λ (o : Option ℕ). option_map (λ a. a.0) (option_map at_word o)) over.1) in
         let byte = x.2 in
         let its = of_some x.0 (pair at) (is_old pairs x.0) (pair_is x.0 at byte.address) q.0 q.1 in
         let copying : is_copying_object w x.0 ≡ true = sym its.1 ∙ q.2 in
@@ -253,7 +251,8 @@ module _ {F : Type 0} (layout : F → Layout) (past : Past) (h : HeapState F) (w
         of_kind true copying =
             let over = over_from id x.0 x.1 x.3 in
             ap (λ (b : Bool). b || by_second)
-            (ap (λ (o : Option ℕ). option_map_or (λ from. option_map_or (λ (p : Pair). p.inside) (pair (address_of_word from)) false) o false)
+            (ap (λ (o : Option ℕ).
+            option_map_or (λ from. option_map_or (λ (p : Pair). p.inside) (pair (address_of_word from)) false) o false)
             over.1
             ∙ ap (λ (a : Address). option_map_or (λ (p : Pair). p.inside) (pair a) false) over.2
             ∙ ap (λ (o : Option Pair). option_map_or (λ (p : Pair). p.inside) o false) q.1 ∙ q.2 ∙ copying)

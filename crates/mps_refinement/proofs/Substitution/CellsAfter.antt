@@ -51,7 +51,8 @@ module _ (f : Layout) (lawful : IsLawful f) (addresses : List (Option Address)) 
         let rest : word % 8 ≡ tag = tag_is word was tag low old is in
         let kept = lawful.retarget_keeps_tag word at (omega (arith, is, low, old.small)) (omega (arith, a.small)) a.aligned in
         let written : word_given true ≡ at + tag =
-        ap (λ (x : Option Address). option_map_or (λ b. f.retarget word b) x word) e ∙ (let z : f.retarget word at ≡ at + tag = omega (arith, kept, rest) in z) in
+        ap (λ (x : Option Address). option_map_or (λ b. f.retarget word b) x word) e
+        ∙ (let z : f.retarget word at ≡ at + tag = omega (arith, kept, rest) in z) in
         record {
           holds = record { address = at; is = written; means = inl there };
           leads = λ b g. target_is f lawful (word_given true) at tag low a written ∙ same_Some at b (sym e ∙ g);

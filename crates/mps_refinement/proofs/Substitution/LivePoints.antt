@@ -34,12 +34,14 @@ alike_live flips at o x NoneHeld = refl
 
 -- ---- entries
 
-kept_at : {A : Type 0} (xs : List (Option A)) (k : ℕ) (a : A) → slice_get xs k ≡ Some (Some a) → Rattle.mps_root.specs.State.kept xs k ≡ Some a
+kept_at : {A : Type 0} (xs : List (Option A)) (k : ℕ) (a : A) → slice_get xs k ≡ Some (Some a)
+    → Rattle.mps_root.specs.State.kept xs k ≡ Some a
 kept_at [] k a e = absurd (none-some (Some a) e)
 kept_at (x ∷ xs) zero a e = same_Some x (Some a) e
 kept_at (x ∷ xs) (suc k) a e = kept_at xs k a e
 
-at_kept : {A : Type 0} (xs : List (Option A)) (k : ℕ) (a : A) → Rattle.mps_root.specs.State.kept xs k ≡ Some a → slice_get xs k ≡ Some (Some a)
+at_kept : {A : Type 0} (xs : List (Option A)) (k : ℕ) (a : A) → Rattle.mps_root.specs.State.kept xs k ≡ Some a
+    → slice_get xs k ≡ Some (Some a)
 at_kept [] k a e = absurd (none-some a e)
 at_kept (x ∷ xs) zero a e = ap Some e
 at_kept (x ∷ xs) (suc k) a e = at_kept xs k a e

@@ -178,6 +178,7 @@ module _ (number : ℕ → ℕ) (moves : Id → Bool) (addresses : List (Option 
               let same = eqb-true r.old.0 at (and_parts (is_of key r) (r.old.0 == at) b).1 in
               (p.old, is.0.old ∙ ap Some same, first p.old p.new (flat_map ids_of_pair ps))
           by_test later false b e =
-              let x = later (sym (cond-false (is_of key r && (r.old.0 == at)) (Some r) (find (λ p. is_of key p && (p.old.0 == at)) qs) b) ∙ e)
-              in
+              let x =
+              later (sym (cond-false (is_of key r && (r.old.0 == at)) (Some r)
+              (find (λ p. is_of key p && (p.old.0 == at)) qs) b) ∙ e) in
               (x.0, x.1, later_one p.old p.new (flat_map ids_of_pair ps) x.0 x.2)

@@ -1,4 +1,5 @@
--- A transform is applied to the pools of a heap that is parked: its memory then represents the substituted objects, and each word is summed.
+-- A transform is applied to the pools of a heap that is parked: its memory then represents the substituted objects, and each word is
+-- summed.
 use Rattle.std.proofs.Common.{◌≡◌, ◌∙◌, ℕ, ◌+◌, ◌-◌, ◌<◌, Bool, true, false, refl, sym, ap, subst, List, [], ◌∷◌, ◌++◌, length, map, Contains, Option, Some, None, arith}
 use Rattle.std.proofs.lemmas.Bool.{false≢true}
 use Rattle.std.proofs.lemmas.List.{length-map}
@@ -27,7 +28,7 @@ use Rattle.mps_trace_laws.proofs.Image.BlockRuns.{contained_in_order, extent_the
 use Rattle.mps_trace_laws.proofs.Image.Shaped.{are_shaped_objects}
 use Rattle.mps_trace_laws.specs.Fix.Housed.{LieInOne, rank_of_object}
 use Rattle.mps_trace_laws.specs.Image.AtRest.{StandsAtRest}
-use Rattle.mps_trace_laws.specs.Image.Image.{AreShaped, IsCellWord, IsFixedWord, black_cells, no_colours}
+use Rattle.mps_trace_laws.specs.Image.Image.{AreShaped, IsCellWord, black_cells, no_colours}
 use Rattle.mps_trace_laws.specs.Image.Memory.{Lies, LiesReserved, all_cells, memory_in, pool_layout, pool_over_word, setting_at_rest}
 use Rattle.mps_trace_laws.specs.Summaries.Summed.{AreWordsSummed, IsRunSummed}
 use Rattle.mps_trace_laws.proofs.Reclaim.Around.{contains_left}
@@ -273,13 +274,12 @@ module _ {F : Type 0} (layout : F → Layout) (past : Past) (h : HeapState F) (w
         → IsCellWord w.addresses [] (head_of_body (body_substituted pairs o.body)) c (slice_index after.words (word_of at + k))
     cell_then id at o there object k low c = of_body o.body refl
       where
-        then : ℕ
-        then = slice_index after.words (word_of at + k)
-
         of_body : (b : Body) → o.body ≡ b → slice_get (all_cells (body_substituted pairs b)) k ≡ Some c
             → IsCellWord w.addresses [] (head_of_body (body_substituted pairs b)) c (slice_index after.words (word_of at + k))
         of_body (Automatic own cells is_weak) e cell =
-            let d = mapped_some (cell_substituted pairs) (slice_get cells k) c (sym (slice_get-map (cell_substituted pairs) cells k) ∙ cell) in
+            let d =
+            mapped_some (cell_substituted pairs) (slice_get cells k) c
+            (sym (slice_get-map (cell_substituted pairs) cells k) ∙ cell) in
             let holds = holds_after id at o there object (ap is_automatic_body e) k low d.0
             (ap (λ (b : Body). slice_get (all_cells b) k) e ∙ d.1) in
             subst (λ (x : ℕ). IsCellWord w.addresses [] x c (slice_index after.words (word_of at + k))) (ap head_of_body e)
@@ -334,7 +334,8 @@ module _ {F : Type 0} (layout : F → Layout) (past : Past) (h : HeapState F) (w
         (Rattle.mps_trace_laws.specs.Image.Changes.setting_with_objects setting objects)
         (record (memory_in h.segs) { words = after.words }) w.addresses no_colours (black_cells [] no_colours)
     substituted_image none =
-        image_rewritten setting (memory_in h.segs) w.addresses no_colours (black_cells [] no_colours) objects after.words st (rewritten none)
+        image_rewritten setting (memory_in h.segs) w.addresses no_colours (black_cells [] no_colours) objects after.words st
+        (rewritten none)
 
     -- ---- summaries
 
@@ -388,7 +389,8 @@ module _ {F : Type 0} (layout : F → Layout) (past : Past) (h : HeapState F) (w
             has = has_policy (slice_get h.pools o.pool) (sym (slice_get-map policy_of_pool h.pools o.pool) ∙ its)
 
             of_kind : (b : Bool) → is_automatic o ≡ b
-                → zones_meet (zone_bit_of ((layout policy.format).target (slice_index after.words (word_of at + k)))) (summary_at after t.base)
+                → zones_meet (zone_bit_of ((layout policy.format).target (slice_index after.words (word_of at + k))))
+                (summary_at after t.base)
                 ≡ true
             of_kind false manual = absurd (none-some policy.format (sym (manual_format id at o there object manual) ∙ has))
             of_kind true automatic =

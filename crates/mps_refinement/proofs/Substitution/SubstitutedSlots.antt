@@ -29,9 +29,6 @@ module _ (addresses : List (Option Address)) (pairs : List TransformPair) (to : 
   slot_substituted None = ap (λ (o : Option Address). option_map_or (λ new. new) o 0) null
   slot_substituted (Some id) = of_entry (entry_at addresses id) refl
     where
-      address_at : Option Address → Address
-      address_at o = option_map_or (λ at. at) o 0
-
       moved_to : (at : Address) (o : Option Address) → entry_at addresses id ≡ Some at → IsReplaced addresses id (new_for pairs id) o
           → option_map_or (λ (new : Address). new) o at ≡ option_map_or (λ (x : Address). x) (entry_at addresses (new_for pairs id)) 0
       moved_to at None there (Stays same) =
@@ -174,7 +171,8 @@ module _ {F : Type 0} (layout : F → Layout) (past : Past) (h : HeapState F) (w
     };
     areas_are = parts.areas;
     blocks_are = parts.blocks;
-    roots_counted = let e = count_mapped pairs w.graph.tables in ap (λ (n : ℕ). n + count_by is_some w.graph.areas + length w.graph.blocks) e;
+    roots_counted = let e = count_mapped pairs w.graph.tables in
+        ap (λ (n : ℕ). n + count_by is_some w.graph.areas + length w.graph.blocks) e;
     slots_counted = let e = slots_mapped pairs w.graph.tables in
         ap (λ (n : ℕ). n + sum_by length_of w.graph.areas + sum_by length w.graph.blocks) e;
     framed_are = parts.framed;

@@ -33,6 +33,7 @@ use Rattle.mps_refinement.proofs.Collect.RoomKept.{units_keep_room}
 use Rattle.mps_refinement.proofs.Units.Ended as ended
 use Rattle.mps_refinement.proofs.Units.LessRoom.{ends_with_less, traced_with_less, with_less}
 use Rattle.mps_refinement.proofs.Units.ToUnits.{stands_for_units}
+use Rattle.mps_refinement.proofs.Worlds.LikeReached.{IsLikeReached, like_reached}
 
 module _ {F : Type 0} (layout : F → Layout) (past : Past) (h : HeapState F) (x : Collecting) (parts : AreParts layout past h x.world)
     (reach : IsReached x.world) (r : Runs past.time (collector_of h) x.world x)
@@ -41,6 +42,9 @@ module _ {F : Type 0} (layout : F → Layout) (past : Past) (h : HeapState F) (x
     (m : Moves) (room : most_moves h.segs.grains ≤ m.spare) (most : ℕ) (z : Traced) (f : FinalsState)
     (ends : EndsWithin layout (trace_of h.pools h.chains h.tails).formats (trace_of h.pools h.chains h.tails).chains
     (traced (trace_of h.pools h.chains h.tails) h.segs m) h.finals r.run most z f) where
+  abbrev like : IsLikeReached x.world
+  like = like_reached x.world reach
+
   abbrev w : World
   w = x.world
 
@@ -54,34 +58,34 @@ module _ {F : Type 0} (layout : F → Layout) (past : Past) (h : HeapState F) (x
   ok = Replied reply.Ok
 
   abbrev over : AreLastTracedUnitsDone (traced (trace_of h.pools h.chains h.tails) h.segs m) x (suc ends.count) z f
-  over = ended.done layout past h x parts reach r of marked m room most z f ends
+  over = ended.done layout past h x parts like r of marked m room most z f ends
 
   -- the world at rest, and the heap that stands for it
   abbrev v : World
-  v = ended.v layout past h x parts reach r of marked m room most z f ends
+  v = ended.v layout past h x parts like r of marked m room most z f ends
 
   abbrev pub at_rest : HeapState F
-  at_rest = ended.heap_after layout past h x parts reach r of marked m room most z f ends
+  at_rest = ended.heap_after layout past h x parts like r of marked m room most z f ends
 
   finished : HasFinished layout at_rest w over.moves v
   finished = record {
     past = record past { time = time_at_rest };
-    parts = ended.parts_after layout past h x parts reach r of marked m room most z f ends;
-    rest = ended.rests_after layout past h x parts reach r of marked m room most z f ends;
-    known = ended.knows_after layout past h x parts reach r of marked m room most z f ends;
+    parts = ended.parts_after layout past h x parts like r of marked m room most z f ends;
+    rest = ended.rests_after layout past h x parts like r of marked m room most z f ends;
+    known = ended.knows_after layout past h x parts like r of marked m room most z f ends;
     finished = record {
       reached = reach;
       leads = refl;
       formats =
           ap (λ (u : World). u.formats)
-          (ended.left layout past h x parts reach r of marked m room most z f ends).but_collected.world;
+          (ended.left layout past h x parts like r of marked m room most z f ends).but_collected.world;
       collected = λ full whole. a_whole_collection.3 x over.moves full (suc ends.count) r.invariant over.units whole;
     };
   }
 
   -- the units to the end keep the room of the trail
   pub finish_keeps_room : KeepsRoom m z.moves
-  finish_keeps_room = ended.keeps_room layout past h x parts reach r of marked m room most z f ends
+  finish_keeps_room = ended.keeps_room layout past h x parts like r of marked m room most z f ends
 
   -- they take no more than a collection may take: they could be done with this room alone
   abbrev more : ℕ
@@ -91,7 +95,7 @@ module _ {F : Type 0} (layout : F → Layout) (past : Past) (h : HeapState F) (x
   less_kept =
       units_keep_room layout t at_flip (with_less more m) (traced_with_less more (traced t h.segs m)) (traced_with_less more z) h.finals f
       r.run x most (scans_are_done layout t.formats t.chains at_flip)
-      (stands_for_units layout past h x parts reach r of marked (with_less more m) (omega (arith, room))) (none_pushed (with_less more m))
+      (stands_for_units layout past h x parts like r of marked (with_less more m) (omega (arith, room))) (none_pushed (with_less more m))
       (ends_with_less more layout t.formats t.chains ends)
 
   pub more_is_left : more ≤ z.moves.spare
@@ -100,7 +104,7 @@ module _ {F : Type 0} (layout : F → Layout) (past : Past) (h : HeapState F) (x
   same_grains : z.segs.grains ≡ h.segs.grains
   same_grains =
       over.segments.same_grains
-      ∙ ap (λ (u : World). u.grains) (ended.left layout past h x parts reach r of marked m room most z f ends).but_collected.world
+      ∙ ap (λ (u : World). u.grains) (ended.left layout past h x parts like r of marked m room most z f ends).but_collected.world
       ∙ sym parts.grains
 
   -- with the tables of marks that are left, and room for both collections

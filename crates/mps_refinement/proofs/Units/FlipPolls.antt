@@ -44,6 +44,7 @@ use Rattle.mps_refinement.proofs.Worlds.InSteps.{known_by_moves, laid_by_moves}
 use Rattle.mps_refinement.proofs.Worlds.Known.{IsKnown}
 use Rattle.mps_refinement.proofs.Worlds.Ready.{heap_is_ready}
 use Rattle.mps_refinement.proofs.Worlds.RunningNow.{resting_now}
+use Rattle.mps_refinement.proofs.Worlds.LikeReached.{like_reached}
 
 -- ---- what is due
 
@@ -145,7 +146,7 @@ module _ {F : Type 0} (layout : F → Layout) (h : HeapState F) (whole : IsWhole
     pub ready_then : IsReady h'
     ready_then =
         heap_is_ready layout (record st.past { time = flipped.time }) h' (with_state v world.Unclamped) flipped.parts
-        (laid_by_moves w st.reached ms flipped.legal)
+        (laid_by_moves w (like_reached w st.reached) ms flipped.legal)
 
     -- in an arena that is unclamped already it changes nothing more
     module _ (unclamped : state_of h.arena (world.pairs_in w.state) ≡ world.Unclamped) where
@@ -163,7 +164,7 @@ module _ {F : Type 0} (layout : F → Layout) (h : HeapState F) (whole : IsWhole
 
       pub flipped_known : IsKnown flipped.time v
       flipped_known =
-          known_by_moves w st.reached ms flipped.legal (subst (λ (u : World). is_parked u ≡ false) same refl)
+          known_by_moves w (like_reached w st.reached) ms flipped.legal (subst (λ (u : World). is_parked u ≡ false) same refl)
           (subst HeldAreLive same flipped.live) flipped.time (collector_of h') flipped_time
 
       pub flip_polls : (name : Name) (head : ℕ) → polls w (call.Reserve name head) ≡ true → Polls w name head ms v

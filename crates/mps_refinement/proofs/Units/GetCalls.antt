@@ -18,7 +18,7 @@ use Rattle.mps_model.specs.declared.call.Call.TheVariants as call
 use Rattle.mps_model.specs.Checked.{Checked}
 use Rattle.mps_model.specs.World.{World}
 use Rattle.mps_heap_spec.specs.Coming.{Comes, answered, state_from}
-use Rattle.mps_heap_spec.specs.Getting.{CanGet, IsGot, is_refused, reads, with_traced}
+use Rattle.mps_heap_spec.specs.Getting.{CanGet, IsGot, is_refused, reads, with_traced, after_access}
 use Rattle.mps_heap_spec.specs.Objects.{reference_got}
 use Rattle.mps_heap_spec.specs.State.{HeapState}
 use Rattle.mps_heap_spec.specs.Units.{IsWhole, trace_in, traced_in}
@@ -33,6 +33,8 @@ use Rattle.mps_refinement.proofs.Units.Gets.{get_is_right, its_segment, refused_
 use Rattle.mps_refinement.proofs.Units.Ready.{units_are_few}
 use Rattle.mps_refinement.proofs.Worlds.Known.{IsKnown, known_now}
 use Rattle.mps_refinement.proofs.Worlds.Staying.{one_world}
+use Rattle.mps_refinement.proofs.Worlds.LikeReached.{like_reached}
+use Rattle.mps_refinement.proofs.Units.Followed.{access_alone, no_pair, pairs_of}
 
 -- what is shown of a running collection by the world that the abstract collector has
 pub in_its_world : {F : Type 0} {layout : F → Layout} {past : Past} {h : HeapState F} {w : World} (x : Collecting) (A : World → Type 0)
@@ -49,7 +51,7 @@ module _ {F : Type 0} (layout : F → Layout) (h : HeapState F) (m : Moves) (roo
       (r : Runs past.time (collector_of h) x.world x) where
     few : units_left x < too_many_scans
     few =
-        let below = units_are_few layout past h x parts reach r in
+        let below = units_are_few layout past h x parts (like_reached x.world reach) r in
         let grains = parts.arena.at_most in
         let registered = whole.few in
         omega (arith, below, grains, registered)
@@ -58,7 +60,7 @@ module _ {F : Type 0} (layout : F → Layout) (h : HeapState F) (m : Moves) (roo
         → CanAccess layout run.band (trace_in h) h.segs m t
     can_access run running t held =
         subst (λ (o : RunningState). CanAccess layout o.band (trace_in h) h.segs m t) (same_Some r.run run (sym r.running ∙ running))
-        (access_can_be_done layout past h x parts reach r whole.tails whole.marked m room t held few)
+        (access_can_be_done layout past h x parts (like_reached x.world reach) r whole.tails whole.marked m room t held few)
 
   pub can_get : (w : World) → StandsFor layout h w → (target source : Slot) (k : ℕ) → CanGet layout h m target source k
   can_get w st target source k whole object found run running t over = of_time st.time
@@ -91,21 +93,30 @@ module _ {F : Type 0} (layout : F → Layout) (h : HeapState F) (m : Moves) (roo
     kept_as : m' ≡ m → KeepsRoom m m'
     kept_as same = subst (KeepsRoom m) (sym same) refl
 
+    -- what is read after a barrier whose moves are followed by nothing
+    comes_alone : pairs_of h ≡ [] → (x : Traced)
+        → Comes (after_access layout h m x) (reference_got layout (after_access layout h m x) target source k) result after
+        → Comes (with_traced h x) (reference_got layout (with_traced h x) target source k) result after
+    comes_alone unpaired x comes =
+        subst (λ (g : HeapState F). Comes g (reference_got layout g target source k) result after)
+        (access_alone layout h unpaired m x) comes
+
     -- ---- at rest
 
-    read_alone : h.running ≡ None → IsGot layout h m target source k result after m'
+    read_alone : pairs_of h ≡ [] → h.running ≡ None → IsGot layout h m target source k result after m'
         → Comes h (reference_got layout h target source k) result after × (m' ≡ m)
-    read_alone none (is_refused why e answer state trail) =
+    read_alone unpaired none (is_refused why e answer state trail) =
         (record { answer = answer ∙ sym (ap answered e); state = state ∙ sym (ap (state_from h) e) }, trail)
-    read_alone none (reads x is comes trail) =
+    read_alone unpaired none (reads x is comes trail) =
         let same : x ≡ traced_in h m = is.accessed.rests none in (
-          subst (λ (z : Traced). Comes (with_traced h z) (reference_got layout (with_traced h z) target source k) result after) same comes,
+          subst (λ (z : Traced). Comes (with_traced h z) (reference_got layout (with_traced h z) target source k) result after) same
+              (comes_alone unpaired x comes),
           trail ∙ ap (λ (z : Traced). z.moves) same,
         )
 
     resting : (w : World) (st : StandsFor layout h w) → Rests st.past.time (collector_of h) w → IsGotIn w
     resting w st rest =
-        let plain = read_alone rest.not_running got in
+        let plain = read_alone (no_pair layout st.past h w st.parts) rest.not_running got in
         record {
           moves = [];
           appended = none_appended plain.1;
@@ -132,13 +143,14 @@ module _ {F : Type 0} (layout : F → Layout) (h : HeapState F) (m : Moves) (roo
           let b = accessed.object in
           let over = its_segment layout past h x parts knows reach r 0 target source k b accessed.found in
           let is : IsAccessed layout past h x r m over.0 z =
-          access_is_done layout past h x parts reach r whole.tails whole.marked m room over.0
+          access_is_done layout past h x parts (like_reached x.world reach) r whole.tails whole.marked m room over.0
           (over_is_there h.segs.segments b.at over.0 over.1) z (accessed.accessed.runs r.run r.running over.0 over.1) in
+          let alone = comes_alone (no_pair layout past h x.world parts) z comes in
           let then =
           subst
           (λ (run : Option RunningState). let after_barrier : HeapState F = record (with_traced h z) { running = run } in
           Comes after_barrier (reference_got layout after_barrier target source k) result after)
-          r.running comes in
+          r.running alone in
           record {
             moves = is.moves;
             appended = ap (λ (n : Moves). n.moves) trail ∙ is.trail;

@@ -61,6 +61,7 @@ use Rattle.mps_refinement.proofs.Worlds.InSteps.{known_after_barrier}
 use Rattle.mps_refinement.proofs.Worlds.Known.{IsKnown}
 use Rattle.mps_refinement.proofs.Worlds.RunningSteps.{IsOwnStep, placed_from_layout}
 use Rattle.mps_refinement.proofs.Worlds.Steps.{Leads, own_step_is_right, refusal_is_right}
+use Rattle.mps_refinement.proofs.Worlds.LikeReached.{like_reached}
 
 -- ---- the act of a `get`
 
@@ -245,7 +246,8 @@ module _ {F : Type 0} (layout : F → Layout) (past : Past) (h : HeapState F) (x
 
     knows_then : IsKnown is.time y.world
     knows_then =
-        known_after_barrier is.time (collector_after z r.run) s x y is.moves reach r.invariant is.barrier (runs y is.runs)
+        known_after_barrier is.time (collector_after z r.run) s x y is.moves (like_reached x.world reach) r.invariant is.barrier
+        (runs y is.runs)
 
     same_references : references_in y.world.graph.objects ≡ references_in w.graph.objects
     same_references = ap (λ (u : World). references_in u.graph.objects) (sym did.leads) ∙ references_kept w is.moves

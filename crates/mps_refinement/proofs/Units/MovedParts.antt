@@ -15,6 +15,7 @@ use Rattle.mps_trace.specs.State.{FinalsState}
 use Rattle.mps_trace_laws.specs.Fix.Tracing.{AreSegmentsOf}
 use Rattle.mps_trace_laws.specs.Image.Memory.{words_of_arena}
 use Rattle.mps_heap_spec.specs.State.{HeapState}
+use Rattle.mps_refinement.specs.Dependents.{kept_pair}
 use Rattle.mps_refinement.specs.StandsFor.{AreParts, AreRegisteredAt, CollectorState, Past, StandsAt, Time, address_of_id}
 use Rattle.mps_refinement.proofs.Collect.SameAddresses.{areas_same, same_places, tables_same}
 use Rattle.mps_refinement.proofs.Parts.Named.{named_alike, named_at}
@@ -140,8 +141,9 @@ module _ {F : Type 0} (layout : F → Layout) (past : Past) (h : HeapState F) (x
           parts.flips,
           parts.point_flips,
           parts.state,
-          beside_still _ _ _ parts.beside _ _
-              (same_caches w.addresses v.addresses w.graph.caches in_caches),
+          beside_still _ _ _ _ parts.beside _ _ _
+              (same_caches w.addresses v.addresses w.graph.caches in_caches)
+              (ap (map (kept_pair w.addresses)) parts.dependents ∙ sym (ap (map (kept_pair v.addresses)) (left.unpaired parts.dependents))),
           transforms_still past.transform_number (is_copying_object w) (is_copying_object v) w.addresses v.addresses h.beside.transforms
               w.graph.transforms (pairs_in w.state) (none_paired (is_copying_object w) (is_copying_object v) w.addresses v.addresses
               (pairs_in w.state) (pairs_unparked w.state

@@ -24,7 +24,7 @@ use Rattle.mps_abstract.proofs.Rows.{still_runs}
 use Rattle.mps_heap_spec.specs.Arena.{with_arena}
 use Rattle.mps_heap_spec.specs.Collecting.{CanCollectAll, IsCollected}
 use Rattle.mps_heap_spec.specs.State.{HeapState}
-use Rattle.mps_heap_spec.specs.Units.{CanDoUnits, HasDoneUnits, HasStepped, IsWhole, after_units, ends, goes_on, none_runs, progress_of, traced_in, units_to_end}
+use Rattle.mps_heap_spec.specs.Units.{CanDoUnits, HasDoneUnits, HasStepped, IsWhole, ends, goes_on, none_runs, progress_of, traced_in, units_to_end}
 use Rattle.mps_heap_spec.specs.declared.arena.ArenaState.{ArenaState}
 use Rattle.mps_heap_spec.specs.declared.arena.ArenaState.TheVariants as arena
 use Rattle.mps_heap_spec.specs.declared.arena.Progress.{Progress}
@@ -39,11 +39,13 @@ use Rattle.mps_refinement.proofs.Collect.Finished.{none_to_finish}
 use Rattle.mps_refinement.proofs.Collect.HeapCollects.{a_finished_heap_can_collect, a_finished_heap_collects}
 use Rattle.mps_refinement.proofs.Units.Collects as collects
 use Rattle.mps_refinement.proofs.Units.Ended as ended
+use Rattle.mps_refinement.proofs.Units.Followed.{no_pair, pairs_of, units_alone}
 use Rattle.mps_refinement.proofs.Units.Parks.{parking_is_right}
 use Rattle.mps_refinement.proofs.Units.Ready as ready
 use Rattle.mps_refinement.proofs.Units.Steps.{idle_step_is_right, last_step_is_right, step_is_right}
 use Rattle.mps_refinement.proofs.Units.UnitsDone as going
 use Rattle.mps_refinement.proofs.Worlds.RunningNow.{resting_now, running_now}
+use Rattle.mps_refinement.proofs.Worlds.LikeReached.{like_reached}
 
 -- ---- in each world
 
@@ -70,15 +72,6 @@ said false = refl
 
 -- ---- units
 
--- what units leave of a heap
-pub units_leave : {F : Type 0} {layout : F → Layout} {h h' : HeapState F} {m m' : Moves} {n : ℕ} → HasDoneUnits layout h m n h' m'
-    → h' ≡ after_units h h' h'.running
-units_leave {h = h} (none_runs none is trail) = subst (λ g. g ≡ after_units h g g.running) (sym is) refl
-units_leave {F} {h = h} {h' = h'} (goes_on run next is units state) =
-    state ∙ ap (λ (r : Option RunningState). after_units h h' r) (sym (ap (λ (g : HeapState F). g.running) state))
-units_leave {F} {h = h} {h' = h'} (ends run is over state) =
-    state ∙ ap (λ (r : Option RunningState). after_units h h' r) (sym (ap (λ (g : HeapState F). g.running) state))
-
 module _ {F : Type 0} (layout : F → Layout) (h : HeapState F) (whole : IsWhole h) (m : Moves)
     (room : most_moves h.segs.grains ≤ m.spare) (w : World) (st : StandsFor layout h w) where
   abbrev t : TraceState F
@@ -87,19 +80,24 @@ module _ {F : Type 0} (layout : F → Layout) (h : HeapState F) (whole : IsWhole
   abbrev ok : Answer
   ok = Replied reply.Ok
 
+  none_paired : pairs_of h ≡ []
+  none_paired = no_pair layout st.past h w st.parts
+
   -- any number of units can be done
   pub can_do_units : (n : ℕ) → CanDoUnits layout h m n
   can_do_units n run is =
       let g = running_now layout h w st run is in
       subst (λ q. AreUnitsReady layout t h.segs m h.finals q n) g.same
-      (ready.units_can_be_done layout g.past h g.collecting g.parts g.reached g.runs whole.tails whole.marked m room n)
+      (ready.units_can_be_done layout g.past h g.collecting g.parts (like_reached g.collecting.world g.reached) g.runs
+      whole.tails whole.marked m room n)
 
   -- and a collection doesn't go on after as many as it has at most
   ends_in_time : (run next : RunningState) (z : Traced) (f : FinalsState) → h.running ≡ Some run
       → UnitsTo layout t.formats t.chains (traced_in h m) h.finals run (units_to_end h) z f next → ⊥
   ends_in_time run next z f is units =
       let g = running_now layout h w st run is in
-      ready.ends_in_time layout g.past h g.collecting g.parts g.reached g.runs whole.tails whole.marked m room z f next
+      ready.ends_in_time layout g.past h g.collecting g.parts (like_reached g.collecting.world g.reached) g.runs
+      whole.tails whole.marked m room z f next
       (subst (λ q. UnitsTo layout t.formats t.chains (traced_in h m) h.finals q (units_to_end h) z f next) (sym g.same) units)
 
   -- the trail keeps its room
@@ -107,12 +105,14 @@ module _ {F : Type 0} (layout : F → Layout) (h : HeapState F) (whole : IsWhole
   units_keep_room n h' m' (none_runs none is trail) = ap (λ (u : Moves). u.spare + length u.moves) trail
   units_keep_room n h' m' (goes_on run next is units state) =
       let g = running_now layout h w st run is in
-      going.keeps_room layout g.past h g.collecting g.parts g.reached g.runs whole.tails whole.marked m room n (traced_in h' m') h'.finals
+      going.keeps_room layout g.past h g.collecting g.parts (like_reached g.collecting.world g.reached) g.runs
+      whole.tails whole.marked m room n (traced_in h' m') h'.finals
       next
       (subst (λ q. UnitsTo layout t.formats t.chains (traced_in h m) h.finals q n (traced_in h' m') h'.finals next) (sym g.same) units)
   units_keep_room n h' m' (ends run is over state) =
       let g = running_now layout h w st run is in
-      ended.keeps_room layout g.past h g.collecting g.parts g.reached g.runs whole.tails whole.marked m room n (traced_in h' m') h'.finals
+      ended.keeps_room layout g.past h g.collecting g.parts (like_reached g.collecting.world g.reached) g.runs
+      whole.tails whole.marked m room n (traced_in h' m') h'.finals
       (subst (λ q. EndsWithin layout t.formats t.chains (traced_in h m) h.finals q n (traced_in h' m') h'.finals) (sym g.same) over)
 
   -- ---- `park`
@@ -213,7 +213,8 @@ module _ {F : Type 0} (layout : F → Layout) (h : HeapState F) (whole : IsWhole
 
       of_arena : (a : ArenaState) → h.arena ≡ a
           → IsRightMovingIn layout w (call.Step n) m.moves m'.moves (says_progress (progress_of h')) h'
-      of_arena arena.Unclamped is = units_of_step n h' m' (unclamped_in arena.Unclamped is) (stepped.done is)
+      of_arena arena.Unclamped is =
+          units_of_step n h' m' (unclamped_in arena.Unclamped is) (units_alone layout h none_paired m (stepped.done is))
       of_arena arena.Clamped is =
           still (λ e. let apart : arena.Clamped ≡ arena.Unclamped = sym is ∙ e in absurd cc) (unclamped_in arena.Clamped is)
       of_arena arena.Parked is =
@@ -227,7 +228,7 @@ module _ {F : Type 0} (layout : F → Layout) (h : HeapState F) (whole : IsWhole
       kept trail = ap (λ (u : Moves). u.spare + length u.moves) trail
 
       of_arena : (a : ArenaState) → h.arena ≡ a → KeepsRoom m m'
-      of_arena arena.Unclamped is = units_keep_room n h' m' (stepped.done is)
+      of_arena arena.Unclamped is = units_keep_room n h' m' (units_alone layout h none_paired m (stepped.done is))
       of_arena arena.Clamped is =
           kept (stepped.still (λ e. let apart : arena.Clamped ≡ arena.Unclamped = sym is ∙ e in absurd cc)).1
       of_arena arena.Parked is =

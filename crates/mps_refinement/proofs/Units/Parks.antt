@@ -30,6 +30,7 @@ use Rattle.mps_refinement.proofs.Calls.ArenaCalls.{parked_has}
 use Rattle.mps_refinement.proofs.Units.Ended as ended
 use Rattle.mps_refinement.proofs.Worlds.RestingActs.{resting_sound}
 use Rattle.mps_refinement.proofs.Worlds.Steps.{HasParts, moved_to_rest}
+use Rattle.mps_refinement.proofs.Worlds.LikeReached.{IsLikeReached, like_reached}
 
 module _ {F : Type 0} (layout : F → Layout) (past : Past) (h : HeapState F) (x : Collecting) (parts : AreParts layout past h x.world)
     (reach : IsReached x.world) (r : Runs past.time (collector_of h) x.world x)
@@ -38,14 +39,17 @@ module _ {F : Type 0} (layout : F → Layout) (past : Past) (h : HeapState F) (x
     (m : Moves) (room : most_moves h.segs.grains ≤ m.spare) (most : ℕ) (z : Traced) (f : FinalsState)
     (ends : EndsWithin layout (trace_of h.pools h.chains h.tails).formats (trace_of h.pools h.chains h.tails).chains
     (traced (trace_of h.pools h.chains h.tails) h.segs m) h.finals r.run most z f) where
+  abbrev like : IsLikeReached x.world
+  like = like_reached x.world reach
+
   abbrev w : World
   w = x.world
 
   abbrev over : AreLastTracedUnitsDone (traced (trace_of h.pools h.chains h.tails) h.segs m) x (suc ends.count) z f
-  over = ended.done layout past h x parts reach r of marked m room most z f ends
+  over = ended.done layout past h x parts like r of marked m room most z f ends
 
   last : AreLastUnitsDone x (suc ends.count) over.moves
-  last = ended.last layout past h x parts reach r of marked m room most z f ends
+  last = ended.last layout past h x parts like r of marked m room most z f ends
 
   abbrev v : World
   v = world_after_moves w over.moves
@@ -59,17 +63,17 @@ module _ {F : Type 0} (layout : F → Layout) (past : Past) (h : HeapState F) (x
 
   -- the heap at rest, and parked
   abbrev at_rest : HeapState F
-  at_rest = ended.heap_after layout past h x parts reach r of marked m room most z f ends
+  at_rest = ended.heap_after layout past h x parts like r of marked m room most z f ends
 
   abbrev pub heap_after : HeapState F
   heap_after = with_arena at_rest arena.Parked
 
   parts_then : AreParts layout (record past { time = time_at_rest }) at_rest v
-  parts_then = ended.parts_after layout past h x parts reach r of marked m room most z f ends
+  parts_then = ended.parts_after layout past h x parts like r of marked m room most z f ends
 
   live : HeldAreLive u
   live =
-      let l = ended.live layout past h x parts reach r of marked m room most z f ends in
+      let l = ended.live layout past h x parts like r of marked m room most z f ends in
       record { client = l.client; blocks = l.blocks; referred = l.referred; transforms = l.transforms }
 
   has : HasParts layout time_at_rest heap_after u
@@ -77,8 +81,8 @@ module _ {F : Type 0} (layout : F → Layout) (past : Past) (h : HeapState F) (x
 
   pub parking_is_right : IsRightMovingIn layout w call.Park m.moves z.moves.moves ok heap_after
   parking_is_right =
-      let left = ended.left layout past h x parts reach r of marked m room most z f ends in
-      let rest = ended.rests_after layout past h x parts reach r of marked m room most z f ends in
+      let left = ended.left layout past h x parts like r of marked m room most z f ends in
+      let rest = ended.rests_after layout past h x parts like r of marked m room most z f ends in
       record {
         moves = over.moves;
         appended = over.trail;

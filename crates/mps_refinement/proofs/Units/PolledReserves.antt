@@ -50,6 +50,9 @@ use Rattle.mps_refinement.proofs.Worlds.Known.{IsKnown, known, known_now}
 use Rattle.mps_refinement.proofs.Worlds.Ready.{heap_is_ready, laid_out, ready}
 use Rattle.mps_refinement.proofs.Worlds.Room.{keeps_room, reserve_keeps_room}
 use Rattle.mps_refinement.proofs.Worlds.RunningNow.{resting_now, running_now}
+use Rattle.mps_refinement.proofs.Worlds.LikeReached.{IsLikeReached, like_reached}
+use Rattle.mps_refinement.proofs.Units.Followed.{no_pair, units_alone}
+use Rattle.mps_heap_spec.specs.Following.{Follows}
 
 -- ---- after the moves of a poll
 
@@ -83,6 +86,9 @@ module _ {F : Type 0} (layout : F → Layout) (past : Past) (h : HeapState F) (x
     (of : IsTraceOf h.pools h.chains (trace_of h.pools h.chains h.tails))
     (marked : IsMarked h.segs.grains h.segs.marks h.segs.condemned h.segs.summaries)
     (m : Moves) (room : most_moves h.segs.grains ≤ m.spare) where
+  abbrev like : IsLikeReached x.world
+  like = like_reached x.world reach
+
   abbrev w : World
   w = x.world
 
@@ -101,26 +107,26 @@ module _ {F : Type 0} (layout : F → Layout) (past : Past) (h : HeapState F) (x
       (traced (trace_of h.pools h.chains h.tails) h.segs m) h.finals r.run units_of_poll z f run) where
     abbrev done : AreTracedUnitsDone layout (trace_of h.pools h.chains h.tails).formats (trace_of h.pools h.chains h.tails).chains
         past.time.at_flip here x units_of_poll z f run
-    done = going.done layout past h x parts reach r of marked m room units_of_poll z f run units
+    done = going.done layout past h x parts like r of marked m room units_of_poll z f run units
 
     abbrev later : Collecting
-    later = going.later layout past h x parts reach r of marked m room units_of_poll z f run units
+    later = going.later layout past h x parts like r of marked m room units_of_poll z f run units
 
     abbrev time_after : Time
-    time_after = going.time_after layout past h x parts reach r of marked m room units_of_poll z f run units
+    time_after = going.time_after layout past h x parts like r of marked m room units_of_poll z f run units
 
     abbrev heap_after : HeapState F
-    heap_after = going.heap_after layout past h x parts reach r of marked m room units_of_poll z f run units
+    heap_after = going.heap_after layout past h x parts like r of marked m room units_of_poll z f run units
 
     parts_after : AreParts layout (record past { time = time_after }) heap_after later.world
-    parts_after = going.parts_later layout past h x parts reach r of marked m room units_of_poll z f run units
+    parts_after = going.parts_later layout past h x parts like r of marked m room units_of_poll z f run units
 
     in_time : IsInTime time_after (collector_of heap_after) later.world
-    in_time = runs later (going.runs_later layout past h x parts reach r of marked m room units_of_poll z f run units)
+    in_time = runs later (going.runs_later layout past h x parts like r of marked m room units_of_poll z f run units)
 
     knows : IsKnown time_after later.world
     knows =
-        known_after_asked_units x done.after units_of_poll done.moves reach r.invariant done.units time_after (collector_after z run)
+        known_after_asked_units x done.after units_of_poll done.moves like r.invariant done.units time_after (collector_after z run)
         in_time
 
     pub ready_after : IsReady heap_after
@@ -139,19 +145,19 @@ module _ {F : Type 0} (layout : F → Layout) (past : Past) (h : HeapState F) (x
       (over : EndsWithin layout (trace_of h.pools h.chains h.tails).formats (trace_of h.pools h.chains h.tails).chains
       (traced (trace_of h.pools h.chains h.tails) h.segs m) h.finals r.run units_of_poll z f) where
     abbrev last : AreLastTracedUnitsDone here x (suc over.count) z f
-    last = ended.done layout past h x parts reach r of marked m room units_of_poll z f over
+    last = ended.done layout past h x parts like r of marked m room units_of_poll z f over
 
     abbrev v : World
-    v = ended.v layout past h x parts reach r of marked m room units_of_poll z f over
+    v = ended.v layout past h x parts like r of marked m room units_of_poll z f over
 
     abbrev heap_at_rest : HeapState F
-    heap_at_rest = ended.heap_after layout past h x parts reach r of marked m room units_of_poll z f over
+    heap_at_rest = ended.heap_after layout past h x parts like r of marked m room units_of_poll z f over
 
     parts_at_rest : AreParts layout (record past { time = time_at_rest }) heap_at_rest v
-    parts_at_rest = ended.parts_after layout past h x parts reach r of marked m room units_of_poll z f over
+    parts_at_rest = ended.parts_after layout past h x parts like r of marked m room units_of_poll z f over
 
     knows_at_rest : IsKnown time_at_rest v
-    knows_at_rest = ended.knows_after layout past h x parts reach r of marked m room units_of_poll z f over
+    knows_at_rest = ended.knows_after layout past h x parts like r of marked m room units_of_poll z f over
 
     pub ready_at_rest : IsReady heap_at_rest
     ready_at_rest = heap_is_ready layout (record past { time = time_at_rest }) heap_at_rest v parts_at_rest knows_at_rest.laid
@@ -162,7 +168,7 @@ module _ {F : Type 0} (layout : F → Layout) (past : Past) (h : HeapState F) (x
         judged_is_right layout w reach name head m.moves (record past { time = time_at_rest }) heap_at_rest z.moves last.moves v
         (last_units_poll x r.invariant name head (polls_there name head polling) (suc over.count) last.moves last.units
         (let within = over.within in omega (arith, within))) parts_at_rest knows_at_rest
-        (rests (ended.rests_after layout past h x parts reach r of marked m room units_of_poll z f over)) last.trail
+        (rests (ended.rests_after layout past h x parts like r of marked m room units_of_poll z f over)) last.trail
 
 -- ---- at any time
 
@@ -194,7 +200,8 @@ module _ {F : Type 0} (layout : F → Layout) (h : HeapState F) (whole : IsWhole
   room_then h' m' (none_runs none is trail) = let same = ap (λ (u : Moves). u.spare) trail in omega (arith, same, room)
   room_then h' m' (goes_on run next is units state) =
       let g = running_now layout h w st run is in
-      going.room_left layout g.past h g.collecting g.parts g.reached g.runs whole.tails whole.marked m enough units_of_poll
+      going.room_left layout g.past h g.collecting g.parts (like_reached g.collecting.world g.reached) g.runs
+      whole.tails whole.marked m enough units_of_poll
       (traced_in h' m') h'.finals next
       (subst (λ q. UnitsTo layout (trace_of h.pools h.chains h.tails).formats (trace_of h.pools h.chains h.tails).chains
       (traced_in h m) h.finals q units_of_poll (traced_in h' m') h'.finals next) (sym g.same) units)
@@ -222,9 +229,11 @@ module _ {F : Type 0} (layout : F → Layout) (h : HeapState F) (whole : IsWhole
       of_due (Some due) none is started = flip due none is h' m' started
 
       of_running : (o : Option RunningState) → h.running ≡ o
-          → MatchBool (is_some o) (HasDoneUnits layout h m units_of_poll h' m') (HasFlipped layout h m (due_in h) h' m') → P h' m'
+          → MatchBool (is_some o) (Follows layout m (HasDoneUnits layout h m units_of_poll) h' m')
+          (HasFlipped layout h m (due_in h) h' m') → P h' m'
       of_running None none polled = of_due (due_in h) none refl polled
-      of_running (Some run) runs_now done = units run runs_now h' m' done
+      of_running (Some run) runs_now done =
+          units run runs_now h' m' (units_alone layout h (no_pair layout st.past h w st.parts) m done)
 
   module _ (made : WereMadeBefore h.points.flips h.points) where
     ready_after_poll : (h' : HeapState F) (m' : Moves) → HasPolled layout h m h' m' → IsReady h'

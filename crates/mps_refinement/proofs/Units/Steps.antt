@@ -43,6 +43,7 @@ use Rattle.mps_refinement.proofs.Worlds.RestingActs.{resting_sound}
 use Rattle.mps_refinement.proofs.Worlds.RunningSteps.{IsOwnStep, placed_from_layout, still_step_runs_on}
 use Rattle.mps_refinement.proofs.Worlds.Steps.{keeps_still, moved_to_rest, own_step_is_right, run_kept, runs_on_is_right}
 use Rattle.mps_refinement.proofs.Worlds.Reached.{reached_live, reached_sound}
+use Rattle.mps_refinement.proofs.Worlds.LikeReached.{IsLikeReached, like_reached}
 
 module _ {F : Type 0} (layout : F → Layout) (past : Past) (h : HeapState F) (x : Collecting) (parts : AreParts layout past h x.world)
     (reach : IsReached x.world) (r : Runs past.time (collector_of h) x.world x)
@@ -50,6 +51,9 @@ module _ {F : Type 0} (layout : F → Layout) (past : Past) (h : HeapState F) (x
     (marked : IsMarked h.segs.grains h.segs.marks h.segs.condemned h.segs.summaries)
     (m : Moves) (room : most_moves h.segs.grains ≤ m.spare) (unclamped : is_unclamped x.world ≡ true)
     (n : ℕ) where
+  abbrev like : IsLikeReached x.world
+  like = like_reached x.world reach
+
   abbrev w : World
   w = x.world
 
@@ -63,27 +67,27 @@ module _ {F : Type 0} (layout : F → Layout) (past : Past) (h : HeapState F) (x
       (traced (trace_of h.pools h.chains h.tails) h.segs m) h.finals r.run n z f run) where
     abbrev done : AreTracedUnitsDone layout (trace_of h.pools h.chains h.tails).formats (trace_of h.pools h.chains h.tails).chains
         past.time.at_flip here x n z f run
-    done = going.done layout past h x parts reach r of marked m room n z f run units
+    done = going.done layout past h x parts like r of marked m room n z f run units
 
     shown : AreUnitsDone x n done.moves done.after
-    shown = going.shown layout past h x parts reach r of marked m room n z f run units
+    shown = going.shown layout past h x parts like r of marked m room n z f run units
 
     abbrev later : Collecting
-    later = going.later layout past h x parts reach r of marked m room n z f run units
+    later = going.later layout past h x parts like r of marked m room n z f run units
 
     abbrev heap_after : HeapState F
-    heap_after = going.heap_after layout past h x parts reach r of marked m room n z f run units
+    heap_after = going.heap_after layout past h x parts like r of marked m room n z f run units
 
     leads : asking (if is_unclamped w then Some n else None) (world_after_moves w done.moves) ≡ later.world
     leads =
         ap (λ (b : Bool). asking (if b then Some n else None) (world_after_moves w done.moves)) unclamped
         ∙ ap (asking (Some n)) shown.leads
 
-    knows : IsKnown (going.time_after layout past h x parts reach r of marked m room n z f run units) later.world
+    knows : IsKnown (going.time_after layout past h x parts like r of marked m room n z f run units) later.world
     knows =
-        known_after_asked_units x done.after n done.moves reach r.invariant done.units
-        (going.time_after layout past h x parts reach r of marked m room n z f run units) (collector_after z run)
-        (runs later (going.runs_later layout past h x parts reach r of marked m room n z f run units))
+        known_after_asked_units x done.after n done.moves like r.invariant done.units
+        (going.time_after layout past h x parts like r of marked m room n z f run units) (collector_after z run)
+        (runs later (going.runs_later layout past h x parts like r of marked m room n z f run units))
 
     abbrev more : Answer
     more = Replied reply.More
@@ -117,19 +121,19 @@ module _ {F : Type 0} (layout : F → Layout) (past : Past) (h : HeapState F) (x
 
     pub step_is_right : IsRightMovingIn layout w (call.Step n) m.moves z.moves.moves more heap_after
     step_is_right =
-        let left = going.left layout past h x parts reach r of marked m room n z f run units in
-        let on = going.runs_later layout past h x parts reach r of marked m room n z f run units in
+        let left = going.left layout past h x parts like r of marked m room n z f run units in
+        let on = going.runs_later layout past h x parts like r of marked m room n z f run units in
         record {
           moves = done.moves;
           appended = done.trail;
           right = λ line.
-              own_step_is_right layout (going.time_after layout past h x parts reach r of marked m room n z f run units)
+              own_step_is_right layout (going.time_after layout past h x parts like r of marked m room n z f run units)
               (collector_after z run) w later.world later on line (call.Step n) refl done.moves more heap_after result refl reach own
               (ap (λ (u : World). u.formats) left.world)
               (record {
-                past = record past { time = going.time_after layout past h x parts reach r of marked m room n z f run units };
+                past = record past { time = going.time_after layout past h x parts like r of marked m room n z f run units };
                 timed = refl;
-                parts = going.parts_later layout past h x parts reach r of marked m room n z f run units;
+                parts = going.parts_later layout past h x parts like r of marked m room n z f run units;
               })
               (record {
                 running = refl;
@@ -147,10 +151,10 @@ module _ {F : Type 0} (layout : F → Layout) (past : Past) (h : HeapState F) (x
       (ends : EndsWithin layout (trace_of h.pools h.chains h.tails).formats (trace_of h.pools h.chains h.tails).chains
       (traced (trace_of h.pools h.chains h.tails) h.segs m) h.finals r.run n z f) where
     abbrev over : AreLastTracedUnitsDone here x (suc ends.count) z f
-    over = ended.done layout past h x parts reach r of marked m room n z f ends
+    over = ended.done layout past h x parts like r of marked m room n z f ends
 
     last : AreLastUnitsDone x (suc ends.count) over.moves
-    last = ended.last layout past h x parts reach r of marked m room n z f ends
+    last = ended.last layout past h x parts like r of marked m room n z f ends
 
     abbrev v : World
     v = world_after_moves w over.moves
@@ -165,15 +169,15 @@ module _ {F : Type 0} (layout : F → Layout) (past : Past) (h : HeapState F) (x
         ∙ ap (λ (o : Option Collection). says (if is_some o then reply.More else reply.Idle) v) over.ended
 
     pub last_step_is_right : IsRightMovingIn layout w (call.Step n) m.moves z.moves.moves idle
-        (ended.heap_after layout past h x parts reach r of marked m room n z f ends)
+        (ended.heap_after layout past h x parts like r of marked m room n z f ends)
     last_step_is_right =
-        let left = ended.left layout past h x parts reach r of marked m room n z f ends in
+        let left = ended.left layout past h x parts like r of marked m room n z f ends in
         record {
           moves = over.moves;
           appended = over.trail;
           right = λ line.
               moved_to_rest layout time_at_rest w line (call.Step n) over.moves idle
-              (ended.heap_after layout past h x parts reach r of marked m room n z f ends)
+              (ended.heap_after layout past h x parts like r of marked m room n z f ends)
               (Ok (record { answer = idle; world = v })) refl (ap (λ (u : World). u.formats) left.but_collected.world) reach
               (record {
                 legal = last.legal;
@@ -182,10 +186,10 @@ module _ {F : Type 0} (layout : F → Layout) (past : Past) (h : HeapState F) (x
                 answers = refl;
                 marked = tt;
                 supported = refl;
-                sound = resting_sound v over.ended (ended.live layout past h x parts reach r of marked m room n z f ends);
+                sound = resting_sound v over.ended (ended.live layout past h x parts like r of marked m room n z f ends);
               })
-              (record { past = _; timed = refl; parts = ended.parts_after layout past h x parts reach r of marked m room n z f ends })
-              (ended.rests_after layout past h x parts reach r of marked m room n z f ends);
+              (record { past = _; timed = refl; parts = ended.parts_after layout past h x parts like r of marked m room n z f ends })
+              (ended.rests_after layout past h x parts like r of marked m room n z f ends);
         }
 
 -- ---- a step that does nothing: no collection runs, or the arena isn't unclamped

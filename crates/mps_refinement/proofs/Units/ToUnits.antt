@@ -32,7 +32,7 @@ use Rattle.mps_trace_laws.proofs.Image.Shaped.{all_at}
 use Rattle.mps_trace_laws.proofs.Units.Entering.{held_in_order, held_inside}
 use Rattle.mps_trace_laws.proofs.Units.MovesBound.{moves_are_bounded}
 use Rattle.mps_heap_spec.specs.State.{HeapState}
-use Rattle.mps_refinement.specs.StandsFor.{AreParts, AreRegistered, IsReached, Past, Runs, collector_of}
+use Rattle.mps_refinement.specs.StandsFor.{AreParts, AreRegistered, Past, Runs, collector_of}
 use Rattle.mps_refinement.proofs.Collect.LiveIsFew.{moves_are_few}
 use Rattle.mps_refinement.proofs.Collect.ObjectsAtRest.{registered_are_due}
 use Rattle.mps_refinement.proofs.Collect.PoolsKnown.{pools_known}
@@ -42,13 +42,11 @@ use Rattle.mps_refinement.proofs.Parts.LaidSegments.{are_held, are_housed, are_r
 use Rattle.mps_refinement.proofs.Parts.SegmentsTaken.{condemned_held}
 use Rattle.mps_refinement.proofs.Units.Registrations.{as_registered, lived_then}
 use Rattle.mps_refinement.proofs.Units.Tails.{condemned_bits, tails_stand}
-use Rattle.mps_refinement.proofs.Worlds.Reached.{reached_well_formed}
-use Rattle.mps_refinement.proofs.Worlds.ReachedGraph.{reached_graph}
-use Rattle.mps_refinement.proofs.Worlds.Ready.{laid_out}
 use Rattle.mps_refinement.proofs.Worlds.Unreserved.{condemned_unreserved}
+use Rattle.mps_refinement.proofs.Worlds.LikeReached.{IsLikeReached}
 
 module _ {F : Type 0} (layout : F → Layout) (past : Past) (h : HeapState F) (x : Collecting) (parts : AreParts layout past h x.world)
-    (reach : IsReached x.world) (r : Runs past.time (collector_of h) x.world x)
+    (like : IsLikeReached x.world) (r : Runs past.time (collector_of h) x.world x)
     (of : IsTraceOf h.pools h.chains (trace_of h.pools h.chains h.tails))
     (marked : IsMarked h.segs.grains h.segs.marks h.segs.condemned h.segs.summaries)
     (m : Moves) (room : most_moves h.segs.grains ≤ m.spare) where
@@ -65,10 +63,10 @@ module _ {F : Type 0} (layout : F → Layout) (past : Past) (h : HeapState F) (x
   here = traced t h.segs m
 
   formed : IsWellFormed w
-  formed = reached_well_formed w reach
+  formed = like.formed
 
   laid : HasLayout (w.grains + 1) w
-  laid = laid_out w reach
+  laid = like.kept.layout
 
   -- ---- registrations and messages
 
@@ -100,7 +98,7 @@ module _ {F : Type 0} (layout : F → Layout) (past : Past) (h : HeapState F) (x
   known = record {
     shaped = well_formed_is_shaped w parts.lawful formed;
     pools = pools.pools;
-    strong_moving = strong_moving w (reached_graph w reach);
+    strong_moving = strong_moving w like.kept.sound;
     none_dependent = parts.dependents;
   }
 
@@ -121,7 +119,7 @@ module _ {F : Type 0} (layout : F → Layout) (past : Past) (h : HeapState F) (x
   enough : moves_left x + 2 ≤ m.spare
   enough =
       let bounded = moves_are_bounded x r.invariant in
-      let few = moves_are_few layout past h w parts formed laid (blocks_in_order layout past h w parts laid) (reached_graph w reach) in
+      let few = moves_are_few layout past h w parts formed laid (blocks_in_order layout past h w parts laid) like.kept.sound in
       omega (arith, bounded, few, room)
 
   -- ---- the image

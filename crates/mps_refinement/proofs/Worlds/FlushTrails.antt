@@ -13,9 +13,10 @@ use Rattle.mps_base.specs.declared.refusal.Refusal.TheVariants as refusal
 use Rattle.mps_format.specs.Layout.{Layout}
 use Rattle.mps_model.specs.declared.call.Call.TheVariants as call
 use Rattle.mps_model.specs.Checked.{Checked, ◌>>=◌, required}
+use Rattle.mps_model.specs.Graph.{from_last}
 use Rattle.mps_neighbours.specs.Caches.{ClassState, classes_of, count_in}
 use Rattle.mps_pools.specs.Manual.{any_size, block_removed, is_unused, moves_freed, moves_given_back, segs_after_free}
-use Rattle.mps_heap_spec.specs.Caching.{cache_flushed, cache_named, flushed, from_last, moves_of_flush, two_each, with_cache_flushed}
+use Rattle.mps_heap_spec.specs.Caching.{cache_flushed, cache_named, flushed, moves_of_flush, two_each, with_cache_flushed}
 use Rattle.mps_heap_spec.specs.Coming.{ComesMoving}
 use Rattle.mps_heap_spec.specs.Manual.{Freeing, is_block_over, one_freed, row_freed}
 use Rattle.mps_heap_spec.specs.State.{HeapState}
@@ -39,7 +40,10 @@ module _ (size : ℕ) (ms : List Move) where
     where
       of_block : (b : Bool)
           → (if b
-          then record { segs = segs_after_free size g.segs at; trail = moves_freed size g.segs (after_moves ms g.trail) (record { 0 = at }) }
+          then record {
+            segs = segs_after_free size g.segs at;
+            trail = moves_freed size g.segs (after_moves ms g.trail) (record { 0 = at });
+          }
           else freeing_after ms g)
           ≡ freeing_after ms (if b
           then record { segs = segs_after_free size g.segs at; trail = moves_freed size g.segs g.trail (record { 0 = at }) } else g)
@@ -98,11 +102,11 @@ row_keeps size (at ∷ ats) f fits =
 
 -- ---- the blocks of a cache
 
-reversed_length : (ats : List Address) → length (from_last ats) ≡ length ats
+pub reversed_length : {X : Type 0} (xs : List X) → length (from_last xs) ≡ length xs
 reversed_length [] = refl
-reversed_length (at ∷ ats) =
-    let rest = reversed_length ats in
-    let more = length-append (from_last ats) (at ∷ []) in
+reversed_length (x ∷ xs) =
+    let rest = reversed_length xs in
+    let more = length-append (from_last xs) (x ∷ []) in
     omega (arith, rest, more)
 
 flushed_length : (cs : List ClassState) → length (flushed cs) ≡ count_in cs

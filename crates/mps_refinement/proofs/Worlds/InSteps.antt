@@ -1,5 +1,5 @@
 -- What is known of the worlds in the middle of a step: those to which a read barrier, units or the end of a collection lead from one that
--- a history reaches.
+-- is like a reached one.
 use Rattle.std.proofs.Common.{◌≡◌, ◌∙◌, ◌+◌, true, false, refl, sym, ap, subst, List, [], ◌∷◌, Some, None, inl, inr}
 use Rattle.std.proofs.lemmas.Bool.{cases_Bool, false≢true, or_right}
 use Rattle.std.specs.Prelude.{ℕ, Bool, ◌&&◌, ◌||◌, is_some, not}
@@ -30,7 +30,6 @@ use Rattle.mps_laws.proofs.Sound.HeldIds.{all-append}
 use Rattle.mps_laws.proofs.Sound.PoolsThere.{HasPools, moves_leave_pools}
 use Rattle.mps_laws.proofs.Sound.SoundGraph.{IsSoundGraph}
 use Rattle.mps_laws.proofs.Sound.SoundMoves.{moves_well}
-use Rattle.mps_laws.proofs.WellFormedHistories.{worlds_in_steps_are_well_formed}
 use Rattle.mps_model.specs.declared.call.Call.TheVariants as call
 use Rattle.mps_model.specs.Collecting.{with_state}
 use Rattle.mps_model.specs.Collection.{is_condemned}
@@ -41,13 +40,11 @@ use Rattle.mps_model.specs.LegalMove.{AreLegalMoves}
 use Rattle.mps_model.specs.WellFormed.{IsWellFormed, is_live_automatic}
 use Rattle.mps_model.specs.World.{World, Unclamped, address_of, ids_in_pairs, is_live, is_parked, is_running, live_ids, object_is}
 use Rattle.mps_model.proofs.Reaching.{list_all-contains}
-use Rattle.mps_refinement.specs.StandsFor.{CollectorState, IsInTime, IsReached, Time}
+use Rattle.mps_refinement.specs.StandsFor.{CollectorState, IsInTime, Time}
 use Rattle.mps_refinement.proofs.Worlds.Known.{IsKnown, known_of, not_both}
-use Rattle.mps_refinement.proofs.Worlds.PlacedOnce.{ArePlacedOnce, placed_once}
+use Rattle.mps_refinement.proofs.Worlds.LikeReached.{IsLikeReached, formed_in_steps}
+use Rattle.mps_refinement.proofs.Worlds.PlacedOnce.{ArePlacedOnce}
 use Rattle.mps_refinement.proofs.Worlds.PlacesByMoves.{moved_kept, places_of}
-use Rattle.mps_refinement.proofs.Worlds.Reached.{reached_has_pools, reached_live, reached_well_formed}
-use Rattle.mps_refinement.proofs.Worlds.ReachedGraph.{reached_graph}
-use Rattle.mps_refinement.proofs.Worlds.Ready.{laid_out}
 
 -- ---- an arena in which a collection runs isn't parked
 
@@ -133,34 +130,30 @@ live_at_the_end x count ms last unparked blocks =
 
 -- ---- the world after legal moves
 
-module _ (w : World) (reach : IsReached w) (ms : List Move) (legal : AreLegalMoves w None ms) where
+module _ (w : World) (like : IsLikeReached w) (ms : List Move) (legal : AreLegalMoves w None ms) where
   abbrev after : World
   after = world_after_moves w ms
 
   pub laid_by_moves : HasLayout (after.grains + 1) after
   laid_by_moves =
       subst (λ (n : ℕ). HasLayout (n + 1) after) (sym (moved_alone w call.Park ms).grains)
-      (moves_replayed (w.grains + 1) w None ms 0 (laid_out w reach) legal).layout
+      (moves_replayed (w.grains + 1) w None ms 0 like.kept.layout legal).layout
 
   graph_by_moves : IsSoundGraph after
-  graph_by_moves = (moves_well w None ms (reached_graph w reach) legal).sound
+  graph_by_moves = (moves_well w None ms like.kept.sound legal).sound
 
   pools_by_moves : HasPools after
-  pools_by_moves = (moves_leave_pools w ms).there (reached_has_pools w reach)
+  pools_by_moves = (moves_leave_pools w ms).there like.pools
 
   once_by_moves : ArePlacedOnce (places_of after)
-  once_by_moves = subst ArePlacedOnce (sym (moved_kept w call.Park ms)) (placed_once w reach)
+  once_by_moves = subst ArePlacedOnce (sym (moved_kept w call.Park ms)) like.once
 
   -- in an arena that isn't parked then, where all that is held is live
   module _ (unparked : is_parked after ≡ false) (live : HeldAreLive after) where
     formed_by_moves : IsWellFormed after
     formed_by_moves =
         formed_again after unparked
-        (subst (λ (u : World). IsWellFormed (with_state (world_after_moves u ms) Unclamped)) (sym reach.is)
-        (worlds_in_steps_are_well_formed w.formats reach.history ms reach.once reach.legal
-        (subst (λ u. AreLegalMoves u None ms) reach.is legal)
-        (subst (λ u. list_all (is_live (world_after_moves u ms)) (ids_of_client (world_after_moves u ms).graph) ≡ true) reach.is
-        live.client)))
+        (formed_in_steps w ms like legal laid_by_moves live.client)
 
     pub known_by_moves : (now : Time) (s : CollectorState) → IsInTime now s after → IsKnown now after
     known_by_moves now s time =
@@ -168,7 +161,7 @@ module _ (w : World) (reach : IsReached w) (ms : List Move) (legal : AreLegalMov
 
 -- ---- the world after a collector's moves
 
-module _ (x : Collecting) (run : Running x) (reach : IsReached x.world) (ms : List Move) (legal : AreLegalMoves x.world None ms)
+module _ (x : Collecting) (run : Running x) (like : IsLikeReached x.world) (ms : List Move) (legal : AreLegalMoves x.world None ms)
     (left : IsButCollected x.world (world_after_moves x.world ms))
     (in_place : (id : Id) → is_white_in x id ≡ false → address_of (world_after_moves x.world ms) id ≡ address_of x.world id) where
   abbrev w : World
@@ -178,7 +171,7 @@ module _ (x : Collecting) (run : Running x) (reach : IsReached x.world) (ms : Li
   v = world_after_moves w ms
 
   formed_before : IsWellFormed w
-  formed_before = reached_well_formed w reach
+  formed_before = like.formed
 
   pub unparked : is_parked v ≡ false
   unparked = ap is_parked left.world ∙ running_unparked w formed_before (still_runs w x.running run.runs)
@@ -190,26 +183,26 @@ module _ (x : Collecting) (run : Running x) (reach : IsReached x.world) (ms : Li
       ∙ list_all-members (is_live v) (ids_in_blocks w.graph) (λ id there.
       ap is_some (in_place id (manual_not_white x run id
       (list_all-contains (object_is (λ o. not (is_automatic o)) w) (ids_in_blocks w.graph) id formed_before.blocks there)))
-      ∙ list_all-contains (is_live w) (ids_in_blocks w.graph) id (reached_live w reach).blocks there)
+      ∙ list_all-contains (is_live w) (ids_in_blocks w.graph) id like.kept.held.blocks there)
 
   pub laid_then : HasLayout (v.grains + 1) v
-  laid_then = laid_by_moves w reach ms legal
+  laid_then = laid_by_moves w like ms legal
 
   pub graph_then : IsSoundGraph v
-  graph_then = graph_by_moves w reach ms legal
+  graph_then = graph_by_moves w like ms legal
 
   pools_then : HasPools v
-  pools_then = pools_by_moves w reach ms legal
+  pools_then = pools_by_moves w like ms legal
 
   once_then : ArePlacedOnce (places_of v)
-  once_then = once_by_moves w reach ms legal
+  once_then = once_by_moves w like ms legal
 
   module _ (live : HeldAreLive v) where
     formed_then : IsWellFormed v
-    formed_then = formed_by_moves w reach ms legal unparked live
+    formed_then = formed_by_moves w like ms legal unparked live
 
     pub known_then : (now : Time) (s : CollectorState) → IsInTime now s v → IsKnown now v
-    known_then now s time = known_by_moves w reach ms legal unparked live now s time
+    known_then now s time = known_by_moves w like ms legal unparked live now s time
 
     -- also once units are asked of the collection
     pub known_asked : (count : ℕ) (now : Time) (s : CollectorState) → HeldAreLive (asking (Some count) v)
@@ -251,26 +244,27 @@ module _ (x : Collecting) (run : Running x) (reach : IsReached x.world) (ms : Li
 
 -- ---- after a barrier
 
-pub known_after_barrier : (now : Time) (s : CollectorState) (t : Segment) (x y : Collecting) (ms : List Move) → IsReached x.world
+pub known_after_barrier : (now : Time) (s : CollectorState) (t : Segment) (x y : Collecting) (ms : List Move) → IsLikeReached x.world
     → Running x
     → BarrierDone t x ms y → IsInTime now s y.world → IsKnown now y.world
-known_after_barrier now s t x y ms reach run barrier time =
+known_after_barrier now s t x y ms like run barrier time =
     let done = barrier_is_done t x y ms run barrier in
     let left = subst (IsButCollected x.world) (sym done.leads) (a_barrier_leaves_the_rest t x y ms run barrier) in
     let stays = (a_kept_object_stays_at_a_barrier t x y ms run barrier).in_place in
     let in_place = λ (id : Id) (black : is_white_in x id ≡ false). ap (λ (u : World). address_of u id) done.leads ∙ stays id black in
-    let blocks = blocks_live x run reach ms done.legal left in_place in
+    let blocks = blocks_live x run like ms done.legal left in_place in
     let live =
     live_while_running y done.running
     (subst (λ (u : World). list_all (is_live u) (ids_in_blocks u.graph) ≡ true) done.leads blocks)
     in
     subst (IsKnown now) done.leads
-    (known_then x run reach ms done.legal left in_place (subst HeldAreLive (sym done.leads) live) now s
+    (known_then x run like ms done.legal left in_place (subst HeldAreLive (sym done.leads) live) now s
     (subst (IsInTime now s) (sym done.leads) time))
 
 -- ---- after units
 
-module _ (x y : Collecting) (count : ℕ) (ms : List Move) (reach : IsReached x.world) (run : Running x) (units : GoesOn x count ms y) where
+module _ (x y : Collecting) (count : ℕ) (ms : List Move) (like : IsLikeReached x.world) (run : Running x)
+    (units : GoesOn x count ms y) where
   leads : world_after_moves x.world ms ≡ y.world
   leads = (units_done x y count ms run units).leads
 
@@ -283,7 +277,7 @@ module _ (x y : Collecting) (count : ℕ) (ms : List Move) (reach : IsReached x.
   pub blocks_after_units : list_all (is_live y.world) (ids_in_blocks y.world.graph) ≡ true
   blocks_after_units =
       subst (λ (u : World). list_all (is_live u) (ids_in_blocks u.graph) ≡ true) leads
-      (blocks_live x run reach ms (units_done x y count ms run units).legal left_then stays_then)
+      (blocks_live x run like ms (units_done x y count ms run units).legal left_then stays_then)
 
   live_then : HeldAreLive (world_after_moves x.world ms)
   live_then = subst HeldAreLive (sym leads) (live_while_running y (units_done x y count ms run units).running blocks_after_units)
@@ -292,25 +286,26 @@ module _ (x y : Collecting) (count : ℕ) (ms : List Move) (reach : IsReached x.
   pub known_after_asked_units : (now : Time) (s : CollectorState) → IsInTime now s (asked y count).world → IsKnown now (asked y count).world
   known_after_asked_units now s time =
       subst (λ u. IsKnown now (asking (Some count) u)) leads
-      (known_asked x run reach ms (units_done x y count ms run units).legal left_then stays_then live_then count now s
+      (known_asked x run like ms (units_done x y count ms run units).legal left_then stays_then live_then count now s
       (subst (λ u. HeldAreLive (asking (Some count) u)) (sym leads)
       (live_while_running (asked y count) (units_done x y count ms run units).asked_running blocks_after_units))
       (subst (λ u. IsInTime now s (asking (Some count) u)) (sym leads) time))
 
 -- ---- where the collection has ended
 
-pub live_after_last_units : (x : Collecting) (count : ℕ) (ms : List Move) → IsReached x.world → Running x → Ends x count ms
+pub live_after_last_units : (x : Collecting) (count : ℕ) (ms : List Move) → IsLikeReached x.world → Running x → Ends x count ms
     → HeldAreLive (world_after_moves x.world ms)
-live_after_last_units x count ms reach run ends =
+live_after_last_units x count ms like run ends =
     let last = last_units_done x count ms run ends in
     let left = (ends_move run ends).but_collected in
     let in_place = ends_stay run ends in
-    live_at_the_end x count ms last (unparked x run reach ms last.legal left in_place) (blocks_live x run reach ms last.legal left in_place)
+    live_at_the_end x count ms last (unparked x run like ms last.legal left in_place) (blocks_live x run like ms last.legal left in_place)
 
-pub known_after_last_units : (now : Time) (s : CollectorState) (x : Collecting) (count : ℕ) (ms : List Move) → IsReached x.world → Running x
-    → Ends x count ms → IsInTime now s (world_after_moves x.world ms) → IsKnown now (world_after_moves x.world ms)
-known_after_last_units now s x count ms reach run ends time =
+pub known_after_last_units : (now : Time) (s : CollectorState) (x : Collecting) (count : ℕ) (ms : List Move)
+    → IsLikeReached x.world → Running x → Ends x count ms → IsInTime now s (world_after_moves x.world ms)
+    → IsKnown now (world_after_moves x.world ms)
+known_after_last_units now s x count ms like run ends time =
     let last = last_units_done x count ms run ends in
     let left = (ends_move run ends).but_collected in
     let in_place = ends_stay run ends in
-    known_then x run reach ms last.legal left in_place (live_after_last_units x count ms reach run ends) now s time
+    known_then x run like ms last.legal left in_place (live_after_last_units x count ms like run ends) now s time

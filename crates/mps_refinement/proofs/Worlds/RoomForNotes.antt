@@ -46,7 +46,7 @@ without_it x (y ∷ ys) some = of_test (y == x) refl (without_it x ys)
         (y ∷ rest.0, record { longer = omega (arith, longer); counts = λ j. let e = is.counts j in omega (arith, e) })
 
 -- a list in which each number stands no more often isn't longer
-no_longer : (xs ys : List ℕ) → ((j : ℕ) → occurrences xs j ≤ occurrences ys j) → length xs ≤ length ys
+pub no_longer : (xs ys : List ℕ) → ((j : ℕ) → occurrences xs j ≤ occurrences ys j) → length xs ≤ length ys
 no_longer [] ys fewer = omega arith
 no_longer (x ∷ xs) ys fewer =
     let here = fewer x in
@@ -98,7 +98,7 @@ places_fewer (r ∷ rs) (suc n) i row has e =
 
 -- ---- blocks of frames
 
-found_few : (fs : List PoolFrames) (pool : ℕ) (f : PoolFrames) → frames_in fs pool ≡ Some f → length f.blocks ≤ length (blocks_in fs)
+pub found_few : (fs : List PoolFrames) (pool : ℕ) (f : PoolFrames) → frames_in fs pool ≡ Some f → length f.blocks ≤ length (blocks_in fs)
 found_few [] pool f e = absurd (none-some f e)
 found_few (g ∷ gs) pool f e = of_test (g.pool == pool) (found_few gs pool f) e
   where

@@ -68,10 +68,13 @@ pub gone_as_row : (w : World) (ids : List Id)
 gone_as_row w [] = refl
 gone_as_row w (id ∷ ids) = gone_as_row (one_gone w id) ids
 
--- nothing is a dependent after them if nothing was
-pub gone_unpaired : (w : World) (ids : List Id) → w.graph.dependents ≡ [] → (all_gone w ids).graph.dependents ≡ []
-gone_unpaired w [] none = none
-gone_unpaired w (id ∷ ids) none = gone_unpaired (one_gone w id) ids (ap (λ ps. without_named ps id) none)
+-- pairs of dependents stay that have none of them
+pub gone_paired : (w : World) (ids : List Id) (pairs : List (Id × Id)) → w.graph.dependents ≡ pairs
+    → ((id : Id) → contains ids id ≡ true → without_named pairs id ≡ pairs) → (all_gone w ids).graph.dependents ≡ pairs
+gone_paired w [] pairs are each = are
+gone_paired w (id ∷ ids) pairs are each =
+    gone_paired (one_gone w id) ids pairs (ap (λ ps. without_named ps id) are ∙ each id (contains_here id ids))
+    (λ j there. each j (contains_later id ids j there))
 
 -- an object that isn't among them stays where it is
 pub others_still : (w : World) (ids : List Id) (j : Id) → ((id : Id) → contains ids id ≡ true → id ≢ j)
@@ -454,14 +457,16 @@ all_loose_later w id (j ∷ ids) loose = (loose_later w id j loose.0, all_loose_
 pub all_sound : (w : World) → IsSoundGraph w → (ids : List Id) → AreLoose w ids → IsSound w → IsSound (all_gone w ids)
 all_sound w graph [] loose sound = sound
 all_sound w graph (id ∷ ids) loose sound =
-    all_sound (one_gone w id) (graph_later w id loose.0.manual graph) ids (all_loose_later w id ids loose.1) (one_sound w graph id loose.0 sound)
+    all_sound (one_gone w id) (graph_later w id loose.0.manual graph) ids (all_loose_later w id ids loose.1)
+    (one_sound w graph id loose.0 sound)
 
 -- what is held is live still
 pub all_live : (w : World) → IsSoundGraph w → (ids : List Id) → AreLoose w ids → All (is_live w) (ids_in_blocks w.graph)
     → All (is_live (all_gone w ids)) (ids_in_blocks (all_gone w ids).graph)
 all_live w graph [] loose live = live
 all_live w graph (id ∷ ids) loose live =
-    all_live (one_gone w id) (graph_later w id loose.0.manual graph) ids (all_loose_later w id ids loose.1) (one_live w graph id loose.0 live)
+    all_live (one_gone w id) (graph_later w id loose.0.manual graph) ids (all_loose_later w id ids loose.1)
+    (one_live w graph id loose.0 live)
 
 pub loose_of : (w : World) (ids : List Id) → ((id : Id) → contains ids id ≡ true → IsLoose w id) → AreLoose w ids
 loose_of w [] each = tt
