@@ -10,3 +10,4 @@ pub mod Reservations
 pub mod Initialising
 pub mod Substituting
 pub mod Dependents
+pub mod Popping

@@ -9,6 +9,7 @@ ghost use Rattle.mps_client_laws.specs.Complete.{LiveObjectsAreReached, OthersWe
 ghost use Rattle.mps_client_laws.specs.Committing.{CommitMakesTheObject, FlippedMakesNone};
 ghost use Rattle.mps_client_laws.specs.Dependents.{ValuesGoWithTheirKeys};
 ghost use Rattle.mps_client_laws.specs.Initialising.{InitWritesTheNumber, InitWritesTheReference};
+ghost use Rattle.mps_client_laws.specs.Popping.{PopFreesWhatWasMadeSince};
 ghost use Rattle.mps_client_laws.specs.ReadingBack.{GetGivesWhatWasPut, NumAnswersWhatWasSet, LoadAnswersWhatWasStored};
 ghost use Rattle.mps_client_laws.specs.Refusals.{RefusalsAreListed, RefusedStepsAreListed, NoneIsOutOfMemory, RefusedStepsMakeNoMoves, RefusedStepsChangeNothing, RefusedStepsLeaveTheirMoves, RefusedPollsHaveNoPlace};
 ghost use Rattle.mps_client_laws.specs.Reservations.{ReserveOpens, ReservationsStay, InitOfDoomedLeavesTheGraph, CommitAnswersByFlips, CommitSpendsTheReservation};
@@ -141,4 +142,10 @@ pub fn a_transapply_replaces_once()
 /// each world that a legal history reaches, and after any moves from there, a value that was null with its key is so after one move more.
 pub fn values_go_with_their_keys()
     ensures { ValuesGoWithTheirKeys }
+{}
+
+/// An accepted `pop` of a legal history frees exactly the blocks of its pool that were made since the frame was opened. Every other
+/// object lies where it lay, with its cells and words. The places of these blocks are empty then, and no other place changes.
+pub fn a_pop_frees_what_was_made_since()
+    ensures { PopFreesWhatWasMadeSince }
 {}
