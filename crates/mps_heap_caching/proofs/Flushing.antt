@@ -11,8 +11,9 @@ use Rattle.mps_base.specs.Segment.{Segment, segment_over}
 use Rattle.mps_base.specs.Trail.{Moves, with_move}
 use Rattle.mps_base.specs.declared.moves.Move.TheVariants.{Free, Unseg}
 use Rattle.mps_manual.specs.Manual.{any_size, block_removed, is_unused, moves_freed, moves_given_back, segs_after_free}
+use Rattle.mps_model.specs.Graph.{from_last}
 use Rattle.mps_sac.specs.State.{CacheState, ClassState, blocks_where, cache_at, classes_of, count_in, has_block, last_of, next_blocks, no_cache, with_blocks_where, with_classes, without_last, without_next}
-use Rattle.mps_heap_spec.specs.Caching.{emptied, flushed, from_last, with_cached}
+use Rattle.mps_heap_spec.specs.Caching.{emptied, flushed, with_cached}
 use Rattle.mps_heap_spec.specs.Manual.{Freeing, is_block_over, one_freed, row_freed}
 use Rattle.mps_heap_spec.specs.State.{HeapState}
 use Rattle.mps_heap_caching.specs.Flushed.{flushed_from}
@@ -155,15 +156,18 @@ room_left size f at = of_block (is_block_over f.segs at at)
         of_use false = omega arith
 
     of_size : (b : Bool) → f.trail.spare ≤ (if b
-        then moves_given_back (block_removed f.segs at).covered (segment_over f.segs.segments at) (with_move f.trail (Free (record { 0 = at })))
+        then moves_given_back (block_removed f.segs at).covered (segment_over f.segs.segments at)
+        (with_move f.trail (Free (record { 0 = at })))
         else with_move f.trail (Free (record { 0 = at }))).spare + 2
     of_size true =
-        let rest = given (block_removed f.segs at).covered (segment_over f.segs.segments at) (with_move f.trail (Free (record { 0 = at }))) in
+        let rest =
+        given (block_removed f.segs at).covered (segment_over f.segs.segments at) (with_move f.trail (Free (record { 0 = at }))) in
         omega (arith, rest)
     of_size false = omega arith
 
     of_block : (b : Bool) → f.trail.spare ≤ (if b
-        then record { segs = segs_after_free size f.segs at; trail = moves_freed size f.segs f.trail (record { 0 = at }) } else f).trail.spare + 2
+        then record { segs = segs_after_free size f.segs at; trail = moves_freed size f.segs f.trail (record { 0 = at }) }
+        else f).trail.spare + 2
     of_block true = of_size (size == any_size)
     of_block false = omega arith
 
@@ -247,7 +251,9 @@ module _ {F : Type 0} (size number : ℕ) where
       }) left.0
       ∙ ap (λ ks. record {
         answer = tt;
-        state = record h { beside = record h.beside { caches = slice_set caches number (record (cache_at caches number) { classes = ks }) } };
+        state = record h {
+          beside = record h.beside { caches = slice_set caches number (record (cache_at caches number) { classes = ks }) };
+        };
         trail = trail;
       }) left.1
       ∙ ap (λ qs. record { answer = tt; state = record h { beside = record h.beside { caches = qs } }; trail = trail })

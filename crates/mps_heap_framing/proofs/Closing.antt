@@ -1,7 +1,7 @@
 -- A frame is closed block by block, the latest first.
-use Rattle.std.proofs.Common.{◌≡◌, ◌∙◌, ℕ, zero, suc, ◌+◌, ◌-◌, ◌<◌, ◌≤◌, Bool, true, false, is_some, refl, sym, ap, subst, List, [], ◌∷◌, ◌++◌, length, take, drop, Option, Some, None, IsSome, arith, set-set, take_all}
+use Rattle.std.proofs.Common.{◌≡◌, ◌∙◌, ℕ, zero, suc, ◌+◌, ◌-◌, ◌<◌, ◌≤◌, Bool, true, false, is_some, refl, sym, ap, subst, List, [], ◌∷◌, ◌++◌, length, take, drop, Option, Some, None, IsSome, arith, set-set}
 use Rattle.std.proofs.lemmas.Bool.{true≢false}
-use Rattle.std.proofs.lemmas.List.{drop_all, drop-append-le, get_or-set_same, length-append, length-take-le, set-get_or, set_past, take-append-le}
+use Rattle.std.proofs.lemmas.List.{drop-append-le, get_or-set_same, length-take-le, set-get_or, set_past, take-append-le}
 use Rattle.std.proofs.lemmas.Option.{get_or_from_slice_get, none-some, same_Some, slice_get_within}
 use Rattle.std.specs.Prelude.{◌==◌, if◌then◌else◌, slice_get, slice_index, slice_index_or, slice_set}
 use Rattle.std.specs.Option.{option_map_or}
@@ -12,14 +12,15 @@ use Rattle.mps_base.specs.Trail.{Moves, with_move}
 use Rattle.mps_base.specs.declared.address.Addr.{Addr}
 use Rattle.mps_base.specs.declared.moves.Move.TheVariants.{Free, Unseg}
 use Rattle.mps_manual.specs.Manual.{any_size, block_removed, is_unused, moves_freed, moves_given_back, segs_after_free}
+use Rattle.mps_model.specs.Graph.{from_last}
 use Rattle.mps_seg.specs.Segs.{SegsState}
 use Rattle.mps_root.specs.State.{HasPlace, RootsState, with_place}
-use Rattle.mps_snc.specs.State.{PoolState, Pools, last_of, opened_at, pool_at, state_of, with_frames, with_pool, without_last_block}
+use Rattle.mps_snc.specs.State.{PoolState, Pools, last_of, opened_at, pool_at, state_of, with_pool, without_last_block}
 use Rattle.mps_snc.specs.declared.pool.Block.{Block}
 use Rattle.mps_heap_spec.specs.Coming.{Moved}
 use Rattle.mps_heap_framing.specs.Closing.{IsLastFreed}
 use Rattle.mps_heap_spec.specs.Manual.{Freeing, is_block_over, one_freed}
-use Rattle.mps_heap_spec.specs.Popping.{blocks_after, blocks_freed, closed, frame_closed, from_last, places_emptied}
+use Rattle.mps_heap_spec.specs.Popping.{blocks_after, blocks_freed, closed, frame_closed, places_emptied}
 use Rattle.mps_heap_spec.specs.State.{HeapState}
 
 -- ---- rows of blocks
@@ -108,27 +109,12 @@ module _ {F : Type 0} where
         ap (λ o. option_map_or (λ (x : PoolState). x) o (record { blocks = []; frames = [] })) (pool_with fs pool q there) in
         ap (λ (x : PoolState). closing h size (one_freed size f b.at.0) places (blocks_after x before)
         (with_pool (with_pool fs pool q) pool (closed x frame before))) after
-        ∙ ap (closing h size (one_freed size f b.at.0) places (blocks_after q before)) (set-set fs pool (Some q) (Some (closed q frame before)))
+        ∙ ap (closing h size (one_freed size f b.at.0) places (blocks_after q before))
+        (set-set fs pool (Some q) (Some (closed q frame before)))
         ∙ ap (λ (x : PoolState). closing h size (one_freed size f b.at.0) places (blocks_after q before) (with_pool fs pool x))
         (sym (closed_alike p b last before since frame))
         ∙ sym (ap (λ bs. closing h size f h.roots.blocks bs (with_pool fs pool (closed p frame before)))
         (first_freed p b last before since))
-
-    -- where no block was made since, the frame is closed alone
-    pub closes_empty : length p.blocks ≤ before
-        → frame_closed h trail pool size frame before
-        ≡ record {
-          answer = tt;
-          state = record h {
-            beside = record h.beside { frames = with_pool h.beside.frames pool (with_frames p (take frame p.frames)) };
-          };
-          trail = trail;
-        }
-    closes_empty none =
-        ap (λ bs. closing h size (record { segs = h.segs; trail = trail }) h.roots.blocks (from_last bs)
-        (with_pool h.beside.frames pool (closed p frame before))) (drop_all before p.blocks none)
-        ∙ ap (λ bs. closing h size (record { segs = h.segs; trail = trail }) h.roots.blocks []
-        (with_pool h.beside.frames pool (record { blocks = bs; frames = take frame p.frames }))) (take_all before p.blocks none)
 
 -- ---- a block is freed
 
@@ -217,9 +203,6 @@ has_place places table index row there low = record {
   table = slice_get_within places table row there;
   place = subst (λ (r : List Address). index < length r) (sym (get_or_from_slice_get places table row [] there)) low;
 }
-
-pub no_table : (places : List (List Address)) (table index : ℕ) → length places ≤ table → with_place places table index 0 ≡ places
-no_table places table index past = set_past places table (slice_set (slice_index_or places table []) index 0) past
 
 pub no_index : (places : List (List Address)) (table index : ℕ) (row : List Address) → slice_get places table ≡ Some row
     → length row ≤ index → with_place places table index 0 ≡ places

@@ -27,13 +27,6 @@ module _ {F : Type 0} (h : HeapState F) (name : Name) where
       from_pool p (nat_le max_frames (frames_count h.beside.frames)))) named
       ∙ ap (from_pool of) is
 
-  no_pool : {why : Refusal} → frames_named h name ≡ Err why → Comes h (frame_pushed h name) (Err why) h
-  no_pool {why} e =
-      let outcome : frame_pushed h name ≡ Err why =
-      ap (λ (x : Checked (Kept PoolState)). x >>= (λ (p : Kept PoolState).
-      from_pool p (nat_le max_frames (frames_count h.beside.frames)))) e in
-      record { answer = sym (ap answered outcome); state = sym (ap (state_from h) outcome) }
-
   module _ (key : ℕ) (frames : Pools)
       (named : frames_named h name ≡ Ok (record { key = key; value = state_of h.beside.frames key })) where
     abbrev was : PoolState
