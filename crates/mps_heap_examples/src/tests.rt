@@ -125,7 +125,15 @@ fn free_one(alloc: Global, heap: &mut Heap<Tail>, at: Slot) -> Result<(), Refusa
     heap.free(&mut trail, at)
 }
 
-/// Frames of a pool are opened, and a block of it isn't freed alone.
+/// Closes a frame of the pool `s`, with a trail of its own.
+fn close(alloc: Global, heap: &mut Heap<Tail>, frame: u64) -> Result<(), Refusal> {
+    let pool = named(b's');
+    let room = heap.moves_of_pop(pool, frame);
+    let mut trail = Trail::new(alloc, room).map_err(|_| Refusal::OutOfMemory)?;
+    heap.pop(&mut trail, pool, frame)
+}
+
+/// Frames of a pool are opened and closed, and a block of it isn't freed alone.
 fn use_frames(rt: &impl Abort, alloc: Global, heap: &mut Heap<Tail>) {
     assert!(rt; heap.pool_snc(named(b's')) == Ok(()));
     assert!(rt; heap.pool_snc(named(b's')) == Err(Refusal::NameTaken));
@@ -138,6 +146,10 @@ fn use_frames(rt: &impl Abort, alloc: Global, heap: &mut Heap<Tail>) {
     assert!(rt; allocate_framed(alloc, heap, place(1)) == Ok(()));
     assert!(rt; free_one(alloc, heap, place(1)) == Err(Refusal::WrongPool));
     assert!(rt; heap.load(place(1), 2) == Ok(0));
+    assert!(rt; close(alloc, heap, 1) == Ok(()));
+    assert!(rt; heap.load(place(1), 2) == Err(Refusal::NotABlock));
+    assert!(rt; close(alloc, heap, 1) == Err(Refusal::BadIndex));
+    assert!(rt; close(alloc, heap, 0) == Ok(()));
     assert!(rt; free_one(alloc, heap, place(0)) == Ok(()));
 }
 

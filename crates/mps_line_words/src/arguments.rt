@@ -4,13 +4,15 @@ ghost use Rattle.std.specs.Prelude.{◌≡◌};
 ghost use Rattle.mps_numerals.specs.Decimal.{decimal_number as decimal_of};
 ghost use Rattle.mps_line_words.specs.Word.{words};
 ghost use Rattle.mps_line_words.specs.Reading.{single, pair, onto};
-ghost use Rattle.mps_line_words.specs.Number.{number_of};
+ghost use Rattle.mps_line_words.specs.Number.{number_of, prefixed_hexadecimal as hexadecimal_of};
 ghost use Rattle.mps_line_words.specs.Name.{name_of, slot_of};
+ghost use Rattle.mps_line_words.specs.Head.{head_of};
 
+use crate::head::only_head;
 use crate::names::{WrittenName, next_name};
-use crate::number::{next_decimal, next_value};
+use crate::number::{next_decimal, next_value, prefixed_hexadecimal};
 use crate::slots::{WrittenSlot, next_slot};
-use crate::words::is_blank;
+use crate::words::{is_blank, only_word};
 
 /// A name.
 #[inline(always)]
@@ -56,6 +58,13 @@ pub fn value(arguments: &[u8]) -> Option<u64>
     if is_blank(rest) { Some(number) } else { None }
 }
 
+/// A number in hexadecimal.
+pub fn hexadecimal(arguments: &[u8]) -> Option<u64>
+    ensures { result ≡ single hexadecimal_of (words arguments.now) }
+{
+    prefixed_hexadecimal(only_word(arguments)?)
+}
+
 /// Two names.
 #[inline(always)]
 pub fn name_name(arguments: &[u8]) -> Option<(WrittenName<'_>, WrittenName<'_>)>
@@ -84,6 +93,25 @@ pub fn name_decimal(arguments: &[u8]) -> Option<(WrittenName<'_>, u64)>
     let (word, rest) = next_name(arguments)?;
     let others = decimal(rest)?;
     Some((WrittenName::new(word), others))
+}
+
+/// A name and a head.
+#[inline(always)]
+pub fn name_head(arguments: &[u8]) -> Option<(WrittenName<'_>, u64)>
+    ensures { result ≡ pair name_of head_of (words arguments.now) }
+{
+    let (word, rest) = next_name(arguments)?;
+    Some((WrittenName::new(word), only_head(rest)?))
+}
+
+/// A slot and a name.
+#[inline(always)]
+pub fn slot_name(arguments: &[u8]) -> Option<(WrittenSlot<'_>, WrittenName<'_>)>
+    ensures { result ≡ pair slot_of name_of (words arguments.now) }
+{
+    let (table, index, rest) = next_slot(arguments)?;
+    let others = name(rest)?;
+    Some((WrittenSlot::new(table, index), others))
 }
 
 /// Two slots.
@@ -143,6 +171,18 @@ pub fn name_decimal_slot(arguments: &[u8]) -> Option<(WrittenName<'_>, (u64, Wri
 {
     let (word, rest) = next_name(arguments)?;
     let others = decimal_slot(rest)?;
+    Some((WrittenName::new(word), others))
+}
+
+/// A name and two slots.
+#[inline(always)]
+pub fn name_slot_slot(
+    arguments: &[u8],
+) -> Option<(WrittenName<'_>, (WrittenSlot<'_>, WrittenSlot<'_>))>
+    ensures { result ≡ onto name_of (pair slot_of slot_of) (words arguments.now) }
+{
+    let (word, rest) = next_name(arguments)?;
+    let others = slot_slot(rest)?;
     Some((WrittenName::new(word), others))
 }
 

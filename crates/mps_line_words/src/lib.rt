@@ -9,11 +9,10 @@ mod slots;
 mod words;
 
 pub use arguments::{
-    decimal, decimal_slot, decimal_value, name, name_decimal, name_decimal_slot, name_name,
-    name_slot, slot, slot_decimal, slot_decimal_slot, slot_decimal_value, slot_slot,
-    slot_slot_decimal, slot_value, value,
+    decimal, decimal_slot, decimal_value, hexadecimal, name, name_decimal, name_decimal_slot,
+    name_head, name_name, name_slot, name_slot_slot, slot, slot_decimal, slot_decimal_slot,
+    slot_decimal_value, slot_name, slot_slot, slot_slot_decimal, slot_value, value,
 };
-pub use head::only_head;
 pub use names::{WrittenName, name_of, names_are_unique, next_name};
 pub use number::{next_decimal, next_value, number_of, number_within, prefixed_hexadecimal};
 pub use slots::{WrittenSlot, next_slot};

@@ -13,7 +13,7 @@ use Rattle.mps_numerals.specs.Decimal.{decimal_number}
 use Rattle.mps_answers.specs.Number.{number_of, prefixed_hexadecimal}
 use Rattle.mps_answers.specs.Name.{name_of, slot_of}
 use Rattle.mps_answers.specs.Head.{head_of}
-use Rattle.mps_script.specs.Form.{Form, kinds, kinds_on_chains, formats, ranks, keyword, grains_from, length_of_root, tag_number, automatic_pool, pool_on_chain, pool_mfs, pool_mvff, pool, init, start, a_to_b_forms, c_forms, d_to_f_forms, g_to_k_forms, l_forms, m_to_o_forms, p_to_r_forms, s_to_z_forms, forms, call_in, command_call}
+use Rattle.mps_script.specs.Form.{Form, kinds, kinds_on_chains, formats, ranks, keyword, grains_from, length_of_root, tag_number, automatic_pool, pool_on_chain, pool_mfs, pool_mvff, pool_snc, pool, init, start, a_to_b_forms, c_forms, d_to_f_forms, g_to_k_forms, l_forms, m_to_o_forms, p_to_r_forms, s_to_z_forms, forms, call_in, command_call}
 use Rattle.mps_script.specs.Line.{begins_comment, or_bad, call_of_words, call_of_line}
 use Rattle.mps_script.specs.declared.line.BadLine.{BadLine}
 use Rattle.mps_commands.specs.Range.{IsInRange, IsPaddedName, may_be_on_chain, IsFormat}
@@ -97,11 +97,13 @@ pool_on_chain_in_range ws =
 
 pool_in_range : FormInRange pool
 pool_in_range =
-    or_in_range automatic_pool (or pool_on_chain (or pool_mfs pool_mvff)) automatic_pool_in_range
-    (or_in_range pool_on_chain (or pool_mfs pool_mvff) pool_on_chain_in_range
-    (or_in_range pool_mfs pool_mvff
+    or_in_range automatic_pool (or pool_on_chain (or pool_mfs (or pool_mvff pool_snc))) automatic_pool_in_range
+    (or_in_range pool_on_chain (or pool_mfs (or pool_mvff pool_snc)) pool_on_chain_in_range
+    (or_in_range pool_mfs (or pool_mvff pool_snc)
     (three_in_range name_of (keyword (codes "mfs")) decimal_number (λ name mfs size. call.PoolMfs name size) (λ x y z. tt))
-    (two_in_range name_of (keyword (codes "mvff")) (λ name mvff. call.PoolMvff name) (λ x y. tt))))
+    (or_in_range pool_mvff pool_snc
+    (two_in_range name_of (keyword (codes "mvff")) (λ name mvff. call.PoolMvff name) (λ x y. tt))
+    (two_in_range name_of (keyword (codes "snc")) (λ name snc. call.PoolFrames name) (λ x y. tt)))))
 
 init_in_range : FormInRange init
 init_in_range =
@@ -258,7 +260,13 @@ p_to_r_in_range = (
             two_in_range slot_of number_of call.Poke (λ x y. tt),
             (
               pool_in_range,
-              (none_in_range call.Release tt, tt),
+              (
+                two_in_range name_of decimal_number call.Pop (λ x y. tt),
+                (
+                  one_in_range name_of call.Push (λ x. tt),
+                  (none_in_range call.Release tt, tt),
+                ),
+              ),
             ),
           ),
         ),

@@ -68,16 +68,17 @@ no_chains = refl
 pools :
     calls (codes "pool a amc front" ∷ codes "pool a amcz mapped" ∷ codes "pool a ams leaf" ∷ codes "pool a awl front"
     ∷ codes "pool a lo leaf"
-    ∷ codes "pool a amc leaf c" ∷ codes "pool a amcz front c" ∷ codes "pool a mfs 0" ∷ codes "pool a mvff" ∷ [])
+    ∷ codes "pool a amc leaf c" ∷ codes "pool a amcz front c" ∷ codes "pool a mfs 0" ∷ codes "pool a mvff" ∷ codes "pool a snc" ∷ [])
     ≡ Some (call.Pool a Amc 1) ∷ Some (call.Pool a Amcz 2) ∷ Some (call.Pool a Ams 3) ∷ Some (call.Pool a Awl 1) ∷ Some (call.Pool a Lo 3)
-    ∷ Some (call.PoolOnChain a Amc 3 c) ∷ Some (call.PoolOnChain a Amcz 1 c) ∷ Some (call.PoolMfs a 0) ∷ Some (call.PoolMvff a) ∷ []
+    ∷ Some (call.PoolOnChain a Amc 3 c) ∷ Some (call.PoolOnChain a Amcz 1 c) ∷ Some (call.PoolMfs a 0) ∷ Some (call.PoolMvff a)
+    ∷ Some (call.PoolFrames a) ∷ []
 pools = refl
 
 no_pools :
     are_wrong (codes "pool" ∷ codes "pool a" ∷ codes "pool a amc" ∷ codes "pool A amc front" ∷ codes "pool a mvt front"
     ∷ codes "pool a amc back"
     ∷ codes "pool a amc front 1" ∷ codes "pool a ams front c" ∷ codes "pool a amc front c d" ∷ codes "pool a mfs" ∷ codes "pool a mfs x"
-    ∷ codes "pool a mfs 1 2" ∷ codes "pool a mvff 1" ∷ codes "pool 1 mvff" ∷ [])
+    ∷ codes "pool a mfs 1 2" ∷ codes "pool a mvff 1" ∷ codes "pool 1 mvff" ∷ codes "pool a snc 1" ∷ codes "pool 1 snc" ∷ [])
     ≡ true
 no_pools = refl
 
@@ -154,6 +155,17 @@ no_caches :
     ∷ codes "cflush" ∷ codes "cflush 1" ∷ codes "cflush a b" ∷ [])
     ≡ true
 no_caches = refl
+
+frames :
+    calls (codes "push a" ∷ codes "pop a 0" ∷ codes "pop a 18446744073709551615" ∷ [])
+    ≡ Some (call.Push a) ∷ Some (call.Pop a 0) ∷ Some (call.Pop a 18446744073709551615) ∷ []
+frames = refl
+
+no_frames :
+    are_wrong (codes "push" ∷ codes "push 1" ∷ codes "push a b" ∷ codes "pop" ∷ codes "pop a" ∷ codes "pop 1 0" ∷ codes "pop a b"
+    ∷ codes "pop a 0x1" ∷ codes "pop a 18446744073709551616" ∷ codes "pop a 0 1" ∷ [])
+    ≡ true
+no_frames = refl
 
 transforms :
     calls (codes "transform a" ∷ codes "transadd a t.0 t.1" ∷ codes "transapply a" ∷ codes "transdrop a" ∷ [])

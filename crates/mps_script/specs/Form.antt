@@ -129,8 +129,11 @@ pool_mfs = three name_of (keyword (codes "mfs")) decimal_number (λ name mfs siz
 abbrev pub pool_mvff : List (List ℕ) → Option Call
 pool_mvff = two name_of (keyword (codes "mvff")) (λ name mvff. call.PoolMvff name)
 
+abbrev pub pool_snc : List (List ℕ) → Option Call
+pool_snc = two name_of (keyword (codes "snc")) (λ name snc. call.PoolFrames name)
+
 abbrev pub pool : List (List ℕ) → Option Call
-pool = or automatic_pool (or pool_on_chain (or pool_mfs pool_mvff))
+pool = or automatic_pool (or pool_on_chain (or pool_mfs (or pool_mvff pool_snc)))
 
 abbrev pub init : List (List ℕ) → Option Call
 init = or (three name_of decimal_number number_of call.InitNumber) (three name_of decimal_number slot_of call.InitReference)
@@ -216,6 +219,8 @@ p_to_r_forms =
     ∷ (codes "pin", two slot_of slot_of call.Pin)
     ∷ (codes "poke", two slot_of number_of call.Poke)
     ∷ (codes "pool", pool)
+    ∷ (codes "pop", two name_of decimal_number call.Pop)
+    ∷ (codes "push", one name_of call.Push)
     ∷ (codes "release", none call.Release)
     ∷ []
 

@@ -14,9 +14,9 @@ use crate::caches::{cache, cache_alloc, cache_flush, cache_free};
 use crate::chain::chain;
 use crate::grains::grains_limit;
 use crate::roots::{name_length, name_name_rank};
-use crate::several::{alone, hexadecimal, init};
+use crate::several::{alone, init};
 use mps_line_words::{
-    name, name_decimal_slot, name_slot, slot, slot_slot, slot_slot_decimal, strip_word,
+    hexadecimal, name, name_decimal_slot, name_slot, slot, slot_slot, slot_slot_decimal, strip_word,
 };
 use mps_model::Call;
 

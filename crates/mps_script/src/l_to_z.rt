@@ -11,15 +11,14 @@ ghost use Rattle.mps_script.specs.Filled.{filled};
 ghost use Rattle.mps_script.specs.Form.{call_in, grains_from, length_of_root, tag_number, l_forms, m_to_o_forms, p_to_r_forms, s_to_z_forms};
 
 use crate::grains::grains;
-use crate::labels::slot_name;
 use crate::pools::pool;
 use crate::roots::name_length;
-use crate::several::{alone, name_head, start};
+use crate::several::{alone, start};
 use crate::tags::slot_decimal_tag;
 use crate::transforms::{transform, transform_add, transform_apply, transform_drop};
 use mps_line_words::{
-    decimal, name, name_name, name_slot, slot, slot_decimal, slot_decimal_slot, slot_decimal_value,
-    slot_slot, slot_value, strip_word,
+    decimal, name, name_decimal, name_head, name_name, name_slot, slot, slot_decimal,
+    slot_decimal_slot, slot_decimal_value, slot_name, slot_slot, slot_value, strip_word,
 };
 use mps_model::Call;
 
@@ -86,6 +85,10 @@ pub fn call_of_p_to_r(line: &[u8], into: &mut Call) -> Option<()>
         poke(arguments, into)
     } else if let Some(arguments) = strip_word(line, b"pool") {
         pool(arguments, into)
+    } else if let Some(arguments) = strip_word(line, b"pop") {
+        pop(arguments, into)
+    } else if let Some(arguments) = strip_word(line, b"push") {
+        push(arguments, into)
     } else if let Some(arguments) = strip_word(line, b"release") {
         release(arguments, into)
     } else {
@@ -301,6 +304,27 @@ fn poke(arguments: &[u8], into: &mut Call) -> Option<()>
         word: word.slot(),
         value,
     };
+    Some(())
+}
+
+/// `pop P N`.
+fn pop(arguments: &[u8], into: &mut Call) -> Option<()>
+    ensures { filled result into.new ≡ two name_of decimal_number call.Pop (words arguments.now) }
+{
+    let (pool, frame) = name_decimal(arguments)?;
+    *into = Call::Pop {
+        pool: pool.name(),
+        frame,
+    };
+    Some(())
+}
+
+/// `push P`.
+fn push(arguments: &[u8], into: &mut Call) -> Option<()>
+    ensures { filled result into.new ≡ one name_of call.Push (words arguments.now) }
+{
+    let pool = name(arguments)?;
+    *into = Call::Push { pool: pool.name() };
     Some(())
 }
 

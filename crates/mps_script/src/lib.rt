@@ -7,7 +7,6 @@ mod chain;
 mod commands;
 mod grains;
 mod l_to_z;
-mod labels;
 mod laws;
 mod line;
 mod pools;

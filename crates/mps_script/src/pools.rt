@@ -1,10 +1,11 @@
 // The forms of the command that makes a pool.
 ghost use Rattle.std.specs.Prelude.{◌≡◌};
+ghost use Rattle.mps_script.specs.Calls.{or};
 ghost use Rattle.mps_script.specs.Filled.{filled};
 ghost use Rattle.mps_line_words.specs.Word.{words};
 ghost use Rattle.mps_line_words.specs.Name.{name_of as name_in};
 ghost use Rattle.mps_line_words.specs.Reading.{named_in, pair};
-ghost use Rattle.mps_script.specs.Form.{kinds, kinds_on_chains, formats, automatic_pool, pool_on_chain, pool_mfs, pool_mvff, pool};
+ghost use Rattle.mps_script.specs.Form.{kinds, kinds_on_chains, formats, automatic_pool, pool_on_chain, pool_mfs, pool_mvff, pool_snc, pool};
 
 use mps_base::{Kind, Name};
 use mps_line_words::{is_word, name, name_of, next_word, only_word};
@@ -113,14 +114,18 @@ fn pool_mfs(arguments: &[u8], into: &mut Call) -> Option<()>
     }
 }
 
-/// `pool P mvff`, after `pool`.
-fn pool_mvff(arguments: &[u8], into: &mut Call) -> Option<()>
-    ensures { filled result into.new ≡ pool_mvff (words arguments.now) }
+/// `pool P mvff` or `pool P snc`, after `pool`.
+fn pool_of_any_sizes(arguments: &[u8], into: &mut Call) -> Option<()>
+    ensures { filled result into.new ≡ or pool_mvff pool_snc (words arguments.now) }
 {
     let (first, rest) = next_word(arguments)?;
     let pool = name_of(first)?;
-    if is_word(only_word(rest)?, b"mvff") {
+    let kind = only_word(rest)?;
+    if is_word(kind, b"mvff") {
         *into = Call::PoolMvff { pool };
+        Some(())
+    } else if is_word(kind, b"snc") {
+        *into = Call::PoolFrames { pool };
         Some(())
     } else {
         None
@@ -140,5 +145,5 @@ pub fn pool(arguments: &[u8], into: &mut Call) -> Option<()>
     if pool_mfs(arguments, into).is_some() {
         return Some(());
     }
-    pool_mvff(arguments, into)
+    pool_of_any_sizes(arguments, into)
 }

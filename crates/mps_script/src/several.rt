@@ -2,18 +2,11 @@
 ghost use Rattle.std.specs.Prelude.{◌≡◌};
 ghost use Rattle.mps_script.specs.Filled.{filled};
 ghost use Rattle.mps_line_words.specs.Word.{words};
-ghost use Rattle.mps_line_words.specs.Name.{name_of as name_in};
-ghost use Rattle.mps_line_words.specs.Number.{prefixed_hexadecimal as hexadecimal_of};
-ghost use Rattle.mps_line_words.specs.Head.{head_of as head_in};
-ghost use Rattle.mps_line_words.specs.Reading.{single, pair};
 ghost use Rattle.mps_model.specs.declared.call.Call.{Call};
 ghost use Rattle.mps_script.specs.Calls.{none};
 ghost use Rattle.mps_script.specs.Form.{init, start};
 
-use mps_line_words::{
-    WrittenName, is_blank, name_decimal, name_of, next_name, next_word, only_head, only_word,
-    prefixed_hexadecimal, slot, value,
-};
+use mps_line_words::{is_blank, name_decimal, name_of, next_word, slot, value};
 use mps_model::Call;
 use mps_numerals::decimal_number;
 
@@ -23,22 +16,6 @@ pub fn alone(arguments: &[u8]) -> Option<()>
     ensures { (c : Call) → filled result c ≡ none c (words arguments.now) }
 {
     if is_blank(arguments) { Some(()) } else { None }
-}
-
-/// A number in hexadecimal.
-pub fn hexadecimal(arguments: &[u8]) -> Option<u64>
-    ensures { result ≡ single hexadecimal_of (words arguments.now) }
-{
-    prefixed_hexadecimal(only_word(arguments)?)
-}
-
-/// A name and a head.
-#[inline(always)]
-pub fn name_head(arguments: &[u8]) -> Option<(WrittenName<'_>, u64)>
-    ensures { result ≡ pair name_in head_in (words arguments.now) }
-{
-    let (word, rest) = next_name(arguments)?;
-    Some((WrittenName::new(word), only_head(rest)?))
 }
 
 /// `init X K VALUE` or `init X K SLOT`.

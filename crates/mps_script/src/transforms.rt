@@ -3,22 +3,11 @@ ghost use Rattle.std.specs.Prelude.{◌≡◌};
 ghost use Rattle.mps_model.specs.declared.call.Call.TheVariants as call;
 ghost use Rattle.mps_line_words.specs.Word.{words};
 ghost use Rattle.mps_line_words.specs.Name.{name_of, slot_of};
-ghost use Rattle.mps_line_words.specs.Reading.{onto, pair};
 ghost use Rattle.mps_script.specs.Calls.{one, three};
 ghost use Rattle.mps_script.specs.Filled.{filled};
 
-use mps_line_words::{WrittenName, WrittenSlot, name, next_name, slot_slot};
+use mps_line_words::{name, name_slot_slot};
 use mps_model::Call;
-
-/// A name and two slots.
-#[inline(always)]
-fn name_slot_slot(arguments: &[u8]) -> Option<(WrittenName<'_>, (WrittenSlot<'_>, WrittenSlot<'_>))>
-    ensures { result ≡ onto name_of (pair slot_of slot_of) (words arguments.now) }
-{
-    let (word, rest) = next_name(arguments)?;
-    let others = slot_slot(rest)?;
-    Some((WrittenName::new(word), others))
-}
 
 /// `transform X`, after `transform`.
 pub fn transform(arguments: &[u8], into: &mut Call) -> Option<()>

@@ -124,6 +124,7 @@ making_takes_memory (call.Pool pool kind format) one = refl
 making_takes_memory (call.PoolOnChain pool kind format chain) one = refl
 making_takes_memory (call.PoolMfs pool words) one = refl
 making_takes_memory (call.PoolMvff pool) one = refl
+making_takes_memory (call.PoolFrames pool) one = refl
 making_takes_memory (call.Table table length) one = refl
 making_takes_memory (call.Area area length) one = refl
 making_takes_memory (call.Blocks blocks length) one = refl

@@ -10,7 +10,7 @@ use Rattle.mps_model.specs.Graph.{empty_graph}
 use Rattle.mps_model.specs.World.{World, Collected, empty_world}
 use Rattle.mps_commands.specs.Built.{Built}
 
--- whether the form of a call is built: all but dependents and frames; what may flip is if one flip more can be counted
+-- whether the form of a call is built: all but dependents; what may flip is if one flip more can be counted
 abbrev pub is_built : (collects : Bool) → Call → Bool
 is_built collects call.Collect = collects
 is_built collects call.Start = collects
@@ -18,9 +18,6 @@ is_built collects (call.StartChain chain generation) = collects
 is_built collects (call.Reserve point head) = collects
 is_built collects (call.Depend holder dependent) = false
 is_built collects (call.Undepend holder) = false
-is_built collects (call.PoolFrames pool) = false
-is_built collects (call.Push pool) = false
-is_built collects (call.Pop pool frame) = false
 is_built collects _ = true
 
 -- whether a heap answers it: it is built, and doesn't make the arena
@@ -43,6 +40,7 @@ call_takes_memory (call.Pool pool kind format) = true
 call_takes_memory (call.PoolOnChain pool kind format chain) = true
 call_takes_memory (call.PoolMfs pool words) = true
 call_takes_memory (call.PoolMvff pool) = true
+call_takes_memory (call.PoolFrames pool) = true
 call_takes_memory (call.Table table length) = true
 call_takes_memory (call.Area area length) = true
 call_takes_memory (call.Blocks blocks length) = true
@@ -93,6 +91,12 @@ a_transform_is transform = refl
 
 pub and_it_is_applied : (transform : Name) → is_unsupported_call example_world (call.TransformApply transform) ≡ false
 and_it_is_applied transform = refl
+
+pub a_pool_of_frames_is : (pool : Name) → is_unsupported_call example_world (call.PoolFrames pool) ≡ false
+a_pool_of_frames_is pool = refl
+
+pub and_a_frame_is_closed : (pool : Name) → is_unsupported_call example_world (call.Pop pool 0) ≡ false
+and_a_frame_is_closed pool = refl
 
 pub a_dependent_is_not : (holder dependent : Slot) → is_unsupported_call example_world (call.Depend holder dependent) ≡ true
 a_dependent_is_not holder dependent = refl

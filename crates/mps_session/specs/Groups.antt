@@ -12,7 +12,8 @@ is_collection call.Collect = true
 is_collection call.Park = true
 is_collection _ = false
 
--- a call that makes or ends a block, puts one into a cache or takes it out, flushes a cache, or reads a reference, and may make moves
+-- a call that makes or ends a block, puts one into a cache or takes it out, flushes a cache, closes a frame, or reads a reference, and
+-- may make moves
 abbrev pub may_move : Call → Bool
 may_move (call.Reserve point head) = true
 may_move (call.Commit point target) = true
@@ -21,6 +22,7 @@ may_move (call.Free place) = true
 may_move (call.CacheAlloc cache words place) = true
 may_move (call.CacheFree cache place) = true
 may_move (call.CacheFlush cache) = true
+may_move (call.Pop pool frame) = true
 may_move (call.Get target source cell) = true
 may_move _ = false
 
@@ -84,9 +86,10 @@ is_on_arena (call.DropPoint point) = true
 is_on_arena (call.Intern label) = true
 is_on_arena _ = false
 
--- a call that makes a cache
+-- a call that makes a cache, or opens a frame
 abbrev pub is_on_caches : Call → Bool
 is_on_caches (call.Cache cache pool count sizes limits) = true
+is_on_caches (call.Push pool) = true
 is_on_caches _ = false
 
 -- a call that makes a thing in the arena, and takes memory
@@ -96,6 +99,7 @@ makes_thing (call.Pool pool kind format) = true
 makes_thing (call.PoolOnChain pool kind format chain) = true
 makes_thing (call.PoolMfs pool words) = true
 makes_thing (call.PoolMvff pool) = true
+makes_thing (call.PoolFrames pool) = true
 makes_thing (call.Table table length) = true
 makes_thing (call.Area area length) = true
 makes_thing (call.Blocks blocks length) = true

@@ -30,6 +30,7 @@ pub fn answer(heap: &mut Heap<AnyFormat>, call: &Call) -> Result<Reply, AllocErr
         )),
         Call::PoolMfs { pool, words } => made(heap.pool_mfs(pool, words)),
         Call::PoolMvff { pool } => made(heap.pool_mvff(pool)),
+        Call::PoolFrames { pool } => made(heap.pool_snc(pool)),
         Call::Table { table, length } => made(heap.table(table, length as u32)),
         Call::Area { area, length } => made(heap.area(area, length as u32)),
         Call::Blocks { blocks, length } => made(heap.blocks(blocks, length as u32)),

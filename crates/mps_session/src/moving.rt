@@ -14,8 +14,8 @@ use mps_format::AnyFormat;
 use mps_heap::Heap;
 use mps_model::{Call, Reply};
 
-/// Whether a call makes or ends a block, puts one into a cache or takes it out, flushes a cache, or reads a reference, and so may make
-/// moves. A collection isn't one of these.
+/// Whether a call makes or ends a block, puts one into a cache or takes it out, flushes a cache, closes a frame, or reads a reference, and
+/// so may make moves. A collection isn't one of these.
 #[inline(always)]
 pub fn may_move(call: &Call) -> bool
     ensures { result ≡ may_move call.now }
@@ -29,6 +29,7 @@ pub fn may_move(call: &Call) -> bool
             | Call::CacheAlloc { .. }
             | Call::CacheFree { .. }
             | Call::CacheFlush { .. }
+            | Call::Pop { .. }
             | Call::Get { .. }
     )
 }
@@ -71,6 +72,10 @@ pub fn answer(heap: &mut Heap<AnyFormat>, trail: &mut Trail, call: &Call, reply:
         Call::CacheFlush { cache } => {
             let _ = heap.moves_of_cflush(cache); // at most 1,024
             done(heap.cflush(trail, cache))
+        }
+        Call::Pop { pool, frame } => {
+            let _ = heap.moves_of_pop(pool, frame); // at most `most_moves`
+            done(heap.pop(trail, pool, frame))
         }
         Call::Get {
             target,

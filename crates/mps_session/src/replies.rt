@@ -65,6 +65,16 @@ pub fn tag(came: Result<u8, Refusal>) -> Reply
     }
 }
 
+/// Of a call that counts something.
+pub fn count(came: Result<u32, Refusal>) -> Reply
+    ensures { Tells result (answer_to says_number came) }
+{
+    match came {
+        Ok(n) => Reply::Number(u64::from(n)),
+        Err(why) => Reply::Refused(why),
+    }
+}
+
 /// Of a call that makes a label.
 pub fn interned(came: Result<u32, Refusal>) -> Reply
     ensures { Tells result (answer_to says_interned came) }

@@ -14,7 +14,9 @@ const INPUT_FILE: &str = "mps_desk_test.input";
 #[test]
 fn a_desk_in_memory(rt: HostRuntime) -> Result<(), Fail> {
     let mut desk = MemDesk::new(rt.alloc());
-    prints_in_pieces(&rt, &mut desk)
+    let printed = prints_in_pieces(&rt, &mut desk);
+    drop(desk);
+    printed
 }
 
 fn prints_in_pieces(rt: &impl Abort, desk: &mut MemDesk) -> Result<(), Fail> {
@@ -30,7 +32,9 @@ fn prints_in_pieces(rt: &impl Abort, desk: &mut MemDesk) -> Result<(), Fail> {
 #[test]
 fn a_real_file(rt: HostRuntime) -> Result<(), Fail> {
     let mut desk = HostDesk::new(&rt);
-    logs_and_reads(&rt, &mut desk)?;
+    let read = logs_and_reads(&rt, &mut desk);
+    drop(desk);
+    read?;
     remove_file(&rt, LOG_FILE)?;
     Ok(())
 }
@@ -58,7 +62,9 @@ fn reads(rt: &impl Abort, desk: &mut impl Desk, expected: &[u8]) -> Result<(), F
 fn the_input_stays(rt: HostRuntime) -> Result<(), Fail> {
     write(&rt, INPUT_FILE, b"script")?;
     let mut desk = HostDesk::new(&rt);
-    refuses_the_input(&rt, &mut desk)?;
+    let refused = refuses_the_input(&rt, &mut desk);
+    drop(desk);
+    refused?;
     remove_file(&rt, INPUT_FILE)?;
     Ok(())
 }
@@ -74,6 +80,11 @@ fn refuses_the_input(rt: &impl Abort, desk: &mut impl Desk) -> Result<(), Fail> 
 #[test]
 fn a_directory_is_no_file(rt: HostRuntime) {
     let mut desk = HostDesk::new(&rt);
+    refuses_a_directory(&rt, &mut desk);
+    drop(desk);
+}
+
+fn refuses_a_directory(rt: &impl Abort, desk: &mut impl Desk) {
     assert!(rt; desk.open(".").is_err());
     assert!(rt; desk.create(".").is_err());
 }
@@ -82,7 +93,9 @@ fn a_directory_is_no_file(rt: HostRuntime) {
 #[test]
 fn a_log_that_takes_nothing(rt: HostRuntime) -> Result<(), Fail> {
     let mut desk = Gathering::new(HostDesk::new(&rt), rt.alloc());
-    logs_to_a_full_device(&rt, &mut desk)
+    let logged = logs_to_a_full_device(&rt, &mut desk);
+    drop(desk);
+    logged
 }
 
 fn logs_to_a_full_device(rt: &impl Abort, desk: &mut impl Desk) -> Result<(), Fail> {

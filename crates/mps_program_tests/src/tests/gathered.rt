@@ -24,14 +24,28 @@ fn check_played(
     script: &[u8],
     case: &PlayedCase,
 ) -> Result<(), Fail> {
-    let desk = PlayedDesk::new(alloc, script, case.played)?;
+    let (status, desk) = run_played(alloc, script, case.played)?;
+    compare_played(rt, &desk, status, case);
+    drop(desk);
+    Ok(())
+}
+
+/// Runs a script over a desk that plays results, and returns the status and the desk.
+fn run_played(
+    alloc: Global,
+    script: &[u8],
+    played: &[(Call, Played)],
+) -> Result<(u8, PlayedDesk), AllocError> {
     let words = words_of(alloc, "run")?;
-    let (status, desk) = start_over(alloc, Ok(words), desk);
+    let desk = PlayedDesk::new(alloc, script, played)?;
+    Ok(start_over(alloc, Ok(words), desk))
+}
+
+fn compare_played(rt: &impl Abort, desk: &PlayedDesk, status: u8, case: &PlayedCase) {
     assert_eq!(rt; status, case.status);
     compare_bytes(rt, desk.printed(), case.printed, "printed");
     assert_eq!(rt; desk.logged().len(), case.log_bytes);
     compare_bytes(rt, desk.reported(), case.reported, "reported");
-    Ok(())
 }
 
 const LOG_FAILED: &[u8] = b"mps: log failed\n";
@@ -233,20 +247,25 @@ fn with_long_answers(alloc: Global, script: &[u8]) -> Result<Vec<u8>, AllocError
 /// Without a fault all is printed.
 fn check_long(rt: &impl Abort, alloc: Global) -> Result<(), Fail> {
     let script = with_long_answers(alloc, LARGE_BLOCK)?;
-    let desk = PlayedDesk::new(alloc, &script, &[])?;
-    let words = words_of(alloc, "run")?;
-    let (status, desk) = start_over(alloc, Ok(words), desk);
+    let (status, desk) = run_played(alloc, &script, &[])?;
+    let printed = desk.printed().len();
+    drop(desk);
     assert_eq!(rt; status, 0);
-    assert!(rt; desk.printed().len() > 65_536);
+    assert!(rt; printed > 65_536);
     Ok(())
+}
+
+/// Checks a case whose script has long answers.
+fn check_long_played(rt: &impl Abort, alloc: Global, case: &PlayedCase) -> Result<(), Fail> {
+    let script = with_long_answers(alloc, case.script)?;
+    check_played(rt, alloc, &script, case)
 }
 
 #[test]
 fn answers_that_are_more_than_waits_at_most(rt: HostRuntime) -> Result<(), Fail> {
     check_long(&rt, rt.alloc())?;
     for case in &LONG_ANSWERS {
-        let script = with_long_answers(rt.alloc(), case.script)?;
-        check_played(&rt, rt.alloc(), &script, case)?;
+        check_long_played(&rt, rt.alloc(), case)?;
     }
     Ok(())
 }

@@ -2,6 +2,7 @@
 use super::words_of;
 use mps_desk::HostDesk;
 use mps_program::start_over;
+use std::alloc::{AllocError, Global};
 use std::fs::{remove_file, write};
 use std::test::Fail;
 
@@ -52,12 +53,19 @@ const HOST_CASES: [HostCase; 9] = [
     },
 ];
 
+/// Runs the program with the words of a line over a real desk, and returns the status.
+fn run_host(alloc: Global, desk: HostDesk, line: &str) -> Result<u8, AllocError> {
+    let words = words_of(alloc, line)?;
+    let (status, desk) = start_over(alloc, Ok(words), desk);
+    drop(desk);
+    Ok(status)
+}
+
 #[test]
 fn each_call_of_the_real_desk_may_fail(rt: HostRuntime) -> Result<(), Fail> {
     write(&rt, SCRIPT_FILE, b"arena 8 8\n")?;
     for case in &HOST_CASES {
-        let words = words_of(rt.alloc(), case.line)?;
-        let (status, _) = start_over(rt.alloc(), Ok(words), HostDesk::new(&rt));
+        let status = run_host(rt.alloc(), HostDesk::new(&rt), case.line)?;
         assert_eq!(rt; status, case.status, "{}", case.line);
     }
     remove_file(&rt, SCRIPT_FILE)?;

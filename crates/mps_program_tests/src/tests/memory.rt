@@ -11,7 +11,9 @@ use std::test::Fail;
 #[test]
 fn an_allocation_may_fail(rt: HostRuntime) -> Result<(), Fail> {
     let mut desk = MemDesk::new(rt.alloc());
-    check_memory(&rt, rt.alloc(), &mut desk)
+    let checked = check_memory(&rt, rt.alloc(), &mut desk);
+    drop(desk);
+    checked
 }
 
 fn check_memory(rt: &impl Abort, alloc: Global, desk: &mut MemDesk) -> Result<(), Fail> {
@@ -28,6 +30,7 @@ fn check_memory(rt: &impl Abort, alloc: Global, desk: &mut MemDesk) -> Result<()
 fn words_without_memory(rt: HostRuntime) {
     let mut desk = MemDesk::new(rt.alloc());
     check_words_without_memory(&rt, rt.alloc(), &mut desk);
+    drop(desk);
 }
 
 fn check_words_without_memory(rt: &impl Abort, alloc: Global, desk: &mut MemDesk) {

@@ -30,7 +30,9 @@ pub(super) fn check_script(
     case: &ScriptCase,
 ) -> Result<(), Fail> {
     let mut desk = MemDesk::new(alloc);
-    check_script_on(rt, alloc, &mut desk, script, case)
+    let checked = check_script_on(rt, alloc, &mut desk, script, case);
+    drop(desk);
+    checked
 }
 
 /// Checks each case of a table.
@@ -77,8 +79,8 @@ fn compare_log(rt: &impl Abort, desk: &MemDesk, case: &ScriptCase) {
 }
 
 /// Whole and in pieces of 1 and of 7 bytes, the first script has its answers, and its log byte for byte. Then scripts that
-/// have no command, an arena that is full, heads in their forms, and commands out of turn.
-const SCRIPTS: [ScriptCase; 13] = [
+/// have no command, an arena that is full (also byte by byte), heads in their forms, and commands out of turn.
+const SCRIPTS: [ScriptCase; 14] = [
     ScriptCase {
         script: FIRST,
         most: 0,
@@ -142,6 +144,18 @@ const SCRIPTS: [ScriptCase; 13] = [
     ScriptCase {
         script: FULL_ARENA,
         most: 0,
+        failing: None,
+        ends: Ends {
+            status: 0,
+            printed: FULL_ARENA_ANSWERS,
+            reported: b"",
+        },
+        log: HEADER,
+        log_bytes: 136,
+    },
+    ScriptCase {
+        script: FULL_ARENA,
+        most: 1,
         failing: None,
         ends: Ends {
             status: 0,
@@ -372,6 +386,11 @@ const BAD_LINES: [BadLineCase; 2] = [
             b"limit 18446744073709551616",
             b"pool P9 mvff",
             b"table abcdefghijklmnopq 1",
+            b"settag t.0 1 8",
+            b"settag t.0 1 05",
+            b"settag t.0 1",
+            b"intern abcdefghijklmnopq",
+            b"label t.0",
             b"\x00",
         ],
     },
@@ -408,13 +427,19 @@ fn check_bad_line(
     check_script(rt, alloc, &script, &expected)
 }
 
+/// Checks each line of a case, whole and byte by byte.
+fn check_bad_lines(rt: &impl Abort, alloc: Global, case: &BadLineCase) -> Result<(), Fail> {
+    for line in case.lines {
+        check_bad_line(rt, alloc, case, line, 0)?;
+        check_bad_line(rt, alloc, case, line, 1)?;
+    }
+    Ok(())
+}
+
 #[test]
 fn a_line_in_the_form_of_no_command_is_bad(rt: HostRuntime) -> Result<(), Fail> {
     for case in &BAD_LINES {
-        for line in case.lines {
-            check_bad_line(&rt, rt.alloc(), case, line, 0)?;
-            check_bad_line(&rt, rt.alloc(), case, line, 1)?;
-        }
+        check_bad_lines(&rt, rt.alloc(), case)?;
     }
     Ok(())
 }

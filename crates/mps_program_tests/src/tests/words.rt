@@ -18,7 +18,9 @@ struct WordsCase {
 
 fn check_words(rt: &impl Abort, alloc: Global, case: &WordsCase) -> Result<(), Fail> {
     let mut desk = MemDesk::new(alloc);
-    check_words_on(rt, alloc, &mut desk, case)
+    let checked = check_words_on(rt, alloc, &mut desk, case);
+    drop(desk);
+    checked
 }
 
 fn check_words_on(
@@ -250,5 +252,7 @@ fn compare_logs(rt: &impl Abort, desk: &MemDesk, status: u8) {
 #[test]
 fn a_generated_script_is_run(rt: HostRuntime) -> Result<(), Fail> {
     let mut desk = MemDesk::new(rt.alloc());
-    check_generated_run(&rt, rt.alloc(), &mut desk)
+    let checked = check_generated_run(&rt, rt.alloc(), &mut desk);
+    drop(desk);
+    checked
 }

@@ -117,16 +117,27 @@ fn is_in_range(call: &Call) -> bool
     }
 }
 
+/// Calls a session, and checks what it answers over the last answer, and what it moves.
+fn check_step(rt: &impl Abort, session: &mut Session, got: &mut Reply, step: &Step<'_>) {
+    let (call, reply, moves) = *step;
+    assert!(rt; is_in_range(&call), "at {call:?}");
+    session.answer(&call, got).expect(rt, "memory");
+    assert_eq!(rt; *got, reply, "at {call:?}");
+    assert!(rt; session.moves() == moves, "at {call:?}");
+}
+
+/// Checks each step, one after the other.
+fn check_steps(rt: &impl Abort, session: &mut Session, steps: &[Step<'_>]) {
+    let mut got = Reply::Ok;
+    for step in steps {
+        check_step(rt, session, &mut got, step);
+    }
+}
+
 /// Calls a new session, and checks what each call answers and moves.
 fn run(rt: &impl Abort, alloc: Global, steps: &[Step<'_>]) {
     let mut session = Session::new(alloc);
-    let mut got = Reply::Ok;
-    for &(call, reply, moves) in steps {
-        assert!(rt; is_in_range(&call), "at {call:?}");
-        session.answer(&call, &mut got).expect(rt, "memory");
-        assert_eq!(rt; got, reply, "at {call:?}");
-        assert!(rt; session.moves() == moves, "at {call:?}");
-    }
+    check_steps(rt, &mut session, steps);
     session.finish();
 }
 

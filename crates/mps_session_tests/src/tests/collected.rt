@@ -31,7 +31,14 @@ pub(super) fn check_collected(
     case: &CollectedCase,
 ) -> Result<(), Fail> {
     let mut desk = MemDesk::new(alloc);
-    check_collected_on(rt, alloc, &mut desk, case)
+    let checked = check_collected_on(rt, alloc, &mut desk, case);
+    drop(desk);
+    checked
+}
+
+/// Runs the script of standard input, and returns the status.
+pub(super) fn run(alloc: Global, desk: &mut MemDesk) -> u8 {
+    run_script(alloc, Session::new(alloc), "mpsio.log", "-", desk)
 }
 
 fn check_collected_on(
@@ -41,7 +48,7 @@ fn check_collected_on(
     case: &CollectedCase,
 ) -> Result<(), Fail> {
     desk.add_file("-", case.script)?;
-    let status = run_script(alloc, Session::new(alloc), "mpsio.log", "-", desk);
+    let status = run(alloc, desk);
     compare(rt, desk, status, case.printed);
     Ok(())
 }

@@ -37,6 +37,11 @@ returns-in-PoolMvff-clause-right c = answered_making c.in-PoolMvff.is c.pool_mvf
     c.made-in-PoolMvff.ensures.told
     c.made-in-PoolMvff.ensures.done c.pool_mvff.ensures.right
 
+pub returns-in-PoolFrames-clause-right : goal.returns-in-PoolFrames-clause-right
+returns-in-PoolFrames-clause-right c = answered_making c.in-PoolFrames.is c.pool_snc.result c.made-in-PoolFrames.result refl
+    c.made-in-PoolFrames.ensures.told
+    c.made-in-PoolFrames.ensures.done c.pool_snc.ensures.right
+
 pub returns-in-Table-clause-right : goal.returns-in-Table-clause-right
 returns-in-Table-clause-right c = answered_making c.in-Table.is c.table.result c.made-in-Table.result refl c.made-in-Table.ensures.told
     c.made-in-Table.ensures.done c.table.ensures.right

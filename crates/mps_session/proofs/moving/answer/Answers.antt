@@ -40,6 +40,11 @@ returns-in-CacheFlush-clause-right c =
     answered_always (can_collect c.args.heap.now) refl c.in-CacheFlush.is
     (answered_moving c.in-CacheFlush.is c.requires.empty c.done-in-CacheFlush.ensures c.cflush.ensures.right)
 
+pub returns-in-Pop-clause-right : goal.returns-in-Pop-clause-right
+returns-in-Pop-clause-right c =
+    answered_always (can_collect c.args.heap.now) refl c.in-Pop.is
+    (answered_moving c.in-Pop.is c.requires.empty c.done-in-Pop.ensures c.pop.ensures.right)
+
 pub returns-in-Get-clause-right : goal.returns-in-Get-clause-right
 returns-in-Get-clause-right c =
     answered_always (can_collect c.args.heap.now) refl c.in-Get.is

@@ -1,5 +1,5 @@
 // Arenas in which no grain is free and each block is live.
-use super::{Case, Loop, check};
+use super::{Case, Loop, check_all};
 use std::test::Fail;
 
 /// A limit of the grains or of the arena lets nothing move, a poll comes before a refusal, and what dies in a full arena is room again.
@@ -75,8 +75,5 @@ const FULL: [Case; 6] = [
 
 #[test]
 fn full_arenas_stay_as_they_are(rt: HostRuntime) -> Result<(), Fail> {
-    for case in &FULL {
-        check(&rt, rt.alloc(), case)?;
-    }
-    Ok(())
+    check_all(&rt, rt.alloc(), &FULL)
 }

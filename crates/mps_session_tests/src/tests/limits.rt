@@ -1,10 +1,9 @@
 // Scripts whose lines loops make, and their answers.
 mod full;
-mod limits;
+mod numbers;
 
+use super::collected::run;
 use mps_desk::MemDesk;
-use mps_run::run_script;
-use mps_session::Session;
 use std::alloc::{AllocError, Global};
 use std::process::Abort;
 use std::test::Fail;
@@ -35,7 +34,19 @@ fn check(rt: &impl Abort, alloc: Global, case: &Case) -> Result<(), Fail> {
     let script = script_of(alloc, case)?;
     let answers = answers_of(alloc, case)?;
     let mut desk = MemDesk::new(alloc);
-    check_on(rt, alloc, &mut desk, case.name, &script, &answers)
+    let checked = check_on(rt, alloc, &mut desk, case.name, &script, &answers);
+    drop(desk);
+    drop(answers);
+    drop(script);
+    checked
+}
+
+/// Checks each case of a table.
+fn check_all(rt: &impl Abort, alloc: Global, cases: &[Case]) -> Result<(), Fail> {
+    for case in cases {
+        check(rt, alloc, case)?;
+    }
+    Ok(())
 }
 
 fn check_on(
@@ -51,11 +62,6 @@ fn check_on(
     assert_eq!(rt; status, 0, "{name}");
     assert!(rt; desk.printed() == answers, "{name}");
     Ok(())
-}
-
-/// Runs the script of standard input, and returns the status.
-fn run(alloc: Global, desk: &mut MemDesk) -> u8 {
-    run_script(alloc, Session::new(alloc), "mpsio.log", "-", desk)
 }
 
 fn script_of(alloc: Global, case: &Case) -> Result<Vec<u8>, AllocError> {

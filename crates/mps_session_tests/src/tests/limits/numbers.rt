@@ -1,5 +1,5 @@
 // Each limit: the last thing that may be made, the next one, which is refused, and what a dropped one gives back.
-use super::{Case, Loop, check};
+use super::{Case, Loop, check_all};
 use std::test::Fail;
 
 /// After so many things the next one is refused, and is made once one was dropped.
@@ -165,8 +165,5 @@ const LIMITS: [Case; 9] = [
 
 #[test]
 fn each_limit_is_at_its_number(rt: HostRuntime) -> Result<(), Fail> {
-    for case in &LIMITS {
-        check(&rt, rt.alloc(), case)?;
-    }
-    Ok(())
+    check_all(&rt, rt.alloc(), &LIMITS)
 }

@@ -3,7 +3,7 @@ use Rattle.mps_line_words.specs.Name.{name_of, slot_of}
 use Rattle.mps_line_words.specs.Reading.{pair}
 use Rattle.mps_line_words.specs.Word.{words}
 use Rattle.mps_line_words.proofs.Headed.{onto_some}
-use Rattle.mps_script.proofs.transforms.name_slot_slot.Goals as goal
+use Rattle.mps_line_words.proofs.arguments.name_slot_slot.Goals as goal
 
 pub returns-in_err-others : goal.returns-in_err-others
 returns-in_err-others c =
