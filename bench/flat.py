@@ -3,6 +3,7 @@
 
 flat.py PROGRAM [BEST]: PROGRAM is the program `mps`. Each script runs BEST times (5), and the shortest time counts: user time of the
 process, with its log. A round has the lines of the client and a collection. Its cost is that of the five rounds after the first.
+flat.py PROGRAM instructions: the same by instructions, which callgrind of valgrind counts, so the load of the machine doesn't matter.
 """
 import os
 import resource
@@ -10,8 +11,11 @@ import subprocess
 import sys
 import tempfile
 
+from instructions import instructions
+
 SMALL, LARGE = 10_000, 65_536
 GROUP = 1_023    # references of one weak object
+MOST = 65_535    # the most that one has
 ROUNDS = 6
 
 
@@ -73,10 +77,15 @@ def seconds(program, lines, best):
     return shortest
 
 
+def measure(program, lines, best):
+    """Nanoseconds, or instructions if these are asked for."""
+    return instructions(program, lines, []) if best == "instructions" else seconds(program, lines, int(best)) * 1e9
+
+
 def cost(program, make, each, best, n):
-    """Nanoseconds of a round for each of n blocks, with the lines by which the client prepares it."""
-    first, all_of_them = (seconds(program, make + each * rounds, best) for rounds in (1, ROUNDS))
-    return (all_of_them - first) * 1e9 / ((ROUNDS - 1) * n)
+    """What a round costs for each of n blocks, with the lines by which the client prepares it."""
+    first, all_of_them = (measure(program, make + each * rounds, best) for rounds in (1, ROUNDS))
+    return (all_of_them - first) / ((ROUNDS - 1) * n)
 
 
 WORKLOADS = {
@@ -84,14 +93,16 @@ WORKLOADS = {
     "swept, mixed sizes": lambda n: swept(n, True),
     "posted": posted,
     f"splatted, {GROUP} each": lambda n: splatted(n, GROUP),
+    f"splatted, {MOST} each": lambda n: splatted(n, MOST),
     "splatted, one each": lambda n: splatted(n, 1),
 }
 
 
 def main():
     program = os.path.abspath(sys.argv[1])
-    best = int(sys.argv[2]) if len(sys.argv) > 2 else 5
-    print(f"{'':24}{'ns at':>10}{'ns at':>10}")
+    best = sys.argv[2] if len(sys.argv) > 2 else "5"
+    what = "instr. at" if best == "instructions" else "ns at"
+    print(f"{'':24}{what:>10}{what:>10}")
     print(f"{'':24}{SMALL:>10}{LARGE:>10}{'growth':>8}")
     for name, workload in WORKLOADS.items():
         small, large = (cost(program, *workload(n), best, n) for n in (SMALL, LARGE))

@@ -2,8 +2,9 @@
 """Prints the instructions that a collection of a full arena takes, for each object: of 2,048 grains none is free and each object is live, so
 objects of a pool that moves stay where they are. Beside it what the same arena takes with a pool that marks, and the ratio of the two.
 
-full.py PROGRAM: PROGRAM is the program `mps`. Instructions are counted by callgrind of valgrind. The objects are a list, by which each but
-the newest is held. The cost is that of the two collections after the first.
+full.py PROGRAM [OTHER]: PROGRAM is the program `mps`, and OTHER one with the same command line, for which the same is printed after it.
+Instructions are counted by callgrind of valgrind. The objects are a list, by which each but the newest is held. The cost is that of the two
+collections after the first.
 """
 import os
 import sys
@@ -30,12 +31,16 @@ def cost(program, pool, words):
     return (often - once) / ((COLLECTIONS - 1) * objects)
 
 
-def main():
-    program = os.path.abspath(sys.argv[1])
-    print(f"{'words each':>10}{'objects':>10}{'amc':>10}{'ams':>10}{'ratio':>8}")
+def show(program):
+    print(f"{program}\n{'words each':>10}{'objects':>10}{'amc':>10}{'ams':>10}{'ratio':>8}")
     for words in SIZES:
         moving, marking = (cost(program, pool, words) for pool in ("amc", "ams"))
         print(f"{words:10}{GRAINS * WORDS_OF_GRAIN // words:10}{moving:10.0f}{marking:10.0f}{moving / marking:8.2f}")
+
+
+def main():
+    for name in sys.argv[1:]:
+        show(os.path.abspath(name))
 
 
 if __name__ == "__main__":

@@ -1,7 +1,8 @@
 #!/bin/sh
 # Measures how long calls of the library's heap take, by a runtime that holds the heap itself, with no script and no log: `put`, `get` and
 # `num` on objects of 8 words; objects of 8 words reserved and committed until the arena is full; manual blocks of 17 words allocated
-# until it is full, and freed; a block allocated and freed again and again; and a word of a block loaded, beside a loan of the block.
+# until it is full, and freed; 50,000 of them made in a frame of a pool, which is closed; a block allocated and freed again and again; and
+# a word of a block loaded, beside a loan of the block.
 # It makes a program over a copy of the crates, proves it, and runs it.
 home=$(cd "$(dirname "$0")/.." && pwd)
 folder=$(mktemp -d)
@@ -109,9 +110,16 @@ impl Moves {
         Ok(())
     }
 
-    fn alloc(&mut self, heap: &mut Heap<Front>, into: Slot) -> Result<(), Refusal> {
+    fn alloc(&mut self, heap: &mut Heap<Front>, pool: u8, into: Slot) -> Result<(), Refusal> {
         self.trail.clear();
-        heap.alloc(&mut self.trail, named(b'v'), WORDS, into)
+        heap.alloc(&mut self.trail, named(pool), WORDS, into)
+    }
+
+    fn pop(&mut self, heap: &mut Heap<Front>) -> Result<(), Refusal> {
+        self.trail.clear();
+        let _ = heap.moves_of_pop(named(b's'), 0); // at most `most_moves`
+        let _ = heap.most_moves(); // at most 2^21
+        heap.pop(&mut self.trail, named(b's'), 0)
     }
 
     fn free(&mut self, heap: &mut Heap<Front>, from: Slot) -> Result<(), Refusal> {
@@ -123,6 +131,7 @@ impl Moves {
 fn make(heap: &mut Heap<Front>) -> Result<(), Refusal> {
     heap.pool(named(b'p'), Kind::Amc, Front)?;
     heap.pool_mvff(named(b'v'))?;
+    heap.pool_snc(named(b's'))?;
     heap.table(named(b't'), 16)?;
     heap.blocks(named(b'b'), PLACES)?;
     heap.point(named(b'x'), named(b'p'), Rank::Exact)
@@ -206,9 +215,9 @@ fn fill_objects(heap: &mut Heap<Front>, moves: &mut Moves, most: u64) -> u64 {
     most
 }
 
-fn fill_blocks(heap: &mut Heap<Front>, moves: &mut Moves, most: u64) -> u64 {
+fn fill_blocks(heap: &mut Heap<Front>, moves: &mut Moves, pool: u8, most: u64) -> u64 {
     for i in 0..most {
-        if moves.alloc(heap, place(i)).is_err() {
+        if moves.alloc(heap, pool, place(i)).is_err() {
             return i;
         }
     }
@@ -226,7 +235,7 @@ fn free_blocks(heap: &mut Heap<Front>, moves: &mut Moves, count: u64) -> u64 {
 
 fn come_and_go(heap: &mut Heap<Front>, moves: &mut Moves, times: u64) -> u64 {
     for i in 0..times {
-        if moves.alloc(heap, place(1)).is_err() || moves.free(heap, place(1)).is_err() {
+        if moves.alloc(heap, b'v', place(1)).is_err() || moves.free(heap, place(1)).is_err() {
             return i;
         }
     }
@@ -261,10 +270,24 @@ fn time_words(rt: &HostRuntime, heap: &mut Heap<Front>, times: u64) -> io::Resul
 
 fn time_blocks(rt: &HostRuntime, heap: &mut Heap<Front>, moves: &mut Moves) -> io::Result<()> {
     let began = Instant::now(rt)?;
-    let made = fill_blocks(heap, moves, u64::from(PLACES));
+    let made = fill_blocks(heap, moves, b'v', u64::from(PLACES));
     show(rt, "alloc until the arena is full", made, &began)?;
     let began = Instant::now(rt)?;
     show(rt, "free, in ascending order", free_blocks(heap, moves, made), &began)
+}
+
+fn time_frame(rt: &HostRuntime, heap: &mut Heap<Front>, moves: &mut Moves) -> io::Result<()> {
+    if heap.push(named(b's')).is_err() {
+        return println!(rt; "refused");
+    }
+    let began = Instant::now(rt)?;
+    let made = fill_blocks(heap, moves, b's', 50_000);
+    show(rt, "alloc in a frame", made, &began)?;
+    let began = Instant::now(rt)?;
+    if moves.pop(heap).is_err() {
+        return println!(rt; "refused");
+    }
+    show(rt, "pop, for each block of the frame", made, &began)
 }
 
 fn time_all(rt: &HostRuntime, heap: &mut Heap<Front>) -> io::Result<()> {
@@ -274,7 +297,8 @@ fn time_all(rt: &HostRuntime, heap: &mut Heap<Front>) -> io::Result<()> {
     }
     time_accesses(rt, heap, &mut moves, 1_000_000)?;
     time_blocks(rt, heap, &mut moves)?;
-    if moves.alloc(heap, place(0)).is_err() {
+    time_frame(rt, heap, &mut moves)?;
+    if moves.alloc(heap, b'v', place(0)).is_err() {
         return println!(rt; "refused");
     }
     time_words(rt, heap, 1_000_000)?;

@@ -33,14 +33,11 @@ fn name_of(number: u32) -> Name {
         bytes[place] = 97 + (rest % 16) as u8;
         rest /= 16;
     }
-    Name {
-        len: 8,
-        bytes,
-    }
+    Name { bytes }
 }
 
 fn names(rt: &HostRuntime, count: u32) -> io::Result<()> {
-    let mut names = Names::new(rt.alloc());
+    let mut names = Names::new(rt.alloc())?;
     let began = Instant::now(rt)?;
     for number in 0..count {
         names.make_room()?;

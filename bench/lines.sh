@@ -1,6 +1,6 @@
 #!/bin/sh
 # Measures how many lines a second `mps run` answers, and how much memory it takes at most: on a script of 1,000,000 lines that
-# read a number, on one of as many lines that take turns through all commands, of which most are refused or not built, so
+# read a number, on one of as many lines that take turns through many commands, of which most are refused, so
 # that reading them is most of the work, and on one of 20,000 lines of 4,096 bytes, most of them spaces. Each is run five
 # times, and the least processor time counts: of a line, and of a byte of the script.
 home=$(cd "$(dirname "$0")/.." && pwd)

@@ -19,10 +19,11 @@ mkdir -p $program/src
 for name in make_with make_many make_all measure_in free_with; do
     mkdir -p "$program/proofs/$name"
 done
-sed 's/mps_buffer\.proofs\.tests\.make_with/point_times.proofs.make_with/' \
-    "$home/crates/mps_buffer/proofs/tests/make_with/Answers.antt" > $program/proofs/make_with/Answers.antt
-sed 's/mps_manual\.proofs\.tests\.free_with/point_times.proofs.free_with/' \
-    "$home/crates/mps_manual/proofs/tests/free_with/Answers.antt" > $program/proofs/free_with/Answers.antt
+for test in points/make_with manual/free_with; do
+    name=${test#*/}
+    sed "s/mps_memory_tests\.proofs\.${test%/*}\.$name/point_times.proofs.$name/" \
+        "$home/crates/mps_memory_tests/proofs/$test/Answers.antt" > "$program/proofs/$name/Answers.antt"
+done
 cat > $program/proofs/make_many/Invariants.antt <<'P'
 use Rattle.mps_buffer.specs.Tokens.{IsReady}
 use Rattle.point_times.proofs.make_many.Given as goal

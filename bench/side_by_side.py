@@ -120,6 +120,7 @@ def main():
             ('cnv, a collecting run', ['cnv', '-f', 'collecting.log'], None),
             ('txt, a collecting run', ['txt', '-l', 'collecting.txt'], None),
             ('gen 1 1000000', ['gen', '1', '1000000'], None),
+            ('gen -r 1 1000000', ['gen', '-r', '1', '1000000'], None),
             ('run, 1,000,000 num', ['run', '-o', 'run.log'], 'num.script'),
             ('run, 500,000 reserve and commit', ['run', '-o', 'run.log'], 'commit.script'),
         ]

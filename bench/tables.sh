@@ -85,7 +85,8 @@ fn show_frames(rt: &HostRuntime, count: u32) -> io::Result<()>
     requires { count ≤ max_notes }
 {
     let mut frames = Frames::new(rt.alloc())?;
-    frames.add_pool(3)?;
+    let made = frames.new_pool()?;
+    frames.add_pool(3, made);
     let _ = frames.push(3);
     let began = Instant::now(rt)?;
     fill(&mut frames, count);
