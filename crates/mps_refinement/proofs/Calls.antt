@@ -48,3 +48,4 @@ pub mod FramedPools
 pub mod Pushes
 pub mod RowsFreed
 pub mod Pops
+pub mod Pairing

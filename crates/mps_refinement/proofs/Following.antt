@@ -17,4 +17,7 @@ pub mod Words
 pub mod FollowedCells
 pub mod FewerAddresses
 pub mod FollowedMoves
+pub mod WithoutPairs
 pub mod Times
+pub mod Made
+pub mod Acts

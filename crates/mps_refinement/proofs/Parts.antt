@@ -8,6 +8,7 @@ pub mod EntryWritten
 pub mod PartsByKind
 pub mod BesideParts
 pub mod PairsKept
+pub mod PairsWritten
 pub mod FramedParts
 pub mod CachesStill
 pub mod TransformParts

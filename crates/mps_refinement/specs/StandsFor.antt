@@ -277,12 +277,11 @@ pub record AreParts {F : Type 0} (layout : F → Layout) (past : Past) (h : Heap
   pub flips : AreFlips h.epochs w.flips
   pub point_flips : h.points.flips ≡ length w.flips
   pub dependencies : h.dependencies ≡ map kept_of w.dependencies
-  -- the formats are lawful; pools with their chains, that no object has a dependent, names and the arena's state
+  -- the formats are lawful; pools with their chains, names and the arena's state
   pub lawful : (number : ℕ) → IsLawful (w.formats number)
   pub pools : ArePools layout w.formats h.pools w.pools
   pub sizes : h.sizes ≡ map size_of_pool h.pools
   pub chains : AreChains h.chains w.chains w.pools
-  pub dependents : w.graph.dependents ≡ []
   pub names : AreNamed past h w.graph.names w.graph.labels
   pub state : w.state ≡ state_of h.arena (world.pairs_in w.state)
   -- what stands beside the blocks

@@ -12,7 +12,6 @@ use Rattle.mps_base.specs.declared.refusal.Refusal.{Refusal}
 use Rattle.mps_base.specs.declared.refusal.Refusal.TheVariants as refusal
 use Rattle.mps_format.specs.Layout.{Layout}
 use Rattle.mps_format.specs.Pools.{size_of_pool}
-use Rattle.mps_format.specs.declared.pool.Pool.{Pool}
 use Rattle.mps_changes.proofs.OneMore.{both_pass, cache_passes, flush_occurs, flush_passes, flushed_pass, occurrences-append, parts_pass}
 use Rattle.mps_laws.proofs.Lookups.{length-slice_set}
 use Rattle.mps_laws.proofs.OnePlace.{AreInOnePlace, in_one_place}

@@ -1,5 +1,5 @@
 -- `cfree`: from its outcome to a right step. A block that its class has room for is kept without a move; another is freed as by `free`.
-use Rattle.std.proofs.Common.{◌≡◌, ◌∙◌, ℕ, ◌+◌, Bool, true, false, refl, sym, ap, subst, [], Option, Some, None, Ok, Err, List, Contains, length, map, arith}
+use Rattle.std.proofs.Common.{◌≡◌, ◌∙◌, ℕ, ◌+◌, Bool, true, false, refl, sym, ap, subst, [], Option, Some, None, Ok, Err, List, Contains, map, arith}
 use Rattle.std.proofs.lemmas.Bool.{and_parts, eq-eqb, eqb-true, false≢true}
 use Rattle.std.proofs.lemmas.Option.{same_Some}
 use Rattle.std.specs.Prelude.{◌==◌, not, slice_get, if◌then◌else◌}
@@ -22,7 +22,7 @@ use Rattle.mps_laws.proofs.Positions.Segments.{among_without}
 use Rattle.mps_laws.proofs.QuietSteps.{IsSound}
 use Rattle.mps_laws.proofs.Same as same
 use Rattle.mps_laws.proofs.Same.{Same, fits}
-use Rattle.mps_pools.specs.Manual.{moves_freed, segs_after_free}
+use Rattle.mps_pools.specs.Manual.{segs_after_free}
 use Rattle.mps_model.specs.declared.call.Call.TheVariants as call
 use Rattle.mps_model.specs.declared.reply.Reply.TheVariants as reply
 use Rattle.mps_model.specs.Accessing.{address_or_null}

@@ -8,7 +8,7 @@ use Rattle.mps_base.specs.declared.refusal.Refusal.{Refusal}
 use Rattle.mps_base.specs.declared.refusal.Refusal.TheVariants as refusal
 use Rattle.mps_format.specs.Layout.{Layout}
 use Rattle.mps_laws.proofs.Lookups.{map-with_last}
-use Rattle.mps_laws.proofs.Same.{Same, fits, refused, same_err, same_next, same_refuse_when, same_then}
+use Rattle.mps_laws.proofs.Same.{Same, fits, same_err, same_next, same_refuse_when, same_then}
 use Rattle.mps_model.specs.declared.call.Call.TheVariants as call
 use Rattle.mps_model.specs.declared.reply.Reply.TheVariants as reply
 use Rattle.mps_model.specs.Answer.{Replied}

@@ -97,7 +97,6 @@ module _ {F : Type 0} (layout : F → Layout) (formats : ℕ → Layout) (lawful
     pools = record { count = refl; each = λ number p is. absurd (none-some p is) };
     sizes = refl;
     chains = record { same = refl; copying = λ number chain p is. absurd (none-some p is) };
-    dependents = refl;
     names = record {
       named = λ name. sym (ap (option_map (numbered_thing no_past)) (none.free name));
       there = λ name t is. absurd (none-some t (sym (none.free name) ∙ is));

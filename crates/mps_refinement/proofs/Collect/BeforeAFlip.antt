@@ -1,5 +1,5 @@
 -- A heap that can be collected stands, with what its owner knows of its pools, as a flip of everything needs it.
-use Rattle.std.proofs.Common.{◌≤◌, arith}
+use Rattle.std.proofs.Common.{◌≡◌, ◌≤◌, [], arith}
 use Rattle.mps_base.specs.Trail.{Moves}
 use Rattle.mps_format.specs.Layout.{Layout}
 use Rattle.mps_model.specs.World.{World}
@@ -23,7 +23,7 @@ use Rattle.mps_refinement.proofs.Parts.LaidSegments.{blocks_in_order}
 use Rattle.mps_refinement.proofs.Worlds.Known.{IsKnown}
 
 module _ {F : Type 0} (layout : F → Layout) (past : Past) (h : HeapState F) (w : World) (parts : AreParts layout past h w)
-    (known : IsKnown past.time w) (rest : Rests past.time (collector_of h) w)
+    (known : IsKnown past.time w) (none : w.graph.dependents ≡ []) (rest : Rests past.time (collector_of h) w)
     (marked : IsMarked h.segs.grains h.segs.marks h.segs.condemned h.segs.summaries)
     (m : Moves) (room : most_moves h.segs.grains ≤ m.spare) where
   -- whatever words are at hand for its pools
@@ -33,7 +33,7 @@ module _ {F : Type 0} (layout : F → Layout) (past : Past) (h : HeapState F) (w
       moves_are_few layout past h w parts known.formed known.laid (blocks_in_order layout past h w parts known.laid) known.graph
       in
       record {
-        objects = objects_at_rest layout past h w parts past.time known rest.none;
+        objects = objects_at_rest layout past h w parts past.time known rest.none none;
         segments = segments_at_rest layout past h w parts known.laid rest marked;
         pools = pools_known layout h.pools h.chains t w parts.pools parts.chains of;
         reservations = reservations_are_open layout past h w parts;

@@ -1,6 +1,5 @@
--- A `collect` is right, if what ran before it is finished: its step is legal, and the heap stands for the world after it.
-use Rattle.mps_model.specs.History.{world_after}
-use Rattle.mps_model.proofs.AtRest.{with_client_remembered-none}
+-- A collection of everything of a heap at rest, in which no object has a dependent: its moves are legal, and the heap represents the world
+-- after them.
 use Rattle.std.proofs.Common.{◌≡◌, ◌∙◌, ℕ, Bool, true, false, refl, sym, ap, subst, List, [], ◌∷◌, ◌++◌, length, Option, Some, None, is_some, inl, inr, map}
 use Rattle.std.proofs.lemmas.Bool.{false≢true, or_right}
 use Rattle.std.specs.Prelude.{◌==◌, ◌||◌, slice_get, option_and_then}
@@ -10,10 +9,6 @@ use Rattle.mps_base.specs.Address.{Id}
 use Rattle.mps_base.specs.declared.moves.Move.{Move}
 use Rattle.mps_buffer.specs.Points.{WereMadeBefore}
 use Rattle.mps_format.specs.Layout.{Layout}
-use Rattle.mps_model.specs.declared.call.Call.TheVariants as call
-use Rattle.mps_model.specs.declared.reply.Reply.TheVariants as reply
-use Rattle.mps_model.specs.Answer.{Replied}
-use Rattle.mps_model.specs.Checked.{done}
 use Rattle.mps_model.specs.Graph.{contains, ids_in_blocks, ids_of_client, targets}
 use Rattle.mps_model.specs.World as world
 use Rattle.mps_model.specs.World.{World, Pool, PoolKind, Collected, OneSize, AnySize, Frames, is_automatic_kind, is_copying_kind, pool_is, ids_in_pairs, is_live, is_running, live_ids}
@@ -30,24 +25,23 @@ use Rattle.mps_abstract.specs.Colours.{AllReferredLive}
 use Rattle.mps_abstract.specs.Collecting.{Collecting}
 use Rattle.mps_abstract.specs.Units.{Ends}
 use Rattle.mps_abstract.specs.FlipLaws.{IsAtRest, collecting_after_flip, FixesHeld}
-use Rattle.mps_abstract.specs.WholeLaws.{IsCollectDone, IsWholeDone}
+use Rattle.mps_abstract.specs.WholeLaws.{IsWholeDone}
 use Rattle.mps_abstract.proofs.Addresses.{listed_is_live, live_is_listed}
 use Rattle.mps_abstract.proofs.Lists.{contains_cases, contains_here, contains_later, contains_left, contains_right, list_all-members}
 use Rattle.mps_abstract.proofs.FlipActs.FlipBegins.{flip_done, flip_ended}
 use Rattle.mps_abstract.proofs.Rows.{last_units_done}
 use Rattle.mps_abstract.proofs.WholeCollections.WholeBegins.{nothing_remembered, begun_running}
 use Rattle.mps_abstract.proofs.WholeCollections.WholeEnds.{a_whole_collection}
-use Rattle.mps_refinement.specs.RightStep.{IsRightIn, step_of}
-use Rattle.mps_refinement.specs.StandsFor.{AreChains, AreParts, IsReached, Past, Time, time_at_rest}
+use Rattle.mps_refinement.specs.StandsFor.{AreChains, AreParts, Past, Time, rests, time_at_rest}
 use Rattle.mps_refinement.proofs.Parts.Registered.{registered_at_the_end}
 use Rattle.mps_refinement.proofs.Worlds.Known.{IsKnown}
-use Rattle.mps_refinement.proofs.Worlds.Reached.{reached_well_formed, reached_next}
-use Rattle.mps_refinement.proofs.Worlds.RestingActs.{resting_sound}
-use Rattle.mps_refinement.proofs.Worlds.RestingSteps.{IsMoving, moving_step}
-use Rattle.mps_refinement.proofs.Worlds.Steps.{moved_to_rest}
 use Rattle.mps_refinement.specs.Collect.Leaving.{IsCollected, AreInPlace}
 use Rattle.mps_refinement.specs.Collect.Standing.{IsCollectedHeap, world_collected}
-use Rattle.mps_refinement.proofs.Collect.Finished.{HasFinished, IsFinished}
+use Rattle.mps_refinement.proofs.Collect.Finished.{HasFinished}
+use Rattle.mps_refinement.proofs.Following.Made.{AreMade}
+use Rattle.mps_refinement.proofs.Worlds.InSteps.{laid_by_moves}
+use Rattle.mps_refinement.proofs.Worlds.LikeReached.{IsBare, formed_in_steps}
+use Rattle.mps_model.specs.Collecting.{with_state}
 use Rattle.mps_refinement.proofs.Collect.FlipActs.{nothing_in_place}
 use Rattle.mps_refinement.proofs.Collect.Leavings.{a_collection_moves_objects}
 use Rattle.mps_refinement.proofs.Collect.CollectedParts.{blocks_are_manual, flipped_parts}
@@ -145,74 +139,45 @@ module _ {F : Type 0} (layout : F → Layout) where
       }
 
   module _ (past : Past) (h after : HeapState F) (w : World) (parts : AreParts layout past h w) (known : IsKnown past.time w)
-      (made : WereMadeBefore (length w.flips) h.points) (acted : Collecting) (ms : List Move)
+      (bare : IsBare w) (made : WereMadeBefore (length w.flips) h.points) (acted : Collecting) (ms : List Move)
       (c : IsCollection w acted ms) where
     abbrev v : World
     v = world_collected w ms
 
-    none_runs : v.collection ≡ None
-    none_runs = c.leaves.ended
+    live_then : HeldAreLive v
+    live_then = live_after w acted ms known.formed known.live c (world.Parked []) refl
+
+    formed_then : IsWellFormed (with_state (world_after_moves w ms) world.Unclamped)
+    formed_then =
+        formed_in_steps w ms bare.like (c.whole.legal None) (laid_by_moves w bare.like ms (c.whole.legal None)) live_then.client
 
     module _ (heap : IsCollectedHeap past w h after acted.world.addresses v)
         (summed : AreWordsSummed layout (map policy_of_pool h.pools) after.segs) where
-      -- after the moves that finish what ran before
-      module _ (from : World) (earlier : List Move) (finished : IsFinished from earlier w) (line : ℕ) where
-        abbrev both : List Move
-        both = earlier ++ ms
-
-        both_done : IsCollectDone from both
-        both_done = finished.collected ms c.whole
-
-        moves : IsMoving from call.Collect both (Replied reply.Ok) (done (world_collected w ms))
-        moves = record {
-          legal = both_done.legal;
-          due = both_done.due;
-          comes = ap (λ (u : World). done (record u { state = world.Parked [] }))
-              (world_after_moves-append from earlier ms ∙ ap (λ u. world_after_moves u ms) finished.leads);
-          answers = refl;
-          marked = tt;
-          supported = refl;
-          sound = resting_sound v none_runs (live_after w acted ms known.formed known.live c (world.Parked []) refl);
-        }
-
-        formats_then : v.formats ≡ from.formats
-        formats_then = ap (λ (u : World). u.formats) c.leaves.but_collected.world ∙ finished.formats
-
-        -- the world after it is reached, so what is registered is live
-        reached_then : IsReached v
-        reached_then =
-            let step = moving_step from line call.Collect both (Replied reply.Ok) (done v) moves in
-            let same : world_after from (step_of line call.Collect both (Replied reply.Ok)) ≡ v =
-            step.world ∙ with_client_remembered-none v none_runs in
-            subst IsReached same
-            (reached_next from (step_of line call.Collect both (Replied reply.Ok)) finished.reached step.legal
-            (ap (λ (u : World). u.formats) same ∙ formats_then) refl)
-
-        pub collection_is_right : h.running ≡ None → IsRightIn layout from (step_of line call.Collect both (Replied reply.Ok)) after
-        collection_is_right none_running =
-            moved_to_rest layout time_at_rest from line call.Collect both (Replied reply.Ok) after (done v) refl formats_then
-            finished.reached moves
-            (record {
-              past = record past { time = time_at_rest };
-              timed = refl;
-              parts = flipped_parts layout past h after w parts known.formed made acted (world_after_moves w ms) _ c.leaves.but_collected
-                  (world.Parked []) time_at_rest heap.flipped (record {
-                    manual = c.places.manual;
-                    pinned = c.places.pinned;
-                    holds = c.places.holds;
-                    held = c.places.held;
-                    held_live = c.places.held_live;
-                  }) heap.image
-                  (registered_at_the_end v after.finals heap.finals (reached_well_formed v reached_then).registered)
-                  heap.finals.waiting summed;
-            })
-            (record {
-              none = none_runs;
-              time = refl;
-              not_running = heap.running ∙ none_running;
-              not_condemned = heap.not_condemned;
-              not_kept = heap.not_kept;
-            })
+      -- what it leaves represents the world after it
+      pub collection_made : h.running ≡ None → AreMade layout w ms v time_at_rest after
+      collection_made none_running = record {
+        legal = c.whole.legal None;
+        has = record {
+          past = record past { time = time_at_rest };
+          timed = refl;
+          parts = flipped_parts layout past h after w parts known.formed bare.none made acted (world_after_moves w ms) _
+              c.leaves.but_collected (world.Parked []) time_at_rest heap.flipped (record {
+                manual = c.places.manual;
+                pinned = c.places.pinned;
+                holds = c.places.holds;
+                held = c.places.held;
+                held_live = c.places.held_live;
+              }) heap.image (registered_at_the_end v after.finals heap.finals formed_then.registered) heap.finals.waiting summed;
+        };
+        now = rests (record {
+          none = c.leaves.ended;
+          time = refl;
+          not_running = heap.running ∙ none_running;
+          not_condemned = heap.not_condemned;
+          not_kept = heap.not_kept;
+        });
+        live = live_then;
+      }
 
   -- ---- where something is condemned
 
@@ -234,17 +199,16 @@ module _ {F : Type 0} (layout : F → Layout) where
         referred_live = subst (λ (u : World). AllReferredLive u.graph (is_live u)) (sym leads) last.referred_live;
       }
 
-  -- a `collect`, where something is condemned once what ran before is finished
-  pub collect_is_right : (h after : HeapState F) (from : World) (earlier : List Move) (w : World) (line : ℕ) (first later : List Move)
-      (y : Collecting) (count : ℕ) (st : HasFinished layout h from earlier w) → WereMadeBefore (length w.flips) h.points
-      → is_nothing (condemned_by w Everything) ≡ false → FixesHeld w (collecting_after_flip w Everything []) first y → Ends y count later
+  pub collect_made : (h after : HeapState F) (w : World) (first later : List Move) (y : Collecting) (count : ℕ)
+      (st : HasFinished layout h w) → WereMadeBefore (length w.flips) h.points → is_nothing (condemned_by w Everything) ≡ false
+      → FixesHeld w (collecting_after_flip w Everything []) first y → Ends y count later
       → IsCollectedHeap st.past w h after y.world.addresses (world_collected w (flip_act w Everything ++ later))
       → AreWordsSummed layout (map policy_of_pool h.pools) after.segs
-      → IsRightIn layout from (step_of line call.Collect (earlier ++ (flip_act w Everything ++ later)) (Replied reply.Ok)) after
-  collect_is_right h after from earlier w line first later y count st made some fixed ends heap summed =
+      → AreMade layout w (flip_act w Everything ++ later) (world_collected w (flip_act w Everything ++ later)) time_at_rest after
+  collect_made h after w first later y count st made some fixed ends heap summed =
       let rest = may_begin st.past h w st.parts st.past.time st.known st.rest.none in
-      collection_is_right st.past h after w st.parts st.known made y (flip_act w Everything ++ later)
-      (ends_collection w first later y count rest some fixed ends) heap summed from earlier st.finished line st.rest.not_running
+      collection_made st.past h after w st.parts st.known st.bare made y (flip_act w Everything ++ later)
+      (ends_collection w first later y count rest some fixed ends) heap summed st.rest.not_running
 
   -- ---- where nothing is condemned
 
@@ -260,15 +224,13 @@ module _ {F : Type 0} (layout : F → Layout) where
         referred_live = ended.referred_live;
       }
 
-  -- a `collect` where nothing is condemned: slots and messages hold what they held
-  pub collect_of_nothing_is_right : (h after : HeapState F) (from : World) (earlier : List Move) (w : World) (line : ℕ)
-      (st : HasFinished layout h from earlier w) → WereMadeBefore (length w.flips) h.points
-      → is_nothing (condemned_by w Everything) ≡ true
+  -- slots and messages hold what they held
+  pub collect_of_nothing_made : (h after : HeapState F) (w : World) (st : HasFinished layout h w)
+      → WereMadeBefore (length w.flips) h.points → is_nothing (condemned_by w Everything) ≡ true
       → IsCollectedHeap st.past w h after w.addresses (world_collected w (flip_act w Everything))
       → AreWordsSummed layout (map policy_of_pool h.pools) after.segs
-      → IsRightIn layout from (step_of line call.Collect (earlier ++ flip_act w Everything) (Replied reply.Ok)) after
-  collect_of_nothing_is_right h after from earlier w line st made nothing heap summed =
-      collection_is_right st.past h after w st.parts st.known made (collecting_after_flip w Everything [])
+      → AreMade layout w (flip_act w Everything) (world_collected w (flip_act w Everything)) time_at_rest after
+  collect_of_nothing_made h after w st made nothing heap summed =
+      collection_made st.past h after w st.parts st.known st.bare made (collecting_after_flip w Everything [])
       (flip_act w Everything)
-      (nothing_collection w (may_begin st.past h w st.parts st.past.time st.known st.rest.none) nothing) heap summed from earlier
-      st.finished line st.rest.not_running
+      (nothing_collection w (may_begin st.past h w st.parts st.past.time st.known st.rest.none) nothing) heap summed st.rest.not_running

@@ -1,4 +1,4 @@
--- A `collect` of a heap that has finished what ran before is right, and keeps the room of its trail.
+-- A collection of everything of a heap at rest in which no object has a dependent, and that it keeps the room of its trail.
 use Rattle.std.proofs.Common.{◌≡◌, ◌∙◌, ℕ, suc, false, refl, sym, ap, subst, List, [], ◌++◌, length, Option, IsSome, arith, map}
 use Rattle.std.proofs.lemmas.List.{append_assoc}
 use Rattle.mps_base.specs.Address.{Address, Id}
@@ -6,9 +6,6 @@ use Rattle.mps_base.specs.Trail.{Moves}
 use Rattle.mps_base.specs.declared.moves.Move.{Move}
 use Rattle.mps_buffer.specs.Points.{WereMadeBefore}
 use Rattle.mps_format.specs.Layout.{Layout}
-use Rattle.mps_model.specs.declared.call.Call.TheVariants as call
-use Rattle.mps_model.specs.declared.reply.Reply.TheVariants as reply
-use Rattle.mps_model.specs.Answer.{Replied}
 use Rattle.mps_model.specs.Effect.{Everything, condemned_by, condemned_zones, world_flipped, world_after_moves}
 use Rattle.mps_model.specs.Flip.{flip_act, is_nothing}
 use Rattle.mps_model.specs.World.{World, area_words}
@@ -36,10 +33,14 @@ use Rattle.mps_trace_laws.proofs.Begin.CondemnedIds.{everything_may}
 use Rattle.mps_trace.specs.declared.condemn.Condemn.TheVariants as condemn
 use Rattle.mps_trace_laws.specs.Begin.Begun.{AreRootsHeld, IsActDone, ACollectionBegins, ACollectionOfNothingEnds, IsOverAtOnce}
 use Rattle.mps_refinement.specs.RightMoving.{KeepsRoom}
-use Rattle.mps_refinement.specs.RightStep.{IsRightIn, step_of}
+use Rattle.mps_abstract.specs.WholeLaws.{IsWholeDone}
+use Rattle.mps_abstract.proofs.WholeCollections.WholeEnds.{a_whole_collection}
+use Rattle.mps_refinement.specs.Collect.Standing.{world_collected}
+use Rattle.mps_refinement.specs.StandsFor.{time_at_rest}
+use Rattle.mps_refinement.proofs.Following.Made.{AreMade}
 use Rattle.mps_abstract.specs.Leaving.{IsButCollected}
 use Rattle.mps_refinement.proofs.Collect.ActedRoots.{IsInOrder, tables_acted}
-use Rattle.mps_refinement.proofs.Collect.CollectIsRight.{collect_is_right, collect_of_nothing_is_right}
+use Rattle.mps_refinement.proofs.Collect.CollectIsRight.{collect_made, collect_of_nothing_made}
 use Rattle.mps_refinement.proofs.Collect.CollectedHeaps.{IsLeft, collected_heap, left_at_once, something_condemned}
 use Rattle.mps_refinement.proofs.Collect.CollectedSegments.{none_condemned, none_kept}
 use Rattle.mps_refinement.proofs.Collect.Finished.{HasFinished}
@@ -64,13 +65,13 @@ pub record IsBefore {F : Type 0} (layout : F → Layout) (h : HeapState F) (m : 
   pub areas : AreWordsShown (words_of_areas h.roots.areas) (area_words w)
   pub ordered : (key : ℕ) → IsSome (kept h.roots.tables key) → IsInOrder h.roots key
 
--- the call made these moves after those that finish what ran before, rightly in a world
-pub record IsRightThere {F : Type 0} (layout : F → Layout) (from : World) (earlier : List Move) (m m' : Moves) (h' : HeapState F) : Type 0
-  where
-    pub moves : List Move
-    pub appended : m'.moves ≡ m.moves ++ moves
-    pub right : (line : ℕ) → IsRightIn layout from (step_of line call.Collect (earlier ++ moves) (Replied reply.Ok)) h'
-    pub room : KeepsRoom m m'
+-- a collection of everything: its moves are one, legal whatever was before them, and the heap represents the world after them, parked
+pub record IsWholeMade {F : Type 0} (layout : F → Layout) (w : World) (m : Moves) (h' : HeapState F) (m' : Moves) : Type 0 where
+  pub moves : List Move
+  pub appended : m'.moves ≡ m.moves ++ moves
+  pub made : AreMade layout w moves (world_collected w moves) time_at_rest h'
+  pub whole : IsWholeDone w moves
+  pub room : KeepsRoom m m'
 
 module _ {F : Type 0} (layout : F → Layout) (begins : ACollectionBegins F) (nothing_ends : ACollectionOfNothingEnds F)
     (scans : (formats : List (Option (Policy F))) (of : ChainsState) (at_flip : List (Option Address))
@@ -90,7 +91,7 @@ module _ {F : Type 0} (layout : F → Layout) (begins : ACollectionBegins F) (no
   abbrev most : ℕ
   most = most_units h.segs.grains (length h.finals.registered)
 
-  module _ (from : World) (earlier : List Move) (w : World) (st : HasFinished layout h from earlier w) (known : IsBefore layout h m w) where
+  module _ (w : World) (st : HasFinished layout h w) (known : IsBefore layout h m w) where
     before : StandsBefore layout t h.segs m h.points w
     before = known.stands t collected.of_pools
 
@@ -172,17 +173,18 @@ module _ {F : Type 0} (layout : F → Layout) (begins : ACollectionBegins F) (no
           (begin_keeps layout t h.segs m h.points h.roots h'.roots h.finals f w known.rows b run condemn.Everything before may known.areas
           known.roots summed_before begun) ends
 
-      pub right_in_units : IsRightThere layout from earlier m m' h'
+      pub right_in_units : IsWholeMade layout w m h' m'
       right_in_units = record {
         moves = flip_act w Everything ++ last.moves;
         appended =
             last.trail ∙ ap (λ ms. ms ++ last.moves) (act.trail ∙ ap (λ ms. m.moves ++ ms) (sym act_leads.act))
             ∙ append_assoc m.moves (flip_act w Everything) last.moves;
-        right = λ line.
-            collect_is_right layout h h' from earlier w line act.first last.moves y (suc ends.count) st
+        made =
+            collect_made layout h h' w act.first last.moves y (suc ends.count) st
             made_then some act.fixes last.units
             (collected_heap layout st.past h w st.parts m h' m' collected before y.world.addresses u moved left)
             (summed_then summed_in_units);
+        whole = a_whole_collection.0 w act.first last.moves y (suc ends.count) rest some act.fixes last.units;
         room =
             units_keep_room layout t w.addresses m b z f h'.finals run y most (scans t.formats t.chains w.addresses)
             act.stands (begin_pushes layout t condemn.Everything h.points h.roots h'.roots h.finals f x b run begun) ends;
@@ -201,13 +203,13 @@ module _ {F : Type 0} (layout : F → Layout) (begins : ACollectionBegins F) (no
       moved_at_once : IsButCollected (world_flipped w (condemned_zones w Everything)) v
       moved_at_once = (a_collection_moves_objects.2 w before.objects.rest over.nothing).but_collected
 
-      pub right_at_once : IsRightThere layout from earlier m m' h'
+      pub right_at_once : IsWholeMade layout w m h' m'
       right_at_once = record {
         moves = flip_act w Everything;
         appended = over.trail;
-        right = λ line.
-            collect_of_nothing_is_right layout h h' from earlier w line st made_then
-            over.nothing
+        whole = a_whole_collection.1 w before.objects.rest over.nothing;
+        made =
+            collect_of_nothing_made layout h h' w st made_then over.nothing
             (collected_heap layout st.past h w st.parts m h' m' collected before w.addresses v moved_at_once
             (left_at_once layout st.past h w st.parts st.rest.time m t before condemn.Everything refl h' collected.after m' ends over))
             (summed_then (at_once_summed layout t.formats t.chains condemn.Everything h.points h.roots h'.roots h.finals h'.finals x z ends
@@ -217,7 +219,7 @@ module _ {F : Type 0} (layout : F → Layout) (begins : ACollectionBegins F) (no
             (let room = before.room in omega (arith, room));
       }
 
-    pub right_there : IsRightThere layout from earlier m m' h'
+    pub right_there : IsWholeMade layout w m h' m'
     right_there = elim collected.collects [
       | at_once ends ↦ right_at_once ends
       | in_units {between = b} {finals_between = f} run begun ends ↦ right_in_units b f run begun ends

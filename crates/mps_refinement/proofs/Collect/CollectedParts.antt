@@ -65,8 +65,8 @@ blocks_are_manual w formed id there =
     manual_is (Some o) e = not_true (is_automatic o) e
 
 module _ {F : Type 0} (layout : F → Layout) (past : Past) (h after : HeapState F) (w : World) (parts : AreParts layout past h w)
-    (formed : IsWellFormed w) (made : WereMadeBefore (length w.flips) h.points) (acted : Collecting) (u : World)
-    (zones : ℕ) (left : IsButCollected (world_flipped w zones) u) (state : world.ArenaState) where
+    (formed : IsWellFormed w) (none : w.graph.dependents ≡ []) (made : WereMadeBefore (length w.flips) h.points) (acted : Collecting)
+    (u : World) (zones : ℕ) (left : IsButCollected (world_flipped w zones) u) (state : world.ArenaState) where
   -- the world after it, with the arena in another state
   abbrev pub there : World
   there = record u { state = state }
@@ -178,7 +178,6 @@ module _ {F : Type 0} (layout : F → Layout) (past : Past) (h after : HeapState
       pools = subst (λ ps. ArePools layout w.formats ps w.pools) (sym heap.pools) parts.pools;
       sizes = heap.sizes ∙ (parts.sizes ∙ ap (map size_of_pool) (sym heap.pools));
       chains = subst (λ (c : ChainsState). AreChains c w.chains w.pools) (sym heap.chains) parts.chains;
-      dependents = left.unpaired parts.dependents;
       names =
           named_at past t after w.graph.names w.graph.labels
           (named_alike h after past w.graph.names w.graph.labels parts.names (λ name. ap (λ ns. thing_named ns name) heap.names)
@@ -189,8 +188,8 @@ module _ {F : Type 0} (layout : F → Layout) (past : Past) (h after : HeapState
           (beside_still _ _ _ _ parts.beside _ _ _
           (same_caches w.addresses left.addresses w.graph.caches (λ id there. places.manual id (blocks_are_manual w formed id
           (contains_right (ids_in_places w.graph) (ids_in_caches w.graph) id there))))
-          (ap (map (kept_pair w.addresses)) parts.dependents
-          ∙ sym (ap (map (kept_pair left.addresses)) (left.unpaired parts.dependents)))));
+          (ap (map (kept_pair w.addresses)) none
+          ∙ sym (ap (map (kept_pair left.addresses)) (left.unpaired none)))));
       transforms = subst (λ (b : BesideState). AreTransforms past.transform_number (world.is_copying_object v) v.addresses b.transforms
           v.graph.transforms (pairs_in v.state)) (sym heap.beside)
           (transforms_emptied past.transform_number (world.is_copying_object w) (world.is_copying_object v) w.addresses v.addresses

@@ -1,6 +1,6 @@
 -- The call `collect` of a heap that stands for a world: it can be done, it is right, and its trail keeps its room.
 use Rattle.mps_refinement.proofs.Parts.Resting.{registered_at_rest}
-use Rattle.std.proofs.Common.{◌∙◌, ◌+◌, ◌<◌, ◌≤◌, ap, List, length}
+use Rattle.std.proofs.Common.{◌∙◌, ◌+◌, ◌<◌, ◌≤◌, ap, length}
 use Rattle.std.proofs.lemmas.List.{length-map}
 use Rattle.mps_base.specs.Trail.{Moves}
 use Rattle.mps_format.specs.Layout.{Layout}
@@ -18,21 +18,19 @@ use Rattle.mps_refinement.proofs.Collect.CanCollect.{can_collect_all}
 use Rattle.mps_refinement.proofs.Collect.LiveIsFew.{units_are_below}
 use Rattle.mps_refinement.proofs.Parts.LaidSegments.{blocks_in_order}
 use Rattle.mps_refinement.proofs.Worlds.Ready.{all_reserved}
-use Rattle.mps_refinement.proofs.Collect.CollectRight.{IsBefore, IsRightThere, right_there}
+use Rattle.mps_refinement.proofs.Collect.CollectRight.{IsBefore, IsWholeMade, right_there}
 use Rattle.mps_refinement.proofs.Collect.Finished.{HasFinished}
 use Rattle.mps_heap_spec.specs.Collecting.{CanCollectAll, IsCollected}
-use Rattle.mps_base.specs.declared.moves.Move.{Move}
 use Rattle.mps_buffer.specs.Points.{WereMadeBefore}
 use Rattle.mps_seg.specs.Table.{IsMarked}
 
 -- ---- once what ran before is finished
 
-module _ {F : Type 0} (layout : F → Layout) (h : HeapState F) (m : Moves) (from : World) (earlier : List Move) (w : World)
-    (st : HasFinished layout h from earlier w)
+module _ {F : Type 0} (layout : F → Layout) (h : HeapState F) (m : Moves) (w : World) (st : HasFinished layout h w)
     (marked : IsMarked h.segs.grains h.segs.marks h.segs.condemned h.segs.summaries) (room : most_moves h.segs.grains ≤ m.spare) where
   -- all that has to be known of it before
   before : IsBefore layout h m w
-  before = is_before layout st.past h w st.parts st.known st.rest marked m room
+  before = is_before layout st.past h w st.parts st.known st.bare.none st.rest marked m room
 
   -- it has fewer units than it does at most
   units_few : length (live_ids w) + length w.graph.registered + length w.segments
@@ -49,9 +47,9 @@ module _ {F : Type 0} (layout : F → Layout) (h : HeapState F) (m : Moves) (fro
       can_collect_all layout h m w (all_reserved layout st.past h w st.parts) before
       (a_collection_begins flip_stands) units_are_few (scans_are_done layout) units_few
 
-  -- and then the moves of both are a `collect`
+  -- and then that is one of everything
   pub a_finished_heap_collects : (h' : HeapState F) (m' : Moves) → WereMadeBefore h.points.flips h.points → IsCollected layout h m h' m'
-      → IsRightThere layout from earlier m m' h'
+      → IsWholeMade layout w m h' m'
   a_finished_heap_collects h' m' made collected =
-      right_there layout (a_collection_begins flip_stands) a_collection_of_nothing_ends (scans_are_done layout) h m h' m' collected made
-      from earlier w st before
+      right_there layout (a_collection_begins flip_stands) a_collection_of_nothing_ends (scans_are_done layout) h m h' m'
+      collected made w st before

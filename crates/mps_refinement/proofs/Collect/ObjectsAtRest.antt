@@ -1,5 +1,5 @@
 -- The objects of a heap at rest: what is registered is live and automatic, none that a collection moves is weak, and none has a dependent.
-use Rattle.std.proofs.Common.{None, ◌≡◌, ◌∙◌, ℕ, true, false, refl, sym, ap, Option, Some, length}
+use Rattle.std.proofs.Common.{None, ◌≡◌, ◌∙◌, ℕ, true, false, refl, sym, ap, [], Option, Some, length}
 use Rattle.std.proofs.lemmas.Bool.{and_parts, false≢true}
 use Rattle.std.specs.Prelude.{IsTrue, slice_get}
 use Rattle.std.specs.Option.{option_map_or}
@@ -46,14 +46,14 @@ registered_are_due w formed = record {
 -- ---- all of them
 
 module _ {F : Type 0} (layout : F → Layout) (past : Past) (h : HeapState F) (w : World) (parts : AreParts layout past h w)
-    (t : Time) (known : IsKnown t w) (none : w.collection ≡ None)
+    (t : Time) (known : IsKnown t w) (none : w.collection ≡ None) (alone : w.graph.dependents ≡ [])
   where
     pub objects_at_rest : AreObjectsAtRest w
     objects_at_rest = record {
       rest = may_begin layout past h w parts t known none;
       due = registered_are_due w known.formed;
       strong_moving = strong_moving w known.graph;
-      none_dependent = parts.dependents;
+      none_dependent = alone;
       shaped = well_formed_is_shaped w parts.lawful known.formed;
       targets_live = targets_live w none (resting_sound w none known.live);
     }

@@ -3,7 +3,7 @@
 use Rattle.std.proofs.Common.{◌≡◌, ◌∙◌, ℕ, ◌+◌, Bool, true, false, refl, sym, ap, subst, List, [], ◌∷◌, Option, Some, None}
 use Rattle.std.proofs.lemmas.Bool.{and_from, and_parts, false≢true}
 use Rattle.std.proofs.lemmas.Option.{none-some, same_Some}
-use Rattle.std.specs.Prelude.{◌==◌, ◌&&◌, if◌then◌else◌, is_some, not, option_and_then, option_map, slice_set}
+use Rattle.std.specs.Prelude.{◌==◌, ◌&&◌, if◌then◌else◌, is_some, not, option_and_then, option_map, slice_get, slice_set}
 use Rattle.std.specs.List.{list_all}
 use Rattle.std.specs.Option.{option_map_or}
 use Rattle.mps_base.specs.Address.{Address, Id}
@@ -79,6 +79,10 @@ cleared_laid limit v (c ∷ cs) laid =
     (sym (ap (λ (ss : List Shape). record (occupancy_of (cleared v cs)) { shapes = ss })
     (cells_kept (cleared v cs).graph c.0 (null_in c.1) (λ cells. length-with_target_cell cells c.1 None))))
     (cleared_laid limit v cs laid)
+
+-- moves lead to a world with these objects, where they lie there
+abbrev pub LeadsTo : World → List Move → World → Type 0
+LeadsTo w ms v = ((world_after_moves w ms).graph.objects ≡ v.graph.objects) × ((world_after_moves w ms).addresses ≡ v.addresses)
 
 -- ---- what one move does to a heap
 
@@ -193,7 +197,7 @@ module _ {F : Type 0} (layout : F → Layout) (past : Past) (is_weak : Id → Bo
     -- ---- a splat
 
     module _ (holder : _) (cell : ℕ) (none : none_flips ms ≡ true) (legal : AreLegalMoves w before (moves.Splat holder cell ∷ ms))
-        (leads : world_after_moves w (moves.Splat holder cell ∷ ms) ≡ v) where
+        (leads : LeadsTo w (moves.Splat holder cell ∷ ms) v) where
       abbrev m : Move
       m = moves.Splat holder cell
 
@@ -224,7 +228,7 @@ module _ {F : Type 0} (layout : F → Layout) (past : Past) (is_weak : Id → Bo
             of_object None e automatic = absurd (false≢true automatic)
             of_object (Some o) e automatic =
                 let grown = (moves_well w before (m ∷ ms) at_hand.sound legal).grown.objects d o e in
-                subst (λ (u : World). object_is is_automatic u d ≡ true) leads
+                subst (λ (os : List Object). option_map_or is_automatic (slice_get os d) false ≡ true) leads.0
                 (ap (λ x. option_map_or is_automatic x false) grown.1 ∙ grown.2.kind ∙ automatic)
 
         -- the cell of the dependent is one that was cleared
@@ -238,7 +242,7 @@ module _ {F : Type 0} (layout : F → Layout) (past : Past) (is_weak : Id → Bo
             one_lay w (id_at w holder.0) (λ n. after_splat w n cell) (λ n k b there. there) j a
             (moves_lay is_weak (world_after_move w m) (following_move w f m) (Some m) ms
             (followable_after is_weak w f at_hand.followable m refl) some none legal.1 j a
-            (subst (λ (u : World). entry_at u.addresses j ≡ Some a) (sym leads) e))
+            (subst (λ (ats : List (Option Address)). entry_at ats j ≡ Some a) (sym leads.1) e))
 
         abbrev alone : HeapState F
         alone = with_dependents h []
@@ -283,7 +287,7 @@ module _ {F : Type 0} (layout : F → Layout) (past : Past) (is_weak : Id → Bo
 
     -- ---- any move
 
-    represents_then : (m : Move) → none_flips ms ≡ true → AreLegalMoves w before (m ∷ ms) → world_after_moves w (m ∷ ms) ≡ v
+    represents_then : (m : Move) → none_flips ms ≡ true → AreLegalMoves w before (m ∷ ms) → LeadsTo w (m ∷ ms) v
         → Represents (move_followed layout h m) (following_move w f m).cells
     represents_then (moves.Splat holder cell) none legal leads = splatted holder cell none legal leads
     represents_then (moves.Free at) none legal leads =
@@ -299,7 +303,7 @@ module _ {F : Type 0} (layout : F → Layout) (past : Past) (is_weak : Id → Bo
     represents_then (moves.Alloc at words pool) none legal leads = at_hand.represents
 
     -- a flip, or a move that is legal after it
-    pub next : (m : Move) → none_flips ms ≡ true → AreLegalMoves w before (m ∷ ms) → world_after_moves w (m ∷ ms) ≡ v
+    pub next : (m : Move) → none_flips ms ≡ true → AreLegalMoves w before (m ∷ ms) → LeadsTo w (m ∷ ms) v
         → IsFollowable is_weak (world_after_move w m) (following_move w f m) → (needs_none m ≡ true → f.cells ≡ [])
         → IsLegalMove (followed w f) before m (first_move ms)
         → IsOnTheWay (world_after_move w m) (following_move w f m) (move_followed layout h m)
@@ -323,9 +327,9 @@ module _ {F : Type 0} (layout : F → Layout) (past : Past) (is_weak : Id → Bo
 
   -- after moves of which none is a flip
   all_followed : (w : World) (f : Following) (h : HeapState F) (before : Option Move) (ms : List Move) → IsOnTheWay w f h
-      → none_flips ms ≡ true → AreLegalMoves w before ms → world_after_moves w ms ≡ v
-      → IsOnTheWay v (following w f ms) (moves_followed layout h ms)
-  all_followed w f h before [] at_hand none legal leads = subst (λ (u : World). IsOnTheWay u f h) leads at_hand
+      → none_flips ms ≡ true → AreLegalMoves w before ms → LeadsTo w ms v
+      → IsOnTheWay (world_after_moves w ms) (following w f ms) (moves_followed layout h ms)
+  all_followed w f h before [] at_hand none legal leads = at_hand
   all_followed w f h before (m ∷ ms) at_hand none legal leads =
       let parts = and_parts (not (is_flip m)) (none_flips ms) none in
       let no_flip = not_flip (is_flip m) parts.0 in
@@ -336,9 +340,9 @@ module _ {F : Type 0} (layout : F → Layout) (past : Past) (is_weak : Id → Bo
 
   -- after moves of one collection
   pub one_followed : (w : World) (f : Following) (h : HeapState F) (before : Option Move) (ms : List Move) → IsOnTheWay w f h
-      → f.cells ≡ [] → are_of_one ms ≡ true → AreLegalMoves w before ms → world_after_moves w ms ≡ v
-      → IsOnTheWay v (following w f ms) (moves_followed layout h ms)
-  one_followed w f h before [] at_hand uncleared one legal leads = subst (λ (u : World). IsOnTheWay u f h) leads at_hand
+      → f.cells ≡ [] → are_of_one ms ≡ true → AreLegalMoves w before ms → LeadsTo w ms v
+      → IsOnTheWay (world_after_moves w ms) (following w f ms) (moves_followed layout h ms)
+  one_followed w f h before [] at_hand uncleared one legal leads = at_hand
   one_followed w f h before (m ∷ ms) at_hand uncleared one legal leads =
       all_followed (world_after_move w m) (following_move w f m) (move_followed layout h m) (Some m) ms
       (next w f h at_hand before ms m one legal leads (after_first m) (λ e. uncleared)
@@ -372,7 +376,7 @@ pub record IsFollowedTo {F : Type 0} (layout : F → Layout) (past : Past) (v : 
 pub moves_are_followed : {F : Type 0} (layout : F → Layout) (past : Past) (w v : World) (made : HeapState F) (limit : ℕ)
     (before : Option Move) (ms : List Move) → IsSoundGraph w → HasLayout limit w → ArePaired w
     → AreDependents w.addresses made.beside.dependents w.graph.dependents → are_of_one ms ≡ true → AreLegalMoves (unpaired w) before ms
-    → world_after_moves (unpaired w) ms ≡ v → IsSoundGraph v → HasLayout (v.grains + 1) v → ReadsBy past.time made.running
+    → LeadsTo (unpaired w) ms v → IsSoundGraph v → HasLayout (v.grains + 1) v → ReadsBy past.time made.running
     → AreParts layout past (with_dependents made []) v
     → IsFollowedTo layout past v (following (unpaired w) (nothing_followed w) ms) (moves_followed layout made ms)
 moves_are_followed layout past w v made limit before ms sound laid paired kept one legal leads sound_then laid_then reads parts =
@@ -398,4 +402,8 @@ moves_are_followed layout past w v made limit before ms sound laid paired kept o
       represents = parts;
     }) refl one legal leads
     in
-    record { parts = after.represents; pairs = after.kept }
+    record {
+      parts = after.represents;
+      pairs = subst (λ ats. AreDependents ats (moves_followed layout made ms).beside.dependents
+          (following (unpaired w) (nothing_followed w) ms).pairs) leads.1 after.kept;
+    }

@@ -16,12 +16,12 @@ use Rattle.mps_model.specs.Policy.{due_in, units_of_poll}
 use Rattle.mps_model.specs.Units.{AreUnits, IsBarrier}
 use Rattle.mps_model.specs.World.{World, is_running, is_unclamped}
 use Rattle.mps_laws.specs.Staying.{is_flip}
-use Rattle.mps_refinement.specs.Following.{DueMovesFollow, FlipActsAreSame, FollowedWorldsStayRight, SplatsFollow, are_of_one, followed, none_flips, nothing_followed, unpaired}
+use Rattle.mps_refinement.specs.Following.{ArePairsRight, DueMovesFollow, FlipActsAreSame, FollowedWorldsStayRight, SplatsFollow, are_of_one, followed, none_flips, nothing_followed, unpaired}
 use Rattle.mps_refinement.proofs.Following.Due.{act_is_of_one, finish_flips_none, finish_follows, full_follows, full_is_of_one, get_follows, poll_follows, step_follows}
 use Rattle.mps_refinement.proofs.Following.Flips.{act_same}
 use Rattle.mps_refinement.proofs.Following.Held.{asked_follows, held_kept_same, held_still, remembered_follows, units_left_same}
 use Rattle.mps_refinement.proofs.Following.OneCollection.{is_weak_in, nothing_followed_is, nothing_is_followable, one_leads, one_legal}
-use Rattle.mps_refinement.proofs.Following.Units.{barrier_flips_none, units_flip_none}
+use Rattle.mps_refinement.proofs.Following.Units.{are_units_follow, barrier_flips_none, units_flip_none}
 
 pub splats_follow : SplatsFollow
 splats_follow w before ms right one legal =
@@ -46,6 +46,15 @@ none_is_of_one (m ∷ ms) h = (and_parts (not (is_flip m)) (none_flips ms) h).1
 units_are_of_one : (w : World) (count : ℕ) (ms : List Move) → AreUnits w count ms → none_flips ms ≡ true
 units_are_of_one w count ms (Rattle.std.proofs.Common.inl h) = units_flip_none (is_weak_in w) h
 units_are_of_one w count ms (Rattle.std.proofs.Common.inr h) = units_flip_none (is_weak_in w) h.2
+
+-- units are, and they are units where objects have dependents too
+pub units_follow_so : (w : World) (before : Option Move) (count : ℕ) (ms : List Move) → ArePairsRight w
+    → AreLegalMoves (unpaired w) before ms → AreUnits (unpaired w) count ms → (are_of_one ms ≡ true) × AreUnits w count ms
+units_follow_so w before count ms right legal units = (
+  none_is_of_one ms (units_are_of_one (unpaired w) count ms units),
+  subst (λ v. AreUnits v count ms) (nothing_followed_is w)
+      (are_units_follow (is_weak_in w) (unpaired w) (nothing_followed w) before count ms (nothing_is_followable w right) legal units),
+)
 
 step_flips_none : (w : World) (count : ℕ) (ms : List Move) → AreMovesOfStep w count ms → none_flips ms ≡ true
 step_flips_none w count ms h = of_bool (is_unclamped w && is_running w) h

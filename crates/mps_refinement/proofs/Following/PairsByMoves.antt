@@ -2,7 +2,7 @@
 -- its object on both sides.
 use Rattle.std.proofs.Common.{◌≡◌, ◌∙◌, ℕ, Bool, true, false, true≢false, refl, sym, ap, subst, List, [], ◌∷◌, Option, Some, None}
 use Rattle.std.proofs.lemmas.Bool.{and_from, and_parts, eq-eqb, false≢true}
-use Rattle.std.specs.Prelude.{◌==◌, ◌&&◌, ◌≢◌, filter, if◌then◌else◌, is_some, not, slice_set}
+use Rattle.std.specs.Prelude.{◌==◌, ◌&&◌, filter, if◌then◌else◌, is_some, not, slice_set}
 use Rattle.std.specs.List.{list_all}
 use Rattle.std.specs.Option.{option_map_or}
 use Rattle.mps_base.specs.Address.{Address, Id}
@@ -13,18 +13,16 @@ use Rattle.mps_base.specs.declared.names.Kind.TheVariants as kind
 use Rattle.mps_dep.specs.Following.{followed_pairs}
 use Rattle.mps_dep.specs.State.{without_address}
 use Rattle.mps_dep.specs.declared.dependents.Pair.{Pair}
-use Rattle.mps_laws.proofs.Dependents.{ArePaired, moves_paired}
+use Rattle.mps_laws.proofs.Dependents.{ArePaired}
 use Rattle.mps_laws.proofs.Finding.{for_both, id_at-found}
 use Rattle.mps_laws.proofs.Lookups.{entry_at-set_other}
 use Rattle.mps_laws.proofs.Positions.LegalMoves.{HasLayout, different}
 use Rattle.mps_laws.proofs.Positions.Occupancy.{occupancy_of}
-use Rattle.mps_laws.proofs.Replays.ReplayOfMoves.{move_replayed}
 use Rattle.mps_laws.proofs.Sound.SoundGraph.{IsSoundGraph, each-weaker}
-use Rattle.mps_laws.proofs.Sound.SoundMoves.{move_well}
 use Rattle.mps_model.specs.Dependents.{may_depend}
-use Rattle.mps_model.specs.Effect.{after_free, after_moved, after_post, after_splat, holding, placing, reclaiming, segment_base_of, segment_of_move, where_one, with_collection, without_object, world_after_move, world_after_moves}
+use Rattle.mps_model.specs.Effect.{after_free, after_moved, after_post, after_splat, holding, placing, reclaiming, segment_base_of, segment_of_move, where_one, with_collection, without_object, world_after_move}
 use Rattle.mps_model.specs.Graph.{Object, entry_at, is_automatic, is_weak_object, object_at, without_named}
-use Rattle.mps_model.specs.LegalMove.{AreLegalMoves, IsLegalMove, IsLegalMoved, IsLegalSweep, first_move}
+use Rattle.mps_model.specs.LegalMove.{IsLegalMove, IsLegalMoved, IsLegalSweep}
 use Rattle.mps_model.specs.WellFormed.{is_right_pair}
 use Rattle.mps_model.specs.World.{World, Pool, PoolKind, AnySize, Collected, Frames, OneSize, id_at, is_copying_kind, is_copying_object, is_copying_pool, is_live, is_weak_kind, object_is, pool_at, pool_is, with_tail}
 use Rattle.mps_refinement.specs.Dependents.{AreDependents}
@@ -173,19 +171,3 @@ module _ (u : World) (sound : IsSoundGraph u) (paired : ArePaired u) where
           let b = for_both u.collection (id_at u at.0) (IsLegalSweep u) legal in
           subst (λ o. AreThen (where_one u o (λ id. after_free u id at.0)) (without_address kept at.0)) (sym b.is_second)
           (freed_are b.second at.0 (id_at-found u at.0 b.second b.is_second))
-
--- ---- moves, one after the other
-
--- the pairs after moves: none has a block that was freed
-abbrev pub pairs_followed : List Pair → List Move → List Pair
-pairs_followed kept [] = kept
-pairs_followed kept (m ∷ ms) = pairs_followed (followed_pairs kept m) ms
-
-pub moves_keep : (limit : ℕ) (u : World) (before : Option Move) (ms : List Move) (kept : List Pair) → HasLayout limit u → IsSoundGraph u
-    → ArePaired u → AreLegalMoves u before ms → AreDependents u.addresses kept u.graph.dependents
-    → AreDependents (world_after_moves u ms).addresses (pairs_followed kept ms) (world_after_moves u ms).graph.dependents
-moves_keep limit u before [] kept laid sound paired legal are = are
-moves_keep limit u before (m ∷ ms) kept laid sound paired legal are =
-    moves_keep limit (world_after_move u m) (Some m) ms (followed_pairs kept m)
-    (move_replayed limit u before m (first_move ms) 0 laid legal.0).layout (move_well u before m (first_move ms) sound legal.0).sound
-    (moves_paired u (m ∷ []) paired) legal.1 (move_keeps u sound paired kept are limit laid before m (first_move ms) legal.0)

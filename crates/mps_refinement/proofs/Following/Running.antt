@@ -1,5 +1,5 @@
 -- What the abstract collector promises stays true if cells of objects are cleared and pairs end, in every band.
-use Rattle.std.proofs.Common.{◌≡◌, ◌∙◌, ◌≤◌, Bool, true, false, sym, ap, List, length, map, subst}
+use Rattle.std.proofs.Common.{◌≡◌, ◌∙◌, ◌≤◌, Bool, true, false, sym, ap, List, length, subst}
 use Rattle.std.specs.Prelude.{option_map}
 use Rattle.std.proofs.lemmas.List.{length-map}
 use Rattle.mps_base.specs.Address.{Id}

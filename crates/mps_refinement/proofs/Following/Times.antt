@@ -3,7 +3,6 @@
 use Rattle.std.proofs.Common.{◌≡◌, ◌∙◌, ℕ, ◌≤◌, false, refl, sym, ap, List, [], length, Option, Some, None, subst}
 use Rattle.std.specs.Prelude.{option_map}
 use Rattle.mps_model.specs.Collection.{Collection}
-use Rattle.mps_model.specs.History.{HeldAreLive}
 use Rattle.mps_model.specs.WellFormed.{IsWellFormed}
 use Rattle.mps_model.specs.World.{World}
 use Rattle.mps_refinement.specs.Following.{Following, followed, paired_at_flip, unpaired}
@@ -93,7 +92,3 @@ unpaired_formed w formed = record {
   frames = formed.frames;
   dependencies = formed.dependencies;
 }
-
-pub unpaired_live : (w : World) → HeldAreLive w → HeldAreLive (unpaired w)
-unpaired_live w live =
-    record { client = live.client; blocks = live.blocks; referred = live.referred; transforms = live.transforms }

@@ -1,23 +1,18 @@
 -- After a flip of a heap at most one unit is left for each block in a segment that it condemned or remembers, for each registration, and
 -- for each condemned segment.
-use Rattle.std.proofs.Common.{◌≡◌, ◌≤◌, true, refl, sym, ap, subst, List, length, map, Option, Some, None, arith}
+use Rattle.std.proofs.Common.{◌≡◌, ◌≤◌, refl, ap, subst, List, length, map, Option, Some, None, arith}
 use Rattle.std.specs.Prelude.{IfSome}
-use Rattle.std.specs.List.{list_all}
 use Rattle.mps_base.specs.Address.{Id}
 use Rattle.mps_base.specs.Segment.{Segment}
 use Rattle.mps_base.specs.Trail.{Moves}
-use Rattle.mps_base.specs.declared.moves.Move.{Move}
 use Rattle.mps_buffer.specs.Points.{WereMadeBefore}
 use Rattle.mps_format.specs.Layout.{Layout}
 use Rattle.mps_format.specs.Pools.{policy_of_pool}
-use Rattle.mps_laws.proofs.WellFormedHistories.{worlds_in_steps_are_well_formed}
 use Rattle.mps_model.specs.Collecting.{with_state}
 use Rattle.mps_model.specs.Effect.{Condemnation, condemned_zones, world_after_moves}
 use Rattle.mps_model.specs.Flip.{flip_act}
-use Rattle.mps_model.specs.Graph.{ids_of_client}
-use Rattle.mps_model.specs.LegalMove.{AreLegalMoves}
 use Rattle.mps_model.specs.WellFormed.{IsWellFormed}
-use Rattle.mps_model.specs.World.{World, Unclamped, is_live}
+use Rattle.mps_model.specs.World.{World, Unclamped}
 use Rattle.mps_seg.specs.Table.{IsMarked}
 use Rattle.mps_trace.specs.Begin.{Begins}
 use Rattle.mps_trace.specs.Collect.{most_moves}
@@ -35,7 +30,7 @@ use Rattle.mps_trace_laws.specs.Flip.Condemned.{condemnation}
 use Rattle.mps_heap_spec.specs.Collecting.{IsStarted}
 use Rattle.mps_heap_spec.specs.State.{HeapState}
 use Rattle.mps_heap_spec.specs.declared.arena.ArenaState.TheVariants as arena
-use Rattle.mps_refinement.specs.StandsFor.{AreParts, IsReached, Past, Rests, collector_of}
+use Rattle.mps_refinement.specs.StandsFor.{AreParts, Past, Rests, collector_of}
 use Rattle.mps_refinement.specs.UnitsLeft.{most_units_after, units_left}
 use Rattle.mps_refinement.proofs.Collect.CollectedHeaps.{heap_flipped}
 use Rattle.mps_refinement.proofs.Left.AfterUnits.{none_at_rest}
@@ -44,10 +39,12 @@ use Rattle.mps_refinement.proofs.Left.FlipBounds.{condemned_are_few, remembered_
 use Rattle.mps_refinement.proofs.Parts.Registered.{as_many}
 use Rattle.mps_refinement.proofs.Units.Flips as flips
 use Rattle.mps_refinement.proofs.Units.Flips.{IsFlipped}
+use Rattle.mps_refinement.proofs.Worlds.InSteps.{laid_by_moves}
 use Rattle.mps_refinement.proofs.Worlds.Known.{IsKnown}
+use Rattle.mps_refinement.proofs.Worlds.LikeReached.{IsBare, formed_in_steps}
 
 module _ {F : Type 0} (layout : F → Layout) (past : Past) (h : HeapState F) (w : World) (parts : AreParts layout past h w)
-    (known : IsKnown past.time w) (rest : Rests past.time (collector_of h) w) (reach : IsReached w)
+    (known : IsKnown past.time w) (rest : Rests past.time (collector_of h) w) (bare : IsBare w)
     (made : WereMadeBefore h.points.flips h.points) (of : IsTraceOf h.pools h.chains (trace_of h.pools h.chains h.tails))
     (marked : IsMarked h.segs.grains h.segs.marks h.segs.condemned h.segs.summaries) (m : Moves) (room : most_moves h.segs.grains ≤ m.spare)
     (what : Condemn) (may : MayCondemn (trace_of h.pools h.chains h.tails) h.segs w what) (h' : HeapState F) (m' : Moves) where
@@ -66,39 +63,35 @@ module _ {F : Type 0} (layout : F → Layout) (past : Past) (h : HeapState F) (w
     abbrev u : World
     u = with_state (world_after_moves w (flip_act w c)) Unclamped
 
-    flipped : IsFlipped layout past w c m h' m'
-    flipped = flips.begun_flip layout past h w parts known rest reach made of marked m room what may h' m' state run running begun
+    flipped : IsFlipped layout w c m h' m'
+    flipped = flips.begun_flip layout past h w parts known rest bare made of marked m room what may h' m' state run running begun
 
     formed : IsWellFormed u
     formed =
-        let ms : List Move = flip_act w c in
-        subst (λ (v : World). IsWellFormed (with_state (world_after_moves v ms) Unclamped)) (sym reach.is)
-        (worlds_in_steps_are_well_formed w.formats reach.history ms reach.once reach.legal
-        (subst (λ v. AreLegalMoves v None ms) reach.is flipped.legal)
-        (subst (λ v. list_all (is_live (world_after_moves v ms)) (ids_of_client (world_after_moves v ms).graph) ≡ true) reach.is
-        flipped.live.client))
+        let legal = flipped.made.legal in
+        formed_in_steps w (flip_act w c) bare.like legal (laid_by_moves w bare.like (flip_act w c) legal) flipped.made.live.client
 
     -- as many are left as of the abstract collector right after the act
     left_then : units_left h'
-        ≡ abstract.units_left (flips.y layout past h w parts known rest reach made of marked m room what may h' m' state run running begun)
+        ≡ abstract.units_left (flips.y layout past h w parts known rest bare made of marked m room what may h' m' state run running begun)
     left_then =
         units_alike layout (record past {
-          time = flips.time_then layout past h w parts known rest reach made of marked m room what may h' m' state run running begun;
-        }) h' (flips.after layout past h w parts known rest reach made of marked m room what may h' m' state run running begun)
-        (flips.parts_then layout past h w parts known rest reach made of marked m room what may h' m' state run running begun)
+          time = flips.time_then layout past h w parts known rest bare made of marked m room what may h' m' state run running begun;
+        }) h' (flips.after layout past h w parts known rest bare made of marked m room what may h' m' state run running begun)
+        (flips.parts_then layout past h w parts known rest bare made of marked m room what may h' m' state run running begun)
         (subst IsWellFormed
-        (flips.leads_to layout past h w parts known rest reach made of marked m room what may h' m' state run running begun) formed)
-        (flips.runs_then layout past h w parts known rest reach made of marked m room what may h' m' state run running begun)
+        (flips.leads_to layout past h w parts known rest bare made of marked m room what may h' m' state run running begun) formed)
+        (flips.runs_then layout past h w parts known rest bare made of marked m room what may h' m' state run running begun)
 
     few_then : units_left h' ≤ most_units_after what h
     few_then =
-        let before = flips.before layout past h w parts known rest reach made of marked m room what may h' m' state in
-        let others : List Id = flips.others layout past h w parts known rest reach made of marked m room what may h' m' state in
-        let act = flips.act layout past h w parts known rest reach made of marked m room what may h' m' state run running begun in
+        let before = flips.before layout past h w parts known rest bare made of marked m room what may h' m' state in
+        let others : List Id = flips.others layout past h w parts known rest bare made of marked m room what may h' m' state in
+        let act = flips.act layout past h w parts known rest bare made of marked m room what may h' m' state run running begun in
         let few =
         few_are_left w c others act.first act.after before.objects.rest may.numbered
-        (flips.some layout past h w parts known rest reach made of marked m room what may h' m' state run running begun)
-        (flips.told layout past h w parts known rest reach made of marked m room what may h' m' state) act.fixes
+        (flips.some layout past h w parts known rest bare made of marked m room what may h' m' state run running begun)
+        (flips.told layout past h w parts known rest bare made of marked m room what may h' m' state) act.fixes
         in
         let left = left_then in
         let same = ap length (same_ids w (condemned_zones w c) c) in

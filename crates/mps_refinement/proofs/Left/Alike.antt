@@ -1,5 +1,5 @@
 -- Where a collection runs a heap has as many units left as the abstract collector.
-use Rattle.std.proofs.Common.{◌≡◌, ◌∙◌, ◌+◌, ◌-◌, Bool, true, sym, ap, ap₂, subst, List, length, map, Option, Some, arith}
+use Rattle.std.proofs.Common.{◌≡◌, ◌∙◌, ◌+◌, ◌-◌, Bool, true, sym, ap, ap₂, subst, List, length, Option, Some, arith}
 use Rattle.std.specs.Prelude.{◌&&◌, ◌||◌, count_by, filter, is_some, nat_le}
 use Rattle.std.specs.Option.{option_map_or}
 use Rattle.mps_base.specs.Address.{Address, Id, grain_of, word_of}

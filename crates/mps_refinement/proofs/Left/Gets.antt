@@ -1,6 +1,6 @@
 -- A `get` leaves no more units than there were: its read barrier scans what is to be scanned in a segment, and the read changes a slot
 -- alone.
-use Rattle.std.proofs.Common.{◌≡◌, ◌∙◌, ◌≤◌, ℕ, refl, sym, ap, subst, Option, Ok, Err, arith}
+use Rattle.std.proofs.Common.{◌≡◌, ◌∙◌, ◌≤◌, ℕ, refl, sym, ap, subst, Option, Some, None, Ok, Err, arith}
 use Rattle.std.specs.Option.{option_map_or}
 use Rattle.mps_base.specs.Address.{Address}
 use Rattle.mps_base.specs.Segment.{Segment}
@@ -23,19 +23,20 @@ use Rattle.mps_heap_spec.specs.State.{HeapState}
 use Rattle.mps_heap_spec.specs.declared.found.Block.{Block}
 use Rattle.mps_heap_spec.specs.declared.found.CellFound.{CellFound}
 use Rattle.mps_heap_spec.specs.declared.found.Entry.{Entry}
-use Rattle.mps_refinement.specs.StandsFor.{AreParts, IsInTime, IsReached, Past, Runs, StandsFor, collector_of, rests, runs}
+use Rattle.mps_refinement.specs.StandsFor.{AreParts, Past, Runs, StandsFor, collector_of, runs}
 use Rattle.mps_refinement.specs.UnitsLeft.{units_from, units_left}
-use Rattle.mps_refinement.proofs.Left.AfterUnits.{none_at_rest}
+use Rattle.mps_refinement.proofs.Left.AfterUnits.{as_many_followed, none_at_rest}
 use Rattle.mps_refinement.proofs.Left.Alike.{units_alike}
 use Rattle.mps_refinement.proofs.Units.Accesses.{IsAccessed, access_is_done}
 use Rattle.mps_refinement.proofs.Units.FromUnits.{collector_after}
-use Rattle.mps_refinement.proofs.Units.GetCalls.{in_its_world}
 use Rattle.mps_refinement.proofs.Units.Gets.{its_segment}
 use Rattle.mps_refinement.proofs.Units.MovedParts.{collected_heap}
 use Rattle.mps_refinement.proofs.Worlds.InSteps.{known_after_barrier}
-use Rattle.mps_refinement.proofs.Worlds.Known.{IsKnown, known_now}
-use Rattle.mps_refinement.proofs.Worlds.LikeReached.{like_reached}
-use Rattle.mps_refinement.proofs.Units.Followed.{access_alone, no_pair}
+use Rattle.mps_refinement.proofs.Worlds.Known.{known_now}
+use Rattle.mps_refinement.proofs.Worlds.LikeReached.{IsBare}
+use Rattle.mps_refinement.proofs.Following.WithoutPairs.{alone}
+use Rattle.mps_refinement.proofs.Worlds.RunningNow.{running_now}
+use Rattle.mps_heap_spec.specs.Following.{made_since}
 
 -- ---- the read
 
@@ -65,16 +66,16 @@ module _ {F : Type 0} (layout : F → Layout) (h : HeapState F) (target source :
 -- ---- the barrier, while a collection runs
 
 module _ {F : Type 0} (layout : F → Layout) (past : Past) (h : HeapState F) (x : Collecting) (parts : AreParts layout past h x.world)
-    (knows : IsKnown past.time x.world) (reach : IsReached x.world) (r : Runs past.time (collector_of h) x.world x) (m : Moves)
+    (bare : IsBare x.world) (r : Runs past.time (collector_of h) x.world x) (m : Moves)
     (s : Segment) (z : Traced) (is : IsAccessed layout past h x r m s z) where
   barrier_leaves_no_more : units_left (with_traced h z) ≤ units_left h
   barrier_leaves_no_more =
       let did = barrier_is_done s x is.after is.moves r.invariant is.barrier in
       let knows_then =
-      known_after_barrier is.time (collector_after z r.run) s x is.after is.moves (like_reached x.world reach) r.invariant is.barrier
+      known_after_barrier is.time (collector_after z r.run) s x is.after is.moves bare.like r.invariant is.barrier
       (runs is.after is.runs)
       in
-      let before = units_alike layout past h x parts knows.formed r in
+      let before = units_alike layout past h x parts bare.like.formed r in
       let after =
       units_alike layout (record past { time = is.time }) (collected_heap h (collector_after z r.run) h.finals) is.after is.parts
       knows_then.formed is.runs
@@ -93,23 +94,22 @@ module _ {F : Type 0} (layout : F → Layout) (h : HeapState F) (m : Moves) (roo
   get_leaves_no_more w st (is_refused why e answer state trail) =
       subst (λ g. units_left g ≤ units_left h) (sym state) (omega arith)
   get_leaves_no_more w st (reads z accessed comes trail) =
-      let alone = access_alone layout h (no_pair layout st.past h w st.parts) m z in
       let read =
       ap (λ (g : HeapState F). units_left g) comes.state ∙ read_leaves_as_many layout (after_access layout h m z) target source k
-      ∙ ap (λ (g : HeapState F). units_left g) alone in
-      let scanned = of_time st.time in
+      ∙ as_many_followed layout (with_traced h z) (made_since m z.moves) in
+      let scanned = of_running h.running refl in
       omega (arith, read, scanned)
     where
-      while_it_runs : (x : Collecting) → AreParts layout st.past h x.world → IsKnown st.past.time x.world → IsReached x.world
-          → Runs st.past.time (collector_of h) x.world x → units_left (with_traced h z) ≤ units_left h
-      while_it_runs x parts knows reach r =
-          let whole = accessed.accessed.whole r.run r.running in
-          let over = its_segment layout st.past h x parts knows reach r 0 target source k accessed.object accessed.found in
-          barrier_leaves_no_more layout st.past h x parts knows reach r m over.0 z
-          (access_is_done layout st.past h x parts (like_reached x.world reach) r whole.tails whole.marked m room over.0
-          (over_is_there h.segs.segments accessed.object.at over.0 over.1) z (accessed.accessed.runs r.run r.running over.0 over.1))
+      while_it_runs : (run : RunningState) → h.running ≡ Some run → units_left (with_traced h z) ≤ units_left h
+      while_it_runs run is =
+          let g = running_now layout h w st run is in
+          let whole = accessed.accessed.whole g.runs.run g.runs.running in
+          let over = its_segment layout st.past h w st.parts (known_now st) st.reached 0 target source k accessed.object accessed.found in
+          barrier_leaves_no_more layout g.past (alone h) g.collecting g.parts g.bare g.runs m over.0 z
+          (access_is_done layout g.past (alone h) g.collecting g.parts g.bare g.runs whole.tails whole.marked m room over.0
+          (over_is_there h.segs.segments accessed.object.at over.0 over.1) z
+          (accessed.accessed.runs g.runs.run g.runs.running over.0 over.1))
 
-      of_time : IsInTime st.past.time (collector_of h) w → units_left (with_traced h z) ≤ units_left h
-      of_time (rests rest) = let none = none_at_rest (with_traced h z) rest.not_running in omega (arith, none)
-      of_time (runs x r) =
-          in_its_world x (λ v. units_left (with_traced h z) ≤ units_left h) (while_it_runs x) st.parts (known_now st) st.reached r
+      of_running : (o : Option RunningState) → h.running ≡ o → units_left (with_traced h z) ≤ units_left h
+      of_running None rest = let none = none_at_rest (with_traced h z) rest in omega (arith, none)
+      of_running (Some run) is = while_it_runs run is

@@ -20,16 +20,17 @@ use Rattle.mps_heap_spec.specs.Units.{HasDoneUnits, IsWhole, progress_of}
 use Rattle.mps_heap_spec.specs.declared.arena.ArenaState.{ArenaState}
 use Rattle.mps_heap_spec.specs.declared.arena.ArenaState.TheVariants as arena
 use Rattle.mps_heap_spec.specs.declared.found.Reserving.{Reserving}
-use Rattle.mps_refinement.specs.StandsFor.{AreParts, IsInTime, Past, StandsFor, collector_of}
+use Rattle.mps_refinement.specs.StandsFor.{IsInTime, StandsFor, Time, collector_of}
 use Rattle.mps_refinement.specs.UnitsLeft.{FlipsWithin, ReservesWithin, units_left}
-use Rattle.mps_refinement.proofs.Left.AfterUnits.{none_at_rest, units_go_down}
+use Rattle.mps_refinement.proofs.Left.AfterUnits.{followed_go_down, none_at_rest}
 use Rattle.mps_refinement.proofs.Left.Placing.{reserve_leaves_as_many}
 use Rattle.mps_refinement.proofs.Left.Starts.{few_after_start}
 use Rattle.mps_refinement.proofs.Units.FlipPolls as flips
 use Rattle.mps_refinement.proofs.Units.Outcomes.{stepped_is_right}
 use Rattle.mps_refinement.proofs.Units.PolledReserves.{a_reserve_is_right, of_poll}
 use Rattle.mps_refinement.proofs.Worlds.Known.{IsKnown, known_now}
-use Rattle.mps_refinement.proofs.Units.Followed.{no_pair, units_followed}
+use Rattle.mps_refinement.proofs.Worlds.Steps.{HasParts}
+use Rattle.mps_heap_spec.specs.Following.{Follows}
 
 -- ---- what is said of two heaps with as many units
 
@@ -70,11 +71,11 @@ unclamped_arena h (Ok a) polling = of_arena h.arena (and_parts (is_unclamped h.a
 -- what a poll leaves stands for a world, and has no more units left than it may
 record IsPolledTo {F : Type 0} (layout : F → Layout) (h polled : HeapState F) : Type 0 where
   within : ReservesWithin h.running h polled
-  past : Past
+  time : Time
   world : World
-  parts : AreParts layout past polled world
-  known : IsKnown past.time world
-  time : IsInTime past.time (collector_of polled) world
+  has : HasParts layout time polled world
+  known : IsKnown time world
+  now : IsInTime time (collector_of polled) world
 
 module _ {F : Type 0} (layout : F → Layout) (h : HeapState F) (whole : IsWhole h) (m : Moves) (room : most_moves h.segs.grains < m.spare)
     (w : World) (st : StandsFor layout h w) (made : WereMadeBefore h.points.flips h.points) where
@@ -85,24 +86,24 @@ module _ {F : Type 0} (layout : F → Layout) (h : HeapState F) (whole : IsWhole
       → IsPolledTo layout h polled
   standing polled v stands within = record {
     within = within;
-    past = stands.past;
+    time = stands.past.time;
     world = v;
-    parts = stands.parts;
+    has = record { past = stands.past; timed = refl; parts = stands.parts };
     known = known_now stands;
-    time = stands.time;
+    now = stands.time;
   }
 
   after_units : h.arena ≡ arena.Unclamped → (run : RunningState) → h.running ≡ Some run → (polled : HeapState F) (trail : Moves)
-      → HasDoneUnits layout h m units_of_poll polled trail → IsPolledTo layout h polled
+      → Follows layout m (HasDoneUnits layout h m units_of_poll) polled trail → IsPolledTo layout h polled
   after_units unclamped run is polled trail done =
       standing polled _
       ((stepped_is_right layout h whole m enough w st units_of_poll polled trail (progress_of polled) (record {
-        done = λ e. units_followed layout h (no_pair layout st.past h w st.parts) m done;
+        done = λ e. done;
         still = λ other. absurd (other unclamped);
         answered = refl;
       })).right 0).stands
       (subst (λ o. ReservesWithin o h polled) (sym is)
-      (units_go_down layout h whole m enough w st units_of_poll polled trail done).no_more)
+      (followed_go_down layout h whole m enough w st units_of_poll polled trail done).no_more)
 
   module _ (name : Name) (head : ℕ) where
     after_flip : polls_for h (check_reserve layout h name head) ≡ true → (due : Due) → h.running ≡ None → due_in h ≡ Some due
@@ -115,13 +116,13 @@ module _ {F : Type 0} (layout : F → Layout) (h : HeapState F) (whole : IsWhole
         in
         record {
           within = subst (λ o. ReservesWithin o h polled) (sym none) (subst (λ d. FlipsWithin d h polled) (sym is) few);
-          past = record st.past { time = (flips.flipped layout h whole m enough w st none due is made polled trail started).time };
+          time = (flips.flipped layout h whole m enough w st none due is made polled trail started).time;
           world = flips.v layout h whole m enough w st none due is made polled trail started;
-          parts = flips.flipped_parts layout h whole m enough w st none due is made polled trail started
+          has = flips.flipped_has layout h whole m enough w st none due is made polled trail started
               (unclamped (pairs_in w.state));
           known = flips.flipped_known layout h whole m enough w st none due is made polled trail started
               (unclamped (pairs_in w.state));
-          time = flips.flipped_time layout h whole m enough w st none due is made polled trail started
+          now = flips.flipped_time layout h whole m enough w st none due is made polled trail started
               (unclamped (pairs_in w.state));
         }
 
@@ -139,5 +140,7 @@ module _ {F : Type 0} (layout : F → Layout) (h : HeapState F) (whole : IsWhole
         let polled = polled_to reserved.polled reserved.trail_polled (polls_for h (check_reserve layout h name head)) refl reserved.poll in
         let right = (a_reserve_is_right layout h whole m room w st made name head result after trail_after reserved).0 in
         reserves_within_by h.running h reserved.polled after
-        (reserve_leaves_as_many layout polled.past reserved.polled polled.world polled.parts polled.known after _ (right.right 0).stands
-        polled.time reserved.trail_polled name head result trail_after reserved.comes) polled.within
+        (reserve_leaves_as_many layout polled.has.past reserved.polled polled.world polled.has.parts
+        (subst (λ t. IsKnown t polled.world) (sym polled.has.timed) polled.known) after _ (right.right 0).stands
+        (subst (λ t. IsInTime t (collector_of reserved.polled) polled.world) (sym polled.has.timed) polled.now) reserved.trail_polled name head
+        result trail_after reserved.comes) polled.within

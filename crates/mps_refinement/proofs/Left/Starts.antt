@@ -13,20 +13,23 @@ use Rattle.mps_trace_laws.specs.Flip.Condemned.{condemnation}
 use Rattle.mps_heap_spec.specs.Collecting.{IsStarted, Starts}
 use Rattle.mps_heap_spec.specs.State.{HeapState}
 use Rattle.mps_heap_spec.specs.Units.{IsWhole}
+use Rattle.mps_refinement.specs.Following.{unpaired}
 use Rattle.mps_refinement.specs.StandsFor.{StandsFor}
 use Rattle.mps_refinement.specs.UnitsLeft.{BeginsWithin, most_units_after, units_left}
+use Rattle.mps_refinement.proofs.Following.WithoutPairs.{alone, parts_alone, started_without}
 use Rattle.mps_refinement.proofs.Left.AfterFlips.{few_after_a_flip}
 use Rattle.mps_refinement.proofs.Units.Starts.{AreChecked, accepted, may, not_accepted}
-use Rattle.mps_refinement.proofs.Worlds.Known.{known_now}
-use Rattle.mps_refinement.proofs.Worlds.RunningNow.{resting_now}
+use Rattle.mps_refinement.proofs.Worlds.LikeReached.{bare_of, like_reached}
+use Rattle.mps_refinement.proofs.Worlds.RunningNow.{known_bare, rests_bare}
 
 module _ {F : Type 0} (layout : F → Layout) (h : HeapState F) (whole : IsWhole h) (m : Moves) (room : most_moves h.segs.grains ≤ m.spare)
     (w : World) (st : StandsFor layout h w) (made : WereMadeBefore h.points.flips h.points) (h' : HeapState F) (m' : Moves) where
   pub few_after_start : h.running ≡ None → (what : Condemn) → IsNumbered (condemnation what) → IsStarted layout what h m h' m'
       → units_left h' ≤ most_units_after what h
   few_after_start none what numbered =
-      few_after_a_flip layout st.past h w st.parts (known_now st) (resting_now layout h w st none) st.reached made whole.tails
-      whole.marked m room what (may layout h whole m room w st none what numbered) h' m'
+      λ started. few_after_a_flip layout st.past (alone h) (unpaired w) (parts_alone st.parts) (known_bare layout h w st)
+      (rests_bare layout h w st none) (bare_of w (like_reached w st.reached)) made whole.tails
+      whole.marked m room what (may layout h whole m room w st none what numbered) (alone h') m' (started_without started)
 
   pub begins_within : (c : Call) (checked : Checked Condemn) (result : Checked (Unit {0})) → AreChecked h w c checked
       → Starts layout checked h m result h' m' → BeginsWithin checked h h'

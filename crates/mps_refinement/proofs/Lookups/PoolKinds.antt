@@ -58,3 +58,10 @@ module _ {F : Type 0} where
     copying_by_number w number there =
         copying_alike p ∙ sym (kinds_alike is_copying_kind refl layout formats p q is)
         ∙ sym (ap (λ o. option_map_or (λ (x : world.Pool). is_copying_kind x.kind) o false) there)
+
+    -- whether it may have weak objects
+    pub weak_by_number : (w : World) (number : ℕ) → slice_get w.pools number ≡ Some q
+        → is_weak_pool p ≡ option_map_or (λ (x : world.Pool). is_weak_kind x.kind) (slice_get w.pools number) false
+    weak_by_number w number there =
+        weak_alike p ∙ sym (kinds_alike is_weak_kind refl layout formats p q is)
+        ∙ sym (ap (λ o. option_map_or (λ (x : world.Pool). is_weak_kind x.kind) o false) there)

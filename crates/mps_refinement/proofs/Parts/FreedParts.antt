@@ -2,7 +2,7 @@
 use Rattle.std.proofs.Common.{◌≡◌, ◌∙◌, ℕ, ◌+◌, Bool, true, false, refl, sym, ap, subst, List, map, Option, Some, None, arith, length}
 use Rattle.std.proofs.lemmas.Bool.{eq-eqb, false≢true, and_parts}
 use Rattle.std.proofs.lemmas.Option.{same_Some}
-use Rattle.std.specs.Prelude.{◌==◌, not, slice_get, slice_set, if◌then◌else◌, ◌≢◌}
+use Rattle.std.specs.Prelude.{◌==◌, not, slice_get, slice_set, if◌then◌else◌}
 use Rattle.std.specs.Option.{option_map_or}
 use Rattle.mps_base.specs.Address.{Address, Id, Word, word_of, address_of_word}
 use Rattle.mps_base.specs.Run.{IsAscending}
@@ -21,7 +21,6 @@ use Rattle.mps_model.specs.Effect.{with_address}
 use Rattle.mps_heap_spec.specs.declared.found.Entry.{Entry}
 use Rattle.mps_heap_spec.specs.State.{HeapState}
 use Rattle.mps_format.specs.Pools.{policy_of_pool}
-use Rattle.mps_format.specs.declared.pool.Pool.TheVariants as pool
 use Rattle.mps_model.specs.Checked.{Found}
 use Rattle.mps_root.specs.State.{with_place}
 use Rattle.mps_refinement.specs.StandsFor.{AreParts, Past, address_of_target, StandsAt, AreOfFlip, IsInTime, collector_of}

@@ -1,6 +1,6 @@
 -- The parts of a heap and of a world by what they speak of. A lemma of a change names the kinds that it changes; the others are those
 -- that stood before.
-use Rattle.std.proofs.Common.{◌≡◌, ℕ, [], length, map}
+use Rattle.std.proofs.Common.{◌≡◌, ℕ, length, map}
 use Rattle.mps_format.specs.Layout.{Layout, IsLawful}
 use Rattle.mps_buffer.specs.Points.{point_at}
 use Rattle.mps_ld.specs.Flips.{AreFlips}
@@ -48,11 +48,11 @@ module _ {F : Type 0} (layout : F → Layout) (past : Past) (h : HeapState F) (w
   abbrev pub DependencyParts : Type 0
   DependencyParts = h.dependencies ≡ map kept_of w.dependencies
 
-  -- formats, pools and chains, and that no object has a dependent
+  -- formats, pools and chains
   abbrev pub PoolParts : Type 0
   PoolParts =
       ((number : ℕ) → IsLawful (w.formats number)) × ArePools layout w.formats h.pools w.pools × (h.sizes ≡ map size_of_pool h.pools)
-      × AreChains h.chains w.chains w.pools × (w.graph.dependents ≡ [])
+      × AreChains h.chains w.chains w.pools
 
   -- flips, the arena's state, what stands beside the blocks, transforms, and pools of frames
   abbrev pub StateParts : Type 0
@@ -92,7 +92,6 @@ module _ {F : Type 0} {layout : F → Layout} {past : Past} {h : HeapState F} {w
     pools = pools.1;
     sizes = pools.2;
     chains = pools.3;
-    dependents = pools.4;
     names = names;
     state = state.2;
     beside = state.3;
@@ -117,7 +116,7 @@ module _ {F : Type 0} {layout : F → Layout} {past : Past} {h : HeapState F} {w
   finals_of = (parts.registered, parts.messages)
 
   pub pools_of : PoolParts layout past h w
-  pools_of = (parts.lawful, parts.pools, parts.sizes, parts.chains, parts.dependents)
+  pools_of = (parts.lawful, parts.pools, parts.sizes, parts.chains)
 
   pub states_of : StateParts layout past h w
   states_of = (parts.flips, parts.point_flips, parts.state, parts.beside, parts.transforms, parts.framed)

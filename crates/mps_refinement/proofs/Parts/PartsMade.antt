@@ -129,7 +129,7 @@ module _ {F : Type 0} (layout : F → Layout) (past : Past) (h : HeapState F) (w
       → AreParts layout past (state_of_chains kept names) (world_of_chains chains named)
   chains_changed kept names chains named are names_are =
       parts_of_kinds (arena_of parts) (image_of parts) (roots_of parts) (points_of parts) (finals_of parts) parts.dependencies
-      (parts.lawful, parts.pools, parts.sizes, are, parts.dependents) names_are (states_of parts)
+      (parts.lawful, parts.pools, parts.sizes, are) names_are (states_of parts)
 
   -- ---- pools
 
@@ -169,7 +169,7 @@ module _ {F : Type 0} (layout : F → Layout) (past : Past) (h : HeapState F) (w
   pools_changed pools sizes chain frames names numbered framed named are =
       parts_of_kinds (arena_of parts) (are.image_stands, parts.arena, are.words_summed) (roots_of parts)
       (are.points_are, parts.points_counted)
-      (finals_of parts) parts.dependencies (parts.lawful, are.pools_are, are.sizes_are, are.chains_are, parts.dependents) are.names_are
+      (finals_of parts) parts.dependencies (parts.lawful, are.pools_are, are.sizes_are, are.chains_are) are.names_are
       (parts.flips, parts.point_flips, parts.state, beside_framed _ _ _ _ parts.beside frames, are.transforms_are, are.framed_are)
 
   -- ---- dependencies

@@ -44,7 +44,7 @@ use Rattle.mps_refinement.proofs.Units.MovedParts.{collected_heap, parts_moved}
 use Rattle.mps_refinement.proofs.Units.Registrations.{registered_so}
 use Rattle.mps_refinement.proofs.Units.ToUnits.{due, finals, stands_tracing}
 use Rattle.mps_trace_laws.proofs.Summaries.Accesses.{access_keeps}
-use Rattle.mps_refinement.proofs.Worlds.LikeReached.{IsLikeReached}
+use Rattle.mps_refinement.proofs.Worlds.LikeReached.{IsBare}
 
 -- a barrier of the abstract collector, by the moves of the trail, after which the heap stands for the world and the collection runs on
 pub record IsAccessed {F : Type 0} (layout : F → Layout) (past : Past) (h : HeapState F) (x : Collecting)
@@ -66,7 +66,7 @@ reclaim_is working.Weak e = absurd (false≢true e)
 reclaim_is working.Reclaim e = refl
 
 module _ {F : Type 0} (layout : F → Layout) (past : Past) (h : HeapState F) (x : Collecting) (parts : AreParts layout past h x.world)
-    (like : IsLikeReached x.world) (r : Runs past.time (collector_of h) x.world x)
+    (bare : IsBare x.world) (r : Runs past.time (collector_of h) x.world x)
     (of : IsTraceOf h.pools h.chains (trace_of h.pools h.chains h.tails))
     (marked : IsMarked h.segs.grains h.segs.marks h.segs.condemned h.segs.summaries)
     (m : Moves) (room : most_moves h.segs.grains ≤ m.spare) (s : Segment) (held : Contains h.segs.segments s) where
@@ -84,14 +84,14 @@ module _ {F : Type 0} (layout : F → Layout) (past : Past) (h : HeapState F) (x
 
   stands_before : past.time.is_reclaiming ≡ false → StandsForBarrier layout t.formats t.chains at_flip here x
   stands_before still =
-      let st = stands_tracing layout past h x parts like r of marked m room still in
+      let st = stands_tracing layout past h x parts bare r of marked m room still in
       record {
         running = r.invariant;
         band = st.band;
-        shaped = well_formed_is_shaped w parts.lawful like.formed;
+        shaped = well_formed_is_shaped w parts.lawful bare.like.formed;
         traces = st.traces;
         ranked = st.ranked;
-        none_dependent = λ later. parts.dependents;
+        none_dependent = λ later. bare.none;
       }
 
   -- `access` can be done, if fewer units are left than a loop counts
@@ -149,19 +149,19 @@ module _ {F : Type 0} (layout : F → Layout) (past : Past) (h : HeapState F) (x
       finals_after : AreFinalsOf at_flip y h.finals
       finals_after =
           finals_stay at_flip x y h.finals r.invariant stays.in_place b.no_further.next b.no_further.registered_before
-          b.no_further.registered b.no_further.messages (finals layout past h x parts like r of marked m room)
+          b.no_further.registered b.no_further.messages (finals layout past h x parts bare r of marked m room)
 
       lived : (position : ℕ) (id : Id) → y.next ≤ position → position < y.running.registered_before
           → slice_get y.world.graph.registered position ≡ Some id → (from : Address) × (entry_at at_flip id ≡ Some from)
       lived position id up below e =
           let next = b.no_further.next in
           let before = b.no_further.registered_before in
-          (due layout past h x parts like r of marked m room).lived position id (omega (arith, up, next)) (omega (arith, below, before))
+          (due layout past h x parts bare r of marked m room).lived position id (omega (arith, up, next)) (omega (arith, below, before))
           (sym (ap (λ ids. slice_get ids position) b.no_further.registered) ∙ e)
 
       parts_after : AreParts layout (record past { time = time_after }) (collected_heap h (collector_after z r.run) h.finals) y.world
       parts_after =
-          parts_moved layout past h x parts like.formed r.invariant y.world left stays.in_place time_after
+          parts_moved layout past h x parts bare.like.formed bare.none r.invariant y.world left stays.in_place time_after
           (collector_after z r.run) h.finals b.stands.traces.state.segments b.stands.traces.state.image
           (subst (λ ats. AreRegistered y.world.addresses at_flip y.next y.running.registered_before ats y.world.graph.registered)
           (sym finals_after.registrations)

@@ -1,135 +1,173 @@
--- A `collect` over a running collection: what runs is finished first, and a collection of everything follows. It can be done, it is right,
--- and its trail keeps its room.
-use Rattle.std.proofs.Common.{◌≡◌, ◌∙◌, ℕ, suc, ◌-◌, ◌*◌, ◌≤◌, refl, sym, ap, subst, List, ◌++◌, Option, arith}
+-- A `collect`: what runs is finished first, and a collection of everything follows. It can be done, it is right, and its trail keeps its
+-- room.
+use Rattle.std.proofs.Common.{◌≡◌, ◌∙◌, ◌≤◌, refl, sym, ap, subst, List, [], ◌∷◌, ◌++◌, Option, Some, None}
 use Rattle.std.proofs.lemmas.List.{append_assoc}
-use Rattle.mps_base.specs.Address.{Address}
 use Rattle.mps_base.specs.Trail.{Moves}
+use Rattle.mps_base.specs.declared.moves.Move.{Move}
+use Rattle.mps_base.specs.declared.moves.Move.TheVariants as moves
 use Rattle.mps_buffer.specs.Points.{WereMadeBefore}
 use Rattle.mps_format.specs.Layout.{Layout}
+use Rattle.mps_laws.proofs.SameArena.{moved_alone}
 use Rattle.mps_model.specs.declared.call.Call.TheVariants as call
 use Rattle.mps_model.specs.declared.reply.Reply.TheVariants as reply
 use Rattle.mps_model.specs.Answer.{Answer, Replied}
+use Rattle.mps_model.specs.Effect.{world_after_move, world_after_moves}
+use Rattle.mps_model.specs.History.{FinishesCollection, IsFullCollection}
+use Rattle.mps_model.specs.LegalMove.{AreLegalMoves, IsLegalMove, first_move}
 use Rattle.mps_model.specs.World.{World}
+use Rattle.mps_model.proofs.Cutting.{world_after_moves-append}
 use Rattle.mps_seg.specs.Table.{IsMarked}
 use Rattle.mps_trace.specs.Collect.{most_moves}
-use Rattle.mps_pools.specs.Pools.{trace_of}
-use Rattle.mps_pools.specs.Collecting.{IsTraceOf}
-use Rattle.mps_trace.specs.State.{FinalsState}
-use Rattle.mps_trace.specs.Trace.{TraceState, Traced, traced}
-use Rattle.mps_trace.specs.Unit.{EndsWithin}
-use Rattle.mps_abstract.specs.Collecting.{Collecting}
-use Rattle.mps_abstract.proofs.WholeCollections.WholeEnds.{a_whole_collection}
-use Rattle.mps_trace_laws.specs.Units.Laws.{AreLastTracedUnitsDone}
-use Rattle.mps_trace_laws.proofs.Units.Scanning.{scans_are_done}
 use Rattle.mps_heap_spec.specs.Collecting.{CanCollectAll, IsCollected}
+use Rattle.mps_heap_spec.specs.Following.{Follows, made_since, moves_followed}
 use Rattle.mps_heap_spec.specs.State.{HeapState}
+use Rattle.mps_refinement.specs.Collect.Standing.{world_collected}
+use Rattle.mps_refinement.specs.Dependents.{AreDependents}
+use Rattle.mps_refinement.specs.Following.{unpaired}
 use Rattle.mps_refinement.specs.RightMoving.{IsRightMovingIn, KeepsRoom}
-use Rattle.mps_refinement.specs.StandsFor.{AreParts, IsReached, Past, Runs, collector_of, time_at_rest}
-use Rattle.mps_refinement.proofs.Collect.CollectRight.{IsRightThere}
-use Rattle.mps_refinement.proofs.Collect.Finished.{HasFinished}
+use Rattle.mps_refinement.specs.StandsFor.{IsInTime, IsReached, Time, collector_of, time_at_rest}
+use Rattle.mps_refinement.proofs.Collect.CollectRight.{IsWholeMade}
+use Rattle.mps_refinement.proofs.Collect.Finished.{HasFinished, finished_alone}
 use Rattle.mps_refinement.proofs.Collect.HeapCollects.{a_finished_heap_can_collect, a_finished_heap_collects}
-use Rattle.mps_refinement.proofs.Collect.PushedMoves.{none_pushed}
-use Rattle.mps_refinement.proofs.Collect.RoomKept.{units_keep_room}
-use Rattle.mps_refinement.proofs.Units.Ended as ended
-use Rattle.mps_refinement.proofs.Units.LessRoom.{ends_with_less, traced_with_less, with_less}
-use Rattle.mps_refinement.proofs.Units.ToUnits.{stands_for_units}
-use Rattle.mps_refinement.proofs.Worlds.LikeReached.{IsLikeReached, like_reached}
+use Rattle.mps_refinement.proofs.Following.Laws.{due_moves_follow, splats_follow}
+use Rattle.mps_refinement.proofs.Following.Made.{AreMade, paired_made, state_aside}
+use Rattle.mps_refinement.proofs.Following.WithoutPairs.{alone, collected_without}
+use Rattle.mps_refinement.proofs.Units.MadeSteps.{made_step_is_right}
+use Rattle.mps_refinement.proofs.Units.UnitsMade.{since_are}
+use Rattle.mps_refinement.proofs.Worlds.LikeReached.{IsLikeReached}
+use Rattle.mps_refinement.proofs.Worlds.Steps.{HasParts}
+use Rattle.mps_model.specs.World as world
 
-module _ {F : Type 0} (layout : F → Layout) (past : Past) (h : HeapState F) (x : Collecting) (parts : AreParts layout past h x.world)
-    (reach : IsReached x.world) (r : Runs past.time (collector_of h) x.world x)
-    (of : IsTraceOf h.pools h.chains (trace_of h.pools h.chains h.tails))
-    (marked : IsMarked h.segs.grains h.segs.marks h.segs.condemned h.segs.summaries)
-    (m : Moves) (room : most_moves h.segs.grains ≤ m.spare) (most : ℕ) (z : Traced) (f : FinalsState)
-    (ends : EndsWithin layout (trace_of h.pools h.chains h.tails).formats (trace_of h.pools h.chains h.tails).chains
-    (traced (trace_of h.pools h.chains h.tails) h.segs m) h.finals r.run most z f) where
-  abbrev like : IsLikeReached x.world
-  like = like_reached x.world reach
+-- ---- moves after others
 
-  abbrev w : World
-  w = x.world
+-- a move that is legal as the last one is legal whatever comes next: a segment is taken for the move after it
+any_next : (w : World) (before : Option Move) (m : Move) → IsLegalMove w before m None → (next : Option Move) → IsLegalMove w before m next
+any_next w before (moves.Seg base grains pool generation) legal next = absurd legal
+any_next w before (moves.Unseg base) legal next = legal
+any_next w before (moves.Flip zones chain generation) legal next = legal
+any_next w before moves.End legal next = legal
+any_next w before (moves.Moved from to) legal next = legal
+any_next w before (moves.Stay at) legal next = legal
+any_next w before (moves.Splat holder cell) legal next = legal
+any_next w before (moves.Post at) legal next = legal
+any_next w before (moves.Free at) legal next = legal
+any_next w before (moves.Commit at words pool) legal next = absurd legal
+any_next w before (moves.Alloc at words pool) legal next = absurd legal
 
-  abbrev t : TraceState F
-  t = trace_of h.pools h.chains h.tails
+both_legal : (w : World) (before : Option Move) (ms more : List Move) → AreLegalMoves w before ms
+    → ((last : Option Move) → AreLegalMoves (world_after_moves w ms) last more) → AreLegalMoves w before (ms ++ more)
+both_legal w before [] more legal then = then before
+both_legal w before (m ∷ []) more legal then = (any_next w before m legal.0 (first_move more), then (Some m))
+both_legal w before (m ∷ n ∷ ms) more legal then = (legal.0, both_legal (world_after_move w m) (Some m) (n ∷ ms) more legal.1 then)
 
-  abbrev at_flip : List (Option Address)
-  at_flip = past.time.at_flip
+-- ---- a collection of everything, with pairs
 
-  abbrev ok : Answer
-  ok = Replied reply.Ok
+module _ {F : Type 0} (layout : F → Layout) (w : World) (like : IsLikeReached w) (m : Moves) (made : HeapState F) (m' : Moves)
+    (kept : AreDependents w.addresses made.beside.dependents w.graph.dependents)
+    (is : IsWholeMade layout (unpaired w) m (alone made) m') where
+  abbrev after : HeapState F
+  after = moves_followed layout made (made_since m m')
 
-  abbrev over : AreLastTracedUnitsDone (traced (trace_of h.pools h.chains h.tails) h.segs m) x (suc ends.count) z f
-  over = ended.done layout past h x parts like r of marked m room most z f ends
+  is_full : IsFullCollection w is.moves
+  is_full = ((due_moves_follow w None is.moves like.kept.paired (is.whole.legal None)).full is.whole.full).1
 
-  -- the world at rest, and the heap that stands for it
-  abbrev v : World
-  v = ended.v layout past h x parts like r of marked m room most z f ends
+  legal_after : (last : Option Move) → AreLegalMoves w last is.moves
+  legal_after last =
+      let one = ((due_moves_follow w None is.moves like.kept.paired (is.whole.legal None)).full is.whole.full).0 in
+      (splats_follow w last is.moves like.kept.paired one (is.whole.legal last)).legal
 
-  abbrev pub at_rest : HeapState F
-  at_rest = ended.heap_after layout past h x parts like r of marked m room most z f ends
+  made_then : AreMade layout w is.moves (world_collected w is.moves) time_at_rest after
+  made_then =
+      let one = ((due_moves_follow w None is.moves like.kept.paired (is.whole.legal None)).full is.whole.full).0 in
+      subst (AreMade layout w is.moves (world_collected w is.moves) time_at_rest)
+      (ap (moves_followed layout made) (sym (since_are m m' is.moves is.appended)))
+      (paired_made layout (λ u. record u { state = world.Parked [] }) (state_aside (world.Parked [])) w like is.moves time_at_rest made kept
+      one is.made)
 
-  finished : HasFinished layout at_rest w over.moves v
-  finished = record {
-    past = record past { time = time_at_rest };
-    parts = ended.parts_after layout past h x parts like r of marked m room most z f ends;
-    rest = ended.rests_after layout past h x parts like r of marked m room most z f ends;
-    known = ended.knows_after layout past h x parts like r of marked m room most z f ends;
-    finished = record {
-      reached = reach;
-      leads = refl;
-      formats =
-          ap (λ (u : World). u.formats)
-          (ended.left layout past h x parts like r of marked m room most z f ends).but_collected.world;
-      collected = λ full whole. a_whole_collection.3 x over.moves full (suc ends.count) r.invariant over.units whole;
-    };
-  }
+-- ---- after what ran before
 
-  -- the units to the end keep the room of the trail
-  pub finish_keeps_room : KeepsRoom m z.moves
-  finish_keeps_room = ended.keeps_room layout past h x parts like r of marked m room most z f ends
+-- moves that finish it lead to a world at rest, which the heap represents
+pub record HasEnded {F : Type 0} (layout : F → Layout) (w : World) (m : Moves) (h : HeapState F) (m' : Moves) : Type 0 where
+  pub moves : List Move
+  pub appended : m'.moves ≡ m.moves ++ moves
+  pub legal : AreLegalMoves w None moves
+  pub finishes : FinishesCollection w moves
+  pub time : Time
+  pub has : HasParts layout time h (world_after_moves w moves)
+  pub now : IsInTime time (collector_of h) (world_after_moves w moves)
+  pub ended : h.running ≡ None
+  pub like : IsLikeReached (world_after_moves w moves)
 
-  -- they take no more than a collection may take: they could be done with this room alone
-  abbrev more : ℕ
-  more = m.spare - most_moves h.segs.grains
+module _ {F : Type 0} (layout : F → Layout) (w : World) (m : Moves) (between : HeapState F) (m_between : Moves)
+    (is : HasEnded layout w m between m_between)
+    (marked : IsMarked between.segs.grains between.segs.marks between.segs.condemned between.segs.summaries)
+    (room : most_moves between.segs.grains ≤ m_between.spare) where
+  abbrev w_then : World
+  w_then = world_after_moves w is.moves
 
-  less_kept : KeepsRoom (with_less more m) (with_less more z.moves)
-  less_kept =
-      units_keep_room layout t at_flip (with_less more m) (traced_with_less more (traced t h.segs m)) (traced_with_less more z) h.finals f
-      r.run x most (scans_are_done layout t.formats t.chains at_flip)
-      (stands_for_units layout past h x parts like r of marked (with_less more m) (omega (arith, room))) (none_pushed (with_less more m))
-      (ends_with_less more layout t.formats t.chains ends)
+  finished : HasFinished layout (alone between) (unpaired w_then)
+  finished = finished_alone w_then is.has is.now is.ended is.like
 
-  pub more_is_left : more ≤ z.moves.spare
-  more_is_left = let whole = finish_keeps_room in let part = less_kept in omega (arith, whole, part, room)
+  pub can_collect_then : CanCollectAll layout between m_between
+  can_collect_then = a_finished_heap_can_collect layout (alone between) m_between (unpaired w_then) finished marked room
 
-  same_grains : z.segs.grains ≡ h.segs.grains
-  same_grains =
-      over.segments.same_grains
-      ∙ ap (λ (u : World). u.grains) (ended.left layout past h x parts like r of marked m room most z f ends).but_collected.world
-      ∙ sym parts.grains
+  module _ (reach : IsReached w) (made : WereMadeBefore between.points.flips between.points) (h' : HeapState F) (m' : Moves)
+      (follows : Follows layout m_between (IsCollected layout between m_between) h' m') where
+    there : IsWholeMade layout (unpaired w_then) m_between (alone follows.made) m'
+    there =
+        a_finished_heap_collects layout (alone between) m_between (unpaired w_then) finished marked room (alone follows.made) m' made
+        (collected_without follows.left)
 
-  -- with the tables of marks that are left, and room for both collections
-  module _ (marked_then : IsMarked z.segs.grains z.segs.marks z.segs.condemned z.segs.summaries)
-      (both_fit : 2 * most_moves h.segs.grains ≤ m.spare) where
-    room_then : most_moves z.segs.grains ≤ z.moves.spare
-    room_then =
-        subst (λ (n : ℕ). most_moves n ≤ z.moves.spare) (sym same_grains) (let left = more_is_left in omega (arith, left, both_fit))
+    kept : AreDependents w_then.addresses follows.made.beside.dependents w_then.graph.dependents
+    kept = ap (λ (g : HeapState F). g.beside.dependents) follows.left.state ∙ is.has.parts.beside.dependents
 
-    pub can_collect_then : CanCollectAll layout at_rest z.moves
-    can_collect_then = a_finished_heap_can_collect layout at_rest z.moves w over.moves v finished marked_then room_then
+    abbrev both : List Move
+    both = is.moves ++ there.moves
 
-    module _ (made : WereMadeBefore h.points.flips h.points) (h' : HeapState F) (m' : Moves)
-        (collected : IsCollected layout at_rest z.moves h' m') where
-      there : IsRightThere layout w over.moves z.moves m' h'
-      there = a_finished_heap_collects layout at_rest z.moves w over.moves v finished marked_then room_then h' m' made collected
+    same : world_collected w_then there.moves ≡ world_collected w both
+    same =
+        ap (λ (u : World). let v : World = record u { state = world.Parked [] } in v)
+        (sym (world_after_moves-append w is.moves there.moves))
 
-      -- the moves of both are due of the call, and the heap stands for the world after them
-      pub collecting_is_right : IsRightMovingIn layout w call.Collect m.moves m'.moves ok h'
-      collecting_is_right = record {
-        moves = over.moves ++ there.moves;
-        appended =
-            there.appended ∙ ap (λ ms. ms ++ there.moves) over.trail ∙ append_assoc m.moves over.moves there.moves;
-        right = there.right;
-      }
+    abbrev ok : Answer
+    ok = Replied reply.Ok
 
-      pub collecting_keeps_room : KeepsRoom m m'
-      collecting_keeps_room = there.room ∙ finish_keeps_room
+    both_made : AreMade layout w both (world_collected w both) time_at_rest h'
+    both_made =
+        let then = made_then layout w_then is.like m_between follows.made m' kept there in
+        let last =
+        subst (AreMade layout w_then there.moves (world_collected w_then there.moves) time_at_rest) (sym follows.followed) then in
+        record {
+          legal = both_legal w None is.moves there.moves is.legal (legal_after layout w_then is.like m_between follows.made m' kept there);
+          has = subst (HasParts layout time_at_rest h') same last.has;
+          now = subst (IsInTime time_at_rest (collector_of h')) same last.now;
+          live = subst Rattle.mps_model.specs.History.HeldAreLive same last.live;
+        }
+
+    -- the moves of both are due of the call, and the heap represents the world after them
+    pub collecting_is_right : IsRightMovingIn layout w call.Collect m.moves m'.moves ok h'
+    collecting_is_right = record {
+      moves = both;
+      appended =
+          there.appended ∙ ap (λ ms. ms ++ there.moves) is.appended ∙ append_assoc m.moves is.moves there.moves;
+      right = λ line.
+          made_step_is_right layout w reach line call.Collect both ok (world_collected w both) (record {
+            supported = refl;
+            arena = refl;
+            collectors = refl;
+            due = record {
+              earlier = is.moves;
+              full = there.moves;
+              both = refl;
+              earlier_ends = is.finishes;
+              is_full = is_full layout w_then is.like m_between follows.made m' kept there;
+            };
+            possible = tt;
+            comes = refl;
+            not_taken = λ v. refl;
+            formats = (moved_alone w call.Park both).formats;
+          }) time_at_rest h' both_made;
+    }
+
+    pub full_keeps_room : KeepsRoom m_between m'
+    full_keeps_room = there.room

@@ -35,14 +35,14 @@ use Rattle.mps_refinement.proofs.Worlds.InSteps.{known_after_last_units, live_af
 use Rattle.mps_refinement.proofs.Worlds.Known.{IsKnown}
 use Rattle.mps_trace_laws.specs.Summaries.Summed.{AreWordsSummed}
 use Rattle.mps_trace_laws.proofs.Summaries.UnitRows.{the_end_keeps}
-use Rattle.mps_refinement.proofs.Worlds.LikeReached.{IsLikeReached}
+use Rattle.mps_refinement.proofs.Worlds.LikeReached.{IsBare}
 
 -- what the collector has once its collection has ended
 abbrev pub collector_at_rest : Traced → CollectorState
 collector_at_rest z = record { segs = z.segs; tails = z.amc; running = None }
 
 module _ {F : Type 0} (layout : F → Layout) (past : Past) (h : HeapState F) (x : Collecting) (parts : AreParts layout past h x.world)
-    (like : IsLikeReached x.world) (r : Runs past.time (collector_of h) x.world x)
+    (bare : IsBare x.world) (r : Runs past.time (collector_of h) x.world x)
     (of : IsTraceOf h.pools h.chains (trace_of h.pools h.chains h.tails))
     (marked : IsMarked h.segs.grains h.segs.marks h.segs.condemned h.segs.summaries)
     (m : Moves) (room : most_moves h.segs.grains ≤ m.spare) (most : ℕ) (z : Traced) (f : FinalsState)
@@ -63,7 +63,7 @@ module _ {F : Type 0} (layout : F → Layout) (past : Past) (h : HeapState F) (x
   pub done : AreLastTracedUnitsDone here x (suc ends.count) z f
   done =
       the_end_is_done layout t.formats t.chains at_flip here z h.finals f r.run x most (scans_are_done layout t.formats t.chains at_flip)
-      (stands_for_units layout past h x parts like r of marked m room) ends
+      (stands_for_units layout past h x parts bare r of marked m room) ends
 
   pub last : AreLastUnitsDone x (suc ends.count) done.moves
   last = last_units_done x (suc ends.count) done.moves r.invariant done.units
@@ -76,7 +76,7 @@ module _ {F : Type 0} (layout : F → Layout) (past : Past) (h : HeapState F) (x
   left = ends_move r.invariant done.units
 
   pub live : HeldAreLive v
-  live = live_after_last_units x (suc ends.count) done.moves like r.invariant done.units
+  live = live_after_last_units x (suc ends.count) done.moves bare.like r.invariant done.units
 
   abbrev pub heap_after : HeapState F
   heap_after = collected_heap h (collector_at_rest z) f
@@ -92,18 +92,18 @@ module _ {F : Type 0} (layout : F → Layout) (past : Past) (h : HeapState F) (x
 
   pub knows_after : IsKnown time_at_rest v
   knows_after =
-      known_after_last_units time_at_rest (collector_at_rest z) x (suc ends.count) done.moves like r.invariant done.units
+      known_after_last_units time_at_rest (collector_at_rest z) x (suc ends.count) done.moves bare.like r.invariant done.units
       (rests rests_after)
 
   -- words stay summed
   pub summed_after : AreWordsSummed layout t.formats z.segs
   summed_after =
       the_end_keeps layout t.formats t.chains at_flip here z h.finals f r.run x most
-      (stands_for_units layout past h x parts like r of marked m room) parts.summed ends
+      (stands_for_units layout past h x parts bare r of marked m room) parts.summed ends
 
   pub parts_after : AreParts layout (record past { time = time_at_rest }) heap_after v
   parts_after =
-      parts_moved layout past h x parts like.formed r.invariant v left.but_collected (ends_stay r.invariant done.units)
+      parts_moved layout past h x parts bare.like.formed bare.none r.invariant v left.but_collected (ends_stay r.invariant done.units)
       time_at_rest (collector_at_rest z) f done.segments done.stands
       (registered_at_the_end v f done.finals knows_after.formed.registered) done.finals.waiting summed_after
 
@@ -111,4 +111,4 @@ module _ {F : Type 0} (layout : F → Layout) (past : Past) (h : HeapState F) (x
   pub keeps_room : KeepsRoom m z.moves
   keeps_room =
       units_keep_room layout t at_flip m here z h.finals f r.run x most (scans_are_done layout t.formats t.chains at_flip)
-      (stands_for_units layout past h x parts like r of marked m room) (none_pushed m) ends
+      (stands_for_units layout past h x parts bare r of marked m room) (none_pushed m) ends

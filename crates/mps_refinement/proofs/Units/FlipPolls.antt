@@ -10,6 +10,7 @@ use Rattle.mps_base.specs.declared.moves.Move.{Move}
 use Rattle.mps_base.specs.declared.names.Name.{Name}
 use Rattle.mps_buffer.specs.Points.{WereMadeBefore}
 use Rattle.mps_format.specs.Layout.{Layout}
+use Rattle.mps_laws.proofs.SameArena.{moved_alone}
 use Rattle.mps_model.specs.declared.call.Call.TheVariants as call
 use Rattle.mps_model.specs.Checked.{Checked}
 use Rattle.mps_model.specs.Collecting.{with_state}
@@ -45,6 +46,7 @@ use Rattle.mps_refinement.proofs.Worlds.Known.{IsKnown}
 use Rattle.mps_refinement.proofs.Worlds.Ready.{heap_is_ready}
 use Rattle.mps_refinement.proofs.Worlds.RunningNow.{resting_now}
 use Rattle.mps_refinement.proofs.Worlds.LikeReached.{like_reached}
+use Rattle.mps_refinement.proofs.Worlds.Steps.{HasParts}
 
 -- ---- what is due
 
@@ -139,40 +141,40 @@ module _ {F : Type 0} (layout : F → Layout) (h : HeapState F) (whole : IsWhole
     abbrev pub v : World
     v = world_after_moves w ms
 
-    pub flipped : IsFlipped layout st.past w (Generations due.chain due.generation) m h' m'
+    pub flipped : IsFlipped layout w (Generations due.chain due.generation) m h' m'
     flipped = flips_rightly layout h whole m room w st none (condemned_by due) numbered made h' m' started
 
     -- the points are ready after it
     pub ready_then : IsReady h'
     ready_then =
-        heap_is_ready layout (record st.past { time = flipped.time }) h' (with_state v world.Unclamped) flipped.parts
-        (laid_by_moves w (like_reached w st.reached) ms flipped.legal)
+        heap_is_ready layout flipped.made.has.past h' (with_state v world.Unclamped) flipped.made.has.parts
+        (laid_by_moves w (like_reached w st.reached) ms flipped.made.legal)
 
     -- in an arena that is unclamped already it changes nothing more
     module _ (unclamped : state_of h.arena (world.pairs_in w.state) ≡ world.Unclamped) where
       state_then : v.state ≡ world.Unclamped
-      state_then = ap (λ (u : World). u.state) flipped.moved.world ∙ st.parts.state ∙ unclamped
+      state_then = (moved_alone w call.Park ms).state ∙ st.parts.state ∙ unclamped
 
       same : with_state v world.Unclamped ≡ v
       same = ap (λ s. with_state v s) (sym state_then)
 
-      pub flipped_parts : AreParts layout (record st.past { time = flipped.time }) h' v
-      flipped_parts = subst (AreParts layout (record st.past { time = flipped.time }) h') same flipped.parts
+      pub flipped_has : HasParts layout flipped.time h' v
+      flipped_has = subst (HasParts layout flipped.time h') same flipped.made.has
 
       pub flipped_time : IsInTime flipped.time (collector_of h') v
-      flipped_time = subst (IsInTime flipped.time (collector_of h')) same flipped.now
+      flipped_time = subst (IsInTime flipped.time (collector_of h')) same flipped.made.now
 
       pub flipped_known : IsKnown flipped.time v
       flipped_known =
-          known_by_moves w (like_reached w st.reached) ms flipped.legal (subst (λ (u : World). is_parked u ≡ false) same refl)
-          (subst HeldAreLive same flipped.live) flipped.time (collector_of h') flipped_time
+          known_by_moves w (like_reached w st.reached) ms flipped.made.legal (subst (λ (u : World). is_parked u ≡ false) same refl)
+          (subst HeldAreLive same flipped.made.live) flipped.time (collector_of h') flipped_time
 
       pub flip_polls : (name : Name) (head : ℕ) → polls w (call.Reserve name head) ≡ true → Polls w name head ms v
       flip_polls name head polling =
           let rests : is_running w ≡ false = is_running-none w (resting_now layout h w st none).none in
           let due_there : policy.due_in w ≡ Some due = sym (due_alike layout st.past h w st.parts) ∙ is in
           record {
-            legal = flipped.legal;
+            legal = flipped.made.legal;
             due = subst (λ b. MatchBool b (IsPoll w ms) (ms ≡ [])) (sym polling)
                 (subst (λ b. MatchBool b (AreUnits w units_of_poll ms) (ms ≡ poll_at_rest w (policy.due_in w))) (sym rests)
                 (sym (ap (poll_at_rest w) due_there)));
@@ -182,6 +184,6 @@ module _ {F : Type 0} (layout : F → Layout) (h : HeapState F) (whole : IsWhole
             leads = refl;
             judged = v.collection;
             judged_is = refl;
-            grains = ap (λ (u : World). u.grains) flipped.moved.world;
-            formats = ap (λ (u : World). u.formats) flipped.moved.world;
+            grains = (moved_alone w call.Park ms).grains;
+            formats = (moved_alone w call.Park ms).formats;
           }

@@ -9,13 +9,11 @@ use Rattle.mps_base.specs.declared.moves.Move.{Move}
 use Rattle.mps_buffer.specs.Points.{WereMadeBefore}
 use Rattle.mps_format.specs.Layout.{Layout}
 use Rattle.mps_format.specs.Pools.{policy_of_pool}
-use Rattle.mps_laws.proofs.WellFormedHistories.{worlds_in_steps_are_well_formed}
 use Rattle.mps_model.specs.Collecting.{with_state}
 use Rattle.mps_model.specs.Effect.{Condemnation, condemned_by, condemned_zones, world_flipped, world_after_moves}
 use Rattle.mps_model.specs.Flip.{flip_act, flip_of, is_nothing}
-use Rattle.mps_model.specs.Graph.{contains, ids_in_blocks, ids_of_client}
+use Rattle.mps_model.specs.Graph.{contains, ids_in_blocks}
 use Rattle.mps_model.specs.History.{HeldAreLive, own_segment}
-use Rattle.mps_model.specs.LegalMove.{AreLegalMoves}
 use Rattle.mps_model.specs.WellFormed.{IsWellFormed}
 use Rattle.mps_model.specs.World.{World, Unclamped, is_live}
 use Rattle.mps_model.proofs.Reaching.{list_all-contains}
@@ -49,7 +47,9 @@ use Rattle.mps_heap_spec.specs.declared.arena.ArenaState.TheVariants as arena
 use Rattle.mps_refinement.specs.Collect.Leaving.{AreInPlace}
 use Rattle.mps_refinement.specs.Collect.Standing.{IsFlippedHeap}
 use Rattle.mps_refinement.specs.RightMoving.{KeepsRoom}
-use Rattle.mps_refinement.specs.StandsFor.{AreParts, IsInTime, IsReached, Past, Rests, Runs, Time, collector_of, rests, runs, time_at_rest}
+use Rattle.mps_refinement.specs.Dependents.{AreDependents}
+use Rattle.mps_refinement.specs.Following.{are_of_one, unpaired}
+use Rattle.mps_refinement.specs.StandsFor.{AreParts, IsInTime, Past, Rests, Runs, Time, collector_of, rests, runs, time_at_rest}
 use Rattle.mps_refinement.proofs.Collect.ActedRoots.{tables_acted}
 use Rattle.mps_refinement.proofs.Collect.BeforeAFlip.{is_before}
 use Rattle.mps_refinement.proofs.Collect.CollectRight.{IsBefore}
@@ -59,30 +59,31 @@ use Rattle.mps_refinement.proofs.Collect.FlipActs.{acted_moves, in_place_acted, 
 use Rattle.mps_refinement.proofs.Collect.PushedMoves.{pushed_keeps, told_below}
 use Rattle.mps_refinement.proofs.Collect.RoomKept.{at_once_keeps_room, begin_pushes, has_room}
 use Rattle.mps_refinement.proofs.Collect.RootsAfter.{AreRootsAfter, tables_after}
+use Rattle.mps_refinement.proofs.Following.Acts.{act_has_nothing}
+use Rattle.mps_refinement.proofs.Following.Laws.{flip_acts_are_same}
+use Rattle.mps_refinement.proofs.Following.Made.{AreMade, paired_made, state_aside}
+use Rattle.mps_refinement.proofs.Following.WithoutPairs.{alone}
 use Rattle.mps_refinement.proofs.Parts.Registered.{registered_at_the_end}
 use Rattle.mps_refinement.proofs.Summaries.AtOnce.{at_once_summed}
 use Rattle.mps_refinement.proofs.Units.FlipMoves.{flip_takes_none}
 use Rattle.mps_refinement.proofs.Units.FromUnits.{image_now, registered_now, runs_now, same_count, segments_now, time_now}
-use Rattle.mps_refinement.proofs.Worlds.InSteps.{live_while_running}
+use Rattle.mps_refinement.proofs.Worlds.InSteps.{laid_by_moves, live_while_running}
+use Rattle.mps_refinement.proofs.Worlds.LikeReached.{IsBare, IsLikeReached, formed_in_steps}
 use Rattle.mps_refinement.proofs.Worlds.Known.{IsKnown}
 
--- what a flip leaves: its moves are legal, the heap stands for the world after them in the unclamped arena, at rest or while a collection
+-- what a flip leaves: its moves are legal, the heap represents the world after them in the unclamped arena, at rest or while a collection
 -- runs, and all that is held there is live
-pub record IsFlipped {F : Type 0} (layout : F → Layout) (past : Past) (w : World) (c : Condemnation) (m : Moves) (h' : HeapState F)
-    (m' : Moves) : Type 0 where
-  pub time : Time
-  pub legal : AreLegalMoves w None (flip_act w c)
-  pub taken_by_none : own_segment (flip_act w c) ≡ []
-  pub parts : AreParts layout (record past { time = time }) h' (with_state (world_after_moves w (flip_act w c)) Unclamped)
-  pub now : IsInTime time (collector_of h') (with_state (world_after_moves w (flip_act w c)) Unclamped)
-  pub live : HeldAreLive (with_state (world_after_moves w (flip_act w c)) Unclamped)
-  pub moved : IsButCollected (world_flipped w (condemned_zones w c)) (world_after_moves w (flip_act w c))
-  pub appended : m'.moves ≡ m.moves ++ flip_act w c
-  pub room : KeepsRoom m m'
-  pub some_left : 0 < m'.spare
+pub record IsFlipped {F : Type 0} (layout : F → Layout) (w : World) (c : Condemnation) (m : Moves) (h' : HeapState F) (m' : Moves) : Type 0
+  where
+    pub time : Time
+    pub made : AreMade layout w (flip_act w c) (with_state (world_after_moves w (flip_act w c)) Unclamped) time h'
+    pub taken_by_none : own_segment (flip_act w c) ≡ []
+    pub appended : m'.moves ≡ m.moves ++ flip_act w c
+    pub room : KeepsRoom m m'
+    pub some_left : 0 < m'.spare
 
 module _ {F : Type 0} (layout : F → Layout) (past : Past) (h : HeapState F) (w : World) (parts : AreParts layout past h w)
-    (known : IsKnown past.time w) (rest : Rests past.time (collector_of h) w) (reach : IsReached w)
+    (known : IsKnown past.time w) (rest : Rests past.time (collector_of h) w) (bare : IsBare w)
     (made : WereMadeBefore h.points.flips h.points) (of : IsTraceOf h.pools h.chains (trace_of h.pools h.chains h.tails))
     (marked : IsMarked h.segs.grains h.segs.marks h.segs.condemned h.segs.summaries) (m : Moves) (room : most_moves h.segs.grains ≤ m.spare)
     (what : Condemn) (may : MayCondemn (trace_of h.pools h.chains h.tails) h.segs w what) (h' : HeapState F) (m' : Moves)
@@ -102,7 +103,7 @@ module _ {F : Type 0} (layout : F → Layout) (past : Past) (h : HeapState F) (w
   z = traced (trace_of h'.pools h'.chains h'.tails) h'.segs m'
 
   pub known_before : IsBefore layout h m w
-  known_before = is_before layout past h w parts known rest marked m room
+  known_before = is_before layout past h w parts known bare.none rest marked m room
 
   pub before : StandsBefore layout t h.segs m h.points w
   before = known_before.stands t of
@@ -180,7 +181,7 @@ module _ {F : Type 0} (layout : F → Layout) (past : Past) (h : HeapState F) (w
 
     pub parts_then : AreParts layout (record past { time = time_then }) h' v
     parts_then =
-        flipped_parts layout past h h' w parts known.formed made_then y y.world _ moved Unclamped time_then flipped places
+        flipped_parts layout past h h' w parts known.formed bare.none made_then y y.world _ moved Unclamped time_then flipped places
         (image_now layout t.formats t.chains w.addresses z h'.finals run y act.stands)
         (registered_now layout t.formats t.chains w.addresses z h'.finals run y act.stands) act.stands.finals.waiting
         (begin_keeps layout t h.segs m h.points h.roots h'.roots h.finals h'.finals w known_before.rows z run what before
@@ -263,15 +264,20 @@ module _ {F : Type 0} (layout : F → Layout) (past : Past) (h : HeapState F) (w
     some_left : 0 < m'.spare
     some_left = has_room layout t w.addresses z h'.finals run y act.stands
 
-    pub begun_flip : IsFlipped layout past w c m h' m'
+    pub begun_flip : IsFlipped layout w c m h' m'
     begun_flip = record {
       time = time_then;
-      legal = leads.legal;
+      made = record {
+        legal = leads.legal;
+        has = record {
+          past = record past { time = time_then };
+          timed = refl;
+          parts = subst (AreParts layout (record past { time = time_then }) h') (sym leads_to) parts_then;
+        };
+        now = subst (IsInTime time_then (collector_of h')) (sym leads_to) (runs after runs_then);
+        live = subst HeldAreLive (sym leads_to) (live_while_running after invariant blocks_live);
+      };
       taken_by_none = subst (λ ms. own_segment ms ≡ []) (sym leads.act) (flip_takes_none (flip_of w c) refl act.fixes);
-      parts = subst (AreParts layout (record past { time = time_then }) h') (sym leads_to) parts_then;
-      now = subst (IsInTime time_then (collector_of h')) (sym leads_to) (runs after runs_then);
-      live = subst HeldAreLive (sym leads_to) (live_while_running after invariant blocks_live);
-      moved = subst (IsButCollected (world_flipped w (condemned_zones w c))) (sym leads.leads) moved;
       appended = act.trail ∙ ap (λ ms. m.moves ++ ms) (sym leads.act);
       room =
           let pushed = begin_pushes layout t what h.points h.roots h'.roots h.finals h'.finals here z run begun in
@@ -305,19 +311,15 @@ module _ {F : Type 0} (layout : F → Layout) (past : Past) (h : HeapState F) (w
     live = live_after_nothing w c at_rest may.numbered over.nothing known.formed known.live Unclamped refl
 
     formed : IsWellFormed u
-    formed =
-        subst (λ (v : World). IsWellFormed (with_state (world_after_moves v ms) Unclamped)) (sym reach.is)
-        (worlds_in_steps_are_well_formed w.formats reach.history ms reach.once reach.legal
-        (subst (λ v. AreLegalMoves v None ms) reach.is ended.legal)
-        (subst (λ v. list_all (is_live (world_after_moves v ms)) (ids_of_client (world_after_moves v ms).graph) ≡ true) reach.is
-        live.client))
+    formed = formed_in_steps w ms bare.like ended.legal (laid_by_moves w bare.like ms ended.legal) live.client
 
     left : IsLeft past w h h' w.addresses (world_after_moves w ms)
     left = left_at_once layout past h w parts rest.time m t before what may.numbered h' (trace_of h'.pools h'.chains h'.tails) m' ends over
 
     parts_at_rest : AreParts layout (record past { time = time_at_rest }) h' u
     parts_at_rest =
-        flipped_parts layout past h h' w parts known.formed made_then (collecting_after_flip w c []) (world_after_moves w ms) _ left_so
+        flipped_parts layout past h h' w parts known.formed bare.none made_then (collecting_after_flip w c [])
+        (world_after_moves w ms) _ left_so
         Unclamped
         time_at_rest
         (flipped_heap layout past h h' w parts (zones_at_flip (map policy_of_pool h.pools) h.chains what h.segs.segments)
@@ -346,15 +348,16 @@ module _ {F : Type 0} (layout : F → Layout) (past : Past) (h : HeapState F) (w
         let spare : m'.spare ≡ m.spare - 1 - 1 = ap (λ (x : Traced). x.moves.spare) ends.over in
         omega (arith, enough, spare)
 
-    pub ended_flip : IsFlipped layout past w c m h' m'
+    pub ended_flip : IsFlipped layout w c m h' m'
     ended_flip = record {
       time = time_at_rest;
-      legal = ended.legal;
+      made = record {
+        legal = ended.legal;
+        has = record { past = record past { time = time_at_rest }; timed = refl; parts = parts_at_rest };
+        now = rests rests_then;
+        live = live;
+      };
       taken_by_none = ap own_segment ended.act;
-      parts = parts_at_rest;
-      now = rests rests_then;
-      live = live;
-      moved = left_so;
       appended = over.trail;
       room =
           at_once_keeps_room layout t what h.points h.roots h'.roots h.finals h'.finals here z ends
@@ -364,21 +367,43 @@ module _ {F : Type 0} (layout : F → Layout) (past : Past) (h : HeapState F) (w
 
 -- a heap at rest that began a collection
 pub flip_is_right : {F : Type 0} (layout : F → Layout) (past : Past) (h : HeapState F) (w : World) (parts : AreParts layout past h w)
-    → IsKnown past.time w → Rests past.time (collector_of h) w → IsReached w → WereMadeBefore h.points.flips h.points
+    → IsKnown past.time w → Rests past.time (collector_of h) w → IsBare w → WereMadeBefore h.points.flips h.points
     → IsTraceOf h.pools h.chains (trace_of h.pools h.chains h.tails)
     → IsMarked h.segs.grains h.segs.marks h.segs.condemned h.segs.summaries → (m : Moves) → most_moves h.segs.grains ≤ m.spare
     → (what : Condemn) → MayCondemn (trace_of h.pools h.chains h.tails) h.segs w what → (h' : HeapState F) (m' : Moves)
-    → IsStarted layout what h m h' m' → IsFlipped layout past w (condemnation what) m h' m'
-flip_is_right {F} layout past h w parts known rest reach made of marked m room what may h' m' started = of_running h'.running refl
+    → IsStarted layout what h m h' m' → IsFlipped layout w (condemnation what) m h' m'
+flip_is_right {F} layout past h w parts known rest bare made of marked m room what may h' m' started = of_running h'.running refl
   where
-    of_running : (o : Option RunningState) → h'.running ≡ o → IsFlipped layout past w (condemnation what) m h' m'
+    of_running : (o : Option RunningState) → h'.running ≡ o → IsFlipped layout w (condemnation what) m h' m'
     of_running (Some run) is =
-        begun_flip layout past h w parts known rest reach made of marked m room what may h' m' started.state run is
+        begun_flip layout past h w parts known rest bare made of marked m room what may h' m' started.state run is
         (subst (λ o. IfSome o (λ r. Begins layout (trace_of h.pools h.chains h.tails).formats
         (trace_of h.pools h.chains h.tails).chains what h.points h.roots h.finals (traced (trace_of h.pools h.chains h.tails) h.segs m)
         h'.roots h'.finals (traced (trace_of h'.pools h'.chains h'.tails) h'.segs m') r)) is started.begun)
     of_running None is =
-        ended_flip layout past h w parts known rest reach made of marked m room what may h' m' started.state is
+        ended_flip layout past h w parts known rest bare made of marked m room what may h' m' started.state is
         (subst (λ o. IfNone o (EndsAtOnce (trace_of h.pools h.chains h.tails).formats (trace_of h.pools h.chains h.tails).chains what
         h.points h.roots h.finals (traced (trace_of h.pools h.chains h.tails) h.segs m) h'.roots h'.finals
         (traced (trace_of h'.pools h'.chains h'.tails) h'.segs m'))) is started.ended)
+
+-- ---- with pairs
+
+-- a heap follows nothing of the act of a flip, which is the same with pairs
+pub flip_paired : {F : Type 0} (layout : F → Layout) (w : World) (like : IsLikeReached w) (c : Condemnation) (m : Moves) (h' : HeapState F)
+    (m' : Moves) → AreDependents w.addresses h'.beside.dependents w.graph.dependents → IsFlipped layout (unpaired w) c m (alone h') m'
+    → IsFlipped layout w c m h' m'
+flip_paired layout w like c m h' m' kept is =
+    let ms : List Move = flip_act (unpaired w) c in
+    let same : ms ≡ flip_act w c = sym (flip_acts_are_same w c).same in
+    let change : World → World = λ v. with_state v Unclamped in
+    let one : are_of_one ms ≡ true = subst (λ (ns : List Move). are_of_one ns ≡ true) (sym same) (flip_acts_are_same w c).of_one in
+    let paired = paired_made layout change (state_aside Unclamped) w like ms is.time h' kept one is.made in
+    record {
+      time = is.time;
+      made = subst (λ ns. AreMade layout w ns (change (world_after_moves w ns)) is.time h') same
+          (subst (AreMade layout w ms (change (world_after_moves w ms)) is.time) (act_has_nothing layout h' (unpaired w) c) paired);
+      taken_by_none = subst (λ ns. own_segment ns ≡ []) same is.taken_by_none;
+      appended = is.appended ∙ ap (λ ns. m.moves ++ ns) same;
+      room = is.room;
+      some_left = is.some_left;
+    }

@@ -210,8 +210,8 @@ module _ {F : Type 0} (layout : F → Layout) (formats : List (Option (Policy F)
 -- ---- the heap after units
 
 module _ {F : Type 0} (layout : F → Layout) (past : Past) (h : HeapState F) (x : Collecting) (parts : AreParts layout past h x.world)
-    (formed : IsWellFormed x.world) (running : Running x) (flip : AreOfFlip past.time.at_flip x.world) (formats : List (Option (Policy F)))
-    (of : ChainsState) (y : Collecting) (ms : List Move) (leads : world_after_moves x.world ms ≡ y.world)
+    (formed : IsWellFormed x.world) (none : x.world.graph.dependents ≡ []) (running : Running x)
+    (flip : AreOfFlip past.time.at_flip x.world) (formats : List (Option (Policy F))) (of : ChainsState) (y : Collecting) (ms : List Move) (leads : world_after_moves x.world ms ≡ y.world)
     (left : IsButCollected x.world y.world) (stays : StaysInPlace x y) (z : Traced) (f : FinalsState) (run : RunningState)
     (stands : UnitStands layout formats of past.time.at_flip z f run y) where
   abbrev pub time_then : Time
@@ -220,7 +220,7 @@ module _ {F : Type 0} (layout : F → Layout) (past : Past) (h : HeapState F) (x
   pub parts_then : AreWordsSummed layout (map policy_of_pool h.pools) z.segs
       → AreParts layout (record past { time = time_then }) (collected_heap h (collector_after z run) f) y.world
   parts_then summed =
-      parts_moved layout past h x parts formed running y.world left stays.in_place time_then (collector_after z run) f
+      parts_moved layout past h x parts formed none running y.world left stays.in_place time_then (collector_after z run) f
       (segments_now layout formats of past.time.at_flip z f run y stands) (image_now layout formats of past.time.at_flip z f run y stands)
       (registered_now layout formats of past.time.at_flip z f run y stands) stands.finals.waiting summed
 

@@ -1,7 +1,7 @@
 -- The call `get` at any time: the barrier that it needs can be done, the call is right, and its trail keeps its room.
 use Rattle.std.proofs.Common.{◌≡◌, ◌∙◌, ℕ, ◌<◌, ◌≤◌, refl, sym, ap, subst, List, [], ◌++◌, Option, Some, None, Contains, arith}
 use Rattle.std.proofs.lemmas.List.{append-nil, append_cancel_left}
-use Rattle.std.proofs.lemmas.Option.{none-some, same_Some}
+use Rattle.std.proofs.lemmas.Option.{same_Some}
 use Rattle.mps_base.specs.Segment.{Segment}
 use Rattle.mps_base.specs.Trail.{Moves}
 use Rattle.mps_base.specs.declared.moves.Move.{Move}
@@ -25,33 +25,28 @@ use Rattle.mps_heap_spec.specs.Units.{IsWhole, trace_in, traced_in}
 use Rattle.mps_refinement.specs.Answering.{answer_to, says_ok}
 use Rattle.mps_refinement.specs.RightMoving.{IsRightMoving, KeepsRoom}
 use Rattle.mps_refinement.specs.RightStep.{IsRightIn, step_of}
-use Rattle.mps_refinement.specs.StandsFor.{AreParts, IsInTime, IsReached, Past, Rests, Runs, StandsFor, collector_of, rests, runs}
+use Rattle.mps_refinement.specs.StandsFor.{AreParts, Past, Rests, Runs, StandsFor, collector_of}
 use Rattle.mps_refinement.specs.StandsForSome.{StandsForSome}
 use Rattle.mps_refinement.proofs.Calls.Gets.{resting_get_is_right}
 use Rattle.mps_refinement.proofs.Units.Accesses.{IsAccessed, access_can_be_done, access_is_done}
 use Rattle.mps_refinement.proofs.Units.Gets.{get_is_right, its_segment, refused_get_is_right}
 use Rattle.mps_refinement.proofs.Units.Ready.{units_are_few}
-use Rattle.mps_refinement.proofs.Worlds.Known.{IsKnown, known_now}
+use Rattle.mps_refinement.proofs.Worlds.Known.{known_now}
 use Rattle.mps_refinement.proofs.Worlds.Staying.{one_world}
-use Rattle.mps_refinement.proofs.Worlds.LikeReached.{like_reached}
-use Rattle.mps_refinement.proofs.Units.Followed.{access_alone, no_pair, pairs_of}
-
--- what is shown of a running collection by the world that the abstract collector has
-pub in_its_world : {F : Type 0} {layout : F → Layout} {past : Past} {h : HeapState F} {w : World} (x : Collecting) (A : World → Type 0)
-    → (AreParts layout past h x.world → IsKnown past.time x.world → IsReached x.world → Runs past.time (collector_of h) x.world x
-    → A x.world) → AreParts layout past h w → IsKnown past.time w → IsReached w → Runs past.time (collector_of h) w x → A w
-in_its_world {layout = layout} {past = past} {h = h} x A shown parts knows reach r =
-    subst (λ v. AreParts layout past h v → IsKnown past.time v → IsReached v → Runs past.time (collector_of h) v x → A v) r.world shown
-    parts knows reach r
+use Rattle.mps_refinement.proofs.Worlds.LikeReached.{IsBare}
+use Rattle.mps_refinement.proofs.Units.UnitsMade.{since_are}
+use Rattle.mps_refinement.proofs.Following.WithoutPairs.{alone}
+use Rattle.mps_refinement.proofs.Worlds.RunningNow.{resting_now, running_now}
+use Rattle.mps_heap_spec.specs.Following.{moves_followed}
 
 module _ {F : Type 0} (layout : F → Layout) (h : HeapState F) (m : Moves) (room : most_moves h.segs.grains ≤ m.spare) where
   -- ---- the barrier
 
-  module _ (whole : IsWhole h) (past : Past) (x : Collecting) (parts : AreParts layout past h x.world) (reach : IsReached x.world)
+  module _ (whole : IsWhole h) (past : Past) (x : Collecting) (parts : AreParts layout past (alone h) x.world) (bare : IsBare x.world)
       (r : Runs past.time (collector_of h) x.world x) where
     few : units_left x < too_many_scans
     few =
-        let below = units_are_few layout past h x parts (like_reached x.world reach) r in
+        let below = units_are_few layout past (alone h) x parts bare r in
         let grains = parts.arena.at_most in
         let registered = whole.few in
         omega (arith, below, grains, registered)
@@ -60,17 +55,12 @@ module _ {F : Type 0} (layout : F → Layout) (h : HeapState F) (m : Moves) (roo
         → CanAccess layout run.band (trace_in h) h.segs m t
     can_access run running t held =
         subst (λ (o : RunningState). CanAccess layout o.band (trace_in h) h.segs m t) (same_Some r.run run (sym r.running ∙ running))
-        (access_can_be_done layout past h x parts (like_reached x.world reach) r whole.tails whole.marked m room t held few)
+        (access_can_be_done layout past (alone h) x parts bare r whole.tails whole.marked m room t held few)
 
   pub can_get : (w : World) → StandsFor layout h w → (target source : Slot) (k : ℕ) → CanGet layout h m target source k
-  can_get w st target source k whole object found run running t over = of_time st.time
-    where
-      of_time : IsInTime st.past.time (collector_of h) w → CanAccess layout run.band (trace_in h) h.segs m t
-      of_time (rests rest) = absurd (none-some run (sym rest.not_running ∙ running))
-      of_time (runs x r) =
-          in_its_world x (λ v. CanAccess layout run.band (trace_in h) h.segs m t)
-          (λ parts knows reach now. can_access whole st.past x parts reach now run running t
-          (over_is_there h.segs.segments object.at t over)) st.parts (known_now st) st.reached r
+  can_get w st target source k whole object found run running t over =
+      let g = running_now layout h w st run running in
+      can_access whole g.past g.collecting g.parts g.bare g.runs run running t (over_is_there h.segs.segments object.at t over)
 
   -- ---- what it does
 
@@ -93,30 +83,30 @@ module _ {F : Type 0} (layout : F → Layout) (h : HeapState F) (m : Moves) (roo
     kept_as : m' ≡ m → KeepsRoom m m'
     kept_as same = subst (KeepsRoom m) (sym same) refl
 
-    -- what is read after a barrier whose moves are followed by nothing
-    comes_alone : pairs_of h ≡ [] → (x : Traced)
+    -- what is read after a barrier that made these moves
+    comes_after : (x : Traced) (ms : List Move) → x.moves.moves ≡ m.moves ++ ms
         → Comes (after_access layout h m x) (reference_got layout (after_access layout h m x) target source k) result after
-        → Comes (with_traced h x) (reference_got layout (with_traced h x) target source k) result after
-    comes_alone unpaired x comes =
-        subst (λ (g : HeapState F). Comes g (reference_got layout g target source k) result after)
-        (access_alone layout h unpaired m x) comes
+        → let g : HeapState F = moves_followed layout (with_traced h x) ms in Comes g (reference_got layout g target source k) result after
+    comes_after x ms made comes =
+        subst (λ (ns : List Move). let g : HeapState F = moves_followed layout (with_traced h x) ns in
+        Comes g (reference_got layout g target source k) result after) (since_are m x.moves ms made) comes
 
     -- ---- at rest
 
-    read_alone : pairs_of h ≡ [] → h.running ≡ None → IsGot layout h m target source k result after m'
+    read_alone : h.running ≡ None → IsGot layout h m target source k result after m'
         → Comes h (reference_got layout h target source k) result after × (m' ≡ m)
-    read_alone unpaired none (is_refused why e answer state trail) =
+    read_alone none (is_refused why e answer state trail) =
         (record { answer = answer ∙ sym (ap answered e); state = state ∙ sym (ap (state_from h) e) }, trail)
-    read_alone unpaired none (reads x is comes trail) =
+    read_alone none (reads x is comes trail) =
         let same : x ≡ traced_in h m = is.accessed.rests none in (
           subst (λ (z : Traced). Comes (with_traced h z) (reference_got layout (with_traced h z) target source k) result after) same
-              (comes_alone unpaired x comes),
+              (comes_after x [] (ap (λ (z : Traced). z.moves.moves) same ∙ sym (append-nil m.moves)) comes),
           trail ∙ ap (λ (z : Traced). z.moves) same,
         )
 
     resting : (w : World) (st : StandsFor layout h w) → Rests st.past.time (collector_of h) w → IsGotIn w
     resting w st rest =
-        let plain = read_alone (no_pair layout st.past h w st.parts) rest.not_running got in
+        let plain = read_alone rest.not_running got in
         record {
           moves = [];
           appended = none_appended plain.1;
@@ -126,50 +116,44 @@ module _ {F : Type 0} (layout : F → Layout) (h : HeapState F) (m : Moves) (roo
 
     -- ---- while a collection runs
 
-    module _ (past : Past) (x : Collecting) (parts : AreParts layout past h x.world)
-        (knows : IsKnown past.time x.world) (reach : IsReached x.world) (r : Runs past.time (collector_of h) x.world x) where
-      running : IsGot layout h m target source k result after m' → IsGotIn x.world
-      running (is_refused why e answer state trail) = record {
-        moves = [];
-        appended = none_appended trail;
-        kept = kept_as trail;
-        right = λ line.
-            subst (λ s. IsRightIn layout x.world (step_of line c [] (answer_to says_ok result)) s) (sym state)
-            (subst (λ a. IsRightIn layout x.world (step_of line c [] (answer_to says_ok a)) h) (sym answer)
-            (refused_get_is_right layout past h x parts knows reach r line target source k why e));
-      }
-      running (reads z accessed comes trail) =
-          let whole = accessed.accessed.whole r.run r.running in
-          let b = accessed.object in
-          let over = its_segment layout past h x parts knows reach r 0 target source k b accessed.found in
-          let is : IsAccessed layout past h x r m over.0 z =
-          access_is_done layout past h x parts (like_reached x.world reach) r whole.tails whole.marked m room over.0
-          (over_is_there h.segs.segments b.at over.0 over.1) z (accessed.accessed.runs r.run r.running over.0 over.1) in
-          let alone = comes_alone (no_pair layout past h x.world parts) z comes in
-          let then =
-          subst
-          (λ (run : Option RunningState). let after_barrier : HeapState F = record (with_traced h z) { running = run } in
-          Comes after_barrier (reference_got layout after_barrier target source k) result after)
-          r.running alone in
-          record {
-            moves = is.moves;
-            appended = ap (λ (n : Moves). n.moves) trail ∙ is.trail;
-            kept = subst (KeepsRoom m) (sym trail) is.room;
-            right = λ line.
-                get_is_right layout past h x parts knows reach r line target source k m accessed.outcome accessed.accepted b
-                accessed.found over.0 over.1 z is result after then;
-          }
+    running_so : (w : World) (st : StandsFor layout h w) (run : RunningState) → h.running ≡ Some run
+        → IsGot layout h m target source k result after m' → IsGotIn w
+    running_so w st run is_on (is_refused why e answer state trail) = record {
+      moves = [];
+      appended = none_appended trail;
+      kept = kept_as trail;
+      right = λ line.
+          subst (λ s. IsRightIn layout w (step_of line c [] (answer_to says_ok result)) s) (sym state)
+          (subst (λ a. IsRightIn layout w (step_of line c [] (answer_to says_ok a)) h) (sym answer)
+          (refused_get_is_right layout st.past h w st.parts (known_now st) st.reached line target source k st.time why e));
+    }
+    running_so w st run is_on (reads z accessed comes trail) =
+        let g = running_now layout h w st run is_on in
+        let whole = accessed.accessed.whole g.runs.run g.runs.running in
+        let b = accessed.object in
+        let over = its_segment layout st.past h w st.parts (known_now st) st.reached 0 target source k b accessed.found in
+        let is : IsAccessed layout g.past (alone h) g.collecting g.runs m over.0 z =
+        access_is_done layout g.past (alone h) g.collecting g.parts g.bare g.runs whole.tails whole.marked m room over.0
+        (over_is_there h.segs.segments b.at over.0 over.1) z (accessed.accessed.runs g.runs.run g.runs.running over.0 over.1) in
+        record {
+          moves = is.moves;
+          appended = ap (λ (n : Moves). n.moves) trail ∙ is.trail;
+          kept = subst (KeepsRoom m) (sym trail) is.room;
+          right = λ line.
+              get_is_right layout g.past h w g.parts_paired g.known_paired st.reached line target source k g.collecting g.world g.bare
+              g.runs m
+              accessed.outcome accessed.accepted b accessed.found over.0 over.1 z is result after
+              (comes_after z is.moves is.trail comes);
+        }
 
     -- ---- at any time
 
     got_in : (w : World) → StandsFor layout h w → IsGotIn w
-    got_in w st = of_time st.time
+    got_in w st = of_running h.running refl
       where
-        of_time : IsInTime st.past.time (collector_of h) w → IsGotIn w
-        of_time (rests rest) = resting w st rest
-        of_time (runs x r) =
-            in_its_world x IsGotIn (λ parts knows reach now. running st.past x parts knows reach now got) st.parts (known_now st)
-            st.reached r
+        of_running : (o : Option RunningState) → h.running ≡ o → IsGotIn w
+        of_running None none = resting w st (resting_now layout h w st none)
+        of_running (Some run) is_on = running_so w st run is_on got
 
     -- it makes the same moves, whatever the world is
     pub got_rightly : StandsForSome layout h

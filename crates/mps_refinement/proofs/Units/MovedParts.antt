@@ -1,5 +1,5 @@
 -- After moves of a collector the parts of a heap stand for the world after them, where what isn't white stays where it is.
-use Rattle.std.proofs.Common.{◌≡◌, ◌∙◌, ◌+◌, ◌<◌, ◌≤◌, true, false, refl, sym, ap, subst, ◌++◌, map, arith}
+use Rattle.std.proofs.Common.{◌≡◌, ◌∙◌, ◌+◌, ◌<◌, ◌≤◌, true, false, refl, sym, ap, subst, [], ◌++◌, map, arith}
 use Rattle.std.specs.Prelude.{not}
 use Rattle.mps_base.specs.Address.{Id, max_grains, word_of}
 use Rattle.mps_format.specs.Layout.{Layout}
@@ -32,7 +32,8 @@ abbrev pub collected_heap : {F : Type 0} → HeapState F → CollectorState → 
 collected_heap h c finals = record h { segs = c.segs; tails = c.tails; running = c.running; finals = finals }
 
 module _ {F : Type 0} (layout : F → Layout) (past : Past) (h : HeapState F) (x : Collecting) (parts : AreParts layout past h x.world)
-    (formed : IsWellFormed x.world) (run : Running x) (after : World) (left : IsButCollected x.world after)
+    (formed : IsWellFormed x.world) (none : x.world.graph.dependents ≡ []) (run : Running x) (after : World)
+    (left : IsButCollected x.world after)
     (in_place : (id : Id) → is_white_in x id ≡ false → address_of after id ≡ address_of x.world id) (t : Time) (c : CollectorState)
     (finals : FinalsState) where
   abbrev w : World
@@ -125,7 +126,7 @@ module _ {F : Type 0} (layout : F → Layout) (past : Past) (h : HeapState F) (x
           subst (λ (u : World). AreRegisteredAt t u.addresses finals.registered u.graph.registered) same registered,
           messages ∙ ap (λ (u : World). map (address_of_id u.addresses) u.graph.messages) same,
         )
-        parts.dependencies (parts.lawful, parts.pools, parts.sizes, parts.chains, left.unpaired parts.dependents)
+        parts.dependencies (parts.lawful, parts.pools, parts.sizes, parts.chains)
         (named_alike h (collected_heap h c finals) (record past { time = t }) w.graph.names w.graph.labels
         (named_at past t h w.graph.names w.graph.labels parts.names) (λ name. refl) refl (record {
           pools = λ n low. low;
@@ -143,7 +144,7 @@ module _ {F : Type 0} (layout : F → Layout) (past : Past) (h : HeapState F) (x
           parts.state,
           beside_still _ _ _ _ parts.beside _ _ _
               (same_caches w.addresses v.addresses w.graph.caches in_caches)
-              (ap (map (kept_pair w.addresses)) parts.dependents ∙ sym (ap (map (kept_pair v.addresses)) (left.unpaired parts.dependents))),
+              (ap (map (kept_pair w.addresses)) none ∙ sym (ap (map (kept_pair v.addresses)) (left.unpaired none))),
           transforms_still past.transform_number (is_copying_object w) (is_copying_object v) w.addresses v.addresses h.beside.transforms
               w.graph.transforms (pairs_in w.state) (none_paired (is_copying_object w) (is_copying_object v) w.addresses v.addresses
               (pairs_in w.state) (pairs_unparked w.state

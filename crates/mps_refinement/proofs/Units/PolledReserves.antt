@@ -1,8 +1,7 @@
 -- A `reserve` is right, whatever its poll does: where a collection runs it does 64 units, or fewer if the collection ends in them. Where
 -- none runs it flips the generation that is due, if one is. It can be done, and keeps the room of its trail.
-use Rattle.std.proofs.Common.{◌≡◌, ◌∙◌, ◌<◌, ◌≤◌, Bool, suc, true, false, refl, sym, ap, subst, List, [], ◌++◌, Option, Some, None, is_some, arith}
+use Rattle.std.proofs.Common.{◌≡◌, ◌∙◌, ◌<◌, ◌≤◌, Bool, true, false, refl, sym, ap, subst, List, [], ◌++◌, Option, Some, None, is_some, arith}
 use Rattle.std.proofs.lemmas.List.{append-nil}
-use Rattle.std.proofs.lemmas.Option.{none-some}
 use Rattle.std.specs.Prelude.{ℕ, MatchBool}
 use Rattle.mps_base.specs.Generation.{Due}
 use Rattle.mps_base.specs.Trail.{Moves}
@@ -14,17 +13,15 @@ use Rattle.mps_model.specs.declared.call.Call.{Call}
 use Rattle.mps_model.specs.declared.call.Call.TheVariants as call
 use Rattle.mps_model.specs.Checked.{Checked}
 use Rattle.mps_model.specs.Policy.{polls, units_of_poll}
-use Rattle.mps_model.specs.World.{World, pairs_in}
-use Rattle.mps_seg.specs.Table.{IsMarked}
+use Rattle.mps_laws.proofs.SameArena.{moved_alone}
+use Rattle.mps_model.specs.Collecting.{with_state}
+use Rattle.mps_model.specs.Effect.{world_after_moves}
+use Rattle.mps_model.specs.History.{asking}
+use Rattle.mps_model.specs.World.{World, is_parked, is_running, pairs_in}
 use Rattle.mps_trace.specs.Collect.{most_moves}
 use Rattle.mps_pools.specs.Pools.{trace_of}
-use Rattle.mps_pools.specs.Collecting.{IsTraceOf}
-use Rattle.mps_trace.specs.State.{FinalsState}
-use Rattle.mps_trace.specs.Trace.{Traced, traced}
 use Rattle.mps_trace.specs.Unit.{EndsWithin, UnitsTo}
 use Rattle.mps_trace.specs.declared.running.Running.{Running as RunningState}
-use Rattle.mps_abstract.specs.Collecting.{Collecting}
-use Rattle.mps_trace_laws.specs.Units.Laws.{AreLastTracedUnitsDone, AreTracedUnitsDone}
 use Rattle.mps_heap_spec.specs.Allocating.{after_reserve, check_reserve}
 use Rattle.mps_heap_spec.specs.Coming.{ComesMoving}
 use Rattle.mps_heap_spec.specs.Collecting.{IsStarted, most_flips}
@@ -33,25 +30,25 @@ use Rattle.mps_heap_spec.specs.State.{HeapState, IsReady}
 use Rattle.mps_heap_spec.specs.Units.{HasDoneUnits, IsWhole, ends, goes_on, none_runs, traced_in}
 use Rattle.mps_refinement.specs.Answering.{answer_to, says_ok}
 use Rattle.mps_refinement.specs.RightMoving.{IsRightMovingIn, KeepsRoom}
-use Rattle.mps_refinement.specs.StandsFor.{AreParts, IsInTime, IsReached, Past, Runs, StandsFor, Time, collector_of, rests, runs, time_at_rest}
+use Rattle.mps_refinement.specs.StandsFor.{IsInTime, IsReached, StandsFor, Time, collector_of}
 use Rattle.mps_refinement.proofs.Calls.Reserves.{no_poll, no_poll_at_rest, polls_alike}
 use Rattle.mps_refinement.proofs.Calls.ReserveStep.{Polls}
 use Rattle.mps_refinement.proofs.Calls.RightReserve.{reserve_runs_on}
-use Rattle.mps_refinement.proofs.Units.Collects.{more_is_left}
-use Rattle.mps_refinement.proofs.Units.Ended as ended
+use Rattle.mps_refinement.proofs.Following.WithoutPairs.{alone}
 use Rattle.mps_refinement.proofs.Units.FlipPolls as flips
-use Rattle.mps_refinement.proofs.Units.FromUnits.{collector_after}
-use Rattle.mps_refinement.proofs.Units.Outcomes.{can_do_units, units_keep_room}
-use Rattle.mps_refinement.proofs.Units.Polls.{last_units_poll, units_poll}
+use Rattle.mps_refinement.proofs.Units.Outcomes.{can_do_units, running_alike, units_keep_room}
+use Rattle.mps_refinement.proofs.Units.Polls.{units_poll}
+use Rattle.mps_refinement.proofs.Units.RoomLeft.{more_is_left}
 use Rattle.mps_refinement.proofs.Units.UnitsDone as going
+use Rattle.mps_refinement.proofs.Units.UnitsMade.{AreUnitsMade, units_are_made}
 use Rattle.mps_refinement.proofs.Worlds.Appending.{outcome_appended, reserve_appends}
-use Rattle.mps_refinement.proofs.Worlds.InSteps.{known_after_asked_units}
-use Rattle.mps_refinement.proofs.Worlds.Known.{IsKnown, known, known_now}
+use Rattle.mps_refinement.proofs.Worlds.InSteps.{known_asked_by_moves, running_unparked}
+use Rattle.mps_refinement.proofs.Worlds.Known.{IsKnown, known_now}
+use Rattle.mps_refinement.proofs.Worlds.LikeReached.{IsLikeReached, like_reached}
 use Rattle.mps_refinement.proofs.Worlds.Ready.{heap_is_ready, laid_out, ready}
 use Rattle.mps_refinement.proofs.Worlds.Room.{keeps_room, reserve_keeps_room}
 use Rattle.mps_refinement.proofs.Worlds.RunningNow.{resting_now, running_now}
-use Rattle.mps_refinement.proofs.Worlds.LikeReached.{IsLikeReached, like_reached}
-use Rattle.mps_refinement.proofs.Units.Followed.{no_pair, units_alone}
+use Rattle.mps_refinement.proofs.Worlds.Steps.{HasParts}
 use Rattle.mps_heap_spec.specs.Following.{Follows}
 
 -- ---- after the moves of a poll
@@ -67,108 +64,46 @@ module _ {F : Type 0} (layout : F → Layout) (w : World) (reach : IsReached w) 
       → ComesMoving polled trail (after_reserve layout polled trail name head) result after trail_after
       → IsRightMovingIn layout w the_call before trail_after.moves (answer_to says_ok result) after
 
-  judged_is_right : (past : Past) (polled : HeapState F) (trail : Moves) (poll : List Move) (v : World) → Polls w name head poll v
-      → AreParts layout past polled v → IsKnown past.time v → IsInTime past.time (collector_of polled) v → trail.moves ≡ before ++ poll
+  judged_is_right : (t : Time) (polled : HeapState F) (trail : Moves) (poll : List Move) (v : World) → Polls w name head poll v
+      → HasParts layout t polled v → IsKnown t v → IsInTime t (collector_of polled) v → trail.moves ≡ before ++ poll
       → IsRightAfterPoll polled trail
-  judged_is_right past polled trail poll v polls_so parts knows time trail_is =
+  judged_is_right t polled trail poll v polls_so has knows time trail_is =
       let own : Moves = record { moves = poll; spare = trail.spare } in
       let is : trail ≡ record { moves = before ++ poll; spare = trail.spare } =
-      ap (λ ms. let t : Moves = record { moves = ms; spare = trail.spare } in t) trail_is
+      ap (λ ms. let u : Moves = record { moves = ms; spare = trail.spare } in u) trail_is
       in
       outcome_appended layout polled w the_call before says_ok own trail (after_reserve layout polled trail name head)
       (after_reserve layout polled own name head) is (reserve_appends layout polled name head before trail own is)
-      (λ line. reserve_runs_on layout past polled w (laid_out w reach) reach name head poll v polls_so parts knows time own refl line)
+      (λ line. reserve_runs_on layout has.past polled w (laid_out w reach) reach name head poll v polls_so has.parts
+      (subst (λ u. IsKnown u v) (sym has.timed) knows) (subst (λ u. IsInTime u (collector_of polled) v) (sym has.timed) time)
+      own refl line)
 
 -- ---- while a collection runs
 
-module _ {F : Type 0} (layout : F → Layout) (past : Past) (h : HeapState F) (x : Collecting) (parts : AreParts layout past h x.world)
-    (reach : IsReached x.world) (r : Runs past.time (collector_of h) x.world x)
-    (of : IsTraceOf h.pools h.chains (trace_of h.pools h.chains h.tails))
-    (marked : IsMarked h.segs.grains h.segs.marks h.segs.condemned h.segs.summaries)
-    (m : Moves) (room : most_moves h.segs.grains ≤ m.spare) where
-  abbrev like : IsLikeReached x.world
-  like = like_reached x.world reach
+module _ {F : Type 0} (layout : F → Layout) (w : World) (reach : IsReached w) (m : Moves) (polled : HeapState F) (trail : Moves)
+    (is : AreUnitsMade layout w m units_of_poll polled trail) (running : is_running w ≡ true) where
+  abbrev like : IsLikeReached w
+  like = like_reached w reach
 
-  abbrev w : World
-  w = x.world
+  abbrev v : World
+  v = asking (Some units_of_poll) (world_after_moves w is.moves)
 
-  abbrev here : Traced
-  here = traced (trace_of h.pools h.chains h.tails) h.segs m
+  unparked : is_parked (world_after_moves w is.moves) ≡ false
+  unparked = ap (λ s. is_parked (with_state w s)) (moved_alone w call.Park is.moves).state ∙ running_unparked w like.formed running
 
-  -- the model polls if the heap does
-  polls_there : (name : Name) (head : ℕ) → polls_for h (check_reserve layout h name head) ≡ true → polls w (call.Reserve name head) ≡ true
-  polls_there name head polling =
-      sym (polls_alike layout past h w parts (known past.time (collector_of h) w reach (runs x r)) name head) ∙ polling
+  pub known_then : IsKnown is.time v
+  known_then =
+      known_asked_by_moves w like is.moves is.made.legal units_of_poll unparked is.made.live is.time (collector_of polled) is.made.now
 
-  -- ---- it goes on
+  pub ready_after : IsReady polled
+  ready_after = heap_is_ready layout is.made.has.past polled v is.made.has.parts known_then.laid
 
-  module _ (z : Traced) (f : FinalsState) (run : RunningState)
-      (units : UnitsTo layout (trace_of h.pools h.chains h.tails).formats (trace_of h.pools h.chains h.tails).chains
-      (traced (trace_of h.pools h.chains h.tails) h.segs m) h.finals r.run units_of_poll z f run) where
-    abbrev done : AreTracedUnitsDone layout (trace_of h.pools h.chains h.tails).formats (trace_of h.pools h.chains h.tails).chains
-        past.time.at_flip here x units_of_poll z f run
-    done = going.done layout past h x parts like r of marked m room units_of_poll z f run units
-
-    abbrev later : Collecting
-    later = going.later layout past h x parts like r of marked m room units_of_poll z f run units
-
-    abbrev time_after : Time
-    time_after = going.time_after layout past h x parts like r of marked m room units_of_poll z f run units
-
-    abbrev heap_after : HeapState F
-    heap_after = going.heap_after layout past h x parts like r of marked m room units_of_poll z f run units
-
-    parts_after : AreParts layout (record past { time = time_after }) heap_after later.world
-    parts_after = going.parts_later layout past h x parts like r of marked m room units_of_poll z f run units
-
-    in_time : IsInTime time_after (collector_of heap_after) later.world
-    in_time = runs later (going.runs_later layout past h x parts like r of marked m room units_of_poll z f run units)
-
-    knows : IsKnown time_after later.world
-    knows =
-        known_after_asked_units x done.after units_of_poll done.moves like r.invariant done.units time_after (collector_after z run)
-        in_time
-
-    pub ready_after : IsReady heap_after
-    ready_after = heap_is_ready layout (record past { time = time_after }) heap_after later.world parts_after knows.laid
-
-    pub polled_is_right : (name : Name) (head : ℕ) → polls_for h (check_reserve layout h name head) ≡ true
-        → IsRightAfterPoll layout w reach name head m.moves heap_after z.moves
-    polled_is_right name head polling =
-        judged_is_right layout w reach name head m.moves (record past { time = time_after }) heap_after z.moves done.moves later.world
-        (units_poll x r.invariant name head (polls_there name head polling) done.after done.moves done.units) parts_after knows in_time
-        done.trail
-
-  -- ---- it ends
-
-  module _ (z : Traced) (f : FinalsState)
-      (over : EndsWithin layout (trace_of h.pools h.chains h.tails).formats (trace_of h.pools h.chains h.tails).chains
-      (traced (trace_of h.pools h.chains h.tails) h.segs m) h.finals r.run units_of_poll z f) where
-    abbrev last : AreLastTracedUnitsDone here x (suc over.count) z f
-    last = ended.done layout past h x parts like r of marked m room units_of_poll z f over
-
-    abbrev v : World
-    v = ended.v layout past h x parts like r of marked m room units_of_poll z f over
-
-    abbrev heap_at_rest : HeapState F
-    heap_at_rest = ended.heap_after layout past h x parts like r of marked m room units_of_poll z f over
-
-    parts_at_rest : AreParts layout (record past { time = time_at_rest }) heap_at_rest v
-    parts_at_rest = ended.parts_after layout past h x parts like r of marked m room units_of_poll z f over
-
-    knows_at_rest : IsKnown time_at_rest v
-    knows_at_rest = ended.knows_after layout past h x parts like r of marked m room units_of_poll z f over
-
-    pub ready_at_rest : IsReady heap_at_rest
-    ready_at_rest = heap_is_ready layout (record past { time = time_at_rest }) heap_at_rest v parts_at_rest knows_at_rest.laid
-
-    pub last_polled_is_right : (name : Name) (head : ℕ) → polls_for h (check_reserve layout h name head) ≡ true
-        → IsRightAfterPoll layout w reach name head m.moves heap_at_rest z.moves
-    last_polled_is_right name head polling =
-        judged_is_right layout w reach name head m.moves (record past { time = time_at_rest }) heap_at_rest z.moves last.moves v
-        (last_units_poll x r.invariant name head (polls_there name head polling) (suc over.count) last.moves last.units
-        (let within = over.within in omega (arith, within))) parts_at_rest knows_at_rest
-        (rests (ended.rests_after layout past h x parts like r of marked m room units_of_poll z f over)) last.trail
+  pub polled_is_right : (name : Name) (head : ℕ) → polls w (call.Reserve name head) ≡ true
+      → IsRightAfterPoll layout w reach name head m.moves polled trail
+  polled_is_right name head polling =
+      judged_is_right layout w reach name head m.moves is.time polled trail is.moves v
+      (units_poll w name head is.moves running polling is.made.legal (is.units running) is.taken_by_none) is.made.has known_then is.made.now
+      is.appended
 
 -- ---- at any time
 
@@ -177,30 +112,22 @@ module _ {F : Type 0} (layout : F → Layout) (h : HeapState F) (whole : IsWhole
   enough : most_moves h.segs.grains ≤ m.spare
   enough = omega (arith, room)
 
+  runs_there : (run : RunningState) → h.running ≡ Some run → is_running w ≡ true
+  runs_there run is = running_alike st.time ∙ ap (λ (o : Option RunningState). is_some o) is
+
   -- the points are ready after a poll
-  ready_then : (h' : HeapState F) (m' : Moves) → HasDoneUnits layout h m units_of_poll h' m' → IsReady h'
-  ready_then h' m' (none_runs none is trail) = subst IsReady (sym is) (ready layout h w st)
-  ready_then h' m' (goes_on run next is units state) =
-      let g = running_now layout h w st run is in
-      subst IsReady (sym state)
-      (ready_after layout g.past h g.collecting g.parts g.reached g.runs whole.tails whole.marked m enough (traced_in h' m') h'.finals
-      next
-      (subst (λ q. UnitsTo layout (trace_of h.pools h.chains h.tails).formats (trace_of h.pools h.chains h.tails).chains
-      (traced_in h m) h.finals q units_of_poll (traced_in h' m') h'.finals next) (sym g.same) units))
-  ready_then h' m' (ends run is over state) =
-      let g = running_now layout h w st run is in
-      subst IsReady (sym state)
-      (ready_at_rest layout g.past h g.collecting g.parts g.reached g.runs whole.tails whole.marked m enough (traced_in h' m')
-      h'.finals
-      (subst (λ q. EndsWithin layout (trace_of h.pools h.chains h.tails).formats (trace_of h.pools h.chains h.tails).chains
-      (traced_in h m) h.finals q units_of_poll (traced_in h' m') h'.finals) (sym g.same) over))
+  ready_then : (run : RunningState) → h.running ≡ Some run → (h' : HeapState F) (m' : Moves)
+      → Follows layout m (HasDoneUnits layout h m units_of_poll) h' m' → IsReady h'
+  ready_then run runs_now h' m' follows =
+      ready_after layout w st.reached m h' m' (units_are_made layout h whole m enough w st units_of_poll h' m' follows)
+      (runs_there run runs_now)
 
   -- and there is room for a move
   room_then : (h' : HeapState F) (m' : Moves) → HasDoneUnits layout h m units_of_poll h' m' → 0 < m'.spare
   room_then h' m' (none_runs none is trail) = let same = ap (λ (u : Moves). u.spare) trail in omega (arith, same, room)
   room_then h' m' (goes_on run next is units state) =
       let g = running_now layout h w st run is in
-      going.room_left layout g.past h g.collecting g.parts (like_reached g.collecting.world g.reached) g.runs
+      going.room_left layout g.past (alone h) g.collecting g.parts g.bare g.runs
       whole.tails whole.marked m enough units_of_poll
       (traced_in h' m') h'.finals next
       (subst (λ q. UnitsTo layout (trace_of h.pools h.chains h.tails).formats (trace_of h.pools h.chains h.tails).chains
@@ -208,8 +135,8 @@ module _ {F : Type 0} (layout : F → Layout) (h : HeapState F) (whole : IsWhole
   room_then h' m' (ends run is over state) =
       let g = running_now layout h w st run is in
       let more =
-      more_is_left layout g.past h g.collecting g.parts g.reached g.runs whole.tails whole.marked m enough units_of_poll (traced_in h' m')
-      h'.finals
+      more_is_left layout g.past (alone h) g.collecting g.parts g.bare g.runs whole.tails whole.marked m enough units_of_poll
+      (traced_in h' m') h'.finals
       (subst (λ q. EndsWithin layout (trace_of h.pools h.chains h.tails).formats (trace_of h.pools h.chains h.tails).chains
       (traced_in h m) h.finals q units_of_poll (traced_in h' m') h'.finals) (sym g.same) over)
       in
@@ -217,8 +144,8 @@ module _ {F : Type 0} (layout : F → Layout) (h : HeapState F) (whole : IsWhole
 
   -- whatever a poll does: units, a flip, or nothing
   pub of_poll : (P : HeapState F → Moves → Type 0)
-      → ((run : RunningState) → h.running ≡ Some run → (h' : HeapState F) (m' : Moves) → HasDoneUnits layout h m units_of_poll h' m'
-      → P h' m')
+      → ((run : RunningState) → h.running ≡ Some run → (h' : HeapState F) (m' : Moves)
+      → Follows layout m (HasDoneUnits layout h m units_of_poll) h' m' → P h' m')
       → ((due : Due) → h.running ≡ None → due_in h ≡ Some due → (h' : HeapState F) (m' : Moves)
       → IsStarted layout (condemned_by due) h m h' m' → P h' m')
       → (h.running ≡ None → due_in h ≡ None → P h m) → (h' : HeapState F) (m' : Moves) → HasPolled layout h m h' m' → P h' m'
@@ -232,25 +159,25 @@ module _ {F : Type 0} (layout : F → Layout) (h : HeapState F) (whole : IsWhole
           → MatchBool (is_some o) (Follows layout m (HasDoneUnits layout h m units_of_poll) h' m')
           (HasFlipped layout h m (due_in h) h' m') → P h' m'
       of_running None none polled = of_due (due_in h) none refl polled
-      of_running (Some run) runs_now done =
-          units run runs_now h' m' (units_alone layout h (no_pair layout st.past h w st.parts) m done)
+      of_running (Some run) runs_now done = units run runs_now h' m' done
 
   module _ (made : WereMadeBefore h.points.flips h.points) where
     ready_after_poll : (h' : HeapState F) (m' : Moves) → HasPolled layout h m h' m' → IsReady h'
     ready_after_poll =
-        of_poll (λ g t. IsReady g) (λ run runs_now. ready_then)
+        of_poll (λ g t. IsReady g) ready_then
         (λ due none is h' m' started. flips.ready_then layout h whole m enough w st none due is made h' m' started)
         (λ none is. ready layout h w st)
 
     room_after_poll : (h' : HeapState F) (m' : Moves) → HasPolled layout h m h' m' → 0 < m'.spare
     room_after_poll =
-        of_poll (λ g t. 0 < t.spare) (λ run runs_now. room_then)
+        of_poll (λ g t. 0 < t.spare) (λ run runs_now h' m' follows. room_then follows.made m' follows.left)
         (λ due none is h' m' started. (flips.flipped layout h whole m enough w st none due is made h' m' started).some_left)
         (λ none is. omega (arith, room))
 
     poll_keeps_room : (h' : HeapState F) (m' : Moves) → HasPolled layout h m h' m' → KeepsRoom m m'
     poll_keeps_room =
-        of_poll (λ g t. KeepsRoom m t) (λ run runs_now. units_keep_room layout h whole m enough w st units_of_poll)
+        of_poll (λ g t. KeepsRoom m t)
+        (λ run runs_now h' m' follows. units_keep_room layout h whole m enough w st units_of_poll follows.made m' follows.left)
         (λ due none is h' m' started. (flips.flipped layout h whole m enough w st none due is made h' m' started).room)
         (λ none is. refl)
 
@@ -266,37 +193,17 @@ module _ {F : Type 0} (layout : F → Layout) (h : HeapState F) (whole : IsWhole
       -- where the poll does nothing
       unpolled_is_right : Polls w name head [] w → IsRightAfterPoll layout w st.reached name head m.moves h m
       unpolled_is_right none =
-          judged_is_right layout w st.reached name head m.moves st.past h m [] w none st.parts (known_now st) st.time
+          judged_is_right layout w st.reached name head m.moves st.past.time h m [] w none
+          (record { past = st.past; timed = refl; parts = st.parts }) (known_now st) st.time
           (sym (append-nil m.moves))
 
-      after_units : (polled : HeapState F) (trail : Moves) → polls_for h (check_reserve layout h name head) ≡ true
-          → (some : RunningState) → h.running ≡ Some some → HasDoneUnits layout h m units_of_poll polled trail
+      after_units : polls_for h (check_reserve layout h name head) ≡ true → (run : RunningState) → h.running ≡ Some run
+          → (polled : HeapState F) (trail : Moves) → Follows layout m (HasDoneUnits layout h m units_of_poll) polled trail
           → IsRightAfterPoll layout w st.reached name head m.moves polled trail
-      after_units polled trail polling some runs_now (none_runs none is same) = absurd (none-some some (sym none ∙ runs_now))
-      after_units polled trail polling some runs_now (goes_on run next is units state) =
-          let g = running_now layout h w st run is in
-          let right =
-          polled_is_right layout g.past h g.collecting g.parts g.reached g.runs whole.tails whole.marked m enough
-          (traced_in polled trail) polled.finals next
-          (subst (λ q. UnitsTo layout (trace_of h.pools h.chains h.tails).formats (trace_of h.pools h.chains h.tails).chains
-          (traced_in h m) h.finals q units_of_poll (traced_in polled trail) polled.finals next) (sym g.same) units) name head polling
-          in
-          λ result after trail_after comes.
-          subst (λ v. IsRightMovingIn layout v (call.Reserve name head) m.moves trail_after.moves (answer_to says_ok result) after) g.world
-          (right result after trail_after
-          (subst (λ s. ComesMoving s trail (after_reserve layout s trail name head) result after trail_after) state comes))
-      after_units polled trail polling some runs_now (ends run is over state) =
-          let g = running_now layout h w st run is in
-          let right =
-          last_polled_is_right layout g.past h g.collecting g.parts g.reached g.runs whole.tails whole.marked m enough
-          (traced_in polled trail) polled.finals
-          (subst (λ q. EndsWithin layout (trace_of h.pools h.chains h.tails).formats (trace_of h.pools h.chains h.tails).chains
-          (traced_in h m) h.finals q units_of_poll (traced_in polled trail) polled.finals) (sym g.same) over) name head polling
-          in
-          λ result after trail_after comes.
-          subst (λ v. IsRightMovingIn layout v (call.Reserve name head) m.moves trail_after.moves (answer_to says_ok result) after) g.world
-          (right result after trail_after
-          (subst (λ s. ComesMoving s trail (after_reserve layout s trail name head) result after trail_after) state comes))
+      after_units polling run runs_now polled trail follows =
+          polled_is_right layout w st.reached m polled trail
+          (units_are_made layout h whole m enough w st units_of_poll polled trail follows) (runs_there run runs_now) name head
+          (sym (polls_alike layout st.past h w st.parts (known_now st) name head) ∙ polling)
 
       after_flip : polls_for h (check_reserve layout h name head) ≡ true → (due : Due) → h.running ≡ None → due_in h ≡ Some due
           → (polled : HeapState F) (trail : Moves) → IsStarted layout (condemned_by due) h m polled trail
@@ -305,11 +212,11 @@ module _ {F : Type 0} (layout : F → Layout) (h : HeapState F) (whole : IsWhole
           let flipped = flips.flipped layout h whole m enough w st none due is made polled trail started in
           let unclamped = flips.unclamped_if_it_polls h (check_reserve layout h name head) polling (pairs_in w.state) in
           let polling_there = sym (polls_alike layout st.past h w st.parts (known_now st) name head) ∙ polling in
-          judged_is_right layout w st.reached name head m.moves (record st.past { time = flipped.time }) polled trail
+          judged_is_right layout w st.reached name head m.moves flipped.time polled trail
           (flips.ms layout h whole m enough w st none due is made polled trail started)
           (flips.v layout h whole m enough w st none due is made polled trail started)
           (flips.flip_polls layout h whole m enough w st none due is made polled trail started unclamped name head polling_there)
-          (flips.flipped_parts layout h whole m enough w st none due is made polled trail started unclamped)
+          (flips.flipped_has layout h whole m enough w st none due is made polled trail started unclamped)
           (flips.flipped_known layout h whole m enough w st none due is made polled trail started unclamped)
           (flips.flipped_time layout h whole m enough w st none due is made polled trail started unclamped) flipped.appended
 
@@ -322,7 +229,7 @@ module _ {F : Type 0} (layout : F → Layout) (h : HeapState F) (whole : IsWhole
           → HasPolled layout h m polled trail → IsRightAfterPoll layout w st.reached name head m.moves polled trail
       after_the_poll polling =
           of_poll (λ polled trail. IsRightAfterPoll layout w st.reached name head m.moves polled trail)
-          (λ some runs_now polled trail. after_units polled trail polling some runs_now) (after_flip polling) after_nothing
+          (after_units polling) (after_flip polling) after_nothing
 
       module _ (result : Checked (Unit {0})) (after : HeapState F) (trail_after : Moves)
           (reserved : HasReserved layout h m name head result after trail_after) where

@@ -23,10 +23,10 @@ use Rattle.mps_refinement.proofs.Collect.LiveIsFew.{units_are_below}
 use Rattle.mps_refinement.proofs.Parts.LaidSegments.{blocks_in_order}
 use Rattle.mps_refinement.proofs.Parts.Registered.{as_many}
 use Rattle.mps_refinement.proofs.Units.ToUnits.{stands_for_units}
-use Rattle.mps_refinement.proofs.Worlds.LikeReached.{IsLikeReached}
+use Rattle.mps_refinement.proofs.Worlds.LikeReached.{IsBare}
 
 module _ {F : Type 0} (layout : F → Layout) (past : Past) (h : HeapState F) (x : Collecting) (parts : AreParts layout past h x.world)
-    (like : IsLikeReached x.world) (r : Runs past.time (collector_of h) x.world x) where
+    (bare : IsBare x.world) (r : Runs past.time (collector_of h) x.world x) where
   abbrev w : World
   w = x.world
 
@@ -39,8 +39,8 @@ module _ {F : Type 0} (layout : F → Layout) (past : Past) (h : HeapState F) (x
       parts.registered
       in
       let below =
-      units_are_below layout past h w parts like.formed like.kept.layout
-      (blocks_in_order layout past h w parts like.kept.layout) (length h.finals.registered)
+      units_are_below layout past h w parts bare.like.formed bare.like.kept.layout
+      (blocks_in_order layout past h w parts bare.like.kept.layout) (length h.finals.registered)
       many
       in
       omega (arith, bounded, below)
@@ -52,7 +52,7 @@ module _ {F : Type 0} (layout : F → Layout) (past : Past) (h : HeapState F) (x
     t = trace_of h.pools h.chains h.tails
 
     stands : UnitStands layout t.formats t.chains past.time.at_flip (traced t h.segs m) h.finals r.run x
-    stands = stands_for_units layout past h x parts like r of marked m room
+    stands = stands_for_units layout past h x parts bare r of marked m room
 
     -- any number of units can be done
     pub units_can_be_done : (most : ℕ) → AreUnitsReady layout t h.segs m h.finals r.run most

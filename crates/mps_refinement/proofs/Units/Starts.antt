@@ -5,13 +5,13 @@ use Rattle.std.proofs.lemmas.List.{append-nil}
 use Rattle.std.proofs.lemmas.Option.{none-some}
 use Rattle.std.specs.Prelude.{IfOk, nat_le, option_map, slice_get}
 use Rattle.mps_base.specs.Trail.{Moves}
-use Rattle.mps_base.specs.declared.moves.Move.{Move}
 use Rattle.mps_base.specs.declared.names.Name.{Name}
 use Rattle.mps_base.specs.declared.refusal.Refusal.{Refusal}
 use Rattle.mps_base.specs.declared.refusal.Refusal.TheVariants as refusal
 use Rattle.mps_buffer.specs.Points.{WereMadeBefore}
 use Rattle.mps_format.specs.Layout.{Layout}
 use Rattle.mps_laws.proofs.Same.{Same, fits}
+use Rattle.mps_laws.proofs.SameArena.{moved_alone}
 use Rattle.mps_laws.proofs.Same as same
 use Rattle.mps_model.specs.declared.call.Call.{Call}
 use Rattle.mps_model.specs.declared.call.Call.TheVariants as call
@@ -35,7 +35,7 @@ use Rattle.mps_trace.specs.declared.condemn.Condemn.{Condemn}
 use Rattle.mps_trace.specs.declared.condemn.Condemn.TheVariants as condemn
 use Rattle.mps_trace_laws.specs.Begin.Condemning.{MayCondemn}
 use Rattle.mps_trace_laws.specs.Flip.Condemned.{condemnation}
-use Rattle.mps_heap_spec.specs.Collecting.{CanStart, Starts, check_start, check_start_chain, most_flips}
+use Rattle.mps_heap_spec.specs.Collecting.{CanStart, IsStarted, Starts, check_start, check_start_chain, most_flips}
 use Rattle.mps_heap_spec.specs.Finding.{chain_named}
 use Rattle.mps_heap_spec.specs.State.{HeapState}
 use Rattle.mps_heap_spec.specs.Units.{IsWhole}
@@ -43,21 +43,23 @@ use Rattle.mps_heap_spec.specs.declared.found.Kept.{Kept}
 use Rattle.mps_refinement.specs.Answering.{answer_to, says_ok}
 use Rattle.mps_refinement.specs.RightMoving.{IsRightMoving, IsRightMovingIn, KeepsRoom}
 use Rattle.mps_refinement.specs.RightStep.{IsRightIn, step_of}
-use Rattle.mps_refinement.specs.StandsFor.{IsInTime, IsReached, Past, StandsFor, collector_of, rests, runs}
+use Rattle.mps_refinement.specs.Following.{unpaired}
+use Rattle.mps_refinement.specs.StandsFor.{IsInTime, IsReached, StandsFor, collector_of, rests, runs}
 use Rattle.mps_refinement.proofs.Collect.BeforeAFlip.{is_before}
 use Rattle.mps_refinement.proofs.Collect.CanCollect.{can_condemn}
+use Rattle.mps_refinement.proofs.Collect.CollectRight.{IsBefore}
 use Rattle.mps_refinement.proofs.Collect.MayCondemn.{chain_numbered, may_condemn}
+use Rattle.mps_refinement.proofs.Following.WithoutPairs.{alone, parts_alone, started_without}
 use Rattle.mps_refinement.proofs.Lookups.Lookups.{IsChainFound, chain_same}
 use Rattle.mps_trace.specs.declared.running.Running.{Running as RunningState}
-use Rattle.mps_refinement.proofs.Units.Flips.{IsFlipped, flip_is_right}
+use Rattle.mps_refinement.proofs.Units.Flips.{IsFlipped, flip_is_right, flip_paired}
+use Rattle.mps_refinement.proofs.Units.MadeSteps.{made_step_is_right}
 use Rattle.mps_refinement.proofs.Units.Outcomes.{right_in_each}
-use Rattle.mps_refinement.proofs.Worlds.Known.{known_now}
+use Rattle.mps_refinement.proofs.Worlds.LikeReached.{bare_of, like_reached}
 use Rattle.mps_refinement.proofs.Worlds.Reached.{reached_live}
 use Rattle.mps_refinement.proofs.Worlds.Ready.{all_reserved}
-use Rattle.mps_refinement.proofs.Worlds.RestingActs.{resting_sound}
-use Rattle.mps_refinement.proofs.Worlds.RunningNow.{resting_now}
-use Rattle.mps_refinement.proofs.Worlds.RunningSteps.{still_step_runs_on}
-use Rattle.mps_refinement.proofs.Worlds.Steps.{keeps_still, moved_to_rest, refusal_is_right, run_kept, runs_on_is_right}
+use Rattle.mps_refinement.proofs.Worlds.RunningNow.{known_bare, resting_now, rests_bare}
+use Rattle.mps_refinement.proofs.Worlds.Steps.{refusal_is_right}
 use Rattle.mps_changes.specs.Change.{makes_arena}
 use Rattle.std.proofs.lemmas.Bool.{true≢false}
 use Rattle.std.specs.List.{list_all}
@@ -230,57 +232,28 @@ module _ {F : Type 0} (layout : F → Layout) (h : HeapState F) (whole : IsWhole
 
 -- ---- the steps
 
-module _ {F : Type 0} (layout : F → Layout) (w : World) (reach : IsReached w) (c : Call) (line : ℕ) where
+module _ (w : World) (reach : IsReached w) (c : Call) (line : ℕ) where
   -- that of an accepted one
-  module _ (past : Past) (what : Condemnation) (m : Moves) (h' : HeapState F) (m' : Moves) (none : is_running w ≡ false)
-      (starts : IsStartOf w c what) (flipped : IsFlipped layout past w what m h' m') where
-    abbrev ms : List Move
-    ms = flip_act w what
-
-    abbrev u : World
-    u = with_state (world_after_moves w ms) Unclamped
-
-    legal : AreLegalMoves w None (moves_of_collector c ms)
-    legal = subst (AreLegalMoves w None) (sym starts.all_collectors) flipped.legal
-
-    formats : u.formats ≡ w.formats
-    formats = ap (λ (v : World). v.formats) flipped.moved.world
-
-    of_time : IsInTime flipped.time (collector_of h') u → IsRightIn layout w (step_of line c ms ok) h'
-    of_time (rests rest) =
-        moved_to_rest layout flipped.time w line c ms ok h' (done u) starts.arena formats reach
-        (record {
-          legal = legal;
-          due = starts.due;
-          comes = starts.comes none;
-          answers = refl;
-          marked = starts.possible;
-          supported = refl;
-          sound = resting_sound u rest.none flipped.live;
-        })
-        (record { past = record past { time = flipped.time }; timed = refl; parts = flipped.parts }) rest
-    of_time (runs y r) =
-        runs_on_is_right layout flipped.time (collector_of h') w u y r line c (starts.not_taken y.world) ms ok h' (done u) starts.arena
-        reach
-        (still_step_runs_on w y line c ms ok (done u) r.invariant (record {
-          supported = refl;
-          legal = legal;
-          due = starts.due;
-          possible = starts.possible;
-          comes = starts.comes none;
-          answers = refl;
-          blocks_after = flipped.live.blocks;
-        }) (sym r.world) refusal.NotRegistered (starts.not_taken y.world)) formats
-        (record { past = record past { time = flipped.time }; timed = refl; parts = flipped.parts })
-        (run_kept layout (keeps_still layout) y r)
-
-    pub flip_step_is_right : IsRightIn layout w (step_of line c ms ok) h'
-    flip_step_is_right = of_time flipped.now
+  pub flip_step_is_right : {F : Type 0} (layout : F → Layout) (what : Condemnation) (m : Moves) (h' : HeapState F) (m' : Moves)
+      → is_running w ≡ false → IsStartOf w c what → IsFlipped layout w what m h' m'
+      → IsRightIn layout w (step_of line c (flip_act w what) ok) h'
+  flip_step_is_right layout what m h' m' none starts flipped =
+      made_step_is_right layout w reach line c (flip_act w what) ok (with_state (world_after_moves w (flip_act w what)) Unclamped) (record {
+        supported = refl;
+        arena = starts.arena;
+        collectors = starts.all_collectors;
+        due = starts.due;
+        possible = starts.possible;
+        comes = starts.comes none;
+        not_taken = starts.not_taken;
+        formats = (moved_alone w call.Park (flip_act w what)).formats;
+      }) flipped.time h' flipped.made
 
   -- and that of a refused one
-  pub refused_step_is_right : (h : HeapState F) (st : StandsFor layout h w) (why : Refusal) → IsRefused w c why
+  pub refused_step_is_right : {F : Type 0} (layout : F → Layout) (h : HeapState F) (st : StandsFor layout h w) (why : Refusal)
+      → IsRefused w c why
       → IsRightIn layout w (step_of line c [] (refused why)) h
-  refused_step_is_right h st why is =
+  refused_step_is_right layout h st why is =
       refusal_is_right layout st.past h w line c why is.arena reach st.parts st.time (record {
         supported = refl;
         legal = subst (AreLegalMoves w None) (sym is.no_moves) tt;
@@ -304,28 +277,36 @@ module _ {F : Type 0} (layout : F → Layout) (h : HeapState F) (whole : IsWhole
     (room : most_moves h.segs.grains ≤ m.spare) where
   module _ (w : World) (st : StandsFor layout h w) (none : h.running ≡ None) (what : Condemn) (numbered : IsNumbered (condemnation what))
     where
-      pub may : MayCondemn (trace_of h.pools h.chains h.tails) h.segs w what
+      -- all that a flip needs of it, without its pairs
+      before : IsBefore layout (alone h) m (unpaired w)
+      before =
+          is_before layout st.past (alone h) (unpaired w) (parts_alone st.parts) (known_bare layout h w st) refl
+          (rests_bare layout h w st none) whole.marked m room
+
+      pub may : MayCondemn (trace_of h.pools h.chains h.tails) h.segs (unpaired w) what
       may =
-          may_condemn layout st.past h w st.parts (trace_of h.pools h.chains h.tails) m whole.tails
-          ((is_before layout st.past h w st.parts (known_now st) (resting_now layout h w st none) whole.marked m room).stands
-          (trace_of h.pools h.chains h.tails) whole.tails) what numbered
+          may_condemn layout st.past (alone h) (unpaired w) (parts_alone st.parts) (trace_of h.pools h.chains h.tails) m whole.tails
+          (before.stands (trace_of h.pools h.chains h.tails) whole.tails) what numbered
 
       -- a heap at rest can be asked for one
       pub can_flip : h.points.flips < most_flips → CanStart layout what h m
       can_flip few = record {
         few_flips = few;
         few_epochs = subst (λ n. n < most_flips) (st.parts.point_flips ∙ sym st.parts.flips.count) few;
-        begins = can_condemn layout h m w (all_reserved layout st.past h w st.parts)
-            (is_before layout st.past h w st.parts (known_now st) (resting_now layout h w st none) whole.marked m room)
+        begins = can_condemn layout (alone h) m (unpaired w) (all_reserved layout st.past h w st.parts) before
             (trace_of h.pools h.chains h.tails) whole.tails what may;
       }
 
       -- and it is the flip
       pub flips_rightly : WereMadeBefore h.points.flips h.points → (h' : HeapState F) (m' : Moves)
-          → Rattle.mps_heap_spec.specs.Collecting.IsStarted layout what h m h' m' → IsFlipped layout st.past w (condemnation what) m h' m'
+          → IsStarted layout what h m h' m' → IsFlipped layout w (condemnation what) m h' m'
       flips_rightly made h' m' started =
-          flip_is_right layout st.past h w st.parts (known_now st) (resting_now layout h w st none) st.reached made whole.tails whole.marked
-          m room what may h' m' started
+          let like = like_reached w st.reached in
+          flip_paired layout w like (condemnation what) m h' m'
+          (ap (λ (g : HeapState F). g.beside.dependents) started.state ∙ st.parts.beside.dependents)
+          (flip_is_right layout st.past (alone h) (unpaired w) (parts_alone st.parts) (known_bare layout h w st)
+          (rests_bare layout h w st none) (bare_of w like) made whole.tails whole.marked m room what may (alone h') m'
+          (started_without started))
 
   pub can_start : (w : World) → StandsFor layout h w → h.points.flips < most_flips → (c : Call) (checked : Checked Condemn)
       → AreChecked h w c checked → IfOk checked (λ what. CanStart layout what h m)
@@ -345,7 +326,7 @@ module _ {F : Type 0} (layout : F → Layout) (h : HeapState F) (whole : IsWhole
           right = record {
             moves = flip_act w (condemnation what);
             appended = flipped.appended;
-            right = λ line. flip_step_is_right layout w st.reached c line st.past (condemnation what) m h' m' rests_there is flipped;
+            right = λ line. flip_step_is_right w st.reached c line layout (condemnation what) m h' m' rests_there is flipped;
           };
           room = flipped.room;
         })
@@ -356,7 +337,7 @@ module _ {F : Type 0} (layout : F → Layout) (h : HeapState F) (whole : IsWhole
           right = record {
             moves = [];
             appended = sym (append-nil m.moves);
-            right = λ line. refused_step_is_right layout w st.reached c line h st why is;
+            right = λ line. refused_step_is_right w st.reached c line layout h st why is;
           };
           room = refl;
         })))

@@ -43,10 +43,10 @@ use Rattle.mps_refinement.proofs.Parts.SegmentsTaken.{condemned_held}
 use Rattle.mps_refinement.proofs.Units.Registrations.{as_registered, lived_then}
 use Rattle.mps_refinement.proofs.Units.Tails.{condemned_bits, tails_stand}
 use Rattle.mps_refinement.proofs.Worlds.Unreserved.{condemned_unreserved}
-use Rattle.mps_refinement.proofs.Worlds.LikeReached.{IsLikeReached}
+use Rattle.mps_refinement.proofs.Worlds.LikeReached.{IsBare}
 
 module _ {F : Type 0} (layout : F → Layout) (past : Past) (h : HeapState F) (x : Collecting) (parts : AreParts layout past h x.world)
-    (like : IsLikeReached x.world) (r : Runs past.time (collector_of h) x.world x)
+    (bare : IsBare x.world) (r : Runs past.time (collector_of h) x.world x)
     (of : IsTraceOf h.pools h.chains (trace_of h.pools h.chains h.tails))
     (marked : IsMarked h.segs.grains h.segs.marks h.segs.condemned h.segs.summaries)
     (m : Moves) (room : most_moves h.segs.grains ≤ m.spare) where
@@ -63,10 +63,10 @@ module _ {F : Type 0} (layout : F → Layout) (past : Past) (h : HeapState F) (x
   here = traced t h.segs m
 
   formed : IsWellFormed w
-  formed = like.formed
+  formed = bare.like.formed
 
   laid : HasLayout (w.grains + 1) w
-  laid = like.kept.layout
+  laid = bare.like.kept.layout
 
   -- ---- registrations and messages
 
@@ -98,8 +98,8 @@ module _ {F : Type 0} (layout : F → Layout) (past : Past) (h : HeapState F) (x
   known = record {
     shaped = well_formed_is_shaped w parts.lawful formed;
     pools = pools.pools;
-    strong_moving = strong_moving w like.kept.sound;
-    none_dependent = parts.dependents;
+    strong_moving = strong_moving w bare.like.kept.sound;
+    none_dependent = bare.none;
   }
 
   -- ---- segments
@@ -119,7 +119,7 @@ module _ {F : Type 0} (layout : F → Layout) (past : Past) (h : HeapState F) (x
   enough : moves_left x + 2 ≤ m.spare
   enough =
       let bounded = moves_are_bounded x r.invariant in
-      let few = moves_are_few layout past h w parts formed laid (blocks_in_order layout past h w parts laid) like.kept.sound in
+      let few = moves_are_few layout past h w parts formed laid (blocks_in_order layout past h w parts laid) bare.like.kept.sound in
       omega (arith, bounded, few, room)
 
   -- ---- the image

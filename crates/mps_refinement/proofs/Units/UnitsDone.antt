@@ -35,10 +35,10 @@ use Rattle.mps_refinement.proofs.Units.MovedParts.{collected_heap}
 use Rattle.mps_refinement.proofs.Units.ToUnits.{stands_for_units}
 use Rattle.mps_trace_laws.specs.Summaries.Summed.{AreWordsSummed}
 use Rattle.mps_trace_laws.proofs.Summaries.UnitRows.{units_keep}
-use Rattle.mps_refinement.proofs.Worlds.LikeReached.{IsLikeReached}
+use Rattle.mps_refinement.proofs.Worlds.LikeReached.{IsBare}
 
 module _ {F : Type 0} (layout : F → Layout) (past : Past) (h : HeapState F) (x : Collecting) (parts : AreParts layout past h x.world)
-    (like : IsLikeReached x.world) (r : Runs past.time (collector_of h) x.world x)
+    (bare : IsBare x.world) (r : Runs past.time (collector_of h) x.world x)
     (of : IsTraceOf h.pools h.chains (trace_of h.pools h.chains h.tails))
     (marked : IsMarked h.segs.grains h.segs.marks h.segs.condemned h.segs.summaries)
     (m : Moves) (room : most_moves h.segs.grains ≤ m.spare) (n : ℕ) (z : Traced) (f : FinalsState) (run : RunningState)
@@ -59,7 +59,7 @@ module _ {F : Type 0} (layout : F → Layout) (past : Past) (h : HeapState F) (x
   pub done : AreTracedUnitsDone layout t.formats t.chains at_flip here x n z f run
   done =
       units_are_done layout t.formats t.chains at_flip here z h.finals f r.run run x n (scans_are_done layout t.formats t.chains at_flip)
-      (stands_for_units layout past h x parts like r of marked m room) units
+      (stands_for_units layout past h x parts bare r of marked m room) units
 
   pub shown : AreUnitsDone x n done.moves done.after
   shown = units_done x done.after n done.moves r.invariant done.units
@@ -72,7 +72,7 @@ module _ {F : Type 0} (layout : F → Layout) (past : Past) (h : HeapState F) (x
 
   abbrev pub time_after : Time
   time_after =
-      time_then layout past h x parts like.formed r.invariant r.flip t.formats t.chains done.after done.moves shown.leads
+      time_then layout past h x parts bare.like.formed bare.none r.invariant r.flip t.formats t.chains done.after done.moves shown.leads
       left stays z f run done.stands
 
   abbrev pub heap_after : HeapState F
@@ -82,16 +82,16 @@ module _ {F : Type 0} (layout : F → Layout) (past : Past) (h : HeapState F) (x
   pub summed_after : AreWordsSummed layout t.formats z.segs
   summed_after =
       units_keep layout t.formats t.chains at_flip here z h.finals f r.run run x n
-      (stands_for_units layout past h x parts like r of marked m room) parts.summed units
+      (stands_for_units layout past h x parts bare r of marked m room) parts.summed units
 
   pub parts_after : AreParts layout (record past { time = time_after }) heap_after done.after.world
   parts_after =
-      parts_then layout past h x parts like.formed r.invariant r.flip t.formats t.chains done.after done.moves shown.leads
+      parts_then layout past h x parts bare.like.formed bare.none r.invariant r.flip t.formats t.chains done.after done.moves shown.leads
       left stays z f run done.stands summed_after
 
   pub runs_after : Runs time_after (collector_after z run) done.after.world done.after
   runs_after =
-      runs_then layout past h x parts like.formed r.invariant r.flip t.formats t.chains done.after done.moves shown.leads
+      runs_then layout past h x parts bare.like.formed bare.none r.invariant r.flip t.formats t.chains done.after done.moves shown.leads
       left stays z f run done.stands
 
   -- a move is still left in the trail

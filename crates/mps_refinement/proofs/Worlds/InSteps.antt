@@ -2,7 +2,7 @@
 -- is like a reached one.
 use Rattle.std.proofs.Common.{◌≡◌, ◌∙◌, ◌+◌, true, false, refl, sym, ap, subst, List, [], ◌∷◌, Some, None, inl, inr}
 use Rattle.std.proofs.lemmas.Bool.{cases_Bool, false≢true, or_right}
-use Rattle.std.specs.Prelude.{ℕ, Bool, ◌&&◌, ◌||◌, is_some, not}
+use Rattle.std.specs.Prelude.{ℕ, Bool, ◌&&◌, ◌||◌, is_some, not, slice_get}
 use Rattle.std.specs.List.{flat_map, list_all}
 use Rattle.mps_base.specs.Address.{Id}
 use Rattle.mps_base.specs.Segment.{Segment}
@@ -20,6 +20,10 @@ use Rattle.mps_abstract.proofs.Leavings.{ends_move, units_move}
 use Rattle.mps_abstract.proofs.LeftRightly.{left_rightly}
 use Rattle.mps_abstract.proofs.Lists.{contains_here, contains_later, list_all-members}
 use Rattle.mps_abstract.proofs.Rows.{last_units_done, still_runs, units_done}
+use Rattle.mps_laws.proofs.Caches.{caches_moved}
+use Rattle.mps_laws.proofs.Dependents.{moves_paired}
+use Rattle.mps_laws.proofs.Epochs.{dated_in_steps}
+use Rattle.mps_laws.proofs.Frames.{frames_moved}
 use Rattle.mps_laws.proofs.Parked.{none_there}
 use Rattle.mps_laws.proofs.Positions.LaidOut.{IsLaidOut}
 use Rattle.mps_laws.proofs.Positions.LegalMoves.{HasLayout}
@@ -28,13 +32,14 @@ use Rattle.mps_laws.proofs.Replays.Steps.{asking_kept}
 use Rattle.mps_laws.proofs.SameArena.{moved_alone}
 use Rattle.mps_laws.proofs.Sound.HeldIds.{all-append}
 use Rattle.mps_laws.proofs.Sound.PoolsThere.{HasPools, moves_leave_pools}
-use Rattle.mps_laws.proofs.Sound.SoundGraph.{IsSoundGraph}
+use Rattle.mps_laws.proofs.Sound.SoundGraph.{All, IsSoundGraph, auto}
+use Rattle.mps_laws.proofs.Sound.SoundHistories.{slots_held}
 use Rattle.mps_laws.proofs.Sound.SoundMoves.{moves_well}
 use Rattle.mps_model.specs.declared.call.Call.TheVariants as call
 use Rattle.mps_model.specs.Collecting.{with_state}
 use Rattle.mps_model.specs.Collection.{is_condemned}
 use Rattle.mps_model.specs.Effect.{world_after_moves}
-use Rattle.mps_model.specs.Graph.{contains, ids_in_blocks, ids_of_client, is_automatic, object_at, targets}
+use Rattle.mps_model.specs.Graph.{contains, ids_in_blocks, ids_of_client, is_automatic, object_at, targets, thing_in}
 use Rattle.mps_model.specs.History.{HeldAreLive, asking}
 use Rattle.mps_model.specs.LegalMove.{AreLegalMoves}
 use Rattle.mps_model.specs.WellFormed.{IsWellFormed, is_live_automatic}
@@ -159,6 +164,70 @@ module _ (w : World) (like : IsLikeReached w) (ms : List Move) (legal : AreLegal
     known_by_moves now s time =
         known_of now s after formed_by_moves live laid_by_moves graph_by_moves pools_by_moves once_by_moves time
 
+    -- it is like a reached one too
+    pub like_by_moves : IsLikeReached after
+    like_by_moves =
+        let k = like.kept in
+        let alone = moved_alone w call.Park ms in
+        record {
+          kept = record {
+            layout = laid_by_moves;
+            blocks = live.blocks;
+            slots = slots_held after live;
+            held = live;
+            sound = graph_by_moves;
+            named = λ number label e. ap (λ ns. thing_in ns label) alone.names
+                ∙ k.named number label (sym (ap (λ ls. slice_get ls number) alone.labels) ∙ e);
+            paired = moves_paired w ms k.paired;
+            cached = caches_moved w after alone.shapes alone.pools alone.caches k.cached;
+            framed = frames_moved w after alone.shapes alone.pools alone.blocks alone.frames k.framed;
+            dated = dated_in_steps w ms k.dated;
+            rests = λ parked. absurd (false≢true (sym unparked ∙ parked));
+            pairs = subst (All (auto after)) (sym (none_there after.state unparked)) refl;
+          };
+          formed = formed_by_moves;
+          pools = pools_by_moves;
+          once = once_by_moves;
+        }
+
+  -- also once units are asked of its collection
+  pub known_asked_by_moves : (count : ℕ) → is_parked after ≡ false → HeldAreLive (asking (Some count) after) → (now : Time)
+      (s : CollectorState) → IsInTime now s (asking (Some count) after) → IsKnown now (asking (Some count) after)
+  known_asked_by_moves count unparked live now s time =
+      let u = asking (Some count) after in
+      let f = formed_again after unparked (formed_in_steps w ms like legal laid_by_moves live.client) in
+      let g = graph_by_moves in
+      known_of now s u (record {
+        segments = f.segments;
+        addresses = f.addresses;
+        apart = f.apart;
+        objects = f.objects;
+        places = f.places;
+        points = f.points;
+        tails = f.tails;
+        slots = f.slots;
+        words = f.words;
+        blocks = f.blocks;
+        registered = f.registered;
+        messages = f.messages;
+        labels = f.labels;
+        dependents = f.dependents;
+        parked = ap (λ b. not (b && is_running u)) unparked;
+        transforms = f.transforms;
+        caches = f.caches;
+        frames = f.frames;
+        dependencies = f.dependencies;
+      }) live (subst (IsLaidOut (after.grains + 1)) (sym (asking_kept (Some count) after)) laid_by_moves) (record {
+        objects = g.objects;
+        reservations = g.reservations;
+        points = g.points;
+        slots = g.slots;
+        words = g.words;
+        blocks = g.blocks;
+        registered = g.registered;
+        messages = g.messages;
+      }) pools_by_moves once_by_moves time
+
 -- ---- the world after a collector's moves
 
 module _ (x : Collecting) (run : Running x) (like : IsLikeReached x.world) (ms : List Move) (legal : AreLegalMoves x.world None ms)
@@ -185,62 +254,12 @@ module _ (x : Collecting) (run : Running x) (like : IsLikeReached x.world) (ms :
       (list_all-contains (object_is (λ o. not (is_automatic o)) w) (ids_in_blocks w.graph) id formed_before.blocks there)))
       ∙ list_all-contains (is_live w) (ids_in_blocks w.graph) id like.kept.held.blocks there)
 
-  pub laid_then : HasLayout (v.grains + 1) v
-  laid_then = laid_by_moves w like ms legal
-
-  pub graph_then : IsSoundGraph v
-  graph_then = graph_by_moves w like ms legal
-
-  pools_then : HasPools v
-  pools_then = pools_by_moves w like ms legal
-
-  once_then : ArePlacedOnce (places_of v)
-  once_then = once_by_moves w like ms legal
-
   module _ (live : HeldAreLive v) where
     formed_then : IsWellFormed v
     formed_then = formed_by_moves w like ms legal unparked live
 
     pub known_then : (now : Time) (s : CollectorState) → IsInTime now s v → IsKnown now v
     known_then now s time = known_by_moves w like ms legal unparked live now s time
-
-    -- also once units are asked of the collection
-    pub known_asked : (count : ℕ) (now : Time) (s : CollectorState) → HeldAreLive (asking (Some count) v)
-        → IsInTime now s (asking (Some count) v) → IsKnown now (asking (Some count) v)
-    known_asked count now s live_then time =
-        let u = asking (Some count) v in
-        let f = formed_then in
-        let g = graph_then in
-        known_of now s u (record {
-          segments = f.segments;
-          addresses = f.addresses;
-          apart = f.apart;
-          objects = f.objects;
-          places = f.places;
-          points = f.points;
-          tails = f.tails;
-          slots = f.slots;
-          words = f.words;
-          blocks = f.blocks;
-          registered = f.registered;
-          messages = f.messages;
-          labels = f.labels;
-          dependents = f.dependents;
-          parked = ap (λ b. not (b && is_running u)) unparked;
-          transforms = f.transforms;
-          caches = f.caches;
-          frames = f.frames;
-          dependencies = f.dependencies;
-        }) live_then (subst (IsLaidOut (v.grains + 1)) (sym (asking_kept (Some count) v)) laid_then) (record {
-          objects = g.objects;
-          reservations = g.reservations;
-          points = g.points;
-          slots = g.slots;
-          words = g.words;
-          blocks = g.blocks;
-          registered = g.registered;
-          messages = g.messages;
-        }) pools_then once_then time
 
 -- ---- after a barrier
 
@@ -279,16 +298,14 @@ module _ (x y : Collecting) (count : ℕ) (ms : List Move) (like : IsLikeReached
       subst (λ (u : World). list_all (is_live u) (ids_in_blocks u.graph) ≡ true) leads
       (blocks_live x run like ms (units_done x y count ms run units).legal left_then stays_then)
 
-  live_then : HeldAreLive (world_after_moves x.world ms)
-  live_then = subst HeldAreLive (sym leads) (live_while_running y (units_done x y count ms run units).running blocks_after_units)
-
   -- units that a call asks for
   pub known_after_asked_units : (now : Time) (s : CollectorState) → IsInTime now s (asked y count).world → IsKnown now (asked y count).world
   known_after_asked_units now s time =
+      let done = units_done x y count ms run units in
       subst (λ u. IsKnown now (asking (Some count) u)) leads
-      (known_asked x run like ms (units_done x y count ms run units).legal left_then stays_then live_then count now s
+      (known_asked_by_moves x.world like ms done.legal count (unparked x run like ms done.legal left_then stays_then)
       (subst (λ u. HeldAreLive (asking (Some count) u)) (sym leads)
-      (live_while_running (asked y count) (units_done x y count ms run units).asked_running blocks_after_units))
+      (live_while_running (asked y count) done.asked_running blocks_after_units)) now s
       (subst (λ u. IsInTime now s (asking (Some count) u)) (sym leads) time))
 
 -- ---- where the collection has ended

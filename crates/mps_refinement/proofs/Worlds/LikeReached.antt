@@ -1,6 +1,6 @@
 -- What the laws of a collector use of a world that a history reaches. It holds of that world without its pairs of dependents too, though
 -- no history may reach that.
-use Rattle.std.proofs.Common.{◌≡◌, ◌∙◌, ◌+◌, true, refl, sym, ap, subst, List, None}
+use Rattle.std.proofs.Common.{◌≡◌, ◌∙◌, ◌+◌, true, refl, sym, ap, subst, List, [], None}
 use Rattle.std.proofs.lemmas.Bool.{false≢true}
 use Rattle.std.specs.Prelude.{slice_get}
 use Rattle.std.specs.List.{list_all}
@@ -45,7 +45,7 @@ like_reached w r = record {
   once = placed_once w r;
 }
 
-pub unpaired_like_reached : (w : World) → IsLikeReached w → IsLikeReached (unpaired w)
+unpaired_like_reached : (w : World) → IsLikeReached w → IsLikeReached (unpaired w)
 unpaired_like_reached w like = record {
   kept = record {
     layout = like.kept.layout;
@@ -79,6 +79,14 @@ unpaired_like_reached w like = record {
   pools = record { of_objects = like.pools.of_objects; of_points = like.pools.of_points };
   once = like.once;
 }
+
+-- a world that is like a reached one, in which no object has a dependent
+pub record IsBare (w : World) : Type 0 where
+  pub like : IsLikeReached w
+  pub none : w.graph.dependents ≡ []
+
+pub bare_of : (w : World) → IsLikeReached w → IsBare (unpaired w)
+bare_of w like = record { like = unpaired_like_reached w like; none = refl }
 
 -- after legal moves the world is well-formed in an unclamped arena, if what the client holds is live
 pub formed_in_steps : (w : World) (ms : List Move) → IsLikeReached w → AreLegalMoves w None ms

@@ -1,5 +1,5 @@
 -- `pop` over a trail that has moves: it appends its own, rightly, and the trail keeps its room. It makes no more than a collection.
-use Rattle.std.proofs.Common.{◌≡◌, ◌≤◌, ◌+◌, ◌*◌, ◌-◌, ℕ, zero, suc, refl, ap, List, length, map, subst, Option, Some, None, Ok, Err, arith}
+use Rattle.std.proofs.Common.{◌≡◌, ◌≤◌, ◌+◌, ◌*◌, ℕ, zero, suc, refl, ap, List, length, map, subst, Option, Some, None, Ok, Err, arith}
 use Rattle.std.proofs.lemmas.List.{length-drop, length-map}
 use Rattle.std.specs.Prelude.{drop, slice_get}
 use Rattle.std.specs.Option.{option_map_or}

@@ -9,6 +9,7 @@ use Rattle.mps_model.specs.Answer.{Replied}
 use Rattle.mps_model.specs.World.{World}
 use Rattle.mps_trace.specs.Collect.{most_moves}
 use Rattle.mps_heap_spec.specs.Collecting.{IsCollected}
+use Rattle.mps_heap_spec.specs.Following.{Follows}
 use Rattle.mps_heap_spec.specs.State.{HeapState}
 use Rattle.mps_heap_spec.specs.Units.{HasDoneUnits, IsWhole, units_to_end}
 use Rattle.mps_refinement.specs.RightMoving.{IsRightMoving, KeepsRoom}
@@ -27,11 +28,11 @@ pub record IsRightCollect {F : Type 0} (layout : F → Layout) (h : HeapState F)
   pub right : IsRightMoving layout h call.Collect m.moves m'.moves (Replied reply.Ok) h'
   pub room : KeepsRoom m m'
 
--- if no reservation remembers a flip that is still to come, the units to the end of what runs and then a full collection are right in
--- each world that the heap represented, and the trail keeps its room
+-- if no reservation remembers a flip that is still to come, the units to the end of what runs and then a full collection, the moves of each
+-- of which are followed, are right in each world that the heap represented, and the trail keeps its room
 abbrev pub ACollectIsRight : (F : Type 0) → Type 0
 ACollectIsRight F =
     (layout : F → Layout) (h : HeapState F) (m : Moves) (between : HeapState F) (m_between : Moves) (h' : HeapState F) (m' : Moves)
     → MayCollect layout h m → WereMadeBefore h.points.flips h.points
-    → HasDoneUnits layout h m (units_to_end h) between m_between → IsWhole between
-    → IsCollected layout between m_between h' m' → IsRightCollect layout h m h' m'
+    → Follows layout m (HasDoneUnits layout h m (units_to_end h)) between m_between → IsWhole between
+    → Follows layout m_between (IsCollected layout between m_between) h' m' → IsRightCollect layout h m h' m'
