@@ -14,6 +14,7 @@ mod lending;
 mod making;
 mod manual;
 mod objects;
+mod pairing;
 mod results;
 mod transforming;
 

@@ -1,0 +1,22 @@
+use Rattle.std.proofs.Common.{subst, []}
+use Rattle.mps_model.specs.declared.call.Call.TheVariants as call
+use Rattle.mps_refinement.specs.Answering.{answer_to, says_ok}
+use Rattle.mps_refinement.specs.RightStep.{IsRight}
+use Rattle.mps_refinement.proofs.Calls.Pairing.{undepend_is_right}
+use Rattle.mps_refinement.proofs.Worlds.Staying.{stays}
+use Rattle.mps_heap.proofs.heap.Heap.undepend.Goals as goal
+
+pub invariant_of-self : goal.invariant_of-self
+invariant_of-self g c =
+    stays g.F.Format.layout c.self.inside.state c.undepend.new.state (call.Undepend c.args.holder) []
+    (answer_to says_ok c.undepend.result) c.self.invariant
+    (undepend_is_right g.F.Format.layout c.self.inside.state c.args.holder c.undepend.result c.undepend.new.state
+    c.undepend.ensures)
+
+pub returns : goal.returns
+returns g c = record {
+  right = subst (λ h. IsRight g.F.Format.layout h (call.Undepend c.args.holder) [] (answer_to says_ok c.undepend.result)
+      c.undepend.new.state) c.self.view_is
+      (undepend_is_right g.F.Format.layout c.self.inside.state c.args.holder c.undepend.result c.undepend.new.state
+      c.undepend.ensures);
+}
