@@ -188,12 +188,15 @@ d_to_f_in_range = (
   (
     one_in_range slot_of call.Definalize (λ x. tt),
     (
-      one_in_range name_of call.DropPoint (λ x. tt),
+      two_in_range slot_of slot_of call.Depend (λ x y. tt),
       (
-        one_in_range name_of call.DropRoot (λ x. tt),
+        one_in_range name_of call.DropPoint (λ x. tt),
         (
-          one_in_range prefixed_hexadecimal call.Dump (λ x. tt),
-          (one_in_range slot_of call.Finalize (λ x. tt), tt),
+          one_in_range name_of call.DropRoot (λ x. tt),
+          (
+            one_in_range prefixed_hexadecimal call.Dump (λ x. tt),
+            (one_in_range slot_of call.Finalize (λ x. tt), tt),
+          ),
         ),
       ),
     ),
@@ -300,7 +303,10 @@ s_to_z_in_range = (
                       one_in_range name_of call.TransformApply (λ x. tt),
                       (
                         one_in_range name_of call.TransformDrop (λ x. tt),
-                        (one_in_range name_of call.Transform (λ x. tt), tt),
+                        (
+                          one_in_range name_of call.Transform (λ x. tt),
+                          (one_in_range slot_of call.Undepend (λ x. tt), tt),
+                        ),
                       ),
                     ),
                   ),

@@ -179,6 +179,15 @@ no_transforms :
     ≡ true
 no_transforms = refl
 
+dependents : calls (codes "depend t.0 t.1" ∷ codes "undepend t.0" ∷ []) ≡ Some (call.Depend (t 0) (t 1)) ∷ Some (call.Undepend (t 0)) ∷ []
+dependents = refl
+
+no_dependents :
+    are_wrong (codes "depend" ∷ codes "depend t.0" ∷ codes "depend t t.1" ∷ codes "depend t.0 t" ∷ codes "depend t.0 t.1 t.2"
+    ∷ codes "undepend" ∷ codes "undepend t" ∷ codes "undepend t.0 t.1" ∷ [])
+    ≡ true
+no_dependents = refl
+
 cells :
     calls (codes "get t.0 t.1 2" ∷ codes "put t.0 2 t.1" ∷ codes "num t.0 2" ∷ codes "setnum t.0 2 3" ∷ codes "setnum t.0 2 0x3" ∷ [])
     ≡ Some (call.Get (t 0) (t 1) 2) ∷ Some (call.Put (t 0) 2 (t 1)) ∷ Some (call.Number (t 0) 2) ∷ Some (call.SetNumber (t 0) 2 3)

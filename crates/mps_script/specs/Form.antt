@@ -176,6 +176,7 @@ abbrev pub d_to_f_forms : List Form
 d_to_f_forms =
     (codes "free", one slot_of call.Free)
     ∷ (codes "definalize", one slot_of call.Definalize)
+    ∷ (codes "depend", two slot_of slot_of call.Depend)
     ∷ (codes "dropap", one name_of call.DropPoint)
     ∷ (codes "droproot", one name_of call.DropRoot)
     ∷ (codes "dump", one prefixed_hexadecimal call.Dump)
@@ -239,6 +240,7 @@ s_to_z_forms =
     ∷ (codes "transapply", one name_of call.TransformApply)
     ∷ (codes "transdrop", one name_of call.TransformDrop)
     ∷ (codes "transform", one name_of call.Transform)
+    ∷ (codes "undepend", one slot_of call.Undepend)
     ∷ []
 
 -- all of them

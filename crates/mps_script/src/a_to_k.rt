@@ -12,6 +12,7 @@ ghost use Rattle.mps_script.specs.Form.{call_in, grains_from, length_of_root, ra
 
 use crate::caches::{cache, cache_alloc, cache_flush, cache_free};
 use crate::chain::chain;
+use crate::dependents::depend;
 use crate::grains::grains_limit;
 use crate::roots::{name_length, name_name_rank};
 use crate::several::{alone, init};
@@ -83,6 +84,8 @@ pub fn call_of_d_to_f(line: &[u8], into: &mut Call) -> Option<()>
         free(arguments, into)
     } else if let Some(arguments) = strip_word(line, b"definalize") {
         definalize(arguments, into)
+    } else if let Some(arguments) = strip_word(line, b"depend") {
+        depend(arguments, into)
     } else if let Some(arguments) = strip_word(line, b"dropap") {
         drop_point(arguments, into)
     } else if let Some(arguments) = strip_word(line, b"droproot") {

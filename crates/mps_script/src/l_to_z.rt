@@ -10,6 +10,7 @@ ghost use Rattle.mps_script.specs.Calls.{none, one, two, three};
 ghost use Rattle.mps_script.specs.Filled.{filled};
 ghost use Rattle.mps_script.specs.Form.{call_in, grains_from, length_of_root, tag_number, l_forms, m_to_o_forms, p_to_r_forms, s_to_z_forms};
 
+use crate::dependents::undepend;
 use crate::grains::grains;
 use crate::pools::pool;
 use crate::roots::name_length;
@@ -127,6 +128,8 @@ pub fn call_of_s_to_z(line: &[u8], into: &mut Call) -> Option<()>
         transform_drop(arguments, into)
     } else if let Some(arguments) = strip_word(line, b"transform") {
         transform(arguments, into)
+    } else if let Some(arguments) = strip_word(line, b"undepend") {
+        undepend(arguments, into)
     } else {
         None
     }

@@ -5,6 +5,7 @@ mod a_to_k;
 mod caches;
 mod chain;
 mod commands;
+mod dependents;
 mod grains;
 mod l_to_z;
 mod laws;

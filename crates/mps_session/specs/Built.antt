@@ -10,14 +10,12 @@ use Rattle.mps_model.specs.Graph.{empty_graph}
 use Rattle.mps_model.specs.World.{World, Collected, empty_world}
 use Rattle.mps_commands.specs.Built.{Built}
 
--- whether the form of a call is built: all but dependents; what may flip is if one flip more can be counted
+-- whether the form of a call is built: each is, and what may flip is if one flip more can be counted
 abbrev pub is_built : (collects : Bool) → Call → Bool
 is_built collects call.Collect = collects
 is_built collects call.Start = collects
 is_built collects (call.StartChain chain generation) = collects
 is_built collects (call.Reserve point head) = collects
-is_built collects (call.Depend holder dependent) = false
-is_built collects (call.Undepend holder) = false
 is_built collects _ = true
 
 -- whether a heap answers it: it is built, and doesn't make the arena
@@ -98,8 +96,8 @@ a_pool_of_frames_is pool = refl
 pub and_a_frame_is_closed : (pool : Name) → is_unsupported_call example_world (call.Pop pool 0) ≡ false
 and_a_frame_is_closed pool = refl
 
-pub a_dependent_is_not : (holder dependent : Slot) → is_unsupported_call example_world (call.Depend holder dependent) ≡ true
-a_dependent_is_not holder dependent = refl
+pub a_dependent_is : (holder dependent : Slot) → is_unsupported_call example_world (call.Depend holder dependent) ≡ false
+a_dependent_is holder dependent = refl
 
 pub a_collection_beside_a_pool_that_marks :
     is_unsupported_call (record example_world { pools = record { kind = Collected kind.Ams; format = 1; chain = None } ∷ [] }) call.Collect

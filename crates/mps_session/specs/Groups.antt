@@ -54,7 +54,7 @@ writes_words _ = false
 abbrev pub is_frequent : Call → Bool
 is_frequent c = reads_words c || may_move c || writes_words c
 
--- a call on an area, a registration, a message, a dependency or a transform
+-- a call on an area, a registration, a message, a dependency, a transform or a dependent
 abbrev pub is_on_areas : Call → Bool
 is_on_areas (call.Poke word value) = true
 is_on_areas (call.Peek word) = true
@@ -71,6 +71,8 @@ is_on_areas (call.Transform transform) = true
 is_on_areas (call.TransformAdd transform old new) = true
 is_on_areas (call.TransformApply transform) = true
 is_on_areas (call.TransformDrop transform) = true
+is_on_areas (call.Depend holder dependent) = true
+is_on_areas (call.Undepend holder) = true
 is_on_areas _ = false
 
 -- a call on the arena, one that drops a thing, or one that makes a label

@@ -1,4 +1,4 @@
-// Answers the calls on areas, registrations, messages, dependencies and transforms.
+// Answers the calls on areas, registrations, messages, dependencies, transforms and dependents.
 ghost use Rattle.std.specs.Prelude.{◌≡◌, IfNone, IfSome, is_some, []};
 ghost use Rattle.mps_session.specs.Groups.{is_on_areas};
 ghost use Rattle.mps_session.specs.Standing.{IsAnswered};
@@ -8,7 +8,7 @@ use mps_format::AnyFormat;
 use mps_heap::Heap;
 use mps_model::{Call, Reply};
 
-/// Answers a call on an area, a registration, a message, a dependency or a transform; `None` if it is another.
+/// Answers a call on an area, a registration, a message, a dependency, a transform or a dependent; `None` if it is another.
 pub fn answer(heap: &mut Heap<AnyFormat>, call: &Call) -> Option<Reply>
     ensures right { IfSome result (λ reply. IsAnswered heap.old call.now [] reply heap.new) }
     ensures which { is_some result ≡ is_on_areas call.now }
@@ -36,6 +36,8 @@ pub fn answer(heap: &mut Heap<AnyFormat>, call: &Call) -> Option<Reply>
         } => Some(done(heap.transadd(transform, old, new))),
         Call::TransformApply { transform } => Some(yes_or_no(heap.transapply(transform))),
         Call::TransformDrop { transform } => Some(done(heap.transdrop(transform))),
+        Call::Depend { holder, dependent } => Some(done(heap.depend(holder, dependent))),
+        Call::Undepend { holder } => Some(done(heap.undepend(holder))),
         _ => None,
     }
 }

@@ -4,6 +4,7 @@ mod between_units;
 mod caches;
 mod calls;
 mod collected;
+mod dependents;
 mod frames;
 mod generations;
 mod limits;

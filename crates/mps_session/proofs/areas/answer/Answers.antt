@@ -46,3 +46,9 @@ returns-in-TransformApply-clause-right c =
 
 pub returns-in-TransformDrop-clause-right : goal.returns-in-TransformDrop-clause-right
 returns-in-TransformDrop-clause-right c = answered c.in-TransformDrop.is c.done-in-TransformDrop.ensures c.transdrop.ensures.right
+
+pub returns-in-Depend-clause-right : goal.returns-in-Depend-clause-right
+returns-in-Depend-clause-right c = answered c.in-Depend.is c.done-in-Depend.ensures c.depend.ensures.right
+
+pub returns-in-Undepend-clause-right : goal.returns-in-Undepend-clause-right
+returns-in-Undepend-clause-right c = answered c.in-Undepend.is c.done-in-Undepend.ensures c.undepend.ensures.right
