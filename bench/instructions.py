@@ -15,7 +15,7 @@ TIMES = 2_000
 
 SMALL = ["arena 2048 2048", "table t 2", "pool p amc front", "ap x p exact", "reserve x f:3:1", "commit x t.0", "reserve x f:3:1",
          "commit x t.1"]
-MANUAL = ["arena 2048 2048", "pool v mvff", "blocks b 1"]
+MANUAL = ["arena 2048 2048", "pool v mvff", "cache q v 17 8", "pool s snc", "blocks b 1"]
 
 
 def full(*pool):
@@ -37,6 +37,8 @@ LINES = {
     "label": (SMALL + ["intern ring"], ["label t.0 ring"], ["0x1000"]),
     "reserve, commit": (SMALL, ["reserve x f:8:1", "commit x t.0"], ["ok", "ok"]),
     "alloc, free": (MANUAL, ["alloc v 17 b.0", "free b.0"], ["ok", "ok"]),
+    "calloc, cfree": (MANUAL, ["calloc q 17 b.0", "cfree q b.0"], ["ok", "ok"]),
+    "push, alloc, pop": (MANUAL, ["push s", "alloc s 17 b.0", "pop s 0"], ["0", "ok", "ok"]),
     "no room, clamped": (full() + ["clamp"], *REFUSED),
     "no room, polls": (full(), *REFUSED),
     "the same on a chain": (full("c"), *REFUSED),
