@@ -31,11 +31,6 @@ abbrev pub is_block : Answer → Bool
 is_block (Replied reply.Block) = true
 is_block _ = false
 
--- whether the answer is `unsupported`
-abbrev pub is_unsupported : Answer → Bool
-is_unsupported (Replied reply.Unsupported) = true
-is_unsupported _ = false
-
 -- whether the answer is a refusal
 abbrev pub is_refused : Answer → Bool
 is_refused (Replied (reply.Refused why)) = true

@@ -18,7 +18,7 @@ use Rattle.mps_format.specs.Layout.{Layout}
 use Rattle.mps_format.specs.Any.{numbered_layout}
 use Rattle.mps_model.specs.declared.call.Call.{Call}
 use Rattle.mps_model.specs.declared.call.Call.TheVariants as call
-use Rattle.mps_model.specs.Answer.{Answer, is_accepted, is_block, is_refused, is_unsupported}
+use Rattle.mps_model.specs.Answer.{Answer, is_accepted, is_block, is_refused}
 use Rattle.mps_model.specs.Step.{Step, History}
 use Rattle.mps_model.specs.Replay.{Store, Block, with_block}
 use Rattle.mps_model.specs.Graph.{Reservation, Point, Cache, CacheClass, PoolFrames, entry_at, ids_of_client, ids_in_blocks, targets}
@@ -116,9 +116,9 @@ world_after_call w call moves answer =
     with_client_remembered
     (world_from (moved_world w call moves) (act (is_block answer) (judged_world w call moves) (moved_world w call moves) call))
 
--- the world after a step. One that was answered `unsupported` changes nothing
+-- the world after a step
 abbrev pub world_after : World → Step → World
-world_after w s = if is_unsupported s.answer then w else world_after_call w s.call s.moves s.answer
+world_after w s = world_after_call w s.call s.moves s.answer
 
 -- ---- the client's moves: functions of the world
 
@@ -349,8 +349,8 @@ IsPossiblyMarked w _ answer = Unit {0}
 
 -- ---- legal steps and histories
 
--- a step that was answered
-pub record IsAnsweredStep (w : World) (s : Step) : Type 0 where
+-- a step that is legal in a world
+pub record IsLegalStep (w : World) (s : Step) : Type 0 where
   pub moves_are_legal : AreLegalMoves w None (moves_of_collector s.call s.moves)
   pub moves_are_due : AreMovesOf w s.call s.answer s.moves
   pub answer_is_due :
@@ -359,10 +359,6 @@ pub record IsAnsweredStep (w : World) (s : Step) : Type 0 where
   pub held_are_live : HeldAreLive (world_after w s)
   pub held_are_kept : IsTrue (are_held_kept (world_after w s))
   pub units_are_left : IsTrue (has_units_left (world_after w s))
-
--- whether a step is legal in a world. A command that isn't built yet may be answered `unsupported`; it makes no moves
-abbrev pub IsLegalStep : World → Step → Type 0
-IsLegalStep w s = MatchBool (is_unsupported s.answer) (s.moves ≡ []) (IsAnsweredStep w s)
 
 -- whether steps are legal, one after the other, from a world on
 abbrev pub IsLegalFrom : World → History → Type 0

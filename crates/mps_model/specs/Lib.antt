@@ -32,6 +32,7 @@ pub mod History
 pub mod Text
 pub mod Posts
 pub mod WellFormed
+pub mod WellFormedExamples
 pub use Rattle.mps_format.specs.Any
 pub use Rattle.mps_format.specs.Fields
 pub use Rattle.mps_format.specs.Layout

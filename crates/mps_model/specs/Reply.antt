@@ -6,11 +6,10 @@
 use Rattle.std.specs.Prelude.{Bool, true, false, Ok, Err}
 use Rattle.mps_model.specs.declared.call.Call.{Call}
 use Rattle.mps_model.specs.declared.call.Call.TheVariants as call
-use Rattle.mps_model.specs.declared.reply.Reply.TheVariants as reply
 use Rattle.mps_model.specs.Answer.{Answer, refused}
 use Rattle.mps_model.specs.Graph.{Graph}
 use Rattle.mps_model.specs.World.{World}
-use Rattle.mps_model.specs.Checked.{Act, Checked, says}
+use Rattle.mps_model.specs.Checked.{Act, Checked}
 use Rattle.mps_model.specs.Making.{act_arena, act_limit, act_committed, act_chain, act_pool, act_pool_on_chain, act_pool_mfs, act_pool_mvff, act_pool_frames, act_table, act_area, act_blocks, act_drop_root, act_point, act_drop_point}
 use Rattle.mps_model.specs.Allocating.{act_reserve, act_init_number, act_init_reference, act_commit, act_alloc, act_free, act_load, act_store}
 use Rattle.mps_model.specs.Accessing.{act_get, act_put, act_number, act_set_number, act_copy, act_clear, act_same, act_null, act_head, act_address, act_poke, act_peek, act_pin, act_take}
@@ -23,85 +22,79 @@ use Rattle.mps_model.specs.Frames.{act_push, act_pop}
 use Rattle.mps_model.specs.Dependency.{act_dependency, act_dependency_reset, act_dependency_add, act_dependency_merge, act_dependency_stale}
 use Rattle.mps_model.specs.Collecting.{act_start, act_start_chain, act_step, act_collect, act_clamp, act_park, act_release, act_finalize, act_definalize, act_message, act_live, act_dump}
 
--- the first refusal whose condition holds, or the answer and the world after the call, of a call that is judged in the world in
--- which it takes effect
-abbrev pub act_in : World → Call → Checked Act
-act_in w (call.Arena grains limit) = act_arena w grains limit
-act_in w (call.Limit limit) = act_limit w limit
-act_in w call.Committed = act_committed w
-act_in w (call.Chain chain count capacities) = act_chain w chain count capacities
-act_in w (call.Pool pool kind format) = act_pool w pool kind format
-act_in w (call.PoolOnChain pool kind format chain) = act_pool_on_chain w pool kind format chain
-act_in w (call.PoolMfs pool words) = act_pool_mfs w pool words
-act_in w (call.PoolMvff pool) = act_pool_mvff w pool
-act_in w (call.Table table length) = act_table w table length
-act_in w (call.Area area length) = act_area w area length
-act_in w (call.Blocks blocks length) = act_blocks w blocks length
-act_in w (call.DropRoot root) = act_drop_root w root
-act_in w (call.Point point pool rank) = act_point w point pool rank
-act_in w (call.DropPoint point) = act_drop_point w point
-act_in w (call.Dependency dependency) = act_dependency w dependency
-act_in w (call.InitNumber point cell value) = act_init_number w point cell value
-act_in w (call.InitReference point cell source) = act_init_reference w point cell source
-act_in w (call.Commit point target) = act_commit w point target
-act_in w (call.Free place) = act_free w place
-act_in w (call.Load place word) = act_load w place word
-act_in w (call.Store place word value) = act_store w place word value
-act_in w (call.Put target cell source) = act_put w target cell source
-act_in w (call.Number slot cell) = act_number w slot cell
-act_in w (call.SetNumber slot cell value) = act_set_number w slot cell value
-act_in w (call.Copy target source) = act_copy w target source
-act_in w (call.Clear slot) = act_clear w slot
-act_in w (call.Same slot other) = act_same w slot other
-act_in w (call.Null slot) = act_null w slot
-act_in w (call.Head slot) = act_head w slot
-act_in w (call.Address slot) = act_address w slot
-act_in w (call.SetTag slot cell tag) = act_set_tag w slot cell tag
-act_in w (call.Tag slot cell) = act_tag w slot cell
-act_in w (call.Intern label) = act_intern w label
-act_in w (call.Label slot label) = act_label w slot label
-act_in w (call.Depend holder dependent) = act_depend w holder dependent
-act_in w (call.Undepend holder) = act_undepend w holder
-act_in w (call.Transform transform) = act_transform w transform
-act_in w (call.TransformAdd transform old new) = act_transform_add w transform old new
-act_in w (call.TransformApply transform) = act_transform_apply w transform
-act_in w (call.TransformDrop transform) = act_transform_drop w transform
-act_in w (call.Cache cache pool count sizes limits) = act_cache w cache pool count sizes limits
-act_in w (call.CacheFree cache place) = act_cache_free w cache place
-act_in w (call.CacheFlush cache) = act_cache_flush w cache
-act_in w (call.PoolFrames pool) = act_pool_frames w pool
-act_in w (call.Push pool) = act_push w pool
-act_in w (call.Pop pool frame) = act_pop w pool frame
-act_in w (call.Peek word) = act_peek w word
-act_in w (call.Pin word slot) = act_pin w word slot
-act_in w (call.Take slot word) = act_take w slot word
-act_in w (call.Step units) = act_step w
-act_in w call.Collect = act_collect w
-act_in w call.Clamp = act_clamp w
-act_in w call.Park = act_park w
-act_in w call.Release = act_release w
-act_in w (call.Finalize slot) = act_finalize w slot
-act_in w (call.Definalize slot) = act_definalize w slot
-act_in w (call.Message slot) = act_message w slot
-act_in w (call.DependencyReset dependency) = act_dependency_reset w dependency
-act_in w (call.DependencyAdd dependency slot) = act_dependency_add w dependency slot
-act_in w (call.DependencyMerge dependency source) = act_dependency_merge w dependency source
-act_in w (call.DependencyStale dependency) = act_dependency_stale w dependency
-act_in w call.Live = act_live w
-act_in w (call.Dump at) = act_dump w at
--- the calls that have an arm of their own below
-act_in w _ = says reply.Unsupported w
-
--- the same of any call. `marked` counts for `poke` alone
+-- the first refusal whose condition holds, or the answer and the world after the call. `marked` counts for `poke` alone. Only the
+-- first of these look at the world in which the call is judged
 abbrev pub act : (marked : Bool) → (judged after : World) → Call → Checked Act
 act marked judged after (call.Reserve point head) = act_reserve judged after point head
 act marked judged after (call.Alloc pool words place) = act_alloc judged after pool words place
 act marked judged after (call.CacheAlloc cache words place) = act_cache_alloc judged after cache words place
 act marked judged after (call.Get target source cell) = act_get judged after target source cell
-act marked judged after (call.Poke word value) = act_poke marked after word value
 act marked judged after call.Start = act_start judged after
 act marked judged after (call.StartChain chain generation) = act_start_chain judged after chain generation
-act marked judged after call = act_in after call
+act marked judged after (call.Arena grains limit) = act_arena after grains limit
+act marked judged after (call.Limit limit) = act_limit after limit
+act marked judged after call.Committed = act_committed after
+act marked judged after (call.Chain chain count capacities) = act_chain after chain count capacities
+act marked judged after (call.Pool pool kind format) = act_pool after pool kind format
+act marked judged after (call.PoolOnChain pool kind format chain) = act_pool_on_chain after pool kind format chain
+act marked judged after (call.PoolMfs pool words) = act_pool_mfs after pool words
+act marked judged after (call.PoolMvff pool) = act_pool_mvff after pool
+act marked judged after (call.Table table length) = act_table after table length
+act marked judged after (call.Area area length) = act_area after area length
+act marked judged after (call.Blocks blocks length) = act_blocks after blocks length
+act marked judged after (call.DropRoot root) = act_drop_root after root
+act marked judged after (call.Point point pool rank) = act_point after point pool rank
+act marked judged after (call.DropPoint point) = act_drop_point after point
+act marked judged after (call.Dependency dependency) = act_dependency after dependency
+act marked judged after (call.InitNumber point cell value) = act_init_number after point cell value
+act marked judged after (call.InitReference point cell source) = act_init_reference after point cell source
+act marked judged after (call.Commit point target) = act_commit after point target
+act marked judged after (call.Free place) = act_free after place
+act marked judged after (call.Load place word) = act_load after place word
+act marked judged after (call.Store place word value) = act_store after place word value
+act marked judged after (call.Put target cell source) = act_put after target cell source
+act marked judged after (call.Number slot cell) = act_number after slot cell
+act marked judged after (call.SetNumber slot cell value) = act_set_number after slot cell value
+act marked judged after (call.Copy target source) = act_copy after target source
+act marked judged after (call.Clear slot) = act_clear after slot
+act marked judged after (call.Same slot other) = act_same after slot other
+act marked judged after (call.Null slot) = act_null after slot
+act marked judged after (call.Head slot) = act_head after slot
+act marked judged after (call.Address slot) = act_address after slot
+act marked judged after (call.SetTag slot cell tag) = act_set_tag after slot cell tag
+act marked judged after (call.Tag slot cell) = act_tag after slot cell
+act marked judged after (call.Intern label) = act_intern after label
+act marked judged after (call.Label slot label) = act_label after slot label
+act marked judged after (call.Depend holder dependent) = act_depend after holder dependent
+act marked judged after (call.Undepend holder) = act_undepend after holder
+act marked judged after (call.Transform transform) = act_transform after transform
+act marked judged after (call.TransformAdd transform old new) = act_transform_add after transform old new
+act marked judged after (call.TransformApply transform) = act_transform_apply after transform
+act marked judged after (call.TransformDrop transform) = act_transform_drop after transform
+act marked judged after (call.Cache cache pool count sizes limits) = act_cache after cache pool count sizes limits
+act marked judged after (call.CacheFree cache place) = act_cache_free after cache place
+act marked judged after (call.CacheFlush cache) = act_cache_flush after cache
+act marked judged after (call.PoolFrames pool) = act_pool_frames after pool
+act marked judged after (call.Push pool) = act_push after pool
+act marked judged after (call.Pop pool frame) = act_pop after pool frame
+act marked judged after (call.Poke word value) = act_poke marked after word value
+act marked judged after (call.Peek word) = act_peek after word
+act marked judged after (call.Pin word slot) = act_pin after word slot
+act marked judged after (call.Take slot word) = act_take after slot word
+act marked judged after (call.Step units) = act_step after
+act marked judged after call.Collect = act_collect after
+act marked judged after call.Clamp = act_clamp after
+act marked judged after call.Park = act_park after
+act marked judged after call.Release = act_release after
+act marked judged after (call.Finalize slot) = act_finalize after slot
+act marked judged after (call.Definalize slot) = act_definalize after slot
+act marked judged after (call.Message slot) = act_message after slot
+act marked judged after (call.DependencyReset dependency) = act_dependency_reset after dependency
+act marked judged after (call.DependencyAdd dependency slot) = act_dependency_add after dependency slot
+act marked judged after (call.DependencyMerge dependency source) = act_dependency_merge after dependency source
+act marked judged after (call.DependencyStale dependency) = act_dependency_stale after dependency
+act marked judged after call.Live = act_live after
+act marked judged after (call.Dump at) = act_dump after at
 
 -- the answer of an act or a refusal
 abbrev pub answer_from : Checked Act → Answer

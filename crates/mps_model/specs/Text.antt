@@ -67,7 +67,6 @@ reply_text (reply.Words at count) = []
 reply_text (reply.Interned number) = decimal number
 reply_text (reply.Labelled at number) = word_text at.0
 reply_text (reply.Refused why) = codes "refused " ++ refusal_text why
-reply_text reply.Unsupported = codes "unsupported"
 
 abbrev pub text_of_answer : Answer → List ℕ
 text_of_answer (Replied said) = reply_text said

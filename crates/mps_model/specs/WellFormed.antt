@@ -1,17 +1,18 @@
 -- What holds of every world that a legal history reaches in which only the first command makes an arena, as in any script.
-use Rattle.std.specs.Prelude.{◌≡◌, ℕ, Bool, true, false, not, ◌&&◌, ◌||◌, ◌==◌, nat_lt, nat_le, IsTrue, if◌then◌else◌, Option, Some, None, List, [], ◌∷◌, ◌++◌, map, length, filter, replicate, codes, ◌+◌, refl}
+use Rattle.std.specs.Prelude.{◌≡◌, ℕ, Bool, true, false, not, ◌&&◌, ◌||◌, ◌==◌, nat_lt, nat_le, IsTrue, if◌then◌else◌, Option, Some, None, is_some, slice_get, List, [], ◌∷◌, ◌++◌, map, length, filter, replicate, codes, ◌+◌, refl}
 use Rattle.std.proofs.Common.{arith}
 use Rattle.std.specs.List.{list_any, list_all}
 use Rattle.std.specs.Option.{option_map_or}
 use Rattle.mps_base.specs.Address.{Id, address_of_grain}
 use Rattle.mps_base.specs.Run.{Run, end_of, in_order}
 use Rattle.mps_base.specs.Segment.{Segment, same_rank, words_of_segment, grains_of_segment}
+use Rattle.mps_base.specs.Name.{same_name}
 use Rattle.mps_base.specs.declared.names.Name.{Name}
 use Rattle.mps_base.specs.declared.names.Kind.TheVariants as kind
 use Rattle.mps_base.specs.declared.names.Rank.TheVariants as rank
-use Rattle.mps_model.specs.Graph.{Graph, Thing, TableThing, LabelThing, NamedThing, thing_named, Cell, HeadCell, NumberCell, ReferenceCell, Body, Automatic, Manual, Object, Reservation, Point, AreaWord, PlainWord, Hold, is_automatic, is_weak_object, new_cells, targets_of_cells, with_target_cell, graph_with_cells, empty_graph, ids_in_slots, ids_in_blocks, Cache, CacheClass, PoolFrames, size_of}
-use Rattle.mps_model.specs.Collection.{empty_collection}
-use Rattle.mps_model.specs.World.{World, Pool, PointMemory, Tail, is_automatic_kind, is_weak_kind, pool_is, pool_at, is_live, is_live_and, live_ids, object_is, pool_of, words_of, extent, covered, shown_word, lies_in, Collected, Parked, TransformPair, is_parked, is_running, ids_in_pairs, empty_run, empty_world, OneSize, AnySize, Frames, has_frames, PoolKind, Dependency}
+use Rattle.mps_model.specs.Graph.{Graph, Thing, ChainThing, PoolThing, TableThing, AreaThing, BlocksThing, PointThing, DependencyThing, TransformThing, CacheThing, LabelThing, NamedThing, thing_named, entry_at, Cell, HeadCell, NumberCell, ReferenceCell, Body, Automatic, Manual, Object, Reservation, Point, AreaWord, PlainWord, Hold, is_automatic, is_weak_object, new_cells, targets_of_cells, with_target_cell, graph_with_cells, empty_graph, ids_in_slots, ids_in_blocks, Cache, CacheClass, PoolFrames, size_of}
+use Rattle.mps_model.specs.Collection.{Collection, empty_collection}
+use Rattle.mps_model.specs.World.{World, committed, segment_at, Pool, PointMemory, Tail, is_automatic_kind, is_weak_kind, pool_is, pool_at, generations_of, is_live, is_live_and, live_ids, object_is, pool_of, words_of, extent, covered, shown_word, lies_in, Collected, Parked, TransformPair, is_parked, is_running, ids_in_pairs, empty_run, empty_world, OneSize, AnySize, Frames, has_frames, PoolKind, Dependency}
 use Rattle.mps_model.specs.Making.{is_weak_rank}
 use Rattle.mps_model.specs.Dependents.{may_depend}
 use Rattle.mps_model.specs.Allocating.{allows_size, takes_head}
@@ -45,6 +46,12 @@ is_right_segment w s =
     address_of_grain (grains_of_segment s).from == s.base && nat_lt 0 s.grains
     && lies_within (record { from = 1; count = w.grains }) (grains_of_segment s)
     && (not (is_weak_rank s.rank) || pool_is is_weak_kind w s.pool)
+
+-- whether a segment is of a pool that there is, and of generation 0 or of one that the chain of its pool has
+abbrev pub is_of_pool : World → Segment → Bool
+is_of_pool w s =
+    pool_is (λ kind. true) w s.pool
+    && (s.generation == 0 || nat_lt s.generation (option_map_or (λ count. count) (generations_of w s.pool) 0))
 
 -- ---- cells
 
@@ -115,6 +122,43 @@ abbrev pub are_right_words : World → Option (List AreaWord) → Bool
 are_right_words w None = true
 are_right_words w (Some words) = list_all (is_right_word w) words
 
+-- ---- names
+
+-- whether there is what a name represents: it was made, and not dropped
+abbrev pub is_there : World → Thing → Bool
+is_there w (ChainThing number) = nat_lt number (length w.chains)
+is_there w (PoolThing number) = nat_lt number (length w.pools)
+is_there w (TableThing number) = is_some (entry_at w.graph.tables number)
+is_there w (AreaThing number) = is_some (entry_at w.graph.areas number)
+is_there w (BlocksThing number) = nat_lt number (length w.graph.blocks)
+is_there w (PointThing number) = is_some (entry_at w.graph.points number)
+is_there w (DependencyThing number) = nat_lt number (length w.dependencies)
+is_there w (TransformThing number) = option_map_or (λ not_dropped. not_dropped) (slice_get w.graph.transforms number) false
+is_there w (CacheThing number) = nat_lt number (length w.graph.caches)
+is_there w (LabelThing number) = nat_lt number (length w.graph.labels)
+
+abbrev pub same_thing : Thing → Thing → Bool
+same_thing (ChainThing number) (ChainThing other) = number == other
+same_thing (PoolThing number) (PoolThing other) = number == other
+same_thing (TableThing number) (TableThing other) = number == other
+same_thing (AreaThing number) (AreaThing other) = number == other
+same_thing (BlocksThing number) (BlocksThing other) = number == other
+same_thing (PointThing number) (PointThing other) = number == other
+same_thing (DependencyThing number) (DependencyThing other) = number == other
+same_thing (TransformThing number) (TransformThing other) = number == other
+same_thing (CacheThing number) (CacheThing other) = number == other
+same_thing (LabelThing number) (LabelThing other) = number == other
+same_thing _ _ = false
+
+-- whether two names are different, and represent different things
+abbrev pub are_different : NamedThing → NamedThing → Bool
+are_different m n = not (same_name m.name n.name) && not (same_thing m.thing n.thing)
+
+-- whether no name stands twice in a list, and no thing has two names
+abbrev pub are_all_different : List NamedThing → Bool
+are_all_different [] = true
+are_all_different (n ∷ ns) = list_all (are_different n) ns && are_all_different ns
+
 -- ---- labels
 
 -- whether a name represents the label of this number
@@ -172,12 +216,25 @@ is_dated flips d = nat_le d.epoch flips
 abbrev pub is_live_automatic : World → (id : Id) → Bool
 is_live_automatic w id = is_live w id && object_is is_automatic w id
 
+-- ---- the collection that runs
+
+-- whether a running collection has condemned automatic objects, and segments that are held; no more registrations were made before its flip
+-- than there are, and no more of these were examined; and no more units were asked of it than it may take
+abbrev pub is_right_collection : World → Collection → Bool
+is_right_collection w c =
+    list_all (object_is is_automatic w) c.condemned && (list_all (λ base. is_some (segment_at w base)) c.condemned_segments
+    && (nat_le c.examined c.registered_before && (nat_le c.registered_before (length w.graph.registered) && nat_le c.spent c.units)))
+
 -- ---- worlds
 
 -- what holds of every world that a legal history reaches in which only the first command makes an arena
 pub record IsWellFormed (w : World) : Type 0 where
   -- segments ascend, apart, and lie in the arena
   pub segments : IsTrue (list_all (is_right_segment w) w.segments && are_apart (map grains_of_segment w.segments))
+  -- no more grains are held than the limit allows
+  pub limit : IsTrue (nat_le (committed w) w.limit)
+  -- each segment is of a pool that there is, and of one of its generations
+  pub pools : IsTrue (list_all (is_of_pool w) w.segments)
   -- each object has an entry for its address
   pub addresses : length w.addresses ≡ length w.graph.objects
   -- what lies somewhere lies apart from all else, and from buffers and tails
@@ -193,12 +250,16 @@ pub record IsWellFormed (w : World) : Type 0 where
   -- registrations and messages are of live automatic objects
   pub registered : IsTrue (list_all (is_live_automatic w) w.graph.registered)
   pub messages : IsTrue (list_all (is_live_automatic w) w.graph.messages)
+  -- each name stands once and represents a thing that there is, which has no other name
+  pub names : IsTrue (list_all (λ (n : NamedThing). is_there w n.thing) w.graph.names && are_all_different w.graph.names)
   -- each label is a name, which represents it by its number: so no name is a label twice
   pub labels : IsTrue (are_labels w.graph 0 w.graph.labels)
   -- each object with a dependent is weak, its dependent isn't, and both are live
   pub dependents : IsTrue (list_all (is_right_pair w) w.graph.dependents)
   -- no collection runs in a parked arena
   pub parked : IsTrue (not (is_parked w && is_running w))
+  -- what a running collection has condemned is there, and its numbers are within bounds
+  pub running : IsTrue (option_map_or (is_right_collection w) w.collection true)
   -- both objects of each pair of a transform are live and automatic
   pub transforms : IsTrue (list_all (is_live_automatic w) (ids_in_pairs w.state))
   -- what lies in a cache is a block of its pool, and of the size of its class
@@ -209,11 +270,11 @@ pub record IsWellFormed (w : World) : Type 0 where
   pub dependencies : IsTrue (list_all (is_dated (length w.flips)) w.dependencies)
 
 -- the name of a label
-abbrev ring : Name
+abbrev pub ring : Name
 ring = record { bytes = codes "ring" ++ replicate 12 0 }
 
 -- a weak object at 0x2000, in its own segment, refers to one at 0x1000, and a word of an area holds that one
-abbrev small_world : World
+abbrev pub small_world : World
 small_world = record empty_world {
   graph = record empty_graph {
     objects =
@@ -246,6 +307,8 @@ small_world = record empty_world {
 pub small_world_is_well_formed : IsWellFormed small_world
 small_world_is_well_formed = record {
   segments = refl;
+  limit = refl;
+  pools = refl;
   addresses = refl;
   apart = refl;
   objects = refl;
@@ -257,9 +320,11 @@ small_world_is_well_formed = record {
   blocks = refl;
   registered = refl;
   messages = refl;
+  names = refl;
   labels = refl;
   dependents = refl;
   parked = refl;
+  running = refl;
   transforms = refl;
   caches = refl;
   frames = refl;
@@ -288,19 +353,6 @@ an_object_without_an_entry w = let h : 1 ≡ 2 = w.addresses in omega (arith, h)
 
 pub a_dead_one_registered : IsWellFormed (record small_world { addresses = None ∷ Some 0x2000 ∷ [] }) → ⊥
 a_dead_one_registered w = let h : false ≡ true = w.registered in absurd cc
-
--- the small world with these names and labels
-abbrev with_labels : List NamedThing → List Name → World
-with_labels names labels = record small_world { graph = record small_world.graph { names = names; labels = labels } }
-
-pub a_label_without_a_name : IsWellFormed (with_labels [] (ring ∷ [])) → ⊥
-a_label_without_a_name w = let h : false ≡ true = w.labels in absurd cc
-
-pub a_label_twice : IsWellFormed (with_labels (record { name = ring; thing = LabelThing 0 } ∷ []) (ring ∷ ring ∷ [])) → ⊥
-a_label_twice w = let h : false ≡ true = w.labels in absurd cc
-
-pub a_label_by_the_name_of_a_table : IsWellFormed (with_labels (record { name = ring; thing = TableThing 0 } ∷ []) (ring ∷ [])) → ⊥
-a_label_by_the_name_of_a_table w = let h : false ≡ true = w.labels in absurd cc
 
 -- the small world with these pairs
 abbrev with_pairs : List (Id × Id) → World

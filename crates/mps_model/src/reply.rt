@@ -38,6 +38,4 @@ pub enum Reply {
     Labelled(Addr, u32),
     /// `refused`, its number and its numbers.
     Refused(Refusal),
-    /// `unsupported`: the command is not built yet.
-    Unsupported,
 }

@@ -4,38 +4,38 @@ use Rattle.mps_model.specs.declared.reply.Reply.TheVariants as reply
 use Rattle.mps_model.specs.Answer.{Replied}
 use Rattle.mps_model_examples.specs.Script.{address}
 use Rattle.mps_model_examples.specs.Cached.{one_cached, two_cached, one_taken, old_word, last_freed, flushed_in_order, CachedIsLegal, NoOldWordComesBack, TheFirstCachedStays, NoFlushInOrder}
-use Rattle.mps_model_examples.proofs.Steps.{answered}
+use Rattle.mps_model_examples.proofs.Steps.{legal_step}
 use Rattle.mps_model_examples.proofs.Refusing.{cannot_follow, first_freed}
 
 pub cached_is_legal : CachedIsLegal
 cached_is_legal = (
-  answered tt refl refl tt refl refl refl refl refl refl,
+  legal_step tt refl refl tt refl refl refl refl refl refl,
   (
-    answered tt refl refl tt refl refl refl refl refl refl,
+    legal_step tt refl refl tt refl refl refl refl refl refl,
     (
-      answered tt refl refl tt refl refl refl refl refl refl,
+      legal_step tt refl refl tt refl refl refl refl refl refl,
       (
-        answered tt refl refl tt refl refl refl refl refl refl,
+        legal_step tt refl refl tt refl refl refl refl refl refl,
         (
-          answered tt refl refl tt refl refl refl refl refl refl,
+          legal_step tt refl refl tt refl refl refl refl refl refl,
           (
-            answered tt refl refl tt refl refl refl refl refl refl,
+            legal_step tt refl refl tt refl refl refl refl refl refl,
             (
-              answered tt refl refl tt refl refl refl refl refl refl,
+              legal_step tt refl refl tt refl refl refl refl refl refl,
               (
-                answered tt refl refl tt refl refl refl refl refl refl,
+                legal_step tt refl refl tt refl refl refl refl refl refl,
                 (
-                  answered tt refl refl tt refl refl refl refl refl refl,
+                  legal_step tt refl refl tt refl refl refl refl refl refl,
                   (
-                    answered tt refl refl tt refl refl refl refl refl refl,
+                    legal_step tt refl refl tt refl refl refl refl refl refl,
                     (
-                      answered tt refl refl tt refl refl refl refl refl refl,
+                      legal_step tt refl refl tt refl refl refl refl refl refl,
                       (
-                        answered tt refl refl tt refl refl refl refl refl refl,
+                        legal_step tt refl refl tt refl refl refl refl refl refl,
                         (
-                          answered tt refl refl tt refl refl refl refl refl refl,
+                          legal_step tt refl refl tt refl refl refl refl refl refl,
                           (
-                            answered tt refl refl tt refl refl refl refl refl refl,
+                            legal_step tt refl refl tt refl refl refl refl refl refl,
                             tt,
                           ),
                         ),

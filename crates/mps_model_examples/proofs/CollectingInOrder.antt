@@ -10,50 +10,50 @@ use Rattle.mps_model_examples.specs.Script.{address}
 use Rattle.mps_model_examples.specs.CollectingInOrder.{weak_and_linked, moves_in_order, collected_in_order, weak_and_linked_world, CollectingInOrderIsLegal}
 use Rattle.mps_model_examples.proofs.Refusing.{false_is_not_true}
 use Rattle.mps_model_examples.proofs.Units.{to_end, at_rest}
-use Rattle.mps_model_examples.proofs.Steps.{answered}
+use Rattle.mps_model_examples.proofs.Steps.{legal_step}
 
 linked_leaves : world_after_steps empty_world weak_and_linked ≡ weak_and_linked_world
 linked_leaves = refl
 
 linked_is_legal : IsLegalHistory weak_and_linked
 linked_is_legal = (
-  answered tt refl refl tt refl refl refl refl refl refl,
+  legal_step tt refl refl tt refl refl refl refl refl refl,
   (
-    answered tt refl refl tt refl refl refl refl refl refl,
+    legal_step tt refl refl tt refl refl refl refl refl refl,
     (
-      answered tt refl refl tt refl refl refl refl refl refl,
+      legal_step tt refl refl tt refl refl refl refl refl refl,
       (
-        answered tt refl refl tt refl refl refl refl refl refl,
+        legal_step tt refl refl tt refl refl refl refl refl refl,
         (
-          answered tt
+          legal_step tt
               (record { poll = refl; segment = refl }) refl tt refl refl refl refl refl refl,
           (
-            answered tt refl refl tt refl refl refl refl refl refl,
+            legal_step tt refl refl tt refl refl refl refl refl refl,
             (
-              answered tt (record { poll = refl; segment = refl }) refl tt refl refl refl refl refl refl,
+              legal_step tt (record { poll = refl; segment = refl }) refl tt refl refl refl refl refl refl,
               (
-                answered tt refl refl tt refl refl refl refl refl refl,
+                legal_step tt refl refl tt refl refl refl refl refl refl,
                 (
-                  answered tt refl refl tt refl refl refl refl refl refl,
+                  legal_step tt refl refl tt refl refl refl refl refl refl,
                   (
-                    answered tt refl refl tt refl refl refl refl refl refl,
+                    legal_step tt refl refl tt refl refl refl refl refl refl,
                     (
-                      answered tt refl refl tt refl refl refl refl refl refl,
+                      legal_step tt refl refl tt refl refl refl refl refl refl,
                       (
-                        answered tt refl refl tt refl refl refl refl refl refl,
+                        legal_step tt refl refl tt refl refl refl refl refl refl,
                         (
-                          answered tt
+                          legal_step tt
                               (record { poll = refl; segment = refl }) refl tt refl refl refl refl refl refl,
                           (
-                            answered tt refl refl tt refl refl refl refl refl refl,
+                            legal_step tt refl refl tt refl refl refl refl refl refl,
                             (
-                              answered tt (record { poll = refl; segment = refl }) refl tt refl refl refl refl refl refl,
+                              legal_step tt (record { poll = refl; segment = refl }) refl tt refl refl refl refl refl refl,
                               (
-                                answered tt refl refl tt refl refl refl refl refl refl,
+                                legal_step tt refl refl tt refl refl refl refl refl refl,
                                 (
-                                  answered tt refl refl tt refl refl refl refl refl refl,
+                                  legal_step tt refl refl tt refl refl refl refl refl refl,
                                   (
-                                    answered tt refl refl tt refl refl refl refl refl refl,
+                                    legal_step tt refl refl tt refl refl refl refl refl refl,
                                     tt,
                                   ),
                                 ),
@@ -76,7 +76,7 @@ linked_is_legal = (
 
 collected_is_legal : IsLegalFrom weak_and_linked_world collected_in_order
 collected_is_legal = (
-  answered (
+  legal_step (
     record { none_runs = refl; of_zones = refl },
     (
       record { first = refl; placement = (refl, refl); of_pool = refl; of_generation = refl },
@@ -168,7 +168,7 @@ collected_is_legal = (
       }))
       refl tt refl refl refl refl refl refl,
   (
-    answered tt refl refl tt refl refl refl refl refl refl,
+    legal_step tt refl refl tt refl refl refl refl refl refl,
     tt,
   ),
 )

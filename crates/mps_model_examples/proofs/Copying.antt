@@ -10,7 +10,7 @@ use Rattle.mps_model.specs.Reachable.{begins}
 use Rattle.mps_model_examples.specs.Script.{p, t, x, grain_segment, words, address}
 use Rattle.mps_model_examples.specs.Copying.{copying_steps, CopyingIsLegal, CopyingIsReplayed}
 use Rattle.mps_model_examples.proofs.OneBlock.{one_block_is_legal}
-use Rattle.mps_model_examples.proofs.Steps.{answered}
+use Rattle.mps_model_examples.proofs.Steps.{legal_step}
 use Rattle.mps_model.proofs.Appending.{IsLegalFrom-append}
 use Rattle.mps_model.specs.World.{empty_world}
 use Rattle.mps_model_examples.specs.OneBlock.{one_block, pair_head}
@@ -55,9 +55,9 @@ one_held = record {
 
 steps_are_legal : IsLegalFrom one_held copying_steps
 steps_are_legal = (
-  answered tt refl refl tt refl refl refl refl refl refl,
+  legal_step tt refl refl tt refl refl refl refl refl refl,
   (
-    answered (
+    legal_step (
       record { none_runs = refl; of_zones = refl },
       (
         record { first = refl; placement = (refl, refl); of_pool = refl; of_generation = refl },
@@ -88,10 +88,10 @@ steps_are_legal = (
         }))
         refl tt refl refl refl refl refl refl,
     (
-      answered tt refl refl tt refl refl refl refl refl refl,
+      legal_step tt refl refl tt refl refl refl refl refl refl,
       (
-        answered tt refl refl tt refl refl refl refl refl refl,
-        (answered tt refl refl tt refl refl refl refl refl refl, tt),
+        legal_step tt refl refl tt refl refl refl refl refl refl,
+        (legal_step tt refl refl tt refl refl refl refl refl refl, tt),
       ),
     ),
   ),

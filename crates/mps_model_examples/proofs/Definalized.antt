@@ -7,7 +7,7 @@ use Rattle.mps_model.proofs.Appending.{IsLegalFrom-then}
 use Rattle.mps_model_examples.specs.Script.{address, grain_segment, words, tail}
 use Rattle.mps_model_examples.specs.Definalized.{registered_once, registered_anew, not_posted, registered_world, collection_of_registered, DefinalizedIsLegal}
 use Rattle.mps_model_examples.proofs.Units.{at_most}
-use Rattle.mps_model_examples.proofs.Steps.{answered}
+use Rattle.mps_model_examples.proofs.Steps.{legal_step}
 
 -- registered once, before the collection; and while it runs
 abbrev once : World
@@ -26,26 +26,26 @@ anew_leaves = refl
 
 once_is_legal : IsLegalHistory registered_once
 once_is_legal = (
-  answered tt refl refl tt refl refl refl refl refl refl,
+  legal_step tt refl refl tt refl refl refl refl refl refl,
   (
-    answered tt refl refl tt refl refl refl refl refl refl,
+    legal_step tt refl refl tt refl refl refl refl refl refl,
     (
-      answered tt refl refl tt refl refl refl refl refl refl,
+      legal_step tt refl refl tt refl refl refl refl refl refl,
       (
-        answered tt refl refl tt refl refl refl refl refl refl,
+        legal_step tt refl refl tt refl refl refl refl refl refl,
         (
-          answered tt
+          legal_step tt
               (record { poll = refl; segment = refl }) refl tt refl refl refl refl refl refl,
           (
-            answered tt refl refl tt refl refl refl refl refl refl,
+            legal_step tt refl refl tt refl refl refl refl refl refl,
             (
-              answered tt refl refl tt refl refl refl refl refl refl,
+              legal_step tt refl refl tt refl refl refl refl refl refl,
               (
-                answered tt refl refl tt refl refl refl refl refl refl,
+                legal_step tt refl refl tt refl refl refl refl refl refl,
                 (
-                  answered tt refl refl tt refl refl refl refl refl refl,
+                  legal_step tt refl refl tt refl refl refl refl refl refl,
                   (
-                    answered tt refl refl tt refl refl refl refl refl refl,
+                    legal_step tt refl refl tt refl refl refl refl refl refl,
                     tt,
                   ),
                 ),
@@ -60,7 +60,7 @@ once_is_legal = (
 
 anew_is_legal : IsLegalFrom once registered_anew
 anew_is_legal = (
-  answered (
+  legal_step (
     record { none_runs = refl; of_zones = refl },
     (
       record { first = refl; placement = (refl, refl); of_pool = refl; of_generation = refl },
@@ -68,11 +68,11 @@ anew_is_legal = (
     ),
   ) refl refl tt refl refl refl refl refl refl,
   (
-    answered tt refl refl tt refl refl refl refl refl refl,
+    legal_step tt refl refl tt refl refl refl refl refl refl,
     (
-      answered tt refl refl tt refl refl refl refl refl refl,
+      legal_step tt refl refl tt refl refl refl refl refl refl,
       (
-        answered tt refl refl tt refl refl refl refl refl refl,
+        legal_step tt refl refl tt refl refl refl refl refl refl,
         tt,
       ),
     ),
@@ -81,7 +81,7 @@ anew_is_legal = (
 
 rest_is_legal : IsLegalFrom anew not_posted
 rest_is_legal = (
-  answered (
+  legal_step (
     record { empty = refl; condemned = refl },
     (record { survivors = (inl refl, tt); copied = refl; segments = refl }, tt),
   )
@@ -104,7 +104,7 @@ rest_is_legal = (
       )) refl (omega arith) refl)
       refl tt refl refl refl refl refl refl,
   (
-    answered tt refl refl tt refl refl refl refl refl refl,
+    legal_step tt refl refl tt refl refl refl refl refl refl,
     tt,
   ),
 )

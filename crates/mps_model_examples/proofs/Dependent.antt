@@ -12,40 +12,40 @@ use Rattle.mps_model.proofs.Reaching.{PathLeads-closed}
 use Rattle.mps_model_examples.specs.Script.{address}
 use Rattle.mps_model_examples.specs.Dependent.{key_world, key_and_value, value_gone, collect_step, get_value, value_there, holder_gone, pair_left, DependentIsLegal, NoValueIsLeft, NoPairOutlivesItsHolder}
 use Rattle.mps_model_examples.proofs.Refusing.{cannot_follow, false_is_not_true}
-use Rattle.mps_model_examples.proofs.Steps.{answered}
+use Rattle.mps_model_examples.proofs.Steps.{legal_step}
 use Rattle.mps_model_examples.proofs.Units.{to_end, at_rest}
 
 linked_is_legal : IsLegalHistory key_and_value
 linked_is_legal = (
-  answered tt refl refl tt refl refl refl refl refl refl,
+  legal_step tt refl refl tt refl refl refl refl refl refl,
   (
-    answered tt refl refl tt refl refl refl refl refl refl,
+    legal_step tt refl refl tt refl refl refl refl refl refl,
     (
-      answered tt refl refl tt refl refl refl refl refl refl,
+      legal_step tt refl refl tt refl refl refl refl refl refl,
       (
-        answered tt refl refl tt refl refl refl refl refl refl,
+        legal_step tt refl refl tt refl refl refl refl refl refl,
         (
-          answered tt refl refl tt refl refl refl refl refl refl,
+          legal_step tt refl refl tt refl refl refl refl refl refl,
           (
-            answered tt (record { poll = refl; segment = refl }) refl tt refl refl refl refl refl refl,
+            legal_step tt (record { poll = refl; segment = refl }) refl tt refl refl refl refl refl refl,
             (
-              answered tt refl refl tt refl refl refl refl refl refl,
+              legal_step tt refl refl tt refl refl refl refl refl refl,
               (
-                answered tt (record { poll = refl; segment = refl }) refl tt refl refl refl refl refl refl,
+                legal_step tt (record { poll = refl; segment = refl }) refl tt refl refl refl refl refl refl,
                 (
-                  answered tt refl refl tt refl refl refl refl refl refl,
+                  legal_step tt refl refl tt refl refl refl refl refl refl,
                   (
-                    answered tt refl refl tt refl refl refl refl refl refl,
+                    legal_step tt refl refl tt refl refl refl refl refl refl,
                     (
-                      answered tt (record { poll = refl; segment = refl }) refl tt refl refl refl refl refl refl,
+                      legal_step tt (record { poll = refl; segment = refl }) refl tt refl refl refl refl refl refl,
                       (
-                        answered tt refl refl tt refl refl refl refl refl refl,
+                        legal_step tt refl refl tt refl refl refl refl refl refl,
                         (
-                          answered tt refl refl tt refl refl refl refl refl refl,
+                          legal_step tt refl refl tt refl refl refl refl refl refl,
                           (
-                            answered tt refl refl tt refl refl refl refl refl refl,
+                            legal_step tt refl refl tt refl refl refl refl refl refl,
                             (
-                              answered tt refl refl tt refl refl refl refl refl refl,
+                              legal_step tt refl refl tt refl refl refl refl refl refl,
                               tt,
                             ),
                           ),
@@ -78,7 +78,7 @@ gone_leaves = refl
 
 collect_is_legal : IsLegalFrom linked (collect_step ∷ [])
 collect_is_legal = (
-  answered (
+  legal_step (
     record { none_runs = refl; of_zones = refl },
     (
       record {
@@ -149,15 +149,15 @@ collect_is_legal = (
 
 gone_is_legal : IsLegalFrom gone value_gone
 gone_is_legal = (
-  answered tt refl refl tt refl refl refl refl refl refl,
+  legal_step tt refl refl tt refl refl refl refl refl refl,
   (
-    answered tt refl refl tt refl refl refl refl refl refl,
+    legal_step tt refl refl tt refl refl refl refl refl refl,
     (
-      answered tt refl refl tt refl refl refl refl refl refl,
+      legal_step tt refl refl tt refl refl refl refl refl refl,
       (
-        answered tt refl refl tt refl refl refl refl refl refl,
+        legal_step tt refl refl tt refl refl refl refl refl refl,
         (
-          answered tt refl refl tt refl refl refl refl refl refl,
+          legal_step tt refl refl tt refl refl refl refl refl refl,
           tt,
         ),
       ),

@@ -3,33 +3,33 @@ use Rattle.mps_model.specs.World.{empty_world}
 use Rattle.mps_model.specs.History.{IsLegalFrom, IsLegalHistory, world_after_steps}
 use Rattle.mps_model.proofs.Appending.{IsLegalFrom-then}
 use Rattle.mps_model_examples.specs.Depending.{depending, stale_by_move, depending_world, DependingIsLegal}
-use Rattle.mps_model_examples.proofs.Steps.{answered}
+use Rattle.mps_model_examples.proofs.Steps.{legal_step}
 
 depending_leaves : world_after_steps empty_world depending ≡ depending_world
 depending_leaves = refl
 
 added_is_legal : IsLegalHistory depending
 added_is_legal = (
-  answered tt refl refl tt refl refl refl refl refl refl,
+  legal_step tt refl refl tt refl refl refl refl refl refl,
   (
-    answered tt refl refl tt refl refl refl refl refl refl,
+    legal_step tt refl refl tt refl refl refl refl refl refl,
     (
-      answered tt refl refl tt refl refl refl refl refl refl,
+      legal_step tt refl refl tt refl refl refl refl refl refl,
       (
-        answered tt refl refl tt refl refl refl refl refl refl,
+        legal_step tt refl refl tt refl refl refl refl refl refl,
         (
-          answered tt
+          legal_step tt
               (record { poll = refl; segment = refl }) refl tt refl refl refl refl refl refl,
           (
-            answered tt refl refl tt refl refl refl refl refl refl,
+            legal_step tt refl refl tt refl refl refl refl refl refl,
             (
-              answered tt refl refl tt refl refl refl refl refl refl,
+              legal_step tt refl refl tt refl refl refl refl refl refl,
               (
-                answered tt refl refl tt refl refl refl refl refl refl,
+                legal_step tt refl refl tt refl refl refl refl refl refl,
                 (
-                  answered tt refl refl tt refl refl refl refl refl refl,
+                  legal_step tt refl refl tt refl refl refl refl refl refl,
                   (
-                    answered tt refl refl tt refl refl refl refl refl refl,
+                    legal_step tt refl refl tt refl refl refl refl refl refl,
                     tt,
                   ),
                 ),
@@ -44,9 +44,9 @@ added_is_legal = (
 
 stale_is_legal : IsLegalFrom depending_world stale_by_move
 stale_is_legal = (
-  answered tt refl refl tt refl refl refl refl refl refl,
+  legal_step tt refl refl tt refl refl refl refl refl refl,
   (
-    answered (
+    legal_step (
       record { none_runs = refl; of_zones = refl },
       (
         record { first = refl; placement = (refl, refl); of_pool = refl; of_generation = refl },
@@ -54,21 +54,21 @@ stale_is_legal = (
       ),
     ) refl refl tt refl refl refl refl refl refl,
     (
-      answered tt refl refl tt refl refl refl refl refl refl,
+      legal_step tt refl refl tt refl refl refl refl refl refl,
       (
-        answered tt refl refl tt refl refl refl refl refl refl,
+        legal_step tt refl refl tt refl refl refl refl refl refl,
         (
-          answered tt refl refl tt refl refl refl refl refl refl,
+          legal_step tt refl refl tt refl refl refl refl refl refl,
           (
-            answered tt refl refl tt refl refl refl refl refl refl,
+            legal_step tt refl refl tt refl refl refl refl refl refl,
             (
-              answered tt refl refl tt refl refl refl refl refl refl,
+              legal_step tt refl refl tt refl refl refl refl refl refl,
               (
-                answered tt refl refl tt refl refl refl refl refl refl,
+                legal_step tt refl refl tt refl refl refl refl refl refl,
                 (
-                  answered tt refl refl tt refl refl refl refl refl refl,
+                  legal_step tt refl refl tt refl refl refl refl refl refl,
                   (
-                    answered tt refl refl tt refl refl refl refl refl refl,
+                    legal_step tt refl refl tt refl refl refl refl refl refl,
                     tt,
                   ),
                 ),

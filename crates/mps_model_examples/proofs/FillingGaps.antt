@@ -10,7 +10,7 @@ use Rattle.mps_model_examples.specs.Script.{address}
 use Rattle.mps_model_examples.specs.FillingGaps.{one_grain, gap_filled, lowest_gap, block_of_four, world_of_grain, FillingGapsIsLegal}
 use Rattle.mps_model_examples.proofs.Refusing.{false_is_not_true}
 use Rattle.mps_model_examples.proofs.Units.{to_end, at_rest}
-use Rattle.mps_model_examples.proofs.Steps.{answered}
+use Rattle.mps_model_examples.proofs.Steps.{legal_step}
 
 -- one block, and two
 abbrev one : World
@@ -27,18 +27,18 @@ two_leaves = refl
 
 one_is_legal : IsLegalHistory one_grain
 one_is_legal = (
-  answered tt refl refl tt refl refl refl refl refl refl,
+  legal_step tt refl refl tt refl refl refl refl refl refl,
   (
-    answered tt refl refl tt refl refl refl refl refl refl,
+    legal_step tt refl refl tt refl refl refl refl refl refl,
     (
-      answered tt refl refl tt refl refl refl refl refl refl,
+      legal_step tt refl refl tt refl refl refl refl refl refl,
       (
-        answered tt refl refl tt refl refl refl refl refl refl,
+        legal_step tt refl refl tt refl refl refl refl refl refl,
         (
-          answered tt
+          legal_step tt
               (record { poll = refl; segment = refl }) refl tt refl refl refl refl refl refl,
           (
-            answered tt refl refl tt refl refl refl refl refl refl,
+            legal_step tt refl refl tt refl refl refl refl refl refl,
             tt,
           ),
         ),
@@ -49,11 +49,11 @@ one_is_legal = (
 
 two_is_legal : IsLegalFrom one gap_filled
 two_is_legal = (
-  answered tt (record { poll = refl; segment = refl }) refl tt refl refl refl refl refl refl,
+  legal_step tt (record { poll = refl; segment = refl }) refl tt refl refl refl refl refl refl,
   (
-    answered tt (record { poll = refl; segment = refl }) refl tt refl refl refl refl refl refl,
+    legal_step tt (record { poll = refl; segment = refl }) refl tt refl refl refl refl refl refl,
     (
-      answered tt refl refl tt refl refl refl refl refl refl,
+      legal_step tt refl refl tt refl refl refl refl refl refl,
       tt,
     ),
   ),
@@ -61,7 +61,7 @@ two_is_legal = (
 
 lowest_is_legal : IsLegalFrom two lowest_gap
 lowest_is_legal = (
-  answered (
+  legal_step (
     record { none_runs = refl; of_zones = refl },
     (
       record {
@@ -105,11 +105,11 @@ lowest_is_legal = (
       }))
       refl tt refl refl refl refl refl refl,
   (
-    answered tt (record { poll = refl; segment = refl }) refl tt refl refl refl refl refl refl,
+    legal_step tt (record { poll = refl; segment = refl }) refl tt refl refl refl refl refl refl,
     (
-      answered tt refl refl tt refl refl refl refl refl refl,
+      legal_step tt refl refl tt refl refl refl refl refl refl,
       (
-        answered tt refl refl tt refl refl refl refl refl refl,
+        legal_step tt refl refl tt refl refl refl refl refl refl,
         tt,
       ),
     ),

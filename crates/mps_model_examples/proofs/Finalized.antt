@@ -10,7 +10,7 @@ use Rattle.mps_model.proofs.Appending.{IsLegalFrom-then}
 use Rattle.mps_model_examples.specs.Script.{address}
 use Rattle.mps_model_examples.specs.Finalized.{twice_registered, PostsAreExact, waiting, FinalizedIsLegal, registering, first_message, second_message, freeing, dropped_block, tail_after}
 use Rattle.mps_model_examples.proofs.Units.{to_end, at_rest}
-use Rattle.mps_model_examples.proofs.Steps.{answered}
+use Rattle.mps_model_examples.proofs.Steps.{legal_step}
 
 false_is_not_true : false ≡ true → ⊥
 false_is_not_true h = absurd cc
@@ -43,23 +43,23 @@ waiting_leaves = refl
 
 registering_is_legal : IsLegalHistory registering
 registering_is_legal = (
-  answered tt refl refl tt refl refl refl refl refl refl,
+  legal_step tt refl refl tt refl refl refl refl refl refl,
   (
-    answered tt refl refl tt refl refl refl refl refl refl,
+    legal_step tt refl refl tt refl refl refl refl refl refl,
     (
-      answered tt refl refl tt refl refl refl refl refl refl,
+      legal_step tt refl refl tt refl refl refl refl refl refl,
       (
-        answered tt refl refl tt refl refl refl refl refl refl,
+        legal_step tt refl refl tt refl refl refl refl refl refl,
         (
-          answered tt
+          legal_step tt
               (record { poll = refl; segment = refl }) refl tt refl refl refl refl refl refl,
           (
-            answered tt refl refl tt refl refl refl refl refl refl,
+            legal_step tt refl refl tt refl refl refl refl refl refl,
             (
-              answered tt refl refl tt refl refl refl refl refl refl,
+              legal_step tt refl refl tt refl refl refl refl refl refl,
               (
-                answered tt refl refl tt refl refl refl refl refl refl,
-                (answered tt refl refl tt refl refl refl refl refl refl, tt),
+                legal_step tt refl refl tt refl refl refl refl refl refl,
+                (legal_step tt refl refl tt refl refl refl refl refl refl, tt),
               ),
             ),
           ),
@@ -71,7 +71,7 @@ registering_is_legal = (
 
 first_message_is_legal : IsLegalFrom world_1 first_message
 first_message_is_legal = (
-  answered (
+  legal_step (
     record { none_runs = refl; of_zones = refl },
     (
       record { first = refl; placement = (refl, refl); of_pool = refl; of_generation = refl },
@@ -125,17 +125,17 @@ first_message_is_legal = (
       }))
       refl tt refl refl refl refl refl refl,
   (
-    answered tt refl refl tt refl refl refl refl refl refl,
+    legal_step tt refl refl tt refl refl refl refl refl refl,
     (
-      answered tt refl refl tt refl refl refl refl refl refl,
-      (answered tt refl refl tt refl refl refl refl refl refl, tt),
+      legal_step tt refl refl tt refl refl refl refl refl refl,
+      (legal_step tt refl refl tt refl refl refl refl refl refl, tt),
     ),
   ),
 )
 
 second_message_is_legal : IsLegalFrom world_2 second_message
 second_message_is_legal = (
-  answered (
+  legal_step (
     record { none_runs = refl; of_zones = refl },
     (
       record { first = refl; placement = (refl, refl); of_pool = refl; of_generation = refl },
@@ -189,14 +189,14 @@ second_message_is_legal = (
       }))
       refl tt refl refl refl refl refl refl,
   (
-    answered tt refl refl tt refl refl refl refl refl refl,
-    (answered tt refl refl tt refl refl refl refl refl refl, tt),
+    legal_step tt refl refl tt refl refl refl refl refl refl,
+    (legal_step tt refl refl tt refl refl refl refl refl refl, tt),
   ),
 )
 
 freeing_is_legal : IsLegalFrom world_3 freeing
 freeing_is_legal = (
-  answered (
+  legal_step (
     record { none_runs = refl; of_zones = refl },
     (
       record {
@@ -238,8 +238,8 @@ freeing_is_legal = (
       }))
       refl tt refl refl refl refl refl refl,
   (
-    answered tt refl refl tt refl refl refl refl refl refl,
-    (answered tt refl refl tt refl refl refl refl refl refl, tt),
+    legal_step tt refl refl tt refl refl refl refl refl refl,
+    (legal_step tt refl refl tt refl refl refl refl refl refl, tt),
   ),
 )
 

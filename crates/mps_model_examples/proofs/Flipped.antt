@@ -4,22 +4,22 @@ use Rattle.mps_model.specs.Units.{reclaims}
 use Rattle.mps_model_examples.specs.Script.{address}
 use Rattle.mps_model_examples.specs.Flipped.{FlippedIsLegal}
 use Rattle.mps_model_examples.proofs.Units.{to_end, at_rest}
-use Rattle.mps_model_examples.proofs.Steps.{answered}
+use Rattle.mps_model_examples.proofs.Steps.{legal_step}
 
 pub flipped_is_legal : FlippedIsLegal
 flipped_is_legal = (
-  answered tt refl refl tt refl refl refl refl refl refl,
+  legal_step tt refl refl tt refl refl refl refl refl refl,
   (
-    answered tt refl refl tt refl refl refl refl refl refl,
+    legal_step tt refl refl tt refl refl refl refl refl refl,
     (
-      answered tt refl refl tt refl refl refl refl refl refl,
+      legal_step tt refl refl tt refl refl refl refl refl refl,
       (
-        answered tt refl refl tt refl refl refl refl refl refl,
+        legal_step tt refl refl tt refl refl refl refl refl refl,
         (
-          answered tt
+          legal_step tt
               (record { poll = refl; segment = refl }) refl tt refl refl refl refl refl refl,
           (
-            answered (
+            legal_step (
               record { none_runs = refl; of_zones = refl },
               (
                 record { empty = refl; condemned = refl },
@@ -45,12 +45,12 @@ flipped_is_legal = (
                 }))
                 refl tt refl refl refl refl refl refl,
             (
-              answered tt refl refl tt refl refl refl refl refl refl,
+              legal_step tt refl refl tt refl refl refl refl refl refl,
               (
-                answered tt refl refl tt refl refl refl refl refl refl,
+                legal_step tt refl refl tt refl refl refl refl refl refl,
                 (
-                  answered tt refl refl tt refl refl refl refl refl refl,
-                  (answered tt refl refl tt refl refl refl refl refl refl, tt),
+                  legal_step tt refl refl tt refl refl refl refl refl refl,
+                  (legal_step tt refl refl tt refl refl refl refl refl refl, tt),
                 ),
               ),
             ),

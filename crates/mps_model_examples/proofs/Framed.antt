@@ -2,38 +2,38 @@ use Rattle.std.proofs.Common.{◌≡◌, ℕ, ap, arith, refl, [], ◌∷◌}
 use Rattle.mps_base.specs.declared.moves.Move.TheVariants as moves
 use Rattle.mps_model_examples.specs.Script.{address}
 use Rattle.mps_model_examples.specs.Framed.{three_made, two_segments, pop_of_one_more, pop_of_one_less, pop_in_order, pop_that_keeps, FramedIsLegal, FrameSegmentsIsLegal, NoPopFreesOneMore, NoPopFreesOneLess, NoPopInOrder, NoPopKeepsASegment}
-use Rattle.mps_model_examples.proofs.Steps.{answered}
+use Rattle.mps_model_examples.proofs.Steps.{legal_step}
 use Rattle.mps_model_examples.proofs.Refusing.{cannot_follow, first_freed}
 
 pub framed_is_legal : FramedIsLegal
 framed_is_legal = (
-  answered tt refl refl tt refl refl refl refl refl refl,
+  legal_step tt refl refl tt refl refl refl refl refl refl,
   (
-    answered tt refl refl tt refl refl refl refl refl refl,
+    legal_step tt refl refl tt refl refl refl refl refl refl,
     (
-      answered tt refl refl tt refl refl refl refl refl refl,
+      legal_step tt refl refl tt refl refl refl refl refl refl,
       (
-        answered tt refl refl tt refl refl refl refl refl refl,
+        legal_step tt refl refl tt refl refl refl refl refl refl,
         (
-          answered tt refl refl tt refl refl refl refl refl refl,
+          legal_step tt refl refl tt refl refl refl refl refl refl,
           (
-            answered tt refl refl tt refl refl refl refl refl refl,
+            legal_step tt refl refl tt refl refl refl refl refl refl,
             (
-              answered tt refl refl tt refl refl refl refl refl refl,
+              legal_step tt refl refl tt refl refl refl refl refl refl,
               (
-                answered tt refl refl tt refl refl refl refl refl refl,
+                legal_step tt refl refl tt refl refl refl refl refl refl,
                 (
-                  answered tt refl refl tt refl refl refl refl refl refl,
+                  legal_step tt refl refl tt refl refl refl refl refl refl,
                   (
-                    answered tt refl refl tt refl refl refl refl refl refl,
+                    legal_step tt refl refl tt refl refl refl refl refl refl,
                     (
-                      answered tt refl refl tt refl refl refl refl refl refl,
+                      legal_step tt refl refl tt refl refl refl refl refl refl,
                       (
-                        answered tt refl refl tt refl refl refl refl refl refl,
+                        legal_step tt refl refl tt refl refl refl refl refl refl,
                         (
-                          answered tt refl refl tt refl refl refl refl refl refl,
+                          legal_step tt refl refl tt refl refl refl refl refl refl,
                           (
-                            answered tt refl refl tt refl refl refl refl refl refl,
+                            legal_step tt refl refl tt refl refl refl refl refl refl,
                             tt,
                           ),
                         ),
@@ -52,23 +52,23 @@ framed_is_legal = (
 
 pub frame_segments_is_legal : FrameSegmentsIsLegal
 frame_segments_is_legal = (
-  answered tt refl refl tt refl refl refl refl refl refl,
+  legal_step tt refl refl tt refl refl refl refl refl refl,
   (
-    answered tt refl refl tt refl refl refl refl refl refl,
+    legal_step tt refl refl tt refl refl refl refl refl refl,
     (
-      answered tt refl refl tt refl refl refl refl refl refl,
+      legal_step tt refl refl tt refl refl refl refl refl refl,
       (
-        answered tt refl refl tt refl refl refl refl refl refl,
+        legal_step tt refl refl tt refl refl refl refl refl refl,
         (
-          answered tt refl refl tt refl refl refl refl refl refl,
+          legal_step tt refl refl tt refl refl refl refl refl refl,
           (
-            answered tt refl refl tt refl refl refl refl refl refl,
+            legal_step tt refl refl tt refl refl refl refl refl refl,
             (
-              answered tt refl refl tt refl refl refl refl refl refl,
+              legal_step tt refl refl tt refl refl refl refl refl refl,
               (
-                answered tt refl refl tt refl refl refl refl refl refl,
+                legal_step tt refl refl tt refl refl refl refl refl refl,
                 (
-                  answered tt refl refl tt refl refl refl refl refl refl,
+                  legal_step tt refl refl tt refl refl refl refl refl refl,
                   tt,
                 ),
               ),

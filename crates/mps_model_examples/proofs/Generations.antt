@@ -8,7 +8,7 @@ use Rattle.mps_model.specs.Reachable.{begins}
 use Rattle.mps_model_examples.specs.Script.{address, words}
 use Rattle.mps_model_examples.specs.Generations.{in_generation_zero, first_collected, second_begun, third_collected, segment_of, generations_world, tail_of_last, collection_of_both, GenerationsIsLegal}
 use Rattle.mps_model_examples.proofs.Units.{to_end}
-use Rattle.mps_model_examples.proofs.Steps.{answered}
+use Rattle.mps_model_examples.proofs.Steps.{legal_step}
 
 -- before the first collection, after it, and after the flip of the second
 abbrev young : World
@@ -33,20 +33,20 @@ begun_leaves = refl
 
 young_is_legal : IsLegalHistory in_generation_zero
 young_is_legal = (
-  answered tt refl refl tt refl refl refl refl refl refl,
+  legal_step tt refl refl tt refl refl refl refl refl refl,
   (
-    answered tt refl refl tt refl refl refl refl refl refl,
+    legal_step tt refl refl tt refl refl refl refl refl refl,
     (
-      answered tt refl refl tt refl refl refl refl refl refl,
+      legal_step tt refl refl tt refl refl refl refl refl refl,
       (
-        answered tt refl refl tt refl refl refl refl refl refl,
+        legal_step tt refl refl tt refl refl refl refl refl refl,
         (
-          answered tt refl refl tt refl refl refl refl refl refl,
+          legal_step tt refl refl tt refl refl refl refl refl refl,
           (
-            answered tt
+            legal_step tt
                 (record { poll = refl; segment = refl }) refl tt refl refl refl refl refl refl,
             (
-              answered tt refl refl tt refl refl refl refl refl refl,
+              legal_step tt refl refl tt refl refl refl refl refl refl,
               tt,
             ),
           ),
@@ -58,7 +58,7 @@ young_is_legal = (
 
 first_is_legal : IsLegalFrom young first_collected
 first_is_legal = (
-  answered (
+  legal_step (
     record { none_runs = refl; of_zones = refl },
     (
       record { first = refl; placement = (refl, refl); of_pool = refl; of_generation = refl },
@@ -66,9 +66,9 @@ first_is_legal = (
     ),
   ) refl refl tt refl refl refl refl refl refl,
   (
-    answered tt refl refl tt refl refl refl refl refl refl,
+    legal_step tt refl refl tt refl refl refl refl refl refl,
     (
-      answered (
+      legal_step (
         record { empty = refl; condemned = refl },
         (record { survivors = (inl refl, tt); copied = refl; segments = refl }, tt),
       )
@@ -97,14 +97,14 @@ first_is_legal = (
 
 second_is_legal : IsLegalFrom old second_begun
 second_is_legal = (
-  answered (
+  legal_step (
     record { none_runs = refl; of_zones = refl },
     (record { survivors = tt; copied = refl; segments = refl }, tt),
   ) refl refl tt refl refl refl refl refl refl,
   (
-    answered tt refl refl tt refl refl refl refl refl refl,
+    legal_step tt refl refl tt refl refl refl refl refl refl,
     (
-      answered (
+      legal_step (
         record { none_runs = refl; of_zones = refl },
         (
           record { first = refl; placement = (refl, refl); of_pool = refl; of_generation = refl },
@@ -118,7 +118,7 @@ second_is_legal = (
 
 third_is_legal : IsLegalFrom begun third_collected
 third_is_legal = (
-  answered (
+  legal_step (
     record { empty = refl; condemned = refl },
     (
       record { survivors = (inl refl, tt); copied = refl; segments = refl },
@@ -183,7 +183,7 @@ third_is_legal = (
       })
       refl tt refl refl refl refl refl refl,
   (
-    answered tt refl refl tt refl refl refl refl refl refl,
+    legal_step tt refl refl tt refl refl refl refl refl refl,
     tt,
   ),
 )

@@ -7,7 +7,7 @@ use Rattle.mps_model.proofs.Appending.{IsLegalFrom-then}
 use Rattle.mps_model_examples.specs.Script.{address, grain_segment, words, tail}
 use Rattle.mps_model_examples.specs.Incremental.{linked, start_step, get_with_barrier, last_steps, linked_world, collection_of_linked, IncrementalIsLegal}
 use Rattle.mps_model_examples.proofs.Units.{at_most}
-use Rattle.mps_model_examples.proofs.Steps.{answered}
+use Rattle.mps_model_examples.proofs.Steps.{legal_step}
 
 -- before the collection, after its flip, and with both blocks moved
 abbrev resting : World
@@ -34,25 +34,25 @@ get_leaves = refl
 
 linked_is_legal : IsLegalHistory linked
 linked_is_legal = (
-  answered tt refl refl tt refl refl refl refl refl refl,
+  legal_step tt refl refl tt refl refl refl refl refl refl,
   (
-    answered tt refl refl tt refl refl refl refl refl refl,
+    legal_step tt refl refl tt refl refl refl refl refl refl,
     (
-      answered tt refl refl tt refl refl refl refl refl refl,
+      legal_step tt refl refl tt refl refl refl refl refl refl,
       (
-        answered tt refl refl tt refl refl refl refl refl refl,
+        legal_step tt refl refl tt refl refl refl refl refl refl,
         (
-          answered tt
+          legal_step tt
               (record { poll = refl; segment = refl }) refl tt refl refl refl refl refl refl,
           (
-            answered tt refl refl tt refl refl refl refl refl refl,
+            legal_step tt refl refl tt refl refl refl refl refl refl,
             (
-              answered tt (record { poll = refl; segment = refl }) refl tt refl refl refl refl refl refl,
+              legal_step tt (record { poll = refl; segment = refl }) refl tt refl refl refl refl refl refl,
               (
-                answered tt refl refl tt refl refl refl refl refl refl,
+                legal_step tt refl refl tt refl refl refl refl refl refl,
                 (
-                  answered tt refl refl tt refl refl refl refl refl refl,
-                  (answered tt refl refl tt refl refl refl refl refl refl, tt),
+                  legal_step tt refl refl tt refl refl refl refl refl refl,
+                  (legal_step tt refl refl tt refl refl refl refl refl refl, tt),
                 ),
               ),
             ),
@@ -65,7 +65,7 @@ linked_is_legal = (
 
 start_is_legal : IsLegalFrom resting (start_step ∷ [])
 start_is_legal = (
-  answered (
+  legal_step (
     record { none_runs = refl; of_zones = refl },
     (
       record { first = refl; placement = (refl, refl); of_pool = refl; of_generation = refl },
@@ -77,7 +77,7 @@ start_is_legal = (
 
 get_is_legal : IsLegalFrom started (get_with_barrier ∷ [])
 get_is_legal = (
-  answered (record { tracing = refl; condemned = refl; not_settled = refl; copying = refl; at_placement = refl }, tt)
+  legal_step (record { tracing = refl; condemned = refl; not_settled = refl; copying = refl; at_placement = refl }, tt)
       (inl (moves_target (record { holder = 1; scanned = record { in_segment = refl; may_be_scanned = inl refl }; refers = refl })
       scans_no_more))
       refl tt refl refl refl refl refl refl,
@@ -86,7 +86,7 @@ get_is_legal = (
 
 last_is_legal : IsLegalFrom both_moved last_steps
 last_is_legal = (
-  answered (
+  legal_step (
     record { empty = refl; condemned = refl },
     (record { survivors = (inl refl, (inl refl, tt)); copied = refl; segments = refl }, tt),
   )
@@ -110,7 +110,7 @@ last_is_legal = (
         ),
       )) refl (omega arith) refl)
       refl tt refl refl refl refl refl refl,
-  (answered tt refl refl tt refl refl refl refl refl refl, tt),
+  (legal_step tt refl refl tt refl refl refl refl refl refl, tt),
 )
 
 pub incremental_is_legal : IncrementalIsLegal

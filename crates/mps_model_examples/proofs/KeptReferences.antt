@@ -13,7 +13,7 @@ use Rattle.mps_model.specs.History.{IsLegalFrom, IsLegalHistory, IsLegalStep, wo
 use Rattle.mps_model.proofs.Appending.{IsLegalFrom-then, world_after_steps-append}
 use Rattle.mps_model_examples.specs.Script.{a, p, q, t, v, w, x, y, at_index, zones, step, grain_segment, words}
 use Rattle.mps_model_examples.specs.KeptReferences.{link_head, weakly_linked, pinned_link, drop_block, dropped, all_kept, splatted_anyway, registered, posted_anyway, begun, freed_anyway, nothing_freed, SplatOfKeptTarget, PostOfKeptTarget, FreeOfKeptTarget}
-use Rattle.mps_model_examples.proofs.Steps.{answered}
+use Rattle.mps_model_examples.proofs.Steps.{legal_step}
 use Rattle.mps_model_examples.proofs.Units.{at_rest, to_end, at_most}
 use Rattle.mps_model_examples.proofs.Refusing.{cannot_follow_from}
 
@@ -86,27 +86,27 @@ weak_leaves = refl
 
 pub weak_is_legal : IsLegalHistory weakly_linked
 weak_is_legal = (
-  answered tt refl refl tt refl refl refl refl refl refl,
+  legal_step tt refl refl tt refl refl refl refl refl refl,
   (
-    answered tt refl refl tt refl refl refl refl refl refl,
+    legal_step tt refl refl tt refl refl refl refl refl refl,
     (
-      answered tt refl refl tt refl refl refl refl refl refl,
+      legal_step tt refl refl tt refl refl refl refl refl refl,
       (
-        answered tt refl refl tt refl refl refl refl refl refl,
+        legal_step tt refl refl tt refl refl refl refl refl refl,
         (
-          answered tt (record { poll = refl; segment = refl }) refl tt refl refl refl refl refl refl,
+          legal_step tt (record { poll = refl; segment = refl }) refl tt refl refl refl refl refl refl,
           (
-            answered tt refl refl tt refl refl refl refl refl refl,
+            legal_step tt refl refl tt refl refl refl refl refl refl,
             (
-              answered tt refl refl tt refl refl refl refl refl refl,
+              legal_step tt refl refl tt refl refl refl refl refl refl,
               (
-                answered tt refl refl tt refl refl refl refl refl refl,
+                legal_step tt refl refl tt refl refl refl refl refl refl,
                 (
-                  answered tt (record { poll = refl; segment = refl }) refl tt refl refl refl refl refl refl,
+                  legal_step tt (record { poll = refl; segment = refl }) refl tt refl refl refl refl refl refl,
                   (
-                    answered tt refl refl tt refl refl refl refl refl refl,
+                    legal_step tt refl refl tt refl refl refl refl refl refl,
                     (
-                      answered tt refl refl tt refl refl refl refl refl refl,
+                      legal_step tt refl refl tt refl refl refl refl refl refl,
                       tt,
                     ),
                   ),
@@ -122,21 +122,21 @@ weak_is_legal = (
 
 pinned_is_legal : IsLegalFrom weak_world pinned_link
 pinned_is_legal = (
-  answered tt refl refl tt refl refl refl refl refl refl,
+  legal_step tt refl refl tt refl refl refl refl refl refl,
   (
-    answered tt refl refl tt refl refl refl refl refl refl,
+    legal_step tt refl refl tt refl refl refl refl refl refl,
     (
-      answered tt refl refl tt refl refl refl refl refl refl,
+      legal_step tt refl refl tt refl refl refl refl refl refl,
       (
-        answered tt refl refl tt refl refl refl refl refl refl,
+        legal_step tt refl refl tt refl refl refl refl refl refl,
         (
-          answered tt (record { poll = refl; segment = refl }) refl tt refl refl refl refl refl refl,
+          legal_step tt (record { poll = refl; segment = refl }) refl tt refl refl refl refl refl refl,
           (
-            answered tt refl refl tt refl refl refl refl refl refl,
+            legal_step tt refl refl tt refl refl refl refl refl refl,
             (
-              answered tt refl refl tt refl refl refl refl refl refl,
+              legal_step tt refl refl tt refl refl refl refl refl refl,
               (
-                answered tt refl refl tt refl refl refl refl refl refl,
+                legal_step tt refl refl tt refl refl refl refl refl refl,
                 tt,
               ),
             ),
@@ -162,13 +162,13 @@ dropped_leaves =
 dropped_is_legal : IsLegalHistory dropped
 dropped_is_legal =
     IsLegalFrom-then empty_world pinned_world (weakly_linked ++ pinned_link) (drop_block 20 ∷ []) both_leave both_are_legal
-    (answered tt refl refl tt refl refl refl refl refl refl, tt)
+    (legal_step tt refl refl tt refl refl refl refl refl refl, tt)
 
 -- ---- no splat
 
 kept_is_legal : IsLegalStep dropped_world (all_kept 21)
 kept_is_legal =
-    answered (
+    legal_step (
       record { none_runs = refl; of_zones = refl },
       (
         record {
@@ -221,11 +221,11 @@ registered_leaves =
 registered_is_legal : IsLegalHistory registered
 registered_is_legal =
     IsLegalFrom-then empty_world pinned_world (weakly_linked ++ pinned_link) registering both_leave both_are_legal
-    (answered tt refl refl tt refl refl refl refl refl refl, (answered tt refl refl tt refl refl refl refl refl refl, tt))
+    (legal_step tt refl refl tt refl refl refl refl refl refl, (legal_step tt refl refl tt refl refl refl refl refl refl, tt))
 
 kept_registered_is_legal : IsLegalStep registered_world (all_kept 22)
 kept_registered_is_legal =
-    answered (
+    legal_step (
       record { none_runs = refl; of_zones = refl },
       (
         record {
@@ -283,12 +283,12 @@ begun_leaves =
 begun_is_legal : IsLegalHistory begun
 begun_is_legal =
     IsLegalFrom-then empty_world dropped_world dropped (start_linked ∷ []) dropped_leaves dropped_is_legal
-    (answered (record { none_runs = refl; of_zones = refl }, tt) refl refl tt refl refl refl refl refl refl, tt)
+    (legal_step (record { none_runs = refl; of_zones = refl }, tt) refl refl tt refl refl refl refl refl refl, tt)
 
 -- the collection that goes on to its end
 nothing_freed_is_legal : IsLegalStep begun_world nothing_freed
 nothing_freed_is_legal =
-    answered (
+    legal_step (
       record {
         survivors = (inr (goes_on (begins {id = 1} refl) refl), (inl refl, (inl refl, tt)));
         copied = refl;

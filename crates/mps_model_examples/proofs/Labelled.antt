@@ -7,37 +7,37 @@ use Rattle.mps_model.proofs.Appending.{IsLegalFrom-then}
 use Rattle.mps_model_examples.specs.Script.{address}
 use Rattle.mps_model_examples.specs.Labelled.{before_labels, interned, pair_labelled, wrong_intern, other_label, other_place, tag_splatted, tag_lost, LabelledIsLegal, LabelledIsReplayed, OthersAreNoLabels, NoTagIsLost}
 use Rattle.mps_model_examples.proofs.Refusing.{cannot_follow}
-use Rattle.mps_model_examples.proofs.Steps.{answered}
+use Rattle.mps_model_examples.proofs.Steps.{legal_step}
 
 tagged_is_legal : IsLegalHistory before_labels
 tagged_is_legal = (
-  answered tt refl refl tt refl refl refl refl refl refl,
+  legal_step tt refl refl tt refl refl refl refl refl refl,
   (
-    answered tt refl refl tt refl refl refl refl refl refl,
+    legal_step tt refl refl tt refl refl refl refl refl refl,
     (
-      answered tt refl refl tt refl refl refl refl refl refl,
+      legal_step tt refl refl tt refl refl refl refl refl refl,
       (
-        answered tt refl refl tt refl refl refl refl refl refl,
+        legal_step tt refl refl tt refl refl refl refl refl refl,
         (
-          answered tt (record { poll = refl; segment = refl }) refl tt refl refl refl refl refl refl,
+          legal_step tt (record { poll = refl; segment = refl }) refl tt refl refl refl refl refl refl,
           (
-            answered tt refl refl tt refl refl refl refl refl refl,
+            legal_step tt refl refl tt refl refl refl refl refl refl,
             (
-              answered tt refl refl tt refl refl refl refl refl refl,
+              legal_step tt refl refl tt refl refl refl refl refl refl,
               (
-                answered tt refl refl tt refl refl refl refl refl refl,
+                legal_step tt refl refl tt refl refl refl refl refl refl,
                 (
-                  answered tt refl refl tt refl refl refl refl refl refl,
+                  legal_step tt refl refl tt refl refl refl refl refl refl,
                   (
-                    answered tt refl refl tt refl refl refl refl refl refl,
+                    legal_step tt refl refl tt refl refl refl refl refl refl,
                     (
-                      answered tt refl refl tt refl refl refl refl refl refl,
+                      legal_step tt refl refl tt refl refl refl refl refl refl,
                       (
-                        answered tt refl refl tt refl refl refl refl refl refl,
+                        legal_step tt refl refl tt refl refl refl refl refl refl,
                         (
-                          answered tt refl refl tt refl refl refl refl refl refl,
+                          legal_step tt refl refl tt refl refl refl refl refl refl,
                           (
-                            answered tt refl refl tt refl refl refl refl refl refl,
+                            legal_step tt refl refl tt refl refl refl refl refl refl,
                             tt,
                           ),
                         ),
@@ -56,17 +56,17 @@ tagged_is_legal = (
 
 labels_are_legal : IsLegalFrom (world_after_history before_labels) (interned ++ pair_labelled)
 labels_are_legal = (
-  answered tt refl refl tt refl refl refl refl refl refl,
+  legal_step tt refl refl tt refl refl refl refl refl refl,
   (
-    answered tt refl refl tt refl refl refl refl refl refl,
+    legal_step tt refl refl tt refl refl refl refl refl refl,
     (
-      answered tt refl refl tt refl refl refl refl refl refl,
+      legal_step tt refl refl tt refl refl refl refl refl refl,
       (
-        answered tt refl refl tt refl refl refl refl refl refl,
+        legal_step tt refl refl tt refl refl refl refl refl refl,
         (
-          answered tt refl refl tt refl refl refl refl refl refl,
+          legal_step tt refl refl tt refl refl refl refl refl refl,
           (
-            answered tt refl refl tt refl refl refl refl refl refl,
+            legal_step tt refl refl tt refl refl refl refl refl refl,
             tt,
           ),
         ),

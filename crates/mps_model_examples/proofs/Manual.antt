@@ -4,7 +4,7 @@ use Rattle.mps_model.specs.History.{IsLegalFrom, IsLegalHistory, world_after_ste
 use Rattle.mps_model.proofs.Appending.{IsLegalFrom-then}
 use Rattle.mps_model_examples.specs.Script.{grain_segment}
 use Rattle.mps_model_examples.specs.Manual.{two_blocks, first_freed, sharing, blocks_world, ManualIsLegal}
-use Rattle.mps_model_examples.proofs.Steps.{answered}
+use Rattle.mps_model_examples.proofs.Steps.{legal_step}
 
 abbrev both : World
 both = blocks_world (Some 0) (grain_segment 0x1000 0 ∷ grain_segment 0x2000 0 ∷ []) (Some 0x1000)
@@ -20,15 +20,15 @@ first_leaves = refl
 
 both_are_legal : IsLegalHistory two_blocks
 both_are_legal = (
-  answered tt refl refl tt refl refl refl refl refl refl,
+  legal_step tt refl refl tt refl refl refl refl refl refl,
   (
-    answered tt refl refl tt refl refl refl refl refl refl,
+    legal_step tt refl refl tt refl refl refl refl refl refl,
     (
-      answered tt refl refl tt refl refl refl refl refl refl,
+      legal_step tt refl refl tt refl refl refl refl refl refl,
       (
-        answered tt refl refl tt refl refl refl refl refl refl,
+        legal_step tt refl refl tt refl refl refl refl refl refl,
         (
-          answered tt refl refl tt refl refl refl refl refl refl,
+          legal_step tt refl refl tt refl refl refl refl refl refl,
           tt,
         ),
       ),
@@ -38,27 +38,27 @@ both_are_legal = (
 
 first_is_legal : IsLegalFrom both first_freed
 first_is_legal = (
-  answered tt refl refl tt refl refl refl refl refl refl,
+  legal_step tt refl refl tt refl refl refl refl refl refl,
   (
-    answered tt refl refl tt refl refl refl refl refl refl,
-    (answered tt refl refl tt refl refl refl refl refl refl, tt),
+    legal_step tt refl refl tt refl refl refl refl refl refl,
+    (legal_step tt refl refl tt refl refl refl refl refl refl, tt),
   ),
 )
 
 sharing_is_legal : IsLegalFrom one_left sharing
 sharing_is_legal = (
-  answered tt refl refl tt refl refl refl refl refl refl,
+  legal_step tt refl refl tt refl refl refl refl refl refl,
   (
-    answered tt refl refl tt refl refl refl refl refl refl,
+    legal_step tt refl refl tt refl refl refl refl refl refl,
     (
-      answered tt refl refl tt refl refl refl refl refl refl,
+      legal_step tt refl refl tt refl refl refl refl refl refl,
       (
-        answered tt refl refl tt refl refl refl refl refl refl,
+        legal_step tt refl refl tt refl refl refl refl refl refl,
         (
-          answered tt refl refl tt refl refl refl refl refl refl,
+          legal_step tt refl refl tt refl refl refl refl refl refl,
           (
-            answered tt refl refl tt refl refl refl refl refl refl,
-            (answered tt refl refl tt refl refl refl refl refl refl, tt),
+            legal_step tt refl refl tt refl refl refl refl refl refl,
+            (legal_step tt refl refl tt refl refl refl refl refl refl, tt),
           ),
         ),
       ),

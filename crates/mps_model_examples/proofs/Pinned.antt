@@ -12,7 +12,7 @@ use Rattle.mps_model.specs.Units.{scans, scans_no_more, reclaims}
 use Rattle.mps_model.specs.Reachable.{begins}
 use Rattle.mps_model_examples.specs.Script.{a, p, t, x, at_index, zones, step, grain_segment, words}
 use Rattle.mps_model_examples.specs.Pinned.{PinnedIsLegal}
-use Rattle.mps_model_examples.proofs.Steps.{answered}
+use Rattle.mps_model_examples.proofs.Steps.{legal_step}
 use Rattle.mps_model_examples.proofs.Units.{to_end, at_rest}
 
 -- before the collection
@@ -63,7 +63,7 @@ collected =
 
 collected_is_legal : IsLegalFrom held collected
 collected_is_legal = (
-  answered (
+  legal_step (
     record { none_runs = refl; of_zones = refl },
     (record { survivors = (inl refl, tt); copied = refl; segments = refl }, tt),
   )
@@ -89,34 +89,34 @@ collected_is_legal = (
       }))
       refl tt refl refl refl refl refl refl,
   (
-    answered tt refl refl tt refl refl refl refl refl refl,
+    legal_step tt refl refl tt refl refl refl refl refl refl,
     (
-      answered tt refl refl tt refl refl refl refl refl refl,
-      (answered tt refl refl tt refl refl refl refl refl refl, tt),
+      legal_step tt refl refl tt refl refl refl refl refl refl,
+      (legal_step tt refl refl tt refl refl refl refl refl refl, tt),
     ),
   ),
 )
 
 pub pinned_is_legal : PinnedIsLegal
 pinned_is_legal = (
-  answered tt refl refl tt refl refl refl refl refl refl,
+  legal_step tt refl refl tt refl refl refl refl refl refl,
   (
-    answered tt refl refl tt refl refl refl refl refl refl,
+    legal_step tt refl refl tt refl refl refl refl refl refl,
     (
-      answered tt refl refl tt refl refl refl refl refl refl,
+      legal_step tt refl refl tt refl refl refl refl refl refl,
       (
-        answered tt refl refl tt refl refl refl refl refl refl,
+        legal_step tt refl refl tt refl refl refl refl refl refl,
         (
-          answered tt refl refl tt refl refl refl refl refl refl,
+          legal_step tt refl refl tt refl refl refl refl refl refl,
           (
-            answered tt
+            legal_step tt
                 (record { poll = refl; segment = refl }) refl tt refl refl refl refl refl refl,
             (
-              answered tt refl refl tt refl refl refl refl refl refl,
+              legal_step tt refl refl tt refl refl refl refl refl refl,
               (
-                answered tt refl refl tt refl refl refl refl refl refl,
+                legal_step tt refl refl tt refl refl refl refl refl refl,
                 (
-                  answered tt refl refl tt refl refl refl refl refl refl,
+                  legal_step tt refl refl tt refl refl refl refl refl refl,
                   collected_is_legal,
                 ),
               ),

@@ -11,7 +11,7 @@ use Rattle.mps_model_examples.specs.Script.{address}
 use Rattle.mps_model_examples.specs.PokedEitherWay.{linked_in_place, unlinked, as_block, as_number, linked_in_place_world, unlinked_world, PokedEitherWayIsLegal}
 use Rattle.mps_model_examples.proofs.Refusing.{false_is_not_true}
 use Rattle.mps_model_examples.proofs.Units.{at_most}
-use Rattle.mps_model_examples.proofs.Steps.{answered}
+use Rattle.mps_model_examples.proofs.Steps.{legal_step}
 
 linked_leaves : world_after_steps empty_world linked_in_place ≡ linked_in_place_world
 linked_leaves = refl
@@ -21,28 +21,28 @@ unlinked_leaves = refl
 
 linked_is_legal : IsLegalHistory linked_in_place
 linked_is_legal = (
-  answered tt refl refl tt refl refl refl refl refl refl,
+  legal_step tt refl refl tt refl refl refl refl refl refl,
   (
-    answered tt refl refl tt refl refl refl refl refl refl,
+    legal_step tt refl refl tt refl refl refl refl refl refl,
     (
-      answered tt refl refl tt refl refl refl refl refl refl,
+      legal_step tt refl refl tt refl refl refl refl refl refl,
       (
-        answered tt refl refl tt refl refl refl refl refl refl,
+        legal_step tt refl refl tt refl refl refl refl refl refl,
         (
-          answered tt refl refl tt refl refl refl refl refl refl,
+          legal_step tt refl refl tt refl refl refl refl refl refl,
           (
-            answered tt
+            legal_step tt
                 (record { poll = refl; segment = refl }) refl tt refl refl refl refl refl refl,
             (
-              answered tt refl refl tt refl refl refl refl refl refl,
+              legal_step tt refl refl tt refl refl refl refl refl refl,
               (
-                answered tt (record { poll = refl; segment = refl }) refl tt refl refl refl refl refl refl,
+                legal_step tt (record { poll = refl; segment = refl }) refl tt refl refl refl refl refl refl,
                 (
-                  answered tt refl refl tt refl refl refl refl refl refl,
+                  legal_step tt refl refl tt refl refl refl refl refl refl,
                   (
-                    answered tt refl refl tt refl refl refl refl refl refl,
+                    legal_step tt refl refl tt refl refl refl refl refl refl,
                     (
-                      answered tt refl refl tt refl refl refl refl refl refl,
+                      legal_step tt refl refl tt refl refl refl refl refl refl,
                       tt,
                     ),
                   ),
@@ -58,18 +58,18 @@ linked_is_legal = (
 
 unlinked_is_legal : IsLegalFrom linked_in_place_world unlinked
 unlinked_is_legal = (
-  answered (record { none_runs = refl; of_zones = refl }, tt) refl refl tt refl refl refl refl refl refl,
+  legal_step (record { none_runs = refl; of_zones = refl }, tt) refl refl tt refl refl refl refl refl refl,
   (
-    answered tt refl refl tt refl refl refl refl refl refl,
+    legal_step tt refl refl tt refl refl refl refl refl refl,
     tt,
   ),
 )
 
 block_is_legal : IsLegalFrom unlinked_world as_block
 block_is_legal = (
-  answered tt refl refl (goes_on (begins {id = 1} refl) refl) refl refl refl refl refl refl,
+  legal_step tt refl refl (goes_on (begins {id = 1} refl) refl) refl refl refl refl refl refl,
   (
-    answered (record { survivors = (inl refl, (inl refl, tt)); copied = refl; segments = refl }, tt)
+    legal_step (record { survivors = (inl refl, (inl refl, tt)); copied = refl; segments = refl }, tt)
         (at_most ((moves.End ∷ [])
         ∷ []) refl
         (reclaims (record {
@@ -83,7 +83,7 @@ block_is_legal = (
         })) refl (omega arith) refl)
         refl tt refl refl refl refl refl refl,
     (
-      answered tt refl refl tt refl refl refl refl refl refl,
+      legal_step tt refl refl tt refl refl refl refl refl refl,
       tt,
     ),
   ),
@@ -91,9 +91,9 @@ block_is_legal = (
 
 number_is_legal : IsLegalFrom unlinked_world as_number
 number_is_legal = (
-  answered tt refl refl tt refl refl refl refl refl refl,
+  legal_step tt refl refl tt refl refl refl refl refl refl,
   (
-    answered (
+    legal_step (
       record {
         gone = record {
           condemned = refl;
@@ -119,7 +119,7 @@ number_is_legal = (
         })) refl (omega arith) refl)
         refl tt refl refl refl refl refl refl,
     (
-      answered tt refl refl tt refl refl refl refl refl refl,
+      legal_step tt refl refl tt refl refl refl refl refl refl,
       tt,
     ),
   ),

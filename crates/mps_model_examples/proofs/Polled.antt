@@ -10,7 +10,7 @@ use Rattle.mps_model_examples.specs.Script.{address, grain_segment, words, tail}
 use Rattle.mps_model_examples.specs.Polled.{clamped, released, flip_polled, grain_committed, units_polled, grain_of_cells, large_block, grain_block, small_block, large_segment, polled_graph, polled_world, polled_collection, PolledIsLegal}
 use Rattle.mps_model_examples.proofs.Refusing.{false_is_not_true}
 use Rattle.mps_model_examples.proofs.Units.{at_most}
-use Rattle.mps_model_examples.proofs.Steps.{answered}
+use Rattle.mps_model_examples.proofs.Steps.{legal_step}
 
 -- the arena clamped; unclamped again; with a collection and an open reservation; and with that committed
 abbrev held : World
@@ -57,21 +57,21 @@ commit_leaves = refl
 
 clamped_is_legal : IsLegalHistory clamped
 clamped_is_legal = (
-  answered tt refl refl tt refl refl refl refl refl refl,
+  legal_step tt refl refl tt refl refl refl refl refl refl,
   (
-    answered tt refl refl tt refl refl refl refl refl refl,
+    legal_step tt refl refl tt refl refl refl refl refl refl,
     (
-      answered tt refl refl tt refl refl refl refl refl refl,
+      legal_step tt refl refl tt refl refl refl refl refl refl,
       (
-        answered tt refl refl tt refl refl refl refl refl refl,
+        legal_step tt refl refl tt refl refl refl refl refl refl,
         (
-          answered tt refl refl tt refl refl refl refl refl refl,
+          legal_step tt refl refl tt refl refl refl refl refl refl,
           (
-            answered tt
+            legal_step tt
                 (record { poll = refl; segment = refl }) refl tt refl refl refl refl refl refl,
             (
-              answered tt refl refl tt refl refl refl refl refl refl,
-              (answered tt refl refl tt refl refl refl refl refl refl, tt),
+              legal_step tt refl refl tt refl refl refl refl refl refl,
+              (legal_step tt refl refl tt refl refl refl refl refl refl, tt),
             ),
           ),
         ),
@@ -82,17 +82,17 @@ clamped_is_legal = (
 
 released_is_legal : IsLegalFrom held released
 released_is_legal = (
-  answered tt
+  legal_step tt
       (record { poll = refl; segment = refl }) refl tt refl refl refl refl refl refl,
   (
-    answered tt refl refl tt refl refl refl refl refl refl,
-    (answered tt refl refl tt refl refl refl refl refl refl, tt),
+    legal_step tt refl refl tt refl refl refl refl refl refl,
+    (legal_step tt refl refl tt refl refl refl refl refl refl, tt),
   ),
 )
 
 flip_is_legal : IsLegalFrom unclamped (flip_polled ∷ [])
 flip_is_legal = (
-  answered (
+  legal_step (
     record { none_runs = refl; of_zones = refl },
     (
       record { first = refl; placement = (refl, refl); of_pool = refl; of_generation = refl },
@@ -108,13 +108,13 @@ flip_is_legal = (
 
 commit_is_legal : IsLegalFrom flipped (grain_committed ∷ [])
 commit_is_legal = (
-  answered tt refl refl tt refl refl refl refl refl refl,
+  legal_step tt refl refl tt refl refl refl refl refl refl,
   tt,
 )
 
 units_are_legal : IsLegalFrom committed units_polled
 units_are_legal = (
-  answered (
+  legal_step (
     record {
       gone = record {
         condemned = refl;
@@ -174,7 +174,7 @@ units_are_legal = (
         segment = refl;
       })
       refl tt refl refl refl refl refl refl,
-  (answered tt refl refl tt refl refl refl refl refl refl, tt),
+  (legal_step tt refl refl tt refl refl refl refl refl refl, tt),
 )
 
 pub polled_is_legal : PolledIsLegal

@@ -14,7 +14,7 @@ use Rattle.mps_model.specs.Reachable.{begins}
 use Rattle.mps_model_examples.specs.Script.{p, t, x, at_index, step, grain_segment, address}
 use Rattle.mps_model_examples.specs.PostedInPlace.{PostedInPlaceIsLegal, posting_in_place}
 use Rattle.mps_model_examples.proofs.Refusing.{false_is_not_true}
-use Rattle.mps_model_examples.proofs.Steps.{answered}
+use Rattle.mps_model_examples.proofs.Steps.{legal_step}
 use Rattle.mps_model_examples.proofs.Units.{to_end, at_rest}
 
 -- the block is registered and dropped
@@ -64,7 +64,7 @@ collected =
 
 collected_is_legal : IsLegalFrom dropped collected
 collected_is_legal = (
-  answered (
+  legal_step (
     record { none_runs = refl; of_zones = refl },
     (
       record {
@@ -107,11 +107,11 @@ collected_is_legal = (
       }))
       refl tt refl refl refl refl refl refl,
   (
-    answered tt refl refl tt refl refl refl refl refl refl,
+    legal_step tt refl refl tt refl refl refl refl refl refl,
     (
-      answered tt refl refl tt refl refl refl refl refl refl,
+      legal_step tt refl refl tt refl refl refl refl refl refl,
       (
-        answered tt refl refl tt refl refl refl refl refl refl,
+        legal_step tt refl refl tt refl refl refl refl refl refl,
         tt,
       ),
     ),
@@ -120,22 +120,22 @@ collected_is_legal = (
 
 pub posted_in_place_is_legal : PostedInPlaceIsLegal
 posted_in_place_is_legal = (
-  answered tt refl refl tt refl refl refl refl refl refl,
+  legal_step tt refl refl tt refl refl refl refl refl refl,
   (
-    answered tt refl refl tt refl refl refl refl refl refl,
+    legal_step tt refl refl tt refl refl refl refl refl refl,
     (
-      answered tt refl refl tt refl refl refl refl refl refl,
+      legal_step tt refl refl tt refl refl refl refl refl refl,
       (
-        answered tt refl refl tt refl refl refl refl refl refl,
+        legal_step tt refl refl tt refl refl refl refl refl refl,
         (
-          answered tt
+          legal_step tt
               (record { poll = refl; segment = refl }) refl tt refl refl refl refl refl refl,
           (
-            answered tt refl refl tt refl refl refl refl refl refl,
+            legal_step tt refl refl tt refl refl refl refl refl refl,
             (
-              answered tt refl refl tt refl refl refl refl refl refl,
+              legal_step tt refl refl tt refl refl refl refl refl refl,
               (
-                answered tt refl refl tt refl refl refl refl refl refl,
+                legal_step tt refl refl tt refl refl refl refl refl refl,
                 collected_is_legal,
               ),
             ),

@@ -10,7 +10,7 @@ use Rattle.mps_model_examples.specs.Script.{address, grain_segment}
 use Rattle.mps_model_examples.specs.Reclaiming.{two_to_reclaim, lower_first, upper_last, dropped_world, collection_of_dropped, ReclaimingIsLegal}
 use Rattle.mps_model_examples.proofs.Refusing.{false_is_not_true}
 use Rattle.mps_model_examples.proofs.Units.{exactly}
-use Rattle.mps_model_examples.proofs.Steps.{answered}
+use Rattle.mps_model_examples.proofs.Steps.{legal_step}
 
 -- a collection was begun; and one segment is reclaimed
 abbrev begun : World
@@ -30,31 +30,31 @@ lower_leaves = refl
 
 begin_is_legal : IsLegalHistory two_to_reclaim
 begin_is_legal = (
-  answered tt refl refl tt refl refl refl refl refl refl,
+  legal_step tt refl refl tt refl refl refl refl refl refl,
   (
-    answered tt refl refl tt refl refl refl refl refl refl,
+    legal_step tt refl refl tt refl refl refl refl refl refl,
     (
-      answered tt refl refl tt refl refl refl refl refl refl,
+      legal_step tt refl refl tt refl refl refl refl refl refl,
       (
-        answered tt refl refl tt refl refl refl refl refl refl,
+        legal_step tt refl refl tt refl refl refl refl refl refl,
         (
-          answered tt refl refl tt refl refl refl refl refl refl,
+          legal_step tt refl refl tt refl refl refl refl refl refl,
           (
-            answered tt refl refl tt refl refl refl refl refl refl,
+            legal_step tt refl refl tt refl refl refl refl refl refl,
             (
-              answered tt
+              legal_step tt
                   (record { poll = refl; segment = refl }) refl tt refl refl refl refl refl refl,
               (
-                answered tt refl refl tt refl refl refl refl refl refl,
+                legal_step tt refl refl tt refl refl refl refl refl refl,
                 (
-                  answered tt
+                  legal_step tt
                       (record { poll = refl; segment = refl }) refl tt refl refl refl refl refl refl,
                   (
-                    answered tt refl refl tt refl refl refl refl refl refl,
+                    legal_step tt refl refl tt refl refl refl refl refl refl,
                     (
-                      answered tt refl refl tt refl refl refl refl refl refl,
+                      legal_step tt refl refl tt refl refl refl refl refl refl,
                       (
-                        answered (record { none_runs = refl; of_zones = refl }, tt) refl refl tt refl refl refl refl refl refl,
+                        legal_step (record { none_runs = refl; of_zones = refl }, tt) refl refl tt refl refl refl refl refl refl,
                         tt,
                       ),
                     ),
@@ -71,7 +71,7 @@ begin_is_legal = (
 
 lower_is_legal : IsLegalFrom begun lower_first
 lower_is_legal = (
-  answered (
+  legal_step (
     record {
       gone = record {
         condemned = refl;
@@ -96,11 +96,11 @@ lower_is_legal = (
       })) refl refl)
       refl tt refl refl refl refl refl refl,
   (
-    answered tt refl refl tt refl refl refl refl refl refl,
+    legal_step tt refl refl tt refl refl refl refl refl refl,
     (
-      answered tt refl refl tt refl refl refl refl refl refl,
+      legal_step tt refl refl tt refl refl refl refl refl refl,
       (
-        answered tt refl refl tt refl refl refl refl refl refl,
+        legal_step tt refl refl tt refl refl refl refl refl refl,
         tt,
       ),
     ),
@@ -109,7 +109,7 @@ lower_is_legal = (
 
 upper_is_legal : IsLegalFrom half_reclaimed upper_last
 upper_is_legal = (
-  answered (
+  legal_step (
     record {
       gone = record {
         condemned = refl;
@@ -134,7 +134,7 @@ upper_is_legal = (
       })) refl refl)
       refl tt refl refl refl refl refl refl,
   (
-    answered tt refl refl tt refl refl refl refl refl refl,
+    legal_step tt refl refl tt refl refl refl refl refl refl,
     tt,
   ),
 )

@@ -4,24 +4,24 @@ use Rattle.mps_model.specs.Units.{scans, scans_no_more, reclaims}
 use Rattle.mps_model.specs.Reachable.{begins}
 use Rattle.mps_model_examples.specs.Staying.{StayingIsLegal}
 use Rattle.mps_model_examples.proofs.Units.{to_end, at_rest}
-use Rattle.mps_model_examples.proofs.Steps.{answered}
+use Rattle.mps_model_examples.proofs.Steps.{legal_step}
 
 pub staying_is_legal : StayingIsLegal
 staying_is_legal = (
-  answered tt refl refl tt refl refl refl refl refl refl,
+  legal_step tt refl refl tt refl refl refl refl refl refl,
   (
-    answered tt refl refl tt refl refl refl refl refl refl,
+    legal_step tt refl refl tt refl refl refl refl refl refl,
     (
-      answered tt refl refl tt refl refl refl refl refl refl,
+      legal_step tt refl refl tt refl refl refl refl refl refl,
       (
-        answered tt refl refl tt refl refl refl refl refl refl,
+        legal_step tt refl refl tt refl refl refl refl refl refl,
         (
-          answered tt
+          legal_step tt
               (record { poll = refl; segment = refl }) refl tt refl refl refl refl refl refl,
           (
-            answered tt refl refl tt refl refl refl refl refl refl,
+            legal_step tt refl refl tt refl refl refl refl refl refl,
             (
-              answered (
+              legal_step (
                 record { none_runs = refl; of_zones = refl },
                 (
                   record { tracing = refl; condemned = refl; not_settled = refl; copying = refl; no_room = refl },
@@ -50,7 +50,7 @@ staying_is_legal = (
                     exact = record { posts = []; posted = refl; exact = refl; survivors = (begins {id = 0} refl, tt) };
                   }))
                   refl tt refl refl refl refl refl refl,
-              (answered tt refl refl tt refl refl refl refl refl refl, tt),
+              (legal_step tt refl refl tt refl refl refl refl refl refl, tt),
             ),
           ),
         ),

@@ -9,21 +9,21 @@ use Rattle.mps_model_examples.specs.ReadingOn.{three_in_a_row, row_started, row_
 use Rattle.mps_model_examples.specs.Stepping.{row_scanned, row_ended, row_moved_world, SteppingIsLegal}
 use Rattle.mps_model_examples.proofs.ReadingOn.{row_leaves, started_leaves, row_is_legal, started_is_legal}
 use Rattle.mps_model_examples.proofs.Units.{exactly}
-use Rattle.mps_model_examples.proofs.Steps.{answered}
+use Rattle.mps_model_examples.proofs.Steps.{legal_step}
 
 scanned_leaves : world_after_steps row_started_world row_scanned ≡ row_moved_world
 scanned_leaves = refl
 
 scanned_is_legal : IsLegalFrom row_started_world row_scanned
 scanned_is_legal = (
-  answered (record { tracing = refl; condemned = refl; not_settled = refl; copying = refl; at_placement = refl }, tt)
+  legal_step (record { tracing = refl; condemned = refl; not_settled = refl; copying = refl; at_placement = refl }, tt)
       (exactly ((moves.Moved (address 0x1018) (address 0x2018) ∷ [])
       ∷ []) refl
       (scans 2 (record { live = refl; not_weak = refl; may_be_scanned = inl refl })
       (moves_target (record { holder = 2; scanned = refl; refers = refl }) scans_no_more)) refl refl)
       refl tt refl refl refl refl refl refl,
   (
-    answered (record { tracing = refl; condemned = refl; not_settled = refl; copying = refl; at_placement = refl }, tt)
+    legal_step (record { tracing = refl; condemned = refl; not_settled = refl; copying = refl; at_placement = refl }, tt)
         (exactly ((moves.Moved (address 0x1000) (address 0x2030) ∷ [])
         ∷ []) refl
         (scans 1 (record { live = refl; not_weak = refl; may_be_scanned = inl refl })
@@ -35,13 +35,13 @@ scanned_is_legal = (
 
 ended_is_legal : IsLegalFrom row_moved_world row_ended
 ended_is_legal = (
-  answered tt
+  legal_step tt
       (exactly ([]
       ∷ []) refl
       (scans 0 (record { live = refl; not_weak = refl; may_be_scanned = inl refl }) scans_no_more) refl refl)
       refl tt refl refl refl refl refl refl,
   (
-    answered (
+    legal_step (
       record { empty = refl; condemned = refl },
       (record { survivors = (inl refl, (inl refl, (inl refl, tt))); copied = refl; segments = refl }, tt),
     )

@@ -1,4 +1,4 @@
--- A step that was answered, by its facts.
+-- A legal step, by its facts.
 use Rattle.std.proofs.Common.{◌≡◌}
 use Rattle.std.specs.Prelude.{IsTrue, ◌||◌, None}
 use Rattle.std.specs.List.{list_all, flat_map}
@@ -8,9 +8,9 @@ use Rattle.mps_model.specs.Graph.{ids_of_client, ids_in_blocks, targets}
 use Rattle.mps_model.specs.World.{World, is_live, is_running, live_ids, ids_in_pairs}
 use Rattle.mps_model.specs.Reply.{reply_to}
 use Rattle.mps_model.specs.LegalMove.{AreLegalMoves}
-use Rattle.mps_model.specs.History.{AreMovesOf, moves_of_collector, IsAnsweredStep, IsPossiblyMarked, judged_world, moved_world, world_after, are_held_kept, has_units_left}
+use Rattle.mps_model.specs.History.{AreMovesOf, moves_of_collector, IsLegalStep, IsPossiblyMarked, judged_world, moved_world, world_after, are_held_kept, has_units_left}
 
-pub answered : {w : World} {s : Step} → AreLegalMoves w None (moves_of_collector s.call s.moves) → AreMovesOf w s.call s.answer s.moves
+pub legal_step : {w : World} {s : Step} → AreLegalMoves w None (moves_of_collector s.call s.moves) → AreMovesOf w s.call s.answer s.moves
     → s.answer ≡ reply_to (is_block s.answer) (judged_world w s.call s.moves) (moved_world w s.call s.moves) s.call
     → IsPossiblyMarked w s.call s.answer → IsTrue (list_all (is_live (world_after w s)) (ids_of_client (world_after w s).graph))
     → IsTrue (list_all (is_live (world_after w s)) (ids_in_blocks (world_after w s).graph))
@@ -18,8 +18,8 @@ pub answered : {w : World} {s : Step} → AreLegalMoves w None (moves_of_collect
     (flat_map (targets (world_after w s).graph) (live_ids (world_after w s))))
     → IsTrue (is_running (world_after w s) || list_all (is_live (world_after w s)) (ids_in_pairs (world_after w s).state))
     → IsTrue (are_held_kept (world_after w s))
-    → IsTrue (has_units_left (world_after w s)) → IsAnsweredStep w s
-answered legal due said marked client blocks referred pairs kept left = record {
+    → IsTrue (has_units_left (world_after w s)) → IsLegalStep w s
+legal_step legal due said marked client blocks referred pairs kept left = record {
   moves_are_legal = legal;
   moves_are_due = due;
   answer_is_due = said;

@@ -15,7 +15,7 @@ use Rattle.mps_model_examples.specs.Reclaiming.{dropped}
 use Rattle.mps_model_examples.specs.WrongUnits.{three_to_reclaim, middle_reclaimed, middle_first}
 use Rattle.mps_model_examples.proofs.Refusing.{false_is_not_true}
 use Rattle.mps_model_examples.proofs.Units.{exactly}
-use Rattle.mps_model_examples.proofs.Steps.{answered}
+use Rattle.mps_model_examples.proofs.Steps.{legal_step}
 
 -- the graph of the three blocks
 abbrev three_dropped : Graph
@@ -79,37 +79,37 @@ begin_leaves = refl
 
 begin_is_legal : IsLegalHistory three_to_reclaim
 begin_is_legal = (
-  answered tt refl refl tt refl refl refl refl refl refl,
+  legal_step tt refl refl tt refl refl refl refl refl refl,
   (
-    answered tt refl refl tt refl refl refl refl refl refl,
+    legal_step tt refl refl tt refl refl refl refl refl refl,
     (
-      answered tt refl refl tt refl refl refl refl refl refl,
+      legal_step tt refl refl tt refl refl refl refl refl refl,
       (
-        answered tt refl refl tt refl refl refl refl refl refl,
+        legal_step tt refl refl tt refl refl refl refl refl refl,
         (
-          answered tt refl refl tt refl refl refl refl refl refl,
+          legal_step tt refl refl tt refl refl refl refl refl refl,
           (
-            answered tt refl refl tt refl refl refl refl refl refl,
+            legal_step tt refl refl tt refl refl refl refl refl refl,
             (
-              answered tt refl refl tt refl refl refl refl refl refl,
+              legal_step tt refl refl tt refl refl refl refl refl refl,
               (
-                answered tt refl refl tt refl refl refl refl refl refl,
+                legal_step tt refl refl tt refl refl refl refl refl refl,
                 (
-                  answered tt (record { poll = refl; segment = refl }) refl tt refl refl refl refl refl refl,
+                  legal_step tt (record { poll = refl; segment = refl }) refl tt refl refl refl refl refl refl,
                   (
-                    answered tt refl refl tt refl refl refl refl refl refl,
+                    legal_step tt refl refl tt refl refl refl refl refl refl,
                     (
-                      answered tt (record { poll = refl; segment = refl }) refl tt refl refl refl refl refl refl,
+                      legal_step tt (record { poll = refl; segment = refl }) refl tt refl refl refl refl refl refl,
                       (
-                        answered tt refl refl tt refl refl refl refl refl refl,
+                        legal_step tt refl refl tt refl refl refl refl refl refl,
                         (
-                          answered tt (record { poll = refl; segment = refl }) refl tt refl refl refl refl refl refl,
+                          legal_step tt (record { poll = refl; segment = refl }) refl tt refl refl refl refl refl refl,
                           (
-                            answered tt refl refl tt refl refl refl refl refl refl,
+                            legal_step tt refl refl tt refl refl refl refl refl refl,
                             (
-                              answered tt refl refl tt refl refl refl refl refl refl,
+                              legal_step tt refl refl tt refl refl refl refl refl refl,
                               (
-                                answered (record { none_runs = refl; of_zones = refl }, tt) refl refl tt refl refl refl refl refl refl,
+                                legal_step (record { none_runs = refl; of_zones = refl }, tt) refl refl tt refl refl refl refl refl refl,
                                 tt,
                               ),
                             ),
@@ -130,7 +130,7 @@ begin_is_legal = (
 
 middle_is_legal : IsLegalFrom begun (middle_reclaimed ∷ [])
 middle_is_legal = (
-  answered (
+  legal_step (
     record {
       gone = record {
         condemned = refl;

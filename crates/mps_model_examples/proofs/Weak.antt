@@ -9,7 +9,7 @@ use Rattle.mps_model.proofs.Reaching.{PathLeads-closed}
 use Rattle.mps_model_examples.specs.Script.{address}
 use Rattle.mps_model_examples.specs.Weak.{WeakIsLegal, weak_world, weak_pair, target_dropped, splatted}
 use Rattle.mps_model_examples.proofs.Units.{to_end, at_rest}
-use Rattle.mps_model_examples.proofs.Steps.{answered}
+use Rattle.mps_model_examples.proofs.Steps.{legal_step}
 
 false_is_not_true : false ≡ true → ⊥
 false_is_not_true h = absurd cc
@@ -30,27 +30,27 @@ dropped_leaves = refl
 
 pair_is_legal : IsLegalHistory weak_pair
 pair_is_legal = (
-  answered tt refl refl tt refl refl refl refl refl refl,
+  legal_step tt refl refl tt refl refl refl refl refl refl,
   (
-    answered tt refl refl tt refl refl refl refl refl refl,
+    legal_step tt refl refl tt refl refl refl refl refl refl,
     (
-      answered tt refl refl tt refl refl refl refl refl refl,
+      legal_step tt refl refl tt refl refl refl refl refl refl,
       (
-        answered tt refl refl tt refl refl refl refl refl refl,
+        legal_step tt refl refl tt refl refl refl refl refl refl,
         (
-          answered tt refl refl tt refl refl refl refl refl refl,
+          legal_step tt refl refl tt refl refl refl refl refl refl,
           (
-            answered tt
+            legal_step tt
                 (record { poll = refl; segment = refl }) refl tt refl refl refl refl refl refl,
             (
-              answered tt refl refl tt refl refl refl refl refl refl,
+              legal_step tt refl refl tt refl refl refl refl refl refl,
               (
-                answered tt
+                legal_step tt
                     (record { poll = refl; segment = refl }) refl tt refl refl refl refl refl refl,
                 (
-                  answered tt refl refl tt refl refl refl refl refl refl,
+                  legal_step tt refl refl tt refl refl refl refl refl refl,
                   (
-                    answered tt refl refl tt refl refl refl refl refl refl,
+                    legal_step tt refl refl tt refl refl refl refl refl refl,
                     tt,
                   ),
                 ),
@@ -65,7 +65,7 @@ pair_is_legal = (
 
 dropped_is_legal : IsLegalFrom held_world target_dropped
 dropped_is_legal = (
-  answered (
+  legal_step (
     record { none_runs = refl; of_zones = refl },
     (record { survivors = (inr (begins refl), (inr (begins refl), tt)); copied = refl; segments = refl }, tt),
   )
@@ -87,13 +87,13 @@ dropped_is_legal = (
       }))
       refl tt refl refl refl refl refl refl,
   (
-    answered tt refl refl tt refl refl refl refl refl refl,
+    legal_step tt refl refl tt refl refl refl refl refl refl,
     (
-      answered tt refl refl tt refl refl refl refl refl refl,
+      legal_step tt refl refl tt refl refl refl refl refl refl,
       (
-        answered tt refl refl tt refl refl refl refl refl refl,
+        legal_step tt refl refl tt refl refl refl refl refl refl,
         (
-          answered tt refl refl tt refl refl refl refl refl refl,
+          legal_step tt refl refl tt refl refl refl refl refl refl,
           tt,
         ),
       ),
@@ -103,7 +103,7 @@ dropped_is_legal = (
 
 splatted_is_legal : IsLegalFrom dropped_world splatted
 splatted_is_legal = (
-  answered (
+  legal_step (
     record { none_runs = refl; of_zones = refl },
     (
       record {
@@ -178,8 +178,8 @@ splatted_is_legal = (
       }))
       refl tt refl refl refl refl refl refl,
   (
-    answered tt refl refl tt refl refl refl refl refl refl,
-    (answered tt refl refl tt refl refl refl refl refl refl, tt),
+    legal_step tt refl refl tt refl refl refl refl refl refl,
+    (legal_step tt refl refl tt refl refl refl refl refl refl, tt),
   ),
 )
 

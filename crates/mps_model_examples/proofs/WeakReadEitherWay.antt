@@ -11,7 +11,7 @@ use Rattle.mps_model_examples.specs.Script.{address, grain_segment, tail}
 use Rattle.mps_model_examples.specs.WeakReadEitherWay.{weakly_held, read_moving, kept, read_splatting, gone, weakly_graph, weak_segment, weakly_world, WeakReadEitherWayIsLegal}
 use Rattle.mps_model_examples.proofs.Refusing.{false_is_not_true}
 use Rattle.mps_model_examples.proofs.Units.{at_most}
-use Rattle.mps_model_examples.proofs.Steps.{answered}
+use Rattle.mps_model_examples.proofs.Steps.{legal_step}
 
 -- a collection was begun; then the block was moved; or the reference was splatted
 abbrev begun : World
@@ -37,33 +37,33 @@ splatted_leaves = refl
 
 begin_is_legal : IsLegalHistory weakly_held
 begin_is_legal = (
-  answered tt refl refl tt refl refl refl refl refl refl,
+  legal_step tt refl refl tt refl refl refl refl refl refl,
   (
-    answered tt refl refl tt refl refl refl refl refl refl,
+    legal_step tt refl refl tt refl refl refl refl refl refl,
     (
-      answered tt refl refl tt refl refl refl refl refl refl,
+      legal_step tt refl refl tt refl refl refl refl refl refl,
       (
-        answered tt refl refl tt refl refl refl refl refl refl,
+        legal_step tt refl refl tt refl refl refl refl refl refl,
         (
-          answered tt refl refl tt refl refl refl refl refl refl,
+          legal_step tt refl refl tt refl refl refl refl refl refl,
           (
-            answered tt refl refl tt refl refl refl refl refl refl,
+            legal_step tt refl refl tt refl refl refl refl refl refl,
             (
-              answered tt
+              legal_step tt
                   (record { poll = refl; segment = refl }) refl tt refl refl refl refl refl refl,
               (
-                answered tt refl refl tt refl refl refl refl refl refl,
+                legal_step tt refl refl tt refl refl refl refl refl refl,
                 (
-                  answered tt
+                  legal_step tt
                       (record { poll = refl; segment = refl }) refl tt refl refl refl refl refl refl,
                   (
-                    answered tt refl refl tt refl refl refl refl refl refl,
+                    legal_step tt refl refl tt refl refl refl refl refl refl,
                     (
-                      answered tt refl refl tt refl refl refl refl refl refl,
+                      legal_step tt refl refl tt refl refl refl refl refl refl,
                       (
-                        answered tt refl refl tt refl refl refl refl refl refl,
+                        legal_step tt refl refl tt refl refl refl refl refl refl,
                         (
-                          answered (record { none_runs = refl; of_zones = refl }, tt) refl refl tt refl refl refl refl refl refl,
+                          legal_step (record { none_runs = refl; of_zones = refl }, tt) refl refl tt refl refl refl refl refl refl,
                           tt,
                         ),
                       ),
@@ -81,7 +81,7 @@ begin_is_legal = (
 
 moved_is_legal : IsLegalFrom begun (read_moving ∷ [])
 moved_is_legal = (
-  answered (
+  legal_step (
     record { first = refl; placement = (refl, refl); of_pool = refl; of_generation = refl },
     (record { tracing = refl; condemned = refl; not_settled = refl; copying = refl; at_placement = refl }, tt),
   )
@@ -93,9 +93,9 @@ moved_is_legal = (
 
 kept_is_legal : IsLegalFrom moved kept
 kept_is_legal = (
-  answered tt refl refl tt refl refl refl refl refl refl,
+  legal_step tt refl refl tt refl refl refl refl refl refl,
   (
-    answered (
+    legal_step (
       record { empty = refl; condemned = refl },
       (record { survivors = (inl refl, (inl refl, tt)); copied = refl; segments = refl }, tt),
     )
@@ -137,7 +137,7 @@ kept_is_legal = (
 
 splatted_is_legal : IsLegalFrom begun (read_splatting ∷ [])
 splatted_is_legal = (
-  answered (
+  legal_step (
     record {
       phase = refl;
       weak = refl;
@@ -156,9 +156,9 @@ splatted_is_legal = (
 
 gone_is_legal : IsLegalFrom splatted gone
 gone_is_legal = (
-  answered tt refl refl tt refl refl refl refl refl refl,
+  legal_step tt refl refl tt refl refl refl refl refl refl,
   (
-    answered (
+    legal_step (
       record {
         gone = record {
           condemned = refl;

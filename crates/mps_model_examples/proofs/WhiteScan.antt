@@ -18,7 +18,7 @@ use Rattle.mps_model.proofs.Reaching.{PathLeads-closed}
 use Rattle.mps_model_examples.specs.Script.{a, p, t, w, x, y, address, zones, step, grain_segment, words}
 use Rattle.mps_model_examples.specs.KeptReferences.{link_head}
 use Rattle.mps_model_examples.specs.WhiteScan.{garbage_chain, garbage_condemned, white_scanned, reference_splatted, pinned_beside, read_beside, read_pinned, white_read, ScanOfWhite, BarrierOverWhite}
-use Rattle.mps_model_examples.proofs.Steps.{answered}
+use Rattle.mps_model_examples.proofs.Steps.{legal_step}
 use Rattle.mps_model_examples.proofs.Refusing.{false_is_not_true, cannot_follow_from}
 use Rattle.mps_model_examples.proofs.WrongUnits.{begins_with_segment}
 
@@ -61,35 +61,35 @@ garbage_leaves = refl
 
 garbage_is_legal : IsLegalHistory garbage_chain
 garbage_is_legal = (
-  answered tt refl refl tt refl refl refl refl refl refl,
+  legal_step tt refl refl tt refl refl refl refl refl refl,
   (
-    answered tt refl refl tt refl refl refl refl refl refl,
+    legal_step tt refl refl tt refl refl refl refl refl refl,
     (
-      answered tt refl refl tt refl refl refl refl refl refl,
+      legal_step tt refl refl tt refl refl refl refl refl refl,
       (
-        answered tt refl refl tt refl refl refl refl refl refl,
+        legal_step tt refl refl tt refl refl refl refl refl refl,
         (
-          answered tt (record { poll = refl; segment = refl }) refl tt refl refl refl refl refl refl,
+          legal_step tt (record { poll = refl; segment = refl }) refl tt refl refl refl refl refl refl,
           (
-            answered tt refl refl tt refl refl refl refl refl refl,
+            legal_step tt refl refl tt refl refl refl refl refl refl,
             (
-              answered tt (record { poll = refl; segment = refl }) refl tt refl refl refl refl refl refl,
+              legal_step tt (record { poll = refl; segment = refl }) refl tt refl refl refl refl refl refl,
               (
-                answered tt refl refl tt refl refl refl refl refl refl,
+                legal_step tt refl refl tt refl refl refl refl refl refl,
                 (
-                  answered tt refl refl tt refl refl refl refl refl refl,
+                  legal_step tt refl refl tt refl refl refl refl refl refl,
                   (
-                    answered tt refl refl tt refl refl refl refl refl refl,
+                    legal_step tt refl refl tt refl refl refl refl refl refl,
                     (
-                      answered tt refl refl tt refl refl refl refl refl refl,
+                      legal_step tt refl refl tt refl refl refl refl refl refl,
                       (
-                        answered tt (record { poll = refl; segment = refl }) refl tt refl refl refl refl refl refl,
+                        legal_step tt (record { poll = refl; segment = refl }) refl tt refl refl refl refl refl refl,
                         (
-                          answered tt refl refl tt refl refl refl refl refl refl,
+                          legal_step tt refl refl tt refl refl refl refl refl refl,
                           (
-                            answered tt refl refl tt refl refl refl refl refl refl,
+                            legal_step tt refl refl tt refl refl refl refl refl refl,
                             (
-                              answered tt refl refl tt refl refl refl refl refl refl,
+                              legal_step tt refl refl tt refl refl refl refl refl refl,
                               tt,
                             ),
                           ),
@@ -121,7 +121,7 @@ condemned_leaves =
 condemned_is_legal : IsLegalHistory garbage_condemned
 condemned_is_legal =
     IsLegalFrom-then empty_world garbage_world garbage_chain (start_garbage ∷ []) garbage_leaves garbage_is_legal
-    (answered (record { none_runs = refl; of_zones = refl }, tt) refl refl tt refl refl refl refl refl refl, tt)
+    (legal_step (record { none_runs = refl; of_zones = refl }, tt) refl refl tt refl refl refl refl refl refl, tt)
 
 -- the second block alone refers to the first, and no unit may scan it
 not_scanned : ForOne condemned_world.collection (λ c. MayBeScanned condemned_world c 1) → ⊥
@@ -140,7 +140,7 @@ no_target id scanned target =
 
 splatted_is_legal : IsLegalStep condemned_world reference_splatted
 splatted_is_legal =
-    answered (
+    legal_step (
       record {
         phase = refl;
         weak = refl;
@@ -196,15 +196,15 @@ beside_leaves = refl
 
 beside_is_legal : IsLegalFrom garbage_world pinned_beside
 beside_is_legal = (
-  answered tt (record { poll = refl; segment = refl }) refl tt refl refl refl refl refl refl,
+  legal_step tt (record { poll = refl; segment = refl }) refl tt refl refl refl refl refl refl,
   (
-    answered tt refl refl tt refl refl refl refl refl refl,
+    legal_step tt refl refl tt refl refl refl refl refl refl,
     (
-      answered tt refl refl tt refl refl refl refl refl refl,
+      legal_step tt refl refl tt refl refl refl refl refl refl,
       (
-        answered tt refl refl tt refl refl refl refl refl refl,
+        legal_step tt refl refl tt refl refl refl refl refl refl,
         (
-          answered (record { none_runs = refl; of_zones = refl }, tt) refl refl tt refl refl refl refl refl refl,
+          legal_step (record { none_runs = refl; of_zones = refl }, tt) refl refl tt refl refl refl refl refl refl,
           tt,
         ),
       ),
@@ -245,5 +245,5 @@ barrier_over_white = record {
   refused = cannot_follow_from read_world read_beside white_read read_leaves (λ s. no_barrier _ s.moves_are_due);
   legal =
       IsLegalFrom-then empty_world read_world read_beside (read_pinned [] ∷ []) read_leaves read_is_legal
-      (answered tt (inl scans_no_more) refl tt refl refl refl refl refl refl, tt);
+      (legal_step tt (inl scans_no_more) refl tt refl refl refl refl refl refl, tt);
 }

@@ -16,7 +16,7 @@ use Rattle.mps_model.proofs.Reaching.{PathLeads-closed}
 use Rattle.mps_model_examples.specs.Script.{t, at_index, address, step}
 use Rattle.mps_model_examples.specs.KeptReferences.{weakly_linked, drop_block}
 use Rattle.mps_model_examples.specs.WholeCollections.{registered, dead, collect_nothing, collect_and_post, collect_dead, RegisteredWithoutPost, DeadBlockStays}
-use Rattle.mps_model_examples.proofs.Steps.{answered}
+use Rattle.mps_model_examples.proofs.Steps.{legal_step}
 use Rattle.mps_model_examples.proofs.Units.{at_rest, to_end}
 use Rattle.mps_model_examples.proofs.Refusing.{false_is_not_true, cannot_follow_from}
 use Rattle.mps_model_examples.proofs.KeptReferences.{weak_world, weak_leaves, weak_is_legal}
@@ -44,7 +44,7 @@ registered_leaves =
 registered_is_legal : IsLegalHistory registered
 registered_is_legal =
     IsLegalFrom-then empty_world weak_world weakly_linked registering weak_leaves weak_is_legal
-    (answered tt refl refl tt refl refl refl refl refl refl, (answered tt refl refl tt refl refl refl refl refl refl, tt))
+    (legal_step tt refl refl tt refl refl refl refl refl refl, (legal_step tt refl refl tt refl refl refl refl refl refl, tt))
 
 -- the block is reached in no way, so it has to be posted
 abbrev registered_flipped : World
@@ -60,7 +60,7 @@ unposted_full full = unposted full.exact.posts full.exact.posted full.exact.exac
 
 posted_is_legal : IsLegalStep registered_world collect_and_post
 posted_is_legal =
-    answered (
+    legal_step (
       record { none_runs = refl; of_zones = refl },
       (
         record {
@@ -122,7 +122,7 @@ dead_leaves =
 dead_is_legal : IsLegalHistory dead
 dead_is_legal =
     IsLegalFrom-then empty_world weak_world weakly_linked (drop_block 12 ∷ []) weak_leaves weak_is_legal
-    (answered tt refl refl tt refl refl refl refl refl refl, tt)
+    (legal_step tt refl refl tt refl refl refl refl refl refl, tt)
 
 -- the block is reached in no way, so it has to go
 abbrev dead_flipped : World
@@ -140,7 +140,7 @@ stays_full full = stays full.exact.posts full.exact.posted full.exact.survivors
 
 collected_is_legal : IsLegalStep dead_world collect_dead
 collected_is_legal =
-    answered (
+    legal_step (
       record { none_runs = refl; of_zones = refl },
       (
         record {

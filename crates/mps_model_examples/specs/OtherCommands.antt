@@ -57,14 +57,14 @@ area_written =
     ∷ step 17 (call.Peek (at_index a 1)) [] (reply.Word 5)
     ∷ []
 
--- the area and the point are dropped; then comes a command that isn't built
+-- the area and the point are dropped. The block is live still
 abbrev pub roots_dropped : History
 roots_dropped =
     step 18 (call.DropRoot a) [] reply.Ok
     ∷ step 19 (call.DropPoint x) [] reply.Ok
     ∷ step 20 (call.Clear (at_index t 1)) [] reply.Ok
     ∷ step 21 (call.Get (at_index t 1) (at_index t 1) 1) [] (reply.Refused refusal.NullRef)
-    ∷ step 22 call.Live [] reply.Unsupported
+    ∷ step 22 call.Live [] (reply.Pair 1 4)
     ∷ []
 
 abbrev pub other_commands : History
