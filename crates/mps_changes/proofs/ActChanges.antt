@@ -17,9 +17,9 @@ use Rattle.mps_model.specs.Graph.{Graph, Object, Cell, NumberCell, AreaWord, Pla
 use Rattle.mps_model.specs.Dependents.{may_depend, most_dependents}
 use Rattle.mps_model.specs.Tagging.{tag_count}
 use Rattle.mps_model.specs.Transforms.{has_live_reservation, is_blocked, is_old, most_pairs, most_transforms, pairs_of, world_substituted}
-use Rattle.mps_model.specs.World.{World, Pool, Dependency, Unclamped, Clamped, block_of_word, id_at, is_automatic_kind, is_parked, is_running, pairs_in, PoolKind, Collected, OneSize, AnySize, Frames, has_frames, pool_at, pool_is, pool_of}
+use Rattle.mps_model.specs.World.{World, committed, Pool, Dependency, Unclamped, Clamped, block_of_word, id_at, is_automatic_kind, is_parked, is_running, pairs_in, PoolKind, Collected, OneSize, AnySize, Frames, has_frames, pool_at, pool_is, pool_of}
 use Rattle.mps_model.specs.Checked.{Act, Checked, Found, Numbered, block_place_in, cells_of_body, chain_named, dependency_named, done, label_named, transform_named, tag_at, number_at, object_in, point_named, pool_named, reference_at, refuse_when, required, says, slot_in, tells, with_graph, word_in, cache_named}
-use Rattle.mps_model.specs.Making.{graph_without_root, is_block_size, live_points, make_pool, may_have_point, most_chains, most_dependencies, most_labels, most_points, most_pools, refuse_at_limit, refuse_root, refuse_taken, most_caches, most_frames}
+use Rattle.mps_model.specs.Making.{graph_without_root, is_block_size, live_points, make_pool, may_have_point, most_chains, most_dependencies, most_labels, most_points, most_pools, refuse_at_limit, refuse_root, most_caches, most_frames}
 use Rattle.mps_model.specs.Caches.{act_kept, act_taken, are_class_sizes, kept_by, may_have_cache, new_classes, taken_from}
 use Rattle.mps_model.specs.Frames.{frame_in, frames_named, open_frames}
 use Rattle.mps_model.specs.Placement.{ForAlloc, ForReserve, placement_of}
@@ -28,7 +28,7 @@ use Rattle.mps_model.specs.Accessing.{Poked, AsBlock, AsMarked, AsNumber, act_po
 use Rattle.mps_model.specs.Collecting.{act_message_in, most_registrations}
 use Rattle.mps_model.specs.Reply.{act}
 use Rattle.mps_changes.proofs.Checks.{with_value, after_check, andthen, checked, unless, required-is, transform_named-is, without_root, pool_named-is, cache_named-is, frames_named-is, dependency_named-is}
-use Rattle.mps_changes.specs.Change.{ForAct, accepted, refused, changes_points, Now, Before, makes_pool, is_kind_made, GotNull, FromSlot, FromCell, FromWord, ShownPlain, ShownPinned, ShownPoked, IsWritten, WritesReference, WritesNumber, WritesTag, ArenaMade, LimitIs, ChainMade, StateIs, ParkedAnew, ParkedOn, DependencyMade, DependencyIs, LabelMade, Linked, Unlinked, TransformMade, PairAdded, TransformDropped, Change, Unchanged, Aside, SlotIs, WordIs, MessageTaken, TableMade, AreaMade, BlocksMade, TableDropped, AreaDropped, CellsAre, BlockWordIs, PlaceEmptied, Allocated, PoolMade, PointMade, PointDropped, Opened, Written, Closed, Committed, Substituted, Registered, Unregistered, are_empty_classes, CacheMade, BlockUncached, BlockCached, CacheFlushed, FramePushed, FramesPopped, OfNow, NoLater}
+use Rattle.mps_changes.specs.Change.{ForAct, FreeName, accepted, refused, changes_points, Now, Before, makes_pool, is_kind_made, GotNull, FromSlot, FromCell, FromWord, ShownPlain, ShownPinned, ShownPoked, IsWritten, WritesReference, WritesNumber, WritesTag, ArenaMade, LimitIs, ChainMade, StateIs, ParkedAnew, ParkedOn, DependencyMade, DependencyIs, LabelMade, Linked, Unlinked, TransformMade, PairAdded, TransformDropped, Change, Unchanged, Aside, SlotIs, WordIs, MessageTaken, TableMade, AreaMade, BlocksMade, TableDropped, AreaDropped, CellsAre, BlockWordIs, PlaceEmptied, Allocated, PoolMade, PointMade, PointDropped, Opened, Written, Closed, Committed, Substituted, Registered, Unregistered, are_empty_classes, CacheMade, BlockUncached, BlockCached, CacheFlushed, FramePushed, FramesPopped, OfNow, NoLater}
 
 not_not : (b : Bool) → not b ≡ false → b ≡ true
 not_not true h = refl
@@ -58,8 +58,11 @@ module _ (marked : Bool) (judged v : World) where
   told true = accepted Unchanged
   told false = accepted Unchanged
 
-  made : {c : Call} (name : Name) (p : Pool) → makes_pool c ≡ true → is_kind_made p.kind ≡ true
-      → Leads c (make_pool v name p)
+  abbrev free_name : (name : Name) → is_taken v.graph name ≡ false → FreeName v
+  free_name name free = record { name = name; is_free = free }
+
+  made : {c : Call} (name : FreeName v) (p : Pool) → makes_pool c ≡ true → is_kind_made p.kind ≡ true
+      → Leads c (make_pool v name.name p)
   made name p is sized = after_check (refuse_at_limit (length v.pools) most_pools) (accepted (PoolMade name p is sized))
 
   init : {c : Call} (name : Name) (p : Numbered Point) (r : Reservation) (change : List Cell → List Cell) → changes_points c ≡ true
@@ -136,45 +139,52 @@ module _ (marked : Bool) (judged v : World) where
   pub act_changes_so : (c : Call) → Leads c (act marked judged v c)
   act_changes_so (call.Arena grains limit) = accepted (Aside _ (ArenaMade grains limit refl))
   act_changes_so (call.Limit limit) =
-      after_check (refuse_when (nat_lt limit (Rattle.mps_model.specs.World.committed v)) refusal.BelowCommitted)
-      (accepted (Aside _ (LimitIs limit)))
+      unless (nat_lt limit (committed v)) refusal.BelowCommitted (λ within.
+      accepted (Aside _ (LimitIs limit within)))
   act_changes_so call.Committed = accepted Unchanged
   act_changes_so (call.Chain chain count capacities) =
-      after_check (refuse_taken v chain)
-      (after_check (refuse_at_limit (length v.chains) most_chains) (accepted (Aside _ (ChainMade chain _))))
+      unless (is_taken v.graph chain) refusal.NameTaken (λ free.
+      after_check (refuse_at_limit (length v.chains) most_chains) (accepted (Aside _ (ChainMade (free_name chain free) _))))
   act_changes_so (call.Pool pool kind format) =
-      after_check (refuse_taken v pool) (made pool (record { kind = Collected kind; format = format; chain = None }) refl refl)
+      unless (is_taken v.graph pool) refusal.NameTaken (λ free.
+      made (free_name pool free) (record { kind = Collected kind; format = format; chain = None }) refl refl)
   act_changes_so (call.PoolOnChain pool kind format chain) =
-      after_check (refuse_taken v pool) (andthen (chain_named v chain) (λ (on : Numbered (List ℕ)).
-      made pool (record { kind = Collected kind; format = format; chain = Some on.number }) refl refl))
+      unless (is_taken v.graph pool) refusal.NameTaken (λ free. andthen (chain_named v chain) (λ (on : Numbered (List ℕ)).
+      made (free_name pool free) (record { kind = Collected kind; format = format; chain = Some on.number }) refl refl))
   act_changes_so (call.PoolMfs pool words) =
-      after_check (refuse_taken v pool) (unless (not (is_block_size words)) refusal.BadSize (λ h.
-      made pool (record { kind = OneSize words; format = 0; chain = None }) refl (not_not (is_block_size words) h)))
+      unless (is_taken v.graph pool) refusal.NameTaken (λ free. unless (not (is_block_size words)) refusal.BadSize (λ h.
+      made (free_name pool free) (record { kind = OneSize words; format = 0; chain = None }) refl (not_not (is_block_size words) h)))
   act_changes_so (call.PoolMvff pool) =
-      after_check (refuse_taken v pool) (made pool (record { kind = AnySize; format = 0; chain = None }) refl refl)
+      unless (is_taken v.graph pool) refusal.NameTaken (λ free.
+      made (free_name pool free) (record { kind = AnySize; format = 0; chain = None }) refl refl)
   act_changes_so (call.PoolFrames pool) =
-      after_check (refuse_taken v pool) (made pool (record { kind = Frames; format = 0; chain = None }) refl refl)
-  act_changes_so (call.Table table slots) = after_check (refuse_taken v table)
-      (after_check (refuse_root v slots) (accepted (TableMade table slots)))
-  act_changes_so (call.Area area words) = after_check (refuse_taken v area)
-      (after_check (refuse_root v words) (accepted (AreaMade area words)))
-  act_changes_so (call.Blocks blocks places) = after_check (refuse_taken v blocks)
-      (after_check (refuse_root v places) (accepted (BlocksMade blocks places refl)))
+      unless (is_taken v.graph pool) refusal.NameTaken (λ free.
+      made (free_name pool free) (record { kind = Frames; format = 0; chain = None }) refl refl)
+  act_changes_so (call.Table table slots) =
+      unless (is_taken v.graph table) refusal.NameTaken (λ free.
+      after_check (refuse_root v slots) (accepted (TableMade (free_name table free) slots)))
+  act_changes_so (call.Area area words) =
+      unless (is_taken v.graph area) refusal.NameTaken (λ free.
+      after_check (refuse_root v words) (accepted (AreaMade (free_name area free) words)))
+  act_changes_so (call.Blocks blocks places) =
+      unless (is_taken v.graph blocks) refusal.NameTaken (λ free.
+      after_check (refuse_root v places) (accepted (BlocksMade (free_name blocks free) places refl)))
   act_changes_so (call.DropRoot root) =
       with_value (required (graph_without_root v.graph root (thing_named v.graph root)) refusal.BadName) (λ (g : Graph) e.
       accepted (drops root g (required-is (graph_without_root v.graph root (thing_named v.graph root)) refusal.BadName g e)))
   act_changes_so (call.Point point pool rank) =
-      after_check (refuse_taken v point) (with_value (pool_named v pool) (λ (of : Numbered Pool) e.
+      unless (is_taken v.graph point) refusal.NameTaken (λ free. with_value (pool_named v pool) (λ (of : Numbered Pool) e.
       unless (not (may_have_point of.value.kind rank)) refusal.WrongPool (λ may.
       after_check (refuse_at_limit (live_points v.graph) most_points)
-      (accepted (PointMade point pool of rank refl e (not_not (may_have_point of.value.kind rank) may))))))
+      (accepted (PointMade (free_name point free) pool of rank refl e (not_not (may_have_point of.value.kind rank) may))))))
   act_changes_so (call.DropPoint point) =
       with_value (point_named v point) (λ (p : Numbered Point) e.
       unless (is_some p.value.reservation) refusal.Open (λ none.
       accepted (PointDropped point p refl e (none_there p.value.reservation none))))
   act_changes_so (call.Dependency dependency) =
-      after_check (refuse_taken v dependency) (after_check (refuse_at_limit (length v.dependencies) most_dependencies)
-      (accepted (Aside _ (DependencyMade dependency _ refl OfNow))))
+      unless (is_taken v.graph dependency) refusal.NameTaken (λ free.
+      after_check (refuse_at_limit (length v.dependencies) most_dependencies)
+      (accepted (Aside _ (DependencyMade (free_name dependency free) _ refl OfNow))))
   act_changes_so (call.Reserve point head) =
       with_value (check_reserve judged point head) (λ (r : Reserving) e.
       after_check (refuse_without_place (placement_of judged (ForReserve r.point.number (length r.cells))))
@@ -214,11 +224,12 @@ module _ (marked : Bool) (judged v : World) where
       accepted (PlaceEmptied place at id refl e (required-is at.value refusal.NotABlock id f) (inl none)))))
   act_changes_so (call.Cache cache pool count sizes limits) =
       let classes = new_classes count sizes limits in
-      after_check (refuse_taken v cache) (with_value (pool_named v pool) (λ (of : Numbered Pool) e.
+      unless (is_taken v.graph cache) refusal.NameTaken (λ free. with_value (pool_named v pool) (λ (of : Numbered Pool) e.
       unless (not (may_have_cache of.value.kind)) refusal.WrongPool (λ may.
       after_check (refuse_when (not (are_class_sizes 0 classes)) refusal.BadSize)
       (after_check (refuse_at_limit (length v.graph.caches) most_caches)
-      (accepted (CacheMade cache pool of classes e (not_not (may_have_cache of.value.kind) may) (none_cached count sizes limits)))))))
+      (accepted (CacheMade (free_name cache free) pool of classes e (not_not (may_have_cache of.value.kind) may)
+      (none_cached count sizes limits)))))))
   act_changes_so (call.CacheAlloc cache words place) =
       with_value (cache_named v cache) (λ (from : Numbered Cache) e.
       with_value (required (pool_at judged from.value.pool) refusal.BadName) (λ (p : Pool) f.
@@ -320,9 +331,9 @@ module _ (marked : Bool) (judged v : World) where
       after_check (required (dependent_in v.graph.dependents weak.number) refusal.NotLinked)
       (accepted (Aside _ (Unlinked weak.number)))))
   act_changes_so (call.Transform transform) =
-      after_check (refuse_taken v transform)
-      (after_check (refuse_at_limit (count_by (λ is_there. is_there) v.graph.transforms) most_transforms)
-      (accepted (Aside _ (TransformMade transform))))
+      unless (is_taken v.graph transform) refusal.NameTaken (λ free.
+      after_check (refuse_at_limit (count_by (λ is_there. is_there) v.graph.transforms) most_transforms)
+      (accepted (Aside _ (TransformMade (free_name transform free)))))
   act_changes_so (call.TransformAdd transform old new) =
       andthen (transform_named v transform) (λ (n : ℕ).
       with_value (slot_in v old) (λ (from : Found (Option ℕ)) e.

@@ -10,7 +10,7 @@ use Rattle.mps_base.specs.declared.names.Slot.{Slot}
 use Rattle.mps_model.specs.declared.call.Call.{Call}
 use Rattle.mps_model.specs.declared.call.Call.TheVariants as call
 use Rattle.mps_model.specs.Graph.{ChainThing, TableThing, AreaThing, DependencyThing, TransformThing, thing_named, is_taken, with_tag_cell, without_holder, Object, Cell, NumberCell, AreaWord, PlainWord, Hold, Point, Reservation, with_last, with_target_cell, graph_with_cells, position_of_first, without_first, without_name, Cache, CacheClass, PoolFrames}
-use Rattle.mps_model.specs.World.{World, Pool, PoolKind, Collected, OneSize, AnySize, Frames, ArenaState, Parked, Dependency, is_automatic_kind, is_parked, is_parked_state, pairs_in, block_of_word, pool_of, pool_is, has_frames}
+use Rattle.mps_model.specs.World.{World, committed, Pool, PoolKind, Collected, OneSize, AnySize, Frames, ArenaState, Parked, Dependency, is_automatic_kind, is_parked, is_parked_state, pairs_in, block_of_word, pool_of, pool_is, has_frames}
 use Rattle.mps_model.specs.Checked.{Act, Checked, Found, Numbered, block_place_in, cells_of_body, named, number_at, object_in, point_named, pool_named, reference_at, slot_in, with_graph, word_in, cache_named}
 use Rattle.mps_model.specs.Making.{graph_with_area, graph_with_blocks, graph_with_table, is_block_size, may_have_point, with_point, with_pool, without_point}
 use Rattle.mps_model.specs.Allocating.{Reserving, allows_size, check_reserve, graph_allocated, graph_with_word, with_block_place, with_reservation, with_reserved, with_slot, world_committed}
@@ -106,6 +106,11 @@ pub record HasCacheOver (v : World) (pool : ℕ) : Type 0 where
   pub there : slice_get v.graph.caches cache.number ≡ Some cache.value
   pub is : pool ≡ cache.value.pool
 
+-- a name that represents nothing
+pub record FreeName (v : World) : Type 0 where
+  pub name : Name
+  pub is_free : is_taken v.graph name ≡ false
+
 -- an epoch of a dependency: it is of now, or no later than that of a dependency that there is
 pub data IsDatedIn (v : World) : (epoch : ℕ) → Type 0 where
   OfNow : IsDatedIn v (length v.flips)
@@ -165,16 +170,16 @@ module _ (marked : Bool) (c : Call) (judged v : World) where
   -- a change of what no object, root or collection knows of
   pub data AsideIs : World → Type 0 where
     ArenaMade : (grains limit : ℕ) → makes_arena c ≡ true → AsideIs (record v { grains = grains; limit = limit })
-    LimitIs : (limit : ℕ) → AsideIs (record v { limit = limit })
-    ChainMade : (name : Name) (capacities : List ℕ) → AsideIs (record v {
-      graph = named v.graph name (ChainThing (length v.chains));
+    LimitIs : (limit : ℕ) → nat_lt limit (committed v) ≡ false → AsideIs (record v { limit = limit })
+    ChainMade : (name : FreeName v) (capacities : List ℕ) → AsideIs (record v {
+      graph = named v.graph name.name (ChainThing (length v.chains));
       chains = with_last v.chains capacities;
     })
     StateIs : (state : ArenaState) → is_parked_state state ≡ false → AsideIs (with_state v state)
     ParkedAnew : c ≡ call.Collect → AsideIs (with_state v (Parked []))
     ParkedOn : c ≡ call.Park → AsideIs (with_state v (Parked (pairs_in v.state)))
-    DependencyMade : (name : Name) (d : Dependency) → changes_dependencies c ≡ true → IsDatedIn v d.epoch → AsideIs (record v {
-      graph = named v.graph name (DependencyThing (length v.dependencies));
+    DependencyMade : (name : FreeName v) (d : Dependency) → changes_dependencies c ≡ true → IsDatedIn v d.epoch → AsideIs (record v {
+      graph = named v.graph name.name (DependencyThing (length v.dependencies));
       dependencies = with_last v.dependencies d;
     })
     DependencyIs : (number : ℕ) (d : Dependency) → changes_dependencies c ≡ true → IsDatedIn v d.epoch
@@ -185,7 +190,7 @@ module _ (marked : Bool) (c : Call) (judged v : World) where
         → may_depend v holder.value dependent.value ≡ true
         → AsideIs (with_graph v (graph_with_dependents v.graph (with_dependent v.graph.dependents holder.number dependent.number)))
     Unlinked : (holder : ℕ) → AsideIs (with_graph v (graph_with_dependents v.graph (without_holder v.graph.dependents holder)))
-    TransformMade : (name : Name) → AsideIs (with_graph v (graph_with_transform v.graph name))
+    TransformMade : (name : FreeName v) → AsideIs (with_graph v (graph_with_transform v.graph name.name))
     PairAdded : (transform : ℕ) (old new : Numbered Object) → IsInSlot v old → IsInSlot v new → is_parked v ≡ true
         → AsideIs (with_state v (Parked (with_pair (pairs_in v.state) transform old.number new.number)))
     TransformDropped : (name : Name) (transform : ℕ) → thing_named v.graph name ≡ Some (TransformThing transform)
@@ -202,9 +207,10 @@ module _ (marked : Bool) (c : Call) (judged v : World) where
         → Change (with_graph v (with_word v.graph at word))
     MessageTaken : (slot : Slot) (into : Found (Option ℕ)) (id : ℕ) (ids : List ℕ) → slot_in v slot ≡ Ok into
         → v.graph.messages ≡ id ∷ ids → Change (with_graph v (with_slot (record v.graph { messages = ids }) into (Some id)))
-    TableMade : (name : Name) (slots : ℕ) → Change (with_graph v (graph_with_table v.graph name slots))
-    AreaMade : (name : Name) (words : ℕ) → Change (with_graph v (graph_with_area v.graph name words))
-    BlocksMade : (name : Name) (places : ℕ) → c ≡ call.Blocks name places → Change (with_graph v (graph_with_blocks v.graph name places))
+    TableMade : (name : FreeName v) (slots : ℕ) → Change (with_graph v (graph_with_table v.graph name.name slots))
+    AreaMade : (name : FreeName v) (words : ℕ) → Change (with_graph v (graph_with_area v.graph name.name words))
+    BlocksMade : (name : FreeName v) (places : ℕ) → c ≡ call.Blocks name.name places
+        → Change (with_graph v (graph_with_blocks v.graph name.name places))
     TableDropped : (name : Name) (n : ℕ) → thing_named v.graph name ≡ Some (TableThing n)
         → Change (with_graph v (record v.graph { tables = slice_set v.graph.tables n None; names = without_name v.graph.names name }))
     AreaDropped : (name : Name) (n : ℕ) → thing_named v.graph name ≡ Some (AreaThing n)
@@ -221,9 +227,9 @@ module _ (marked : Bool) (c : Call) (judged v : World) where
         → allows_size p.value.kind words ≡ true → IsFoundBy block_place_in judged v place → place.value ≡ None
         → Change (record v { graph = graph_allocated v.graph p.number words place; addresses = with_last v.addresses (Some at) })
     -- caches
-    CacheMade : (name pool : Name) (of : Numbered Pool) (classes : List CacheClass) → pool_named v pool ≡ Ok of
+    CacheMade : (name : FreeName v) (pool : Name) (of : Numbered Pool) (classes : List CacheClass) → pool_named v pool ≡ Ok of
         → may_have_cache of.value.kind ≡ true → are_empty_classes classes ≡ true
-        → Change (with_graph v (graph_with_cache v.graph name (record { pool = of.number; classes = classes })))
+        → Change (with_graph v (graph_with_cache v.graph name.name (record { pool = of.number; classes = classes })))
     BlockUncached : (name : Name) (cache : Numbered Cache) (words : ℕ) (into : Slot) (place : Found (Option ℕ)) (id : ℕ)
         (classes : List CacheClass) → c ≡ call.CacheAlloc name words into → cache_named v name ≡ Ok cache
         → taken_from cache.value.classes words ≡ Some (id, classes) → block_place_in v into ≡ Ok place → place.value ≡ None
@@ -240,9 +246,10 @@ module _ (marked : Bool) (c : Call) (judged v : World) where
     FramesPopped : (name : Name) (f : PoolFrames) (frame before : ℕ) → c ≡ call.Pop name frame → frames_of v.graph f.pool ≡ Some f
         → slice_get f.opened frame ≡ Some before → Change (with_graph v (graph_popped v.graph f frame before))
     -- pools and points
-    PoolMade : (name : Name) (p : Pool) → makes_pool c ≡ true → is_kind_made p.kind ≡ true → Change (with_pool v name p)
-    PointMade : (name pool : Name) (of : Numbered Pool) (at_rank : Rank) → c ≡ call.Point name pool at_rank → pool_named v pool ≡ Ok of
-        → may_have_point of.value.kind at_rank ≡ true → Change (with_point v name of.number at_rank)
+    PoolMade : (name : FreeName v) (p : Pool) → makes_pool c ≡ true → is_kind_made p.kind ≡ true → Change (with_pool v name.name p)
+    PointMade : (name : FreeName v) (pool : Name) (of : Numbered Pool) (at_rank : Rank) → c ≡ call.Point name.name pool at_rank
+        → pool_named v pool ≡ Ok of
+        → may_have_point of.value.kind at_rank ≡ true → Change (with_point v name.name of.number at_rank)
     PointDropped : (name : Name) (p : Numbered Point) → c ≡ call.DropPoint name → point_named v name ≡ Ok p
         → p.value.reservation ≡ None → Change (without_point v name p.number)
     Opened : (name : Name) (head : ℕ) (reserving : Reserving) (p : Numbered Point) (at : Address) → c ≡ call.Reserve name head

@@ -26,7 +26,8 @@ use Rattle.mps_laws.proofs.Sound.PoolKinds.{kind_of_pool}
 use Rattle.mps_laws.proofs.Sound.Substituting.{shapes_substituted}
 use Rattle.mps_changes.proofs.ActChanges.{of_changes, but}
 pub use Rattle.mps_changes.specs.Change.{ForAct, accepted, refused, is_placing}
-pub use Rattle.mps_changes.proofs.Checks.{without_root, with_value, after_check, unless, for_world, required-is, named_by, point_named-is, pool_named-is}
+pub use Rattle.mps_changes.proofs.Checks.{without_root, with_value, after_check, unless, for_world}
+pub use Rattle.mps_changes.proofs.Checks.{required-is, named_by, point_named-is, pool_named-is}
 use Rattle.mps_changes.proofs.AsideFacts.{aside_is}
 use Rattle.mps_changes.proofs.Written.{written_length}
 use Rattle.mps_changes.specs.Change.{makes_arena, Change, Aside, CellsAre, BlockWordIs, Allocated, PoolMade, PointMade, PointDropped, Opened, Written, Closed, Committed, Substituted, Unregistered, allocates, BlockUncached}

@@ -1,5 +1,5 @@
 -- What lies in a cache is a block of its pool, and of the size of its class, and stays one.
-use Rattle.std.proofs.Common.{◌≡◌, ◌∙◌, inl, inr, ℕ, Bool, true, false, refl, sym, ap, subst, List, [], ◌∷◌, length, Option, Some, None}
+use Rattle.std.proofs.Common.{◌≡◌, ◌∙◌, ℕ, Bool, true, false, refl, sym, ap, subst, List, [], ◌∷◌, length, Option, Some, None}
 use Rattle.std.proofs.lemmas.Bool.{false≢true, and_parts, and_from, eq-eqb, eqb-true}
 use Rattle.std.proofs.lemmas.Option.{none-some, same_Some, slice_get-map}
 use Rattle.std.specs.Prelude.{◌==◌, ◌&&◌, is_some, if◌then◌else◌, map, nat_lt, option_map, replicate, slice_get}
@@ -16,14 +16,13 @@ use Rattle.mps_model.specs.Caches.{emptied, kept_in, last_of, may_have_cache, ta
 use Rattle.mps_model.specs.Transforms.{pairs_of}
 use Rattle.mps_model.specs.WellFormed.{is_right_block, is_right_cache, is_right_class}
 use Rattle.mps_model.specs.Reply.{act, world_from}
-use Rattle.mps_model.specs.History.{IsLegalStep, judged_world, moved_world, world_after}
+use Rattle.mps_model.specs.History.{judged_world, moved_world, world_after}
 use Rattle.mps_changes.specs.Change.{Change, CellsAre, BlockWordIs, Allocated, CacheMade, BlockUncached, BlockCached, CacheFlushed, PoolMade, Committed, Substituted, ForAct, accepted, refused, are_empty_classes, is_empty_list}
 use Rattle.mps_changes.proofs.ActChanges.{act_changes_so}
 use Rattle.mps_changes.proofs.Checks.{cache_named-is}
 use Rattle.mps_changes.proofs.Written.{written_length}
 use Rattle.mps_laws.proofs.Acts.{cleared_kept, pool_named-is, word_kept}
 use Rattle.mps_laws.proofs.FoundBy.{found_by}
-use Rattle.mps_laws.proofs.LegalHistories.{legal_step}
 use Rattle.mps_laws.proofs.Lookups.{map-with_last, slice_get-kept}
 use Rattle.mps_laws.proofs.Positions.LegalMoves.{cells_kept}
 use Rattle.mps_laws.proofs.Positions.Occupancy.{Shape, shape_of}
@@ -273,20 +272,15 @@ caches_moved w v shapes pools caches h =
     ap (list_all (is_right_cache v)) caches
     ∙ caches_still w v (λ i s e. ap (λ ss. slice_get ss i) shapes ∙ e) (λ n p e. ap (λ ps. slice_get ps n) pools ∙ e) w.graph.caches h
 
-pub caches_after : (w : World) (s : Step) → All (is_made w) (ids_in_places w.graph) → AreRightCaches w → IsLegalStep w s
+pub caches_after : (w : World) (s : Step) → All (is_made w) (ids_in_places w.graph) → AreRightCaches w
     → AreRightCaches (world_after w s)
-caches_after w s made h legal =
-    elim (legal_step w s legal) [
-      | inl same ↦ subst AreRightCaches (sym same) h
-      | inr answered ↦
-          let v = moved_world w s.call s.moves in
-          let judged = judged_world w s.call s.moves in
-          let alone = moved_alone w s.call s.moves in
-          let there : All (is_made v) (ids_in_places v.graph) =
-          subst (λ (bs : List Rattle.mps_model.specs.Graph.Slots). All (is_made v) (Rattle.std.specs.List.flat_map entries bs))
-          (sym alone.blocks)
-          (subst (λ (ss : List Shape). All (λ id. is_some (slice_get ss id)) (ids_in_places w.graph)) (sym alone.shapes) made) in
-          subst AreRightCaches (sym answered.after)
-          (act_right v (caches_moved w v alone.shapes alone.pools alone.caches h) there
-          (act (is_block s.answer) judged v s.call) (act_changes_so (is_block s.answer) judged v s.call))
-    ]
+caches_after w s made h =
+    let v = moved_world w s.call s.moves in
+    let judged = judged_world w s.call s.moves in
+    let alone = moved_alone w s.call s.moves in
+    let there : All (is_made v) (ids_in_places v.graph) =
+    subst (λ (bs : List Rattle.mps_model.specs.Graph.Slots). All (is_made v) (Rattle.std.specs.List.flat_map entries bs))
+    (sym alone.blocks)
+    (subst (λ (ss : List Shape). All (λ id. is_some (slice_get ss id)) (ids_in_places w.graph)) (sym alone.shapes) made) in
+    act_right v (caches_moved w v alone.shapes alone.pools alone.caches h) there
+    (act (is_block s.answer) judged v s.call) (act_changes_so (is_block s.answer) judged v s.call)

@@ -14,7 +14,7 @@ use Rattle.mps_model.specs.Answer.{is_block}
 use Rattle.mps_model.specs.declared.call.Call.{Call}
 use Rattle.mps_model.specs.declared.call.Call.TheVariants as call
 use Rattle.mps_model.specs.Step.{Step}
-use Rattle.mps_model.specs.Graph.{Graph, Object, Manual, entry_at, graph_with_cells, ids_in_slots, object_at, with_last}
+use Rattle.mps_model.specs.Graph.{Object, Manual, entry_at, graph_with_cells, ids_in_slots, object_at, with_last}
 use Rattle.mps_model.specs.World.{World, Pool, id_at, is_copying_pool, is_live, is_weak_kind, object_is, with_tail}
 use Rattle.mps_model.specs.WellFormed.{is_right_pair}
 use Rattle.mps_model.specs.Checked.{Act, Checked, Numbered, as_point, number_named, with_graph}
@@ -24,14 +24,13 @@ use Rattle.mps_model.specs.Effect.{after_free, after_moved, after_post, after_se
 use Rattle.mps_model.specs.Policy.{units_asked}
 use Rattle.mps_model.specs.Transforms.{graph_substituted, pairs_of}
 use Rattle.mps_model.specs.Reply.{act, world_from}
-use Rattle.mps_model.specs.History.{HeldAreLive, IsLegalStep, after_own_segment, asking, judged_world, moved_world, moves_of_poll, own_segment, world_after, world_after_call}
+use Rattle.mps_model.specs.History.{IsLegalStep, after_own_segment, asking, judged_world, moved_world, moves_of_poll, own_segment, world_after}
 use Rattle.mps_changes.specs.Change.{AsideIs, Linked, Unlinked, Change, Aside, CellsAre, BlockWordIs, Allocated, PoolMade, Committed, Substituted, ForAct, accepted, refused, IsInSlot, BlockUncached}
 use Rattle.mps_changes.proofs.ActChanges.{act_changes_so}
 use Rattle.mps_laws.proofs.Acts.{cleared_kept, word_kept}
 use Rattle.mps_changes.proofs.Written.{written_length}
 use Rattle.mps_laws.proofs.Finding.{id_at-found}
 use Rattle.mps_laws.proofs.FoundBy.{object_found, slot_found}
-use Rattle.mps_laws.proofs.LegalHistories.{legal_step}
 use Rattle.mps_laws.proofs.Lookups.{entry_at-last, entry_at-set_other, entry_at-set_same, entry_within, map-with_last, slice_get-kept}
 use Rattle.mps_laws.proofs.OwnSegments.{own_segment_taken}
 use Rattle.mps_laws.proofs.Positions.LaidOut.{kind_in}
@@ -313,14 +312,8 @@ module _ (v : World) (h : ArePaired v) where
 
 pub dependents_after : (w : World) (s : Step) → ArePaired w → IsLegalStep w s → ArePaired (world_after w s)
 dependents_after w s h legal =
-    elim (legal_step w s legal) [
-      | inl same ↦ subst ArePaired (sym same) h
-      | inr answered ↦
-          let v = moved_world w s.call s.moves in
-          let judged = judged_world w s.call s.moves in
-          let held = subst HeldAreLive answered.after answered.answered.held_are_live in
-          let moved = all_moved_paired w s.call s.moves h in
-          subst ArePaired (sym answered.after)
-          (act_paired v moved (act (is_block s.answer) judged v s.call) (act_changes_so (is_block s.answer) judged v s.call)
-          (slots_held (world_after_call w s.call s.moves s.answer) held))
-    ]
+    let v = moved_world w s.call s.moves in
+    let judged = judged_world w s.call s.moves in
+    let moved = all_moved_paired w s.call s.moves h in
+    act_paired v moved (act (is_block s.answer) judged v s.call) (act_changes_so (is_block s.answer) judged v s.call)
+    (slots_held (world_after w s) legal.held_are_live)

@@ -1,5 +1,5 @@
 -- No dependency's epoch is to come: there were as many flips when it was reset.
-use Rattle.std.proofs.Common.{◌≡◌, ◌∙◌, ℕ, ◌≤◌, Bool, true, false, refl, sym, ap, subst, List, [], ◌∷◌, length, length-append, Option, Some, None, inl, inr, arith}
+use Rattle.std.proofs.Common.{◌≡◌, ◌∙◌, ℕ, ◌≤◌, Bool, true, false, refl, sym, ap, subst, List, [], ◌∷◌, length, length-append, Option, Some, None, arith}
 use Rattle.std.proofs.lemmas.Bool.{and_parts, and_from, leb-true, le-leb}
 use Rattle.std.specs.Prelude.{if◌then◌else◌, nat_le}
 use Rattle.std.specs.List.{list_all}
@@ -17,10 +17,9 @@ use Rattle.mps_model.specs.WellFormed.{is_dated}
 use Rattle.mps_model.specs.Effect.{after_free, after_moved, after_post, after_segment, after_splat, holding, placing, reclaiming, segment_base_of, segment_of_move, where_one, with_collection, without_object, world_after_move, world_after_moves}
 use Rattle.mps_model.specs.Policy.{units_asked}
 use Rattle.mps_model.specs.Reply.{act, world_from}
-use Rattle.mps_model.specs.History.{IsLegalStep, after_own_segment, asking, judged_world, moved_world, moves_of_poll, own_segment, world_after}
+use Rattle.mps_model.specs.History.{after_own_segment, asking, judged_world, moved_world, moves_of_poll, own_segment, world_after}
 use Rattle.mps_changes.specs.Change.{AsideIs, Change, Aside, DependencyMade, DependencyIs, IsDatedIn, OfNow, NoLater, ForAct, accepted, refused}
 use Rattle.mps_changes.proofs.ActChanges.{act_changes_so}
-use Rattle.mps_laws.proofs.LegalHistories.{legal_step}
 use Rattle.mps_laws.proofs.OwnSegments.{own_segment_taken}
 use Rattle.mps_laws.proofs.Sound.SoundGraph.{each-at, each-weaker, each-written}
 
@@ -152,14 +151,9 @@ module _ (v : World) (h : AreDated v) where
 
 -- ---- steps
 
-pub dated_after : (w : World) (s : Step) → AreDated w → IsLegalStep w s → AreDated (world_after w s)
-dated_after w s h legal =
-    elim (legal_step w s legal) [
-      | inl same ↦ subst AreDated (sym same) h
-      | inr answered ↦
-          let v = moved_world w s.call s.moves in
-          let judged = judged_world w s.call s.moves in
-          subst AreDated (sym answered.after)
-          (act_dated v (dated_left w v (moved_left w s.call s.moves) h)
-          (act (is_block s.answer) judged v s.call) (act_changes_so (is_block s.answer) judged v s.call))
-    ]
+pub dated_after : (w : World) (s : Step) → AreDated w → AreDated (world_after w s)
+dated_after w s h =
+    let v = moved_world w s.call s.moves in
+    let judged = judged_world w s.call s.moves in
+    act_dated v (dated_left w v (moved_left w s.call s.moves) h)
+    (act (is_block s.answer) judged v s.call) (act_changes_so (is_block s.answer) judged v s.call)

@@ -1,5 +1,5 @@
 -- A legal step flips at most once: its flip is that of the one act of a flip that its moves may have, and units have none.
-use Rattle.std.proofs.Common.{◌≡◌, ◌⊎◌, inl, inr, ℕ, ◌+◌, ◌≤◌, Bool, true, false, true≢false, refl, sym, ◌∙◌, ap, subst, List, [], ◌∷◌, ◌++◌, length, length-append, Option, Some, None, Ok, Err, arith}
+use Rattle.std.proofs.Common.{◌≡◌, inl, inr, ℕ, ◌+◌, ◌≤◌, Bool, true, false, true≢false, refl, sym, ◌∙◌, ap, subst, List, [], ◌∷◌, ◌++◌, length, length-append, Option, Some, None, Ok, Err, arith}
 use Rattle.std.proofs.lemmas.Bool.{or_parts, and_parts}
 use Rattle.std.proofs.lemmas.List.Folds.{list_any-append}
 use Rattle.std.specs.Prelude.{MatchBool, if◌then◌else◌, not, ◌&&◌, ◌||◌}
@@ -35,7 +35,6 @@ use Rattle.mps_laws.specs.Flipping.{StepFlipsOnceAtMost, FlipsAreNoMoreThanSteps
 use Rattle.mps_laws.proofs.Acts.{ForAct, accepted, refused}
 use Rattle.mps_laws.proofs.Accounting.{move_leaves, own_segment_flips}
 use Rattle.mps_laws.proofs.LeftByActs.{Leaves, act_leaves}
-use Rattle.mps_laws.proofs.LegalHistories.{IsAnswered, legal_step}
 use Rattle.mps_laws.proofs.Positions.OwnMoves.{is_moving, commit_moves_none, alloc_moves_none, free_moves_none, cache_alloc_moves_none, cache_free_moves_none, cache_flush_moves_none, pop_moves_none}
 
 -- ---- moves without a flip
@@ -331,18 +330,13 @@ act_same c v (Ok a) (accepted leaves) = leaves.flips
 act_same c v (Err why) refused = refl
 
 pub step_flips_once : StepFlipsOnceAtMost
-step_flips_once w s legal = by_case (legal_step w s legal)
-  where
-    by_case : (world_after w s ≡ w) ⊎ IsAnswered w s → IsFlippedOnce w (world_after w s)
-    by_case (inl same) = same_flips w (world_after w s) (ap (λ (v : World). v.flips) same)
-    by_case (inr answered) =
-        let moved = moved_world w s.call s.moves in
-        let result = act (is_block s.answer) (judged_world w s.call s.moves) moved s.call in
-        then_same w (after_its_moves w s.call s.moves) (world_after w s)
-        (call_once w s.call s.answer s.moves answered.answered.moves_are_due)
-        (ap (λ (v : World). v.flips) answered.after
-        ∙ act_same s.call moved result (act_leaves (is_block s.answer) (judged_world w s.call s.moves) moved s.call)
-        ∙ asked_same (units_asked w s.call) (after_its_moves w s.call s.moves))
+step_flips_once w s legal =
+    let moved = moved_world w s.call s.moves in
+    let result = act (is_block s.answer) (judged_world w s.call s.moves) moved s.call in
+    then_same w (after_its_moves w s.call s.moves) (world_after w s)
+    (call_once w s.call s.answer s.moves legal.moves_are_due)
+    (act_same s.call moved result (act_leaves (is_block s.answer) (judged_world w s.call s.moves) moved s.call)
+    ∙ asked_same (units_asked w s.call) (after_its_moves w s.call s.moves))
 
 steps_flip : (w : World) (h : History) → IsLegalFrom w h → length (world_after_steps w h).flips ≤ length w.flips + length h
 steps_flip w [] legal = omega arith

@@ -20,7 +20,7 @@ use Rattle.mps_model.specs.Frames.{popped, pushed}
 use Rattle.mps_model.specs.Transforms.{pairs_of}
 use Rattle.mps_model.specs.WellFormed.{are_right_frames, are_rising, is_block_of, is_right_cache, is_right_class}
 use Rattle.mps_model.specs.Reply.{act, world_from}
-use Rattle.mps_model.specs.History.{IsLegalStep, judged_world, moved_world, world_after}
+use Rattle.mps_model.specs.History.{judged_world, moved_world, world_after}
 use Rattle.mps_changes.specs.Change.{Change, HasCacheOver, IsFoundBy, Now, Before, CellsAre, BlockWordIs, BlocksMade, PlaceEmptied, Allocated, BlockUncached, BlockCached, FramePushed, FramesPopped, PoolMade, Committed, Substituted, ForAct, accepted, refused}
 use Rattle.mps_changes.proofs.ActChanges.{act_changes_so}
 use Rattle.mps_changes.proofs.Checks.{cache_named-is}
@@ -30,7 +30,6 @@ use Rattle.mps_changes.proofs.Written.{written_length}
 use Rattle.mps_laws.proofs.Acts.{cleared_kept, word_kept}
 use Rattle.mps_laws.proofs.Caches.{AreRightCaches, caches_moved, shapes_of}
 use Rattle.mps_laws.proofs.FoundBy.{found_by}
-use Rattle.mps_laws.proofs.LegalHistories.{legal_step}
 use Rattle.mps_laws.proofs.Lookups.{length-with_last, map-with_last, slice_get-at_last, slice_get-kept}
 use Rattle.mps_laws.proofs.OpenFrames.{rising_cut, rising_last, rising_more}
 use Rattle.mps_laws.proofs.OnePlace.{AreOnce, later_made, one_new, table_added}
@@ -420,20 +419,15 @@ frames_moved w v shapes pools blocks frames h =
     (subst (λ bs. AreFramesOf (shapes_of w) w.pools (flat_map entries bs) v.graph.frames) (sym blocks)
     (subst (AreFramesOf (shapes_of w) w.pools (ids_in_places w.graph)) (sym frames) h)))
 
-pub frames_after : (w : World) (s : Step) → AreRightFrames w → AreRightCaches w → IsLegalStep w s → AreRightFrames (world_after w s)
-frames_after w s h cached legal =
-    elim (legal_step w s legal) [
-      | inl same ↦ subst AreRightFrames (sym same) h
-      | inr answered ↦
-          let v = moved_world w s.call s.moves in
-          let judged = judged_world w s.call s.moves in
-          let alone = moved_alone w s.call s.moves in
-          subst AreRightFrames (sym answered.after)
-          (act_right judged v ((judged_alone w s.call s.moves).blocks ∙ sym alone.blocks)
-          (frames_moved w v alone.shapes alone.pools alone.blocks alone.frames h)
-          (caches_moved w v alone.shapes alone.pools alone.caches cached)
-          (act (is_block s.answer) judged v s.call) (act_changes_so (is_block s.answer) judged v s.call))
-    ]
+pub frames_after : (w : World) (s : Step) → AreRightFrames w → AreRightCaches w → AreRightFrames (world_after w s)
+frames_after w s h cached =
+    let v = moved_world w s.call s.moves in
+    let judged = judged_world w s.call s.moves in
+    let alone = moved_alone w s.call s.moves in
+    act_right judged v ((judged_alone w s.call s.moves).blocks ∙ sym alone.blocks)
+    (frames_moved w v alone.shapes alone.pools alone.blocks alone.frames h)
+    (caches_moved w v alone.shapes alone.pools alone.caches cached)
+    (act (is_block s.answer) judged v s.call) (act_changes_so (is_block s.answer) judged v s.call)
 
 -- ---- what is well-formed
 

@@ -4,15 +4,15 @@ use Rattle.std.specs.List.{AllByRecursion}
 use Rattle.mps_model.specs.Layout.{Layout}
 use Rattle.mps_model.specs.Step.{Step, History}
 use Rattle.mps_model.specs.World.{World, empty_world_of}
-use Rattle.mps_model.specs.History.{IsLegalHistoryOf, HeldAreLive, world_after}
+use Rattle.mps_model.specs.History.{IsLegalHistoryOf, IsLegalStep, HeldAreLive, world_after}
 use Rattle.mps_laws.specs.Replay.{reached}
-use Rattle.mps_laws.proofs.LegalHistories.{IsAnswered, kept_by_steps, IsLegalFrom-first}
+use Rattle.mps_laws.proofs.LegalHistories.{kept_by_steps, IsLegalFrom-first}
 
 pub held_at_first : (formats : ℕ → Layout) → HeldAreLive (empty_world_of formats)
 held_at_first formats = record { client = refl; blocks = refl; referred = refl; transforms = refl }
 
-held_after_step : (w : World) (s : Step) → HeldAreLive w → Unit {0} → IsAnswered w s → HeldAreLive (world_after w s)
-held_after_step w s held kind answered = answered.answered.held_are_live
+held_after_step : (w : World) (s : Step) → HeldAreLive w → Unit {0} → IsLegalStep w s → HeldAreLive (world_after w s)
+held_after_step w s held kind legal = legal.held_are_live
 
 pub any_kind : (steps : History) → AllByRecursion (λ s. Unit {0}) steps
 any_kind [] = tt

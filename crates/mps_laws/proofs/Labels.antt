@@ -5,15 +5,15 @@ use Rattle.std.proofs.lemmas.Option.{none-some, same_Some}
 use Rattle.std.specs.Prelude.{slice_get, is_some, if◌then◌else◌}
 use Rattle.mps_base.specs.Name.{same_name}
 use Rattle.mps_base.specs.declared.names.Name.{Name}
-use Rattle.mps_model.specs.Answer.{is_block, is_unsupported}
+use Rattle.mps_model.specs.Answer.{is_block}
 use Rattle.mps_model.specs.declared.call.Call.{Call}
 use Rattle.mps_model.specs.Step.{Step}
 use Rattle.mps_model.specs.Graph.{Graph, NamedThing, Thing, ChainThing, PoolThing, TableThing, AreaThing, BlocksThing, PointThing, DependencyThing, TransformThing, CacheThing, LabelThing, thing_in, thing_named, is_taken, with_last, without_name}
 use Rattle.mps_model.specs.World.{World}
 use Rattle.mps_model.specs.WellFormed.{is_label, are_labels}
 use Rattle.mps_model.specs.Checked.{as_point}
-use Rattle.mps_model.specs.Reply.{act, world_from}
-use Rattle.mps_model.specs.History.{judged_world, moved_world, with_client_remembered, world_after}
+use Rattle.mps_model.specs.Reply.{act}
+use Rattle.mps_model.specs.History.{judged_world, moved_world, world_after}
 use Rattle.mps_changes.specs.Change.{AsideIs, ChainMade, DependencyMade, LabelMade, TransformMade, TransformDropped, Change, Aside, TableMade, AreaMade, BlocksMade, TableDropped, AreaDropped, PoolMade, PointMade, PointDropped, Substituted, CacheMade}
 use Rattle.mps_changes.proofs.ActChanges.{of_changes}
 use Rattle.mps_laws.proofs.Acts.{for_world, point_named-is}
@@ -149,13 +149,8 @@ labels_after w s named =
     let judged = judged_world w s.call s.moves in
     let moved : AreNamed v.graph = (λ number label e.
     ap (λ ns. thing_in ns label) alone.names ∙ named number label (sym (ap (λ ls. slice_get ls number) alone.labels) ∙ e)) in
-    elim (is_unsupported s.answer) as (λ b. AreNamed (if b then w else with_client_remembered
-    (world_from v (act (is_block s.answer) judged v s.call))).graph) [
-      | true ↦ named
-      | false ↦
-          for_world (λ u. AreNamed u.graph) v (act (is_block s.answer) judged v s.call)
-          (of_changes (is_block s.answer) judged v s.call (λ u change. change_named v moved change)) moved
-    ]
+    for_world (λ u. AreNamed u.graph) v (act (is_block s.answer) judged v s.call)
+    (of_changes (is_block s.answer) judged v s.call (λ u change. change_named v moved change)) moved
 
 -- as the fact of well-formed worlds has it
 pub labels_from : (g : Graph) (first : ℕ) (labels : List Name)

@@ -9,13 +9,13 @@ use Rattle.mps_model.specs.Layout.{Layout}
 use Rattle.mps_model.specs.declared.call.Call.{Call}
 use Rattle.mps_model.specs.Answer.{is_block}
 use Rattle.mps_model.specs.Step.{Step, History}
-use Rattle.mps_model.specs.Graph.{Graph, Manual, Object, Slots, entries, ids_in_blocks, ids_in_caches, ids_in_places, occurrences, with_last}
+use Rattle.mps_model.specs.Graph.{Manual, Object, Slots, entries, ids_in_blocks, ids_in_caches, ids_in_places, occurrences, with_last}
 use Rattle.mps_model.specs.World.{World, empty_world_of, words_of}
 use Rattle.mps_model.specs.Checked.{Found, as_blocks, block_place_in, number_named}
 use Rattle.mps_model.specs.Allocating.{with_block_place}
 use Rattle.mps_model.specs.Caches.{with_classes}
 use Rattle.mps_model.specs.Reply.{act, world_from}
-use Rattle.mps_model.specs.History.{IsLegalHistoryOf, judged_world, moved_world, world_after}
+use Rattle.mps_model.specs.History.{IsLegalStep, IsLegalHistoryOf, judged_world, moved_world, world_after}
 use Rattle.mps_changes.specs.Change.{Change, IsFoundBy, Now, Before, BlocksMade, PlaceEmptied, Allocated, CacheMade, BlockUncached, BlockCached, CacheFlushed, FramesPopped}
 use Rattle.mps_changes.proofs.ActChanges.{of_changes}
 use Rattle.mps_changes.proofs.Checks.{cache_named-is, for_world}
@@ -28,7 +28,7 @@ use Rattle.mps_laws.proofs.Entries.{GoesOn}
 use Rattle.mps_laws.proofs.FoundBy.{found_by}
 use Rattle.mps_laws.proofs.Held.{any_kind}
 use Rattle.mps_laws.proofs.LeftByActs.{change_leaves, owners}
-use Rattle.mps_laws.proofs.LegalHistories.{IsAnswered, IsLegalFrom-first, kept_by_steps}
+use Rattle.mps_laws.proofs.LegalHistories.{IsLegalFrom-first, kept_by_steps}
 use Rattle.mps_laws.proofs.Lookups.{length-with_last}
 use Rattle.mps_laws.proofs.Positions.Occupancy.{shape_of}
 use Rattle.mps_laws.proofs.SameArena.{moved_alone, judged_alone}
@@ -211,8 +211,8 @@ module _ (judged v : World) (same : judged.graph.blocks ≡ v.graph.blocks) (are
 
 -- ---- histories
 
-step_keeps : (w : World) (s : Step) → AreInOnePlace w → Unit {0} → IsAnswered w s → AreInOnePlace (world_after w s)
-step_keeps w s are kind answered =
+step_keeps : (w : World) (s : Step) → AreInOnePlace w → Unit {0} → IsLegalStep w s → AreInOnePlace (world_after w s)
+step_keeps w s are kind legal =
     let v = moved_world w s.call s.moves in
     let judged = judged_world w s.call s.moves in
     let alone = moved_alone w s.call s.moves in
@@ -224,8 +224,7 @@ step_keeps w s are kind answered =
     ∙ ap (λ qs. ids_in_places w.graph ++ flat_map Rattle.mps_model.specs.Graph.ids_of_cache qs) alone.caches in
     let moved : AreInOnePlace v = subst (λ (n : ℕ). AreOnce n (ids_in_blocks v.graph)) (sym as_many)
     (subst (λ (is : List ℕ). AreOnce (length w.graph.objects) is) (sym ids) are) in
-    subst AreInOnePlace (sym answered.after)
-    (act_keeps judged v ((judged_alone w s.call s.moves).blocks ∙ sym alone.blocks) moved (is_block s.answer) s.call)
+    act_keeps judged v ((judged_alone w s.call s.moves).blocks ∙ sym alone.blocks) moved (is_block s.answer) s.call
 
 pub in_one_place : (formats : ℕ → Layout) (steps : History) → IsLegalHistoryOf formats steps → AreInOnePlace (reached formats steps)
 in_one_place formats steps legal =

@@ -30,7 +30,7 @@ use Rattle.mps_model.specs.Reply.{act, answer_from, reply_to, world_from}
 use Rattle.mps_model.specs.Step.{Step}
 use Rattle.mps_model.specs.Units.{AreUnitsToEnd}
 use Rattle.mps_model.specs.Frames.{frames_named}
-use Rattle.mps_model.specs.History.{AreMovesOf, AreMovesOfCollect, FinishesCollection, IsPoll, after_its_moves, after_own_segment, asking, flip_act_of_chain, judged_world, moved_world, moves_of_poll, own_segment, remembering, segment_of_found, unless_refused, with_client_remembered, world_after}
+use Rattle.mps_model.specs.History.{IsLegalStep, AreMovesOf, AreMovesOfCollect, FinishesCollection, IsPoll, after_its_moves, after_own_segment, asking, flip_act_of_chain, judged_world, moved_world, moves_of_poll, own_segment, remembering, segment_of_found, unless_refused, with_client_remembered, world_after}
 use Rattle.mps_changes.specs.Change.{AsideIs, StateIs, ParkedAnew, ParkedOn, PairAdded, TransformDropped, Change, Aside, Substituted, ForAct, accepted, refused, IsInSlot}
 use Rattle.mps_changes.proofs.ActChanges.{act_changes_so, of_changes}
 use Rattle.mps_changes.proofs.Checks.{after_check, andthen}
@@ -40,7 +40,6 @@ use Rattle.mps_laws.proofs.Entries.{GoesOn, slice_get-there}
 use Rattle.mps_laws.proofs.FoundBy.{object_found, slot_found}
 use Rattle.mps_laws.proofs.Flipping.{HasNone, are_units_none, finished_none, get_none, no_moves, none_moving, where_due}
 use Rattle.mps_laws.proofs.LeftByActs.{Leaves, act_leaves, owners}
-use Rattle.mps_laws.proofs.LegalHistories.{IsAnswered}
 use Rattle.mps_laws.proofs.OwnSegments.{own_segment_taken}
 use Rattle.mps_laws.proofs.Positions.Occupancy.{Shape, shape_of}
 use Rattle.mps_laws.proofs.Positions.OwnMoves.{is_moving, commit_moves_none, alloc_moves_none, free_moves_none, cache_alloc_moves_none, cache_free_moves_none, cache_flush_moves_none, pop_moves_none}
@@ -303,10 +302,8 @@ module _ (w : World) (ms : List Move) (answer : Answer) (before : RestsWhenParke
     | inr k ↦ absurd (false≢true k)
   ]
 
-pub step_rests : (w : World) (s : Step) → RestsWhenParked w → IsAnswered w s → RestsWhenParked (world_after w s)
-step_rests w s before is =
-    subst RestsWhenParked (sym is.after) (λ h. runs_as w s ∙ of_call w s.moves s.answer before s.call is.answered.moves_are_due
-    is.answered.answer_is_due h)
+pub step_rests : (w : World) (s : Step) → RestsWhenParked w → IsLegalStep w s → RestsWhenParked (world_after w s)
+step_rests w s before legal h = runs_as w s ∙ of_call w s.moves s.answer before s.call legal.moves_are_due legal.answer_is_due h
 
 -- ---- the objects in pairs
 
@@ -415,12 +412,11 @@ goes_on c v (Ok a) (accepted leaves) = (leaves.owned, leaves.pools)
 goes_on c v (Err why) refused = (([], sym (append-nil (owners v.graph))), ([], sym (append-nil v.pools)))
 
 pub pairs_after : (w : World) (s : Step) → IsSoundGraph w → IsSoundGraph (world_after w s) → All (auto w) (ids_in_pairs w.state)
-    → IsAnswered w s → All (auto (world_after w s)) (ids_in_pairs (world_after w s).state)
-pairs_after w s sound sound_after h is =
-    subst (λ u. All (auto u) (ids_in_pairs u.state)) (sym is.after)
-    (act_pairs v (auto u) (subst (λ a. All (auto u) (ids_in_pairs a)) (sym alone.state)
+    → All (auto (world_after w s)) (ids_in_pairs (world_after w s).state)
+pairs_after w s sound sound_after h =
+    act_pairs v (auto u) (subst (λ a. All (auto u) (ids_in_pairs a)) (sym alone.state)
     (all-weaker (auto w) (auto u) stays (ids_in_pairs w.state) h)) result
-    (act_changes_so (is_block s.answer) (judged_world w s.call s.moves) v s.call) t.slots)
+    (act_changes_so (is_block s.answer) (judged_world w s.call s.moves) v s.call) sound_after.slots
   where
     v : World
     v = moved_world w s.call s.moves
@@ -434,9 +430,6 @@ pairs_after w s sound sound_after h is =
     alone : IsLeftAlone w v
     alone = moved_alone w s.call s.moves
 
-    t : IsSoundGraph u
-    t = subst IsSoundGraph is.after sound_after
-
     on : GoesOn (owners v.graph) (owners (world_from v result).graph) × GoesOn v.pools (world_from v result).pools
     on = goes_on s.call v result (act_leaves (is_block s.answer) (judged_world w s.call s.moves) v s.call)
 
@@ -445,5 +438,5 @@ pairs_after w s sound sound_after h is =
 
     stays : (id : ℕ) → auto w id ≡ true → auto u id ≡ true
     stays =
-        auto_stays w u sound t (subst (λ os. GoesOn os (owners u.graph)) same on.0)
+        auto_stays w u sound sound_after (subst (λ os. GoesOn os (owners u.graph)) same on.0)
         (subst (λ ps. GoesOn ps u.pools) alone.pools on.1)

@@ -1,11 +1,11 @@
 -- Steps of calls that make no moves: such a step is legal where its answer is the act's and what the client holds is live after it.
-use Rattle.std.proofs.Common.{◌≡◌, ◌∙◌, ℕ, Bool, true, false, refl, sym, ap, subst, [], Option, Some, None, Ok}
-use Rattle.std.specs.Prelude.{IsTrue, MatchBool, ◌||◌, nat_lt, is_some, if◌then◌else◌, option_map}
+use Rattle.std.proofs.Common.{◌≡◌, ◌∙◌, ℕ, Bool, true, refl, sym, ap, subst, [], Option, Some, None, Ok}
+use Rattle.std.specs.Prelude.{IsTrue, ◌||◌, nat_lt, is_some, option_map}
 use Rattle.std.specs.List.{list_all, flat_map}
 use Rattle.std.specs.Option.{option_map_or}
 use Rattle.mps_model.specs.declared.call.Call.{Call}
 use Rattle.mps_model.specs.declared.call.Call.TheVariants as calls
-use Rattle.mps_model.specs.Answer.{Answer, is_block, is_unsupported}
+use Rattle.mps_model.specs.Answer.{Answer, is_block}
 use Rattle.mps_model.specs.Step.{Step}
 use Rattle.mps_model.specs.Graph.{ids_of_client, targets}
 use Rattle.mps_model.specs.Collection.{Collection}
@@ -13,7 +13,7 @@ use Rattle.mps_model.specs.World.{World, is_live, live_ids, ids_in_pairs}
 use Rattle.mps_model.specs.Checked.{Act, Checked}
 use Rattle.mps_model.specs.LegalMove.{AreLegalMoves}
 use Rattle.mps_model.specs.Reply.{act, answer_from, world_from}
-use Rattle.mps_model.specs.History.{IsLegalStep, IsAnsweredStep, AreMovesOf, HeldAreLive, IsPossiblyMarked, judged_world, moved_world, moves_of_collector, world_after, world_after_call, with_client_remembered, remembering, are_held_kept, is_held_rightly, has_units_left}
+use Rattle.mps_model.specs.History.{IsLegalStep, AreMovesOf, HeldAreLive, IsPossiblyMarked, judged_world, moved_world, moves_of_collector, world_after, with_client_remembered, remembering, are_held_kept, is_held_rightly, has_units_left}
 
 -- what must hold after each call
 pub record IsSound (w : World) : Type 0 where
@@ -68,7 +68,6 @@ pub record IsQuiet (w : World) (call : Call) (answer : Answer) : Type 0 where
   pub moved : moved_world w call [] ≡ w
   pub due : AreMovesOf w call answer []
   pub marked : IsPossiblyMarked w call answer
-  pub supported : is_unsupported answer ≡ false
 
 -- a legal step, and the world after it
 pub record IsRight (w : World) (s : Step) (after : World) : Type 0 where
@@ -82,8 +81,7 @@ module _ (w : World) (line : ℕ) (call : Call) (answer : Answer) (q : IsQuiet w
   after_quiet : (result : Checked Act) → act (is_block answer) w w call ≡ result
       → world_after w (quiet line call answer) ≡ with_client_remembered (world_from w result)
   after_quiet result e =
-      ap (λ (b : Bool). if b then w else world_after_call w call [] answer) q.supported
-      ∙ ap (λ r. with_client_remembered (world_from (moved_world w call []) r)) (same_act ∙ e)
+      ap (λ r. with_client_remembered (world_from (moved_world w call []) r)) (same_act ∙ e)
       ∙ ap (λ v. with_client_remembered (world_from v result)) q.moved
 
   -- where the act comes to this, the step is legal
@@ -94,17 +92,15 @@ module _ (w : World) (line : ℕ) (call : Call) (answer : Answer) (q : IsQuiet w
       let after = after_quiet result e in
       let remembered = remembered_sound (world_from w result) sound in
       record {
-        legal = subst (λ (b : Bool). MatchBool b ((quiet line call answer).moves ≡ []) (IsAnsweredStep w (quiet line call answer)))
-            (sym q.supported)
-            (record {
-              moves_are_legal = none_is_legal call;
-              moves_are_due = q.due;
-              answer_is_due = answers ∙ ap answer_from (sym (same_act ∙ e));
-              marked_may_survive = q.marked;
-              held_are_live = subst HeldAreLive (sym after) remembered.live;
-              held_are_kept = subst (λ (v : World). are_held_kept v ≡ true) (sym after) remembered.kept;
-              units_are_left = subst (λ (v : World). has_units_left v ≡ true) (sym after) remembered.units;
-            });
+        legal = record {
+          moves_are_legal = none_is_legal call;
+          moves_are_due = q.due;
+          answer_is_due = answers ∙ ap answer_from (sym (same_act ∙ e));
+          marked_may_survive = q.marked;
+          held_are_live = subst HeldAreLive (sym after) remembered.live;
+          held_are_kept = subst (λ (v : World). are_held_kept v ≡ true) (sym after) remembered.kept;
+          units_are_left = subst (λ (v : World). has_units_left v ≡ true) (sym after) remembered.units;
+        };
         world = after;
       }
     where

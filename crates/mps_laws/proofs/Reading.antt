@@ -10,9 +10,8 @@ use Rattle.mps_base.specs.declared.moves.Move.TheVariants as moves
 use Rattle.mps_base.specs.declared.refusal.Refusal.TheVariants as refusal
 use Rattle.mps_model.proofs.Reaching.{list_all-contains}
 use Rattle.mps_model.specs.declared.call.Call.TheVariants as call
-use Rattle.mps_model.specs.declared.reply.Reply.{Reply}
 use Rattle.mps_model.specs.declared.reply.Reply.TheVariants as reply
-use Rattle.mps_model.specs.Answer.{Answer, Replied, Dumped, is_accepted, is_block, is_unsupported}
+use Rattle.mps_model.specs.Answer.{Answer, Replied, is_accepted, is_block}
 use Rattle.mps_model.specs.Step.{Step}
 use Rattle.mps_model.specs.Graph.{Graph, Object, thing_in, is_automatic, Cell, HeadCell, NumberCell, ReferenceCell, contains, entries, entry_at, slots_of, ids_in_slots, ids_in_holds, ids_in_reservations, ids_of_client, object_at, target_of_cell}
 use Rattle.mps_base.specs.Segment.{Segment, words_of_segment}
@@ -26,7 +25,7 @@ use Rattle.mps_model.specs.Reply.{answer_from, reply_to, world_from}
 use Rattle.mps_model.specs.History.{HeldAreLive, IsLegalStep, judged_world, moved_world, world_after, world_after_call, with_client_remembered}
 use Rattle.mps_laws.specs.Replay.{reached}
 use Rattle.mps_laws.specs.Held.{GetsReachLiveObjects, IsReadOfLive, is_null_or_live, target_of_slot, target_found}
-use Rattle.mps_laws.proofs.LegalHistories.{IsAnswered, supported_step, IsLegalFrom-first}
+use Rattle.mps_laws.proofs.LegalHistories.{IsLegalFrom-first}
 use Rattle.mps_laws.proofs.Held.{held_after}
 use Rattle.mps_model.proofs.Appending.{IsLegalFrom-later}
 use Rattle.mps_laws.proofs.Entries.{slice_get-written, entry_at-written}
@@ -335,34 +334,20 @@ module _ (w : World) (target source : Slot) (cell : ℕ) (answer : Answer) (ms :
         given_is_live = null_or_live (with_client_remembered a.world) target live (target_of_slot a.world target) refl;
       }
 
-read_of_step : (w : World) (s : Step) (target source : Slot) (cell : ℕ) → HeldAreLive w → IsAnswered w s → s.call
-    ≡ call.Get target source cell
-    → is_accepted s.answer ≡ true → IsReadOfLive w (world_after w s) target source cell
-read_of_step w s target source cell held answered is_get accepted =
+read_of_step : (w : World) (s : Step) (target source : Slot) (cell : ℕ) → HeldAreLive w → IsLegalStep w s
+    → s.call ≡ call.Get target source cell → is_accepted s.answer ≡ true → IsReadOfLive w (world_after w s) target source cell
+read_of_step w s target source cell held legal is_get accepted =
     let after : world_after w s ≡ world_after_call w (call.Get target source cell) s.moves s.answer =
-    answered.after ∙ ap (λ c. world_after_call w c s.moves s.answer) is_get in
+    ap (λ c. world_after_call w c s.moves s.answer) is_get in
     subst (λ (v : World). IsReadOfLive w v target source cell) (sym after)
     (read_of_act w target source cell s.answer s.moves held (act_get w (world_after_moves w s.moves) target source cell) refl
     (subst (λ c. s.answer ≡ reply_to (is_block s.answer) (judged_world w c s.moves) (moved_world w c s.moves) c) is_get
-    answered.answered.answer_is_due)
-    accepted (subst HeldAreLive after answered.answered.held_are_live))
-
--- an answer that accepts isn't `unsupported`
-accepts : (given : Reply) → is_accepted (Replied given) ≡ true → given ≡ reply.Ok
-accepts reply.Ok accepted = refl
-accepts _ accepted = absurd cc
-
-accepted_is_supported : (a : Answer) → is_accepted a ≡ true → is_unsupported a ≡ false
-accepted_is_supported (Replied given) accepted = ap (λ r. is_unsupported (Replied r)) (accepts given accepted)
-accepted_is_supported (Dumped words) accepted = refl
-
--- an accepted step was answered
-accepted_is_answered : (w : World) (s : Step) → IsLegalStep w s → is_accepted s.answer ≡ true → IsAnswered w s
-accepted_is_answered w s legal accepted = supported_step w s (accepted_is_supported s.answer accepted) legal
+    legal.answer_is_due)
+    accepted (subst HeldAreLive after legal.held_are_live))
 
 pub gets_reach_live_objects : GetsReachLiveObjects
 gets_reach_live_objects formats steps later s target source cell legal is_get accepted =
     let w = reached formats steps in
     let from_here = IsLegalFrom-later (empty_world_of formats) steps (s ∷ later) legal in
     read_of_step w s target source cell (held_after formats steps (IsLegalFrom-first (empty_world_of formats) steps (s ∷ later) legal))
-    (accepted_is_answered w s from_here.0 accepted) is_get accepted
+    from_here.0 is_get accepted

@@ -10,7 +10,7 @@ use Rattle.mps_model.specs.Layout.{Layout}
 use Rattle.mps_model.proofs.Appending.{world_after_steps-append, IsLegalFrom-later}
 use Rattle.mps_model.specs.declared.call.Call.TheVariants as call
 use Rattle.mps_model.specs.declared.reply.Reply.TheVariants as reply
-use Rattle.mps_model.specs.Answer.{Replied, is_block, is_unsupported}
+use Rattle.mps_model.specs.Answer.{Replied, is_block}
 use Rattle.mps_model.specs.Step.{Step, History}
 use Rattle.mps_model.specs.Graph.{Object, contains, ids_of_client}
 use Rattle.mps_model.specs.Collection.{Collection}
@@ -19,12 +19,12 @@ use Rattle.mps_model.specs.Checked.{Checked, Found, Numbered, ◌>>=◌, slot_in
 use Rattle.mps_model.specs.Accessing.{act_address, address_or_null}
 use Rattle.mps_model.specs.Effect.{world_after_moves}
 use Rattle.mps_model.specs.Reply.{act, answer_from, reply_to, world_from}
-use Rattle.mps_model.specs.History.{IsLegalFrom, AreMovesOf, IsLegalHistoryOf, judged_world, moved_world, world_after, world_after_steps, with_client_remembered, remembering}
+use Rattle.mps_model.specs.History.{IsLegalStep, IsLegalFrom, AreMovesOf, IsLegalHistoryOf, judged_world, moved_world, world_after, world_after_steps, with_client_remembered, remembering}
 use Rattle.mps_laws.specs.Replay.{reached}
 use Rattle.mps_laws.specs.Held.{target_of_slot, target_found}
 use Rattle.mps_laws.specs.Staying.{HeldBlocksStay, HeldThroughoutStays, AddressesStayRight, is_flip, flips_not, are_without_flip}
 use Rattle.mps_laws.proofs.Lookups.{entry_within}
-use Rattle.mps_laws.proofs.LegalHistories.{IsAnswered, kept_by_steps, IsLegalFrom-first, supported_step}
+use Rattle.mps_laws.proofs.LegalHistories.{kept_by_steps, IsLegalFrom-first}
 use Rattle.mps_laws.proofs.Held.{held_after, any_kind}
 use Rattle.mps_laws.proofs.Reading.{contains-append_left, held_is_live, slot_is_held, object_found}
 use Rattle.mps_laws.proofs.Positions.Places.{IsSettledIn, IsPutIn, settled_is_unmovable, step_put}
@@ -49,11 +49,10 @@ remembered_is_settled held id h (Some c) = held_is_had held c.had id (contains c
 client_is_remembered : (w : World) → IsClientSettled (with_client_remembered w)
 client_is_remembered w = λ id h. remembered_is_settled (ids_of_client w.graph) id h w.collection
 
-pub client_after_step : (w : World) (s : Step) → IsClientSettled w → Unit {0} → IsAnswered w s → IsClientSettled (world_after w s)
-client_after_step w s settled kind answered =
+pub client_after_step : (w : World) (s : Step) → IsClientSettled w → Unit {0} → IsLegalStep w s → IsClientSettled (world_after w s)
+client_after_step w s settled kind legal =
     let moved = moved_world w s.call s.moves in
-    subst IsClientSettled (sym answered.after)
-    (client_is_remembered (world_from moved (act (is_block s.answer) (judged_world w s.call s.moves) moved s.call)))
+    client_is_remembered (world_from moved (act (is_block s.answer) (judged_world w s.call s.moves) moved s.call))
 
 pub client_is_settled : (formats : ℕ → Layout) (steps : History) → IsLegalHistoryOf formats steps
     → IsClientSettled (reached formats steps)
@@ -79,7 +78,7 @@ pub held_is_put : (w : World) (between : History) (id at : ℕ) → IsClientSett
     → address_of w id ≡ Some at → AllByRecursion HasNoFlip between → IsLegalFrom w between
     → (address_of (world_after_steps w between) id ≡ Some at) ⊎ (address_of (world_after_steps w between) id ≡ None)
 held_is_put w between id at settled held lies none legal =
-    (kept_by_steps (IsPutIn id at) HasNoFlip (λ v s put no_flip answered. step_put id at v s no_flip answered put) w between
+    (kept_by_steps (IsPutIn id at) HasNoFlip (λ v s put no_flip legal. step_put id at v s no_flip legal put) w between
     (record {
       made = entry_within w.addresses id at lies;
       address = inl lies;
@@ -140,16 +139,16 @@ addressed w slot id at refers live due = by_slot (slot_in w slot) refers due
     by_slot (Ok found) refers due = by_object found.value refers (object_in w found.value) refl due
 
 -- `addr` makes no moves
-address_moves : (w : World) (s : Step) (slot : Slot) → s.call ≡ call.Address slot → IsAnswered w s → s.moves ≡ []
-address_moves w s slot is_address answered = subst (λ c. AreMovesOf w c s.answer s.moves) is_address answered.answered.moves_are_due
+address_moves : (w : World) (s : Step) (slot : Slot) → s.call ≡ call.Address slot → IsLegalStep w s → s.moves ≡ []
+address_moves w s slot is_address legal = subst (λ c. AreMovesOf w c s.answer s.moves) is_address legal.moves_are_due
 
 address_answer : (w : World) (s : Step) (slot : Slot) (at : ℕ) → s.call ≡ call.Address slot → s.answer ≡ Replied (reply.Word at)
-    → IsAnswered w s → Replied (reply.Word at) ≡ answer_from (act_address w slot)
-address_answer w s slot at is_address says_word answered =
+    → IsLegalStep w s → Replied (reply.Word at) ≡ answer_from (act_address w slot)
+address_answer w s slot at is_address says_word legal =
     sym says_word
     ∙ subst (λ c. s.answer ≡ reply_to (is_block s.answer) (judged_world w c s.moves) (moved_world w c s.moves) c) is_address
-    answered.answered.answer_is_due
-    ∙ ap (λ ms. answer_from (act_address (world_after_moves w ms) slot)) (address_moves w s slot is_address answered)
+    legal.answer_is_due
+    ∙ ap (λ ms. answer_from (act_address (world_after_moves w ms) slot)) (address_moves w s slot is_address legal)
 
 pub addresses_stay_right : AddressesStayRight
 addresses_stay_right formats steps between later s slot id at legal is_address says_word refers none =
@@ -158,10 +157,9 @@ addresses_stay_right formats steps between later s slot id at legal is_address s
     let both = IsLegalFrom-first first (steps ++ s ∷ between) later legal in
     let before = IsLegalFrom-first first steps (s ∷ between) both in
     let now = IsLegalFrom-later first steps (s ∷ between) both in
-    let answered = supported_step w s (ap is_unsupported says_word) now.0 in
     let held = slot_is_held w slot id refers in
     subst (λ (v : World). (address_of v id ≡ Some at) ⊎ (address_of v id ≡ None)) (sym (world_after_steps-append first steps (s ∷ between)))
     (held_is_put w (s ∷ between) id at (client_is_settled formats steps before) held
     (addressed w slot id at refers (held_is_live w id (held_after formats steps before) held)
-    (address_answer w s slot at is_address says_word answered))
-    (ap (list_any is_flip) (address_moves w s slot is_address answered), no_flips between none) now)
+    (address_answer w s slot at is_address says_word now.0))
+    (ap (list_any is_flip) (address_moves w s slot is_address now.0), no_flips between none) now)

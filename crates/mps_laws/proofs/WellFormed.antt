@@ -10,13 +10,18 @@ use Rattle.mps_base.specs.Segment.{Segment}
 use Rattle.mps_base.specs.Run.{Run}
 use Rattle.mps_laws.proofs.Epochs.{AreDated}
 use Rattle.mps_model.specs.Graph.{LabelThing, Point, Reservation, AreaWord, PlainWord, Hold, entry_at, held_by_word, holds_of, ids_in_slots, ids_in_holds, ids_in_reservations, ids_of_client}
-use Rattle.mps_model.specs.World.{World, PointMemory, extent, ids_in_pairs, is_live, is_live_and, is_parked, is_running, is_copying_object, is_word_in, pool_at, shown_word, words_of}
+use Rattle.mps_model.specs.World.{World, committed, PointMemory, extent, ids_in_pairs, is_live, is_live_and, is_parked, is_running, is_copying_object, is_word_in, pool_at, shown_word, words_of}
 use Rattle.mps_model.specs.Making.{is_weak_rank}
 use Rattle.mps_model.specs.WellFormed.{IsWellFormed, is_live_automatic, are_right_cells, is_home, is_right_at_hand, is_right_object, is_right_point, is_right_reservation, are_right_points, is_right_word, are_right_words}
 use Rattle.mps_laws.proofs.Dependents.{ArePaired}
 use Rattle.mps_laws.proofs.Frames.{AreRightFrames, frames_right}
 use Rattle.mps_laws.proofs.Caches.{AreRightCaches}
 use Rattle.mps_laws.proofs.Labels.{AreNamed, labels_from}
+use Rattle.mps_laws.proofs.RunningCollection.{RunsWithin, right_running}
+use Rattle.mps_laws.proofs.SegmentPools.{AreOfPools}
+use Rattle.mps_laws.proofs.Spending.{SpendsWithin}
+use Rattle.mps_laws.proofs.ThingsNamed.{AreNamesRight}
+use Rattle.mps_laws.proofs.WithinLimit.{IsWithinLimit}
 use Rattle.mps_laws.proofs.Parked.{RestsWhenParked}
 use Rattle.mps_laws.proofs.Lookups.{entry_is_there}
 use Rattle.mps_laws.proofs.Positions.Occupancy.{Occupancy, OfReservation, OfBuffer, PointShape, shape_of_point, reserved_words, occupancy_of, run_of, run_of_reservation, run_of_reserved, run_of_buffer, pool_of_occupant, rank_of_occupant}
@@ -165,14 +170,17 @@ not_both : (a b : Bool) → (a ≡ true → b ≡ false) → not (a && b) ≡ tr
 not_both true b h = ap not (h refl)
 not_both false b h = refl
 
-pub well_formed : (w : World) → HasLayout (w.grains + 1) w → IsSoundGraph w → AreNamed w.graph → ArePaired w → AreRightCaches w
-    → AreRightFrames w → AreDated w → ClientIsLive w → RestsWhenParked w → All (is_live_automatic w) (ids_in_pairs w.state) → IsWellFormed w
-well_formed w laid s named paired cached framed dated live rests pairs = record {
+pub well_formed : (w : World) → HasLayout (w.grains + 1) w → IsWithinLimit w → AreOfPools w → IsSoundGraph w → AreNamesRight w
+    → AreNamed w.graph → ArePaired w → AreRightCaches w → AreRightFrames w → AreDated w → ClientIsLive w → RestsWhenParked w
+    → RunsWithin w → SpendsWithin w → All (is_live_automatic w) (ids_in_pairs w.state) → IsWellFormed w
+well_formed w laid within pools s names named paired cached framed dated live rests runs spends pairs = record {
   segments =
       and_from (list_all (Rattle.mps_model.specs.WellFormed.is_right_segment w) w.segments)
       (Rattle.mps_model.specs.WellFormed.are_apart (map Rattle.mps_base.specs.Segment.grains_of_segment w.segments))
       (segments_right w w.segments 1 (omega arith) laid.ascending laid.aligned laid.ranked)
       (ascending_apart 1 (w.grains + 1) (map Rattle.mps_base.specs.Segment.grains_of_segment w.segments) laid.ascending);
+  limit = le-leb (committed w) w.limit within;
+  pools = pools;
   addresses = laid.lengths ∙ length-map w.graph.objects Rattle.mps_laws.proofs.Positions.Occupancy.shape_of;
   apart = apart_right (w.grains + 1) w laid;
   objects = each-all (is_right_object w) w.graph.objects (λ id o e. s.objects id o e);
@@ -184,11 +192,13 @@ well_formed w laid s named paired cached framed dated live rests pairs = record 
   blocks = s.blocks;
   registered = s.registered;
   messages = all-both (is_live w) (auto w) w.graph.messages (messages_live w s live) s.messages;
+  names = names;
   labels =
       labels_from w.graph 0 w.graph.labels (λ number label e.
       named number label e ∙ ap (λ n. Some (LabelThing n)) (let same : number ≡ 0 + number = omega arith in same));
   dependents = paired;
   parked = not_both (is_parked w) (is_running w) rests;
+  running = right_running (w.grains + 1) w laid runs spends;
   transforms = pairs;
   caches = cached;
   frames = frames_right w s framed;

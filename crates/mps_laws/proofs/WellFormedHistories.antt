@@ -1,7 +1,7 @@
 -- Each legal step keeps the arena's grains, but for the one that makes the arena; so the worlds of a legal history are well-formed.
-use Rattle.std.proofs.Common.{Option, Some, None, ◌≡◌, ◌∙◌, ◌⊎◌, ℕ, ◌+◌, Bool, true, false, refl, sym, ap, List, [], ◌∷◌, subst, inl, inr, arith, max}
+use Rattle.std.proofs.Common.{Option, Some, None, ◌≡◌, ◌∙◌, ℕ, ◌+◌, ◌≤◌, Bool, true, false, refl, sym, ap, List, [], ◌∷◌, subst, arith, max}
 use Rattle.std.proofs.lemmas.Bool.{false≢true, true≢false}
-use Rattle.std.specs.Prelude.{MatchBool, not, ◌||◌, if◌then◌else◌, is_some, option_map, slice_get}
+use Rattle.std.specs.Prelude.{not, ◌||◌, is_some, option_map, slice_get}
 use Rattle.std.specs.List.{list_all, list_any}
 use Rattle.std.specs.Option.{option_map_or}
 use Rattle.std.proofs.lemmas.Option.{slice_get-map}
@@ -10,8 +10,8 @@ use Rattle.mps_laws.proofs.Epochs.{AreDated, dated_after, dated_in_steps}
 use Rattle.mps_model.specs.Layout.{Layout}
 use Rattle.mps_model.specs.declared.call.Call.{Call}
 use Rattle.mps_model.specs.declared.call.Call.TheVariants as call
-use Rattle.mps_model.specs.Answer.{Answer, is_block, is_unsupported}
-use Rattle.mps_model.specs.World.{World, Unclamped, empty_world_of, ids_in_pairs, is_live, is_parked}
+use Rattle.mps_model.specs.Answer.{Answer, is_block}
+use Rattle.mps_model.specs.World.{World, Unclamped, committed, empty_world_of, ids_in_pairs, is_live, is_parked}
 use Rattle.mps_model.specs.WellFormed.{is_live_automatic}
 use Rattle.mps_model.specs.Collecting.{with_state}
 use Rattle.mps_model.specs.Reply.{act, world_from}
@@ -28,15 +28,20 @@ use Rattle.mps_laws.proofs.Positions.LegalMoves.{HasLayout}
 use Rattle.mps_model.specs.Graph.{empty_graph, Object, ids_in_places, is_automatic, object_at, thing_in}
 use Rattle.mps_laws.proofs.Dependents.{ArePaired, moves_paired, dependents_after}
 use Rattle.mps_laws.proofs.Held.{held_at_first}
-use Rattle.mps_laws.proofs.LegalHistories.{legal_step}
 use Rattle.mps_laws.proofs.Parked.{RestsWhenParked, none_there, pairs_after, step_rests}
 use Rattle.mps_laws.proofs.Caches.{AreRightCaches, caches_after, caches_moved, is_made}
 use Rattle.mps_laws.proofs.Frames.{AreFramesOf, AreRightFrames, frames_after, frames_manual, frames_moved}
 use Rattle.mps_laws.proofs.SameArena.{moved_alone, IsSameArena, act_same, itself, moved_same}
 use Rattle.mps_laws.proofs.Labels.{AreNamed, labels_after}
+use Rattle.mps_laws.proofs.RunningCollection.{RunsWithin, running_after, running_in_steps}
+use Rattle.mps_laws.proofs.SegmentPools.{AreOfPools, of_pools_after, of_pools_in_steps}
+use Rattle.mps_laws.proofs.Sound.PoolsThere.{HasPools, step_has_pools}
+use Rattle.mps_laws.proofs.Spending.{SpendsWithin, moves_spend, spends_within}
+use Rattle.mps_laws.proofs.ThingsNamed.{AreNamesRight, names_after, names_in_steps}
+use Rattle.mps_laws.proofs.WithinLimit.{IsWithinLimit, within_after, within_in_steps}
 use Rattle.mps_laws.proofs.Acts.{for_world}
 use Rattle.mps_laws.proofs.Replays.FreeSteps.{BlocksAreLive}
-use Rattle.mps_laws.proofs.Replays.Replay.{limit_after, legal_step_replayed, live_after, empty_layout}
+use Rattle.mps_laws.proofs.Replays.Replay.{limit_after, legal_step_replayed, empty_layout}
 use Rattle.mps_laws.proofs.Sound.SoundGraph.{All, IsSoundGraph, all-both, auto, untouched, all-weaker, manual, manual_parts}
 use Rattle.mps_laws.proofs.Positions.Occupancy.{shape_of}
 use Rattle.mps_laws.proofs.Sound.SoundHistories.{SlotsAreLive, step_sound}
@@ -59,51 +64,28 @@ module _ (line : ℕ) (w : World) where
   pub step_grains : (c : Call) (ms : List Move) (answer : Answer) → makes_arena c ≡ false
       → (world_after w (the_step c ms answer)).grains ≡ w.grains
   step_grains c ms answer h =
-      elim (is_unsupported answer) as (λ b. (if b then w else world_after_call w c ms answer).grains ≡ w.grains) [
-        | true ↦ refl
-        | false ↦ act_grains (is_block answer) (judged_world w c ms) (moved_world w c ms) c h ∙ (moved_same w c ms).grains
-      ]
+      act_grains (is_block answer) (judged_world w c ms) (moved_world w c ms) c h ∙ (moved_same w c ms).grains
 
 -- what each world of a history keeps
 pub record IsKeptWell (w : World) : Type 0 where
   pub layout : HasLayout (w.grains + 1) w
+  pub within : IsWithinLimit w
+  pub pools : HasPools w
+  pub of_pools : AreOfPools w
   pub blocks : BlocksAreLive w
   pub slots : SlotsAreLive w
   pub held : HeldAreLive w
   pub sound : IsSoundGraph w
+  pub names : AreNamesRight w
   pub named : AreNamed w.graph
   pub paired : ArePaired w
   pub cached : AreRightCaches w
   pub framed : AreRightFrames w
   pub dated : AreDated w
   pub rests : RestsWhenParked w
+  pub runs : RunsWithin w
+  pub spends : SpendsWithin w
   pub pairs : All (auto w) (ids_in_pairs w.state)
-
-which : {A B : Type 0} (b : Bool) → MatchBool b A B → ((b ≡ true) × A) ⊎ ((b ≡ false) × B)
-which true a = inl (refl, a)
-which false b = inr (refl, b)
-
-held_after : (w : World) (s : Step) → HeldAreLive w → IsLegalStep w s → HeldAreLive (world_after w s)
-held_after w s live legal =
-    elim (which (is_unsupported s.answer) legal) [
-      | inl h ↦ subst (λ b. HeldAreLive (if b then w else world_after_call w s.call s.moves s.answer)) (sym h.0) live
-      | inr h ↦ h.1.held_are_live
-    ]
-
-rests_after : (w : World) (s : Step) → RestsWhenParked w → IsLegalStep w s → RestsWhenParked (world_after w s)
-rests_after w s rests legal =
-    elim (legal_step w s legal) [
-      | inl same ↦ subst RestsWhenParked (sym same) rests
-      | inr answered ↦ step_rests w s rests answered
-    ]
-
-pub automatic_after : (w : World) (s : Step) → IsSoundGraph w → IsSoundGraph (world_after w s) → All (auto w) (ids_in_pairs w.state)
-    → IsLegalStep w s → All (auto (world_after w s)) (ids_in_pairs (world_after w s).state)
-automatic_after w s before after pairs legal =
-    elim (legal_step w s legal) [
-      | inl same ↦ subst (λ u. All (auto u) (ids_in_pairs u.state)) (sym same) pairs
-      | inr answered ↦ pairs_after w s before after pairs answered
-    ]
 
 no_arena_limit : (limit : ℕ) (c : Call) → makes_arena c ≡ false → limit_after limit c ≡ limit
 no_arena_limit limit (call.Arena grains most) h = absurd (true≢false h)
@@ -127,17 +109,23 @@ step_kept w s plain k legal =
     (frames_manual w k.sound k.framed) s.call s.moves s.answer legal in
     record {
       layout = subst (λ (n : ℕ). HasLayout n (world_after w s)) (no_arena_limit (w.grains + 1) s.call plain ∙ g) r.layout;
-      blocks = live_after w s k.blocks legal;
+      within = within_after (w.grains + 1) w s plain k.layout k.pools k.cached k.within legal;
+      pools = step_has_pools w s k.pools;
+      of_pools = of_pools_after (w.grains + 1) w s k.layout k.pools k.cached k.of_pools legal;
+      blocks = legal.held_are_live.blocks;
       slots = sound.1;
-      held = held_after w s k.held legal;
+      held = legal.held_are_live;
       sound = sound.0;
+      names = names_after w s k.names;
       named = labels_after w s k.named;
       paired = dependents_after w s k.paired legal;
-      cached = caches_after w s (places_made w k.sound) k.cached legal;
-      framed = frames_after w s k.framed k.cached legal;
-      dated = dated_after w s k.dated legal;
-      rests = rests_after w s k.rests legal;
-      pairs = automatic_after w s k.sound sound.0 k.pairs legal;
+      cached = caches_after w s (places_made w k.sound) k.cached;
+      framed = frames_after w s k.framed k.cached;
+      dated = dated_after w s k.dated;
+      rests = step_rests w s k.rests legal;
+      runs = running_after w s k.runs legal;
+      spends = spends_within (world_after w s) legal.units_are_left;
+      pairs = pairs_after w s k.sound sound.0 k.pairs;
     }
 
 steps_kept : (w : World) (h : History) → list_any (λ (later : Step). makes_arena later.call) h ≡ false → IsKeptWell w → IsLegalFrom w h
@@ -176,16 +164,22 @@ none_framed = record {
 empty_kept : (formats : ℕ → Layout) → IsKeptWell (empty_world_of formats)
 empty_kept formats = record {
   layout = empty_layout formats;
+  within = omega arith;
+  pools = record { of_objects = tt; of_points = tt };
+  of_pools = refl;
   blocks = refl;
   slots = refl;
   held = held_at_first formats;
   sound = empty_sound formats;
+  names = refl;
   named = none_labelled;
   paired = refl;
   cached = refl;
   framed = none_framed;
   dated = refl;
   rests = λ h. refl;
+  runs = tt;
+  spends = refl;
   pairs = refl;
 }
 
@@ -201,40 +195,33 @@ first_arena formats line grains most ms answer legal =
     let sound = step_sound 1 line w k.layout k.blocks k.slots k.sound k.pairs (frames_manual w k.sound k.framed)
     (call.Arena grains most) ms answer legal in
     record {
-      layout = limited (is_unsupported answer) refl r.layout;
-      blocks = live_after w s k.blocks legal;
+      layout = subst (λ (n : ℕ). HasLayout n (world_after w s)) (let same : max 1 (grains + 1) ≡ grains + 1 = omega arith in same) r.layout;
+      within = first_within legal.moves_are_due;
+      pools = step_has_pools w s k.pools;
+      of_pools = of_pools_after 1 w s k.layout k.pools k.cached k.of_pools legal;
+      blocks = legal.held_are_live.blocks;
       slots = sound.1;
-      held = held_after w s k.held legal;
+      held = legal.held_are_live;
       sound = sound.0;
+      names = names_after w s k.names;
       named = labels_after w s k.named;
       paired = dependents_after w s k.paired legal;
-      cached = caches_after w s (places_made w k.sound) k.cached legal;
-      framed = frames_after w s k.framed k.cached legal;
-      dated = dated_after w s k.dated legal;
-      rests = rests_after w s k.rests legal;
-      pairs = automatic_after w s k.sound sound.0 k.pairs legal;
+      cached = caches_after w s (places_made w k.sound) k.cached;
+      framed = frames_after w s k.framed k.cached;
+      dated = dated_after w s k.dated;
+      rests = step_rests w s k.rests legal;
+      runs = running_after w s k.runs legal;
+      spends = spends_within (world_after w s) legal.units_are_left;
+      pairs = pairs_after w s k.sound sound.0 k.pairs;
     }
   where
-    limited : (b : Bool) → is_unsupported answer ≡ b
-        → HasLayout (max 1 (grains + 1)) (if is_unsupported answer then empty_world_of formats else world_after_call
-        (empty_world_of formats) (call.Arena grains most) ms answer)
-        → HasLayout ((if is_unsupported answer then empty_world_of formats else world_after_call (empty_world_of formats)
-        (call.Arena grains most) ms answer).grains + 1)
-        (if is_unsupported answer then empty_world_of formats else world_after_call (empty_world_of formats)
-        (call.Arena grains most) ms answer)
-    limited true e laid =
-        subst (λ b. HasLayout ((if b then empty_world_of formats else world_after_call (empty_world_of formats)
-        (call.Arena grains most) ms answer).grains + 1)
-        (if b then empty_world_of formats else world_after_call (empty_world_of formats) (call.Arena grains most) ms answer)) (sym e)
-        (empty_layout formats)
-    limited false e laid =
-        subst (λ b. HasLayout ((if b then empty_world_of formats else world_after_call (empty_world_of formats)
-        (call.Arena grains most) ms answer).grains + 1)
-        (if b then empty_world_of formats else world_after_call (empty_world_of formats) (call.Arena grains most) ms answer)) (sym e)
-        (subst (λ (n : ℕ). HasLayout n (world_after_call (empty_world_of formats) (call.Arena grains most) ms answer))
-        (let same : max 1 (grains + 1) ≡ grains + 1 = omega arith in same)
-        (subst (λ b. HasLayout (max 1 (grains + 1)) (if b then empty_world_of formats else world_after_call (empty_world_of formats)
-        (call.Arena grains most) ms answer)) e laid))
+    -- nothing is held yet
+    first_within : ms ≡ [] → committed (world_after_call (empty_world_of formats) (call.Arena grains most) ms answer)
+        ≤ (world_after_call (empty_world_of formats) (call.Arena grains most) ms answer).limit
+    first_within none =
+        subst (λ (ns : List Move). committed (world_after_call (empty_world_of formats) (call.Arena grains most) ns answer)
+        ≤ (world_after_call (empty_world_of formats) (call.Arena grains most) ns answer).limit) (sym none)
+        (let low : 0 ≤ most = omega arith in low)
 
 first_kept : (formats : ℕ → Layout) (s : Step) → IsLegalStep (empty_world_of formats) s
     → IsKeptWell (world_after (empty_world_of formats) s)
@@ -273,7 +260,8 @@ pub reached_are_well_formed : ReachedWorldsAreWellFormed
 reached_are_well_formed formats history once legal =
     let k = reached_kept formats history once legal in
     let w = reached formats history in
-    well_formed w k.layout k.sound k.named k.paired k.cached k.framed k.dated k.held.client k.rests (live_pairs w k.held k.rests k.pairs)
+    well_formed w k.layout k.within k.of_pools k.sound k.names k.named k.paired k.cached k.framed k.dated k.held.client k.rests k.runs
+    k.spends (live_pairs w k.held k.rests k.pairs)
 
 -- ---- in the middle of a step
 
@@ -293,7 +281,9 @@ worlds_in_steps_are_well_formed formats history ms once legal moves live =
     ap (λ ns. thing_in ns label) alone.names ∙ k.named number label (sym (ap (λ ls. slice_get ls number) alone.labels) ∙ e)) in
     let v = world_after_moves w ms in
     well_formed (with_state v Unclamped) (in_layout w ms k.layout moves)
+    (within_in_steps (w.grains + 1) w ms k.layout k.pools moves k.within)
+    (of_pools_in_steps (w.grains + 1) w ms k.layout k.pools moves k.of_pools)
     (untouched v (with_state v Unclamped) (moves_well w None ms k.sound moves).sound refl (λ n p e. e) refl refl refl refl refl refl refl
-    refl) named (moves_paired w ms k.paired) (caches_moved w v alone.shapes alone.pools alone.caches k.cached)
+    refl) (names_in_steps w ms k.names) named (moves_paired w ms k.paired) (caches_moved w v alone.shapes alone.pools alone.caches k.cached)
     (frames_moved w v alone.shapes alone.pools alone.blocks alone.frames k.framed) (dated_in_steps w ms k.dated) live
-    (λ h. absurd (false≢true h)) refl
+    (λ h. absurd (false≢true h)) (running_in_steps w None ms moves k.runs) (moves_spend w ms k.spends) refl

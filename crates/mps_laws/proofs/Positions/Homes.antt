@@ -16,10 +16,9 @@ use Rattle.mps_model.specs.World.{World, address_of, empty_world_of, extent}
 use Rattle.mps_model.specs.Effect.{world_after_move}
 use Rattle.mps_model.specs.LegalMove.{AreLegalMoves, IsLegalMove, first_move}
 use Rattle.mps_model.specs.Step.{Step}
-use Rattle.mps_model.specs.History.{moves_of_collector, world_after}
+use Rattle.mps_model.specs.History.{IsLegalStep, moves_of_collector, world_after}
 use Rattle.mps_laws.specs.Depending.{FreshDependenciesHold}
 use Rattle.mps_laws.proofs.LeftByActs.{owners}
-use Rattle.mps_laws.proofs.LegalHistories.{IsAnswered}
 use Rattle.mps_laws.proofs.Positions.Segments.{IsAmong, among_aligned, same_segment}
 use Rattle.mps_laws.proofs.Positions.Occupancy.{OfBlock, Shape, occupancy_of, shape_of, run_of, run_of_block, pool_of_occupant, rank_of_occupant}
 use Rattle.mps_laws.proofs.Positions.LaidOut.{Home}
@@ -127,15 +126,15 @@ record IsRightlyLaid (w : World) : Type 0 where
 first_laid : (formats : ℕ → Layout) → IsRightlyLaid (empty_world_of formats)
 first_laid formats = record { limit = 1; laid = empty_layout formats; live = refl; has = record { of_objects = tt; of_points = tt } }
 
-next_laid : (w : World) (s : Step) → IsRightlyLaid w → IsAnswered w s → IsRightlyLaid (world_after w s)
-next_laid w s g answered = record {
+next_laid : (w : World) (s : Step) → IsRightlyLaid w → IsLegalStep w s → IsRightlyLaid (world_after w s)
+next_laid w s g legal = record {
   limit = limit_after g.limit s.call;
-  laid = (legal_step_replayed g.limit 0 s.line w g.laid g.live s.call s.moves s.answer answered.legal).layout;
-  live = answered.answered.held_are_live.blocks;
-  has = step_has_pools w s g.has answered;
+  laid = (legal_step_replayed g.limit 0 s.line w g.laid g.live s.call s.moves s.answer legal).layout;
+  live = legal.held_are_live.blocks;
+  has = step_has_pools w s g.has;
 }
 
 pub fresh_dependencies_hold : FreshDependenciesHold
 fresh_dependencies_hold =
     fresh_where IsRightlyLaid first_laid next_laid
-    (λ w s g answered. flips_are_right g.limit w None (moves_of_collector s.call s.moves) g.laid g.has answered.answered.moves_are_legal)
+    (λ w s g legal. flips_are_right g.limit w None (moves_of_collector s.call s.moves) g.laid g.has legal.moves_are_legal)

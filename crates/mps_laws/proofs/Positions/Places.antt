@@ -21,14 +21,13 @@ use Rattle.mps_model.specs.LegalMove.{ForOne, IsLegalMoved, AreLegalMoves}
 use Rattle.mps_model.specs.Policy.{units_asked}
 use Rattle.mps_model.specs.Reply.{act, world_from}
 use Rattle.mps_model.specs.Frames.{frames_named}
-use Rattle.mps_model.specs.History.{AreMovesOf, after_its_moves, after_own_segment, asking, moved_world, moves_of_collector, moves_of_poll, own_segment, remembering, with_client_remembered, with_segment_for_point, with_buffer, rank_of_point, world_after, judged_world}
+use Rattle.mps_model.specs.History.{IsLegalStep, AreMovesOf, after_its_moves, after_own_segment, asking, moved_world, moves_of_collector, moves_of_poll, own_segment, remembering, with_client_remembered, with_segment_for_point, with_buffer, rank_of_point, world_after, judged_world}
 use Rattle.mps_model.specs.Step.{Step}
 use Rattle.mps_laws.specs.Staying.{is_flip}
 use Rattle.mps_laws.proofs.Lookups.{entry_at-set_other, length-slice_set}
 use Rattle.mps_laws.proofs.Entries.{GoesOn, slice_get-there, entry_at-append}
 use Rattle.mps_laws.proofs.Acts.{ForAct, accepted, refused}
 use Rattle.mps_laws.proofs.LeftByActs.{Leaves, IsCollectionLeft, owners, owners-splatted, act_leaves}
-use Rattle.mps_laws.proofs.LegalHistories.{IsAnswered}
 use Rattle.mps_laws.proofs.Positions.OwnMoves.{IsMovedLegally, AreMovedLegally, all_moved_legally, is_moving, none_moved, commit_moves_none, alloc_moves_none, free_moves_none, cache_alloc_moves_none, cache_free_moves_none, cache_flush_moves_none, pop_moves_none}
 
 -- ---- what keeps a running collection from moving an object
@@ -398,13 +397,12 @@ pub remembered_put : (id at : ℕ) (w : World) → IsPutIn id at w → IsPutIn i
 remembered_put id at w p = passing_put id at w (remembering (ids_of_client w.graph)) (remembering_passes id (ids_of_client w.graph)) p
 
 -- a step without a flip leaves a settled object where it is, or frees it
-pub step_put : (id at : ℕ) (w : World) (s : Step) → list_any is_flip s.moves ≡ false → IsAnswered w s → IsPutIn id at w
+pub step_put : (id at : ℕ) (w : World) (s : Step) → list_any is_flip s.moves ≡ false → IsLegalStep w s → IsPutIn id at w
     → IsPutIn id at (world_after w s)
-step_put id at w s no_flip answered p =
-    let l = answered.answered in
+step_put id at w s no_flip legal p =
     let moved = moved_world w s.call s.moves in
     let result = act (is_block s.answer) (judged_world w s.call s.moves) moved s.call in
     let put = asking_put id at (units_asked w s.call) (after_its_moves w s.call s.moves)
-    (moved_step_put id at w s.call s.answer s.moves l.moves_are_legal l.moves_are_due no_flip p) in
+    (moved_step_put id at w s.call s.answer s.moves legal.moves_are_legal legal.moves_are_due no_flip p) in
     let acted = act_put id at s.call moved result (act_leaves (is_block s.answer) (judged_world w s.call s.moves) moved s.call) put in
-    subst (IsPutIn id at) (sym answered.after) (remembered_put id at (world_from moved result) acted)
+    remembered_put id at (world_from moved result) acted

@@ -14,7 +14,7 @@ use Rattle.mps_base.specs.declared.refusal.Refusal.TheVariants as refusal
 use Rattle.mps_base.specs.declared.names.Name.{Name}
 use Rattle.mps_model.specs.declared.call.Call.{Call}
 use Rattle.mps_model.specs.declared.call.Call.TheVariants as call
-use Rattle.mps_model.specs.Answer.{Answer, is_refused, is_unsupported}
+use Rattle.mps_model.specs.Answer.{Answer, is_refused}
 use Rattle.mps_model.specs.Graph.{Cache, CacheClass, PoolFrames, Slots, entries, entry_at, ids_in_blocks, ids_in_caches, ids_in_places}
 use Rattle.mps_model.specs.World.{World, id_at, is_live, segment_of, is_any_size_kind, is_copying_kind, is_empty_segment, pool_is}
 use Rattle.mps_model.specs.Checked.{Checked, Found, Numbered, ◌>>=◌, required, block_place_in, cache_named, entry_in, number_named, numbered, as_blocks}
@@ -189,13 +189,13 @@ module _ (limit pools line : ℕ) (w : World) (laid : HasLayout limit w) where
   moves_replayed_unless true ms r = nothing_replayed
   moves_replayed_unless false ms r = r
 
-  pub free_step : (place : Slot) (ms : List Move) (answer : Answer) → BlocksAreLive w → is_unsupported answer ≡ false
+  pub free_step : (place : Slot) (ms : List Move) (answer : Answer) → BlocksAreLive w
       → ms ≡ unless_refused answer (moves_of_free w (block_place_in w place))
       → IsReplayed limit w (world_after w (record { line = line; call = call.Free place; moves = ms; answer = answer }))
       (replay_from (blocks_of (occupancy_of w)) (records_of_step pools
       (record { line = line; call = call.Free place; moves = ms; answer = answer })))
-  free_step place ms answer live supported due =
-      plain_step limit pools line w (call.Free place) ms answer supported refl
+  free_step place ms answer live due =
+      plain_step limit pools line w (call.Free place) ms answer refl
       (subst (λ (ns : List Move). IsReplayed limit w (world_after_moves w ns)
       (replay_from (blocks_of (occupancy_of w)) (records_of ns line))) (sym due)
       (moves_replayed_unless (is_refused answer) (moves_of_free w (block_place_in w place))
@@ -263,24 +263,24 @@ module _ (limit pools line : ℕ) (w : World) (laid : HasLayout limit w) where
       (replay_from (blocks_of (occupancy_of w)) (records_of_step pools (record { line = line; call = c; moves = ms; answer = answer })))
 
   -- a call that places nothing and makes these moves unless it is refused
-  due_step : (c : Call) (ms due : List Move) (answer : Answer) → is_unsupported answer ≡ false → is_placing c ≡ false
+  due_step : (c : Call) (ms due : List Move) (answer : Answer) → is_placing c ≡ false
       → ms ≡ unless_refused answer due → AreReplayed limit line w due → StepReplayed c ms answer
-  due_step c ms due answer supported plain is replayed =
-      plain_step limit pools line w c ms answer supported plain
+  due_step c ms due answer plain is replayed =
+      plain_step limit pools line w c ms answer plain
       (subst (AreReplayed limit line w) (sym is) (moves_replayed_unless limit pools line w laid (is_refused answer) due replayed))
 
-  pub cache_free_step : (cache : Name) (place : Slot) (ms : List Move) (answer : Answer) → is_unsupported answer ≡ false
+  pub cache_free_step : (cache : Name) (place : Slot) (ms : List Move) (answer : Answer)
       → ms ≡ unless_refused answer (moves_of_cache_free w (cache_named w cache) (block_place_in w place))
       → StepReplayed (call.CacheFree cache place) ms answer
-  cache_free_step cache place ms answer supported due =
+  cache_free_step cache place ms answer due =
       due_step (call.CacheFree cache place) ms (moves_of_cache_free w (cache_named w cache) (block_place_in w place))
-      answer supported refl due
+      answer refl due
       (cache_free_replayed (cache_named w cache) (block_place_in w place))
 
-  pub cache_flush_step : (cache : Name) (ms : List Move) (answer : Answer) → is_unsupported answer ≡ false
+  pub cache_flush_step : (cache : Name) (ms : List Move) (answer : Answer)
       → ms ≡ unless_refused answer (moves_of_cache_flush w (cache_named w cache)) → StepReplayed (call.CacheFlush cache) ms answer
-  cache_flush_step cache ms answer supported due =
-      due_step (call.CacheFlush cache) ms (moves_of_cache_flush w (cache_named w cache)) answer supported refl due
+  cache_flush_step cache ms answer due =
+      due_step (call.CacheFlush cache) ms (moves_of_cache_flush w (cache_named w cache)) answer refl due
       (cache_flush_replayed (cache_named w cache))
 
   pop_replayed : (x : Checked PoolFrames) (frame : ℕ) → AreReplayed limit line w (moves_of_pop w x frame)
@@ -291,8 +291,8 @@ module _ (limit pools line : ℕ) (w : World) (laid : HasLayout limit w) where
       of_frame (Ok before) = frees_replayed limit line w laid (blocks_popped f before)
       of_frame (Err why) = record { layout = laid; blocks = refl }
 
-  pub pop_step : (pool : Name) (frame : ℕ) (ms : List Move) (answer : Answer) → is_unsupported answer ≡ false
+  pub pop_step : (pool : Name) (frame : ℕ) (ms : List Move) (answer : Answer)
       → ms ≡ unless_refused answer (moves_of_pop w (frames_named w pool) frame) → StepReplayed (call.Pop pool frame) ms answer
-  pop_step pool frame ms answer supported due =
-      due_step (call.Pop pool frame) ms (moves_of_pop w (frames_named w pool) frame) answer supported refl due
+  pop_step pool frame ms answer due =
+      due_step (call.Pop pool frame) ms (moves_of_pop w (frames_named w pool) frame) answer refl due
       (pop_replayed (frames_named w pool) frame)

@@ -1,5 +1,5 @@
 -- The log of version 2 of a legal history replays to its live blocks, and to as many names as it has labels.
-use Rattle.std.proofs.Common.{◌≡◌, ◌∙◌, ◌⊎◌, ℕ, ◌+◌, Bool, true, false, refl, sym, ap, append_assoc, subst, List, [], ◌∷◌, ◌++◌, length, Option, Some, None, Ok, Err, inl, inr}
+use Rattle.std.proofs.Common.{◌≡◌, ◌∙◌, ℕ, ◌+◌, Bool, true, false, refl, sym, ap, append_assoc, subst, List, [], ◌∷◌, ◌++◌, length, Option, Some, None, Ok, Err}
 use Rattle.std.proofs.lemmas.Option.{same_Some, slice_get_within}
 use Rattle.std.proofs.lemmas.Bool.{and_from, and_parts, eq-eqb, false≢true, lt-ltb, true≢false}
 use Rattle.std.specs.Prelude.{◌==◌, ◌&&◌, if◌then◌else◌, not, filter, option_and_then, option_map, slice_get}
@@ -12,7 +12,7 @@ use Rattle.mps_base.specs.declared.names.Slot.{Slot}
 use Rattle.mps_model.specs.declared.call.Call.{Call}
 use Rattle.mps_model.specs.declared.call.Call.TheVariants as call
 use Rattle.mps_model.specs.declared.reply.Reply.TheVariants as reply
-use Rattle.mps_model.specs.Answer.{Answer, Replied, is_accepted, is_block, is_unsupported}
+use Rattle.mps_model.specs.Answer.{Answer, Replied, is_accepted, is_block}
 use Rattle.mps_model.specs.Step.{Step, History}
 use Rattle.mps_model.specs.Graph.{Object}
 use Rattle.mps_model.specs.World.{World, empty_world_of}
@@ -24,7 +24,7 @@ use Rattle.mps_model.specs.Reply.{act, answer_from, world_from}
 use Rattle.mps_model.specs.Log.{labelled_log_from, log_from, pools_made_by, record_of, records_of, records_of_accepted, records_of_command, records_of_label, records_of_step, records_with_label}
 use Rattle.mps_model.specs.Replay.{Store, is_live, replay_from, store_after}
 use Rattle.mps_model.specs.Replayed.{State, after_interning, after_labelling, replayed_after, replayed_from}
-use Rattle.mps_model.specs.History.{HeldAreLive, IsAnsweredStep, IsLegalFrom, IsLegalStep, judged_world, moved_world, world_after, world_after_call, world_after_steps}
+use Rattle.mps_model.specs.History.{HeldAreLive, IsLegalStep, IsLegalFrom, judged_world, moved_world, world_after, world_after_steps}
 use Rattle.mps_changes.specs.Change.{AsideIs, LabelMade, Change, Aside}
 use Rattle.mps_changes.proofs.ActChanges.{but, of_changes}
 use Rattle.mps_laws.specs.Held.{target_found, target_of_slot}
@@ -32,7 +32,6 @@ use Rattle.mps_laws.specs.Replay.{LabelledLogReplays}
 use Rattle.mps_laws.proofs.Acts.{for_world, named_by}
 use Rattle.mps_laws.proofs.FoundBy.{object_found}
 use Rattle.mps_laws.proofs.Held.{held_at_first}
-use Rattle.mps_laws.proofs.LegalHistories.{legal_step}
 use Rattle.mps_laws.proofs.Lookups.{length-with_last}
 use Rattle.mps_laws.proofs.Positions.LegalMoves.{HasLayout, blocks_of, is_placed, live_at}
 use Rattle.mps_laws.proofs.Positions.Occupancy.{occupancy_of, shape_of}
@@ -40,7 +39,7 @@ use Rattle.mps_laws.proofs.Reading.{held_is_live, slot_is_held}
 use Rattle.mps_laws.proofs.Replays.Blocks.{replay-touched}
 use Rattle.mps_laws.proofs.Replays.FreeSteps.{BlocksAreLive, address_there}
 use Rattle.mps_laws.proofs.Replays.Steps.{quiet_command}
-use Rattle.mps_laws.proofs.Replays.Replay.{blocks_live, empty_layout, legal_step_replayed, limit_after, live_after, reached_from_empty}
+use Rattle.mps_laws.proofs.Replays.Replay.{blocks_live, empty_layout, legal_step_replayed, limit_after, reached_from_empty}
 use Rattle.mps_laws.proofs.SameArena.{moved_alone}
 
 -- ---- records of blocks
@@ -179,13 +178,6 @@ no_record (call.Intern label) answer line h k = absurd (true≢false h)
 no_record (call.Label slot label) answer line h k = absurd (true≢false k)
 no_record _ answer line h k = refl
 
-no_record_of_unsupported : (c : Call) (answer : Answer) (line : ℕ) → is_unsupported answer ≡ true → records_of_label c answer line ≡ []
-no_record_of_unsupported (call.Intern label) (Replied reply.Unsupported) line h = refl
-no_record_of_unsupported (call.Intern label) _ line h = absurd (false≢true h)
-no_record_of_unsupported (call.Label slot label) (Replied reply.Unsupported) line h = refl
-no_record_of_unsupported (call.Label slot label) _ line h = absurd (false≢true h)
-no_record_of_unsupported _ answer line h = refl
-
 -- ---- labels after acts
 
 -- only `intern` makes a label
@@ -282,11 +274,6 @@ module _ (limit : ℕ) (w : World) (laid : HasLayout limit w) (held : HeldAreLiv
 abbrev state_of : World → State
 state_of w = with_interned (blocks_of (occupancy_of w)) w
 
--- a step that isn't supported, or one that was answered
-which : {A B : Type 0} (b : Bool) → Rattle.std.specs.Prelude.MatchBool b A B → ((b ≡ true) × A) ⊎ ((b ≡ false) × B)
-which true a = inl (refl, a)
-which false b = inr (refl, b)
-
 module _ (limit pools line : ℕ) (w : World) (laid : HasLayout limit w) (live : BlocksAreLive w) (held : HeldAreLive w) where
   abbrev the_step : Call → List Move → Answer → Step
   the_step c ms answer = record { line = line; call = c; moves = ms; answer = answer }
@@ -304,26 +291,18 @@ module _ (limit pools line : ℕ) (w : World) (laid : HasLayout limit w) (live :
       ap (replayed_from (with_interned blocks w)) none
       ∙ ap (λ (ls : List Name). Some (record { blocks = blocks; interned = length ls })) (sym same)
 
-  -- the labels after an answered step are those that its act leaves
-  labels_of_act : (c : Call) (ms : List Move) (answer : Answer) → is_unsupported answer ≡ false
-      → (world_after w (the_step c ms answer)).graph.labels
-      ≡ (world_from (moved_world w c ms) (act (is_block answer) (judged_world w c ms) (moved_world w c ms) c)).graph.labels
-  labels_of_act c ms answer supported =
-      ap (λ (b : Bool). (if b then w else world_after_call w c ms answer).graph.labels) supported
-
-  labels_kept : (c : Call) (ms : List Move) (answer : Answer) → is_unsupported answer ≡ false → interns c ≡ false
+  labels_kept : (c : Call) (ms : List Move) (answer : Answer) → interns c ≡ false
       → (world_after w (the_step c ms answer)).graph.labels ≡ w.graph.labels
-  labels_kept c ms answer supported other =
+  labels_kept c ms answer other =
       let v = moved_world w c ms in
       let judged = judged_world w c ms in
-      labels_of_act c ms answer supported
-      ∙ for_world (λ (u : World). u.graph.labels ≡ v.graph.labels) v (act (is_block answer) judged v c)
+      for_world (λ (u : World). u.graph.labels ≡ v.graph.labels) v (act (is_block answer) judged v c)
       (of_changes (is_block answer) judged v c (λ u change. change_labels other change)) refl
       ∙ (moved_alone w c ms).labels
 
-  intern_step : (label : Name) (ms : List Move) (answer : Answer) → is_unsupported answer ≡ false
-      → IsAnsweredStep w (the_step (call.Intern label) ms answer) → LabelIsReplayed (call.Intern label) ms answer
-  intern_step label ms answer supported legal =
+  intern_step : (label : Name) (ms : List Move) (answer : Answer)
+      → IsLegalStep w (the_step (call.Intern label) ms answer) → LabelIsReplayed (call.Intern label) ms answer
+  intern_step label ms answer legal =
       let c = call.Intern label in
       let v = moved_world w c ms in
       let blocks = blocks_of (occupancy_of (world_after w (the_step c ms answer))) in
@@ -331,19 +310,17 @@ module _ (limit pools line : ℕ) (w : World) (laid : HasLayout limit w) (live :
       (sym (moved_alone w c ms).labels)
       ∙ ap (λ a. replayed_from (with_interned blocks v) (records_of_label c a line)) legal.answer_is_due
       ∙ interned_by v blocks label line
-      ∙ ap (λ (ls : List Name). Some (record { blocks = blocks; interned = length ls })) (sym (labels_of_act c ms answer supported))
 
-  label_step : (slot : Slot) (label : Name) (ms : List Move) (answer : Answer) → is_unsupported answer ≡ false
-      → IsLegalStep w (the_step (call.Label slot label) ms answer) → IsAnsweredStep w (the_step (call.Label slot label) ms answer)
-      → LabelIsReplayed (call.Label slot label) ms answer
-  label_step slot label ms answer supported lawful legal =
+  label_step : (slot : Slot) (label : Name) (ms : List Move) (answer : Answer)
+      → IsLegalStep w (the_step (call.Label slot label) ms answer) → LabelIsReplayed (call.Label slot label) ms answer
+  label_step slot label ms answer legal =
       let c = call.Label slot label in
       let after = world_after w (the_step c ms answer) in
       let none : ms ≡ [] = legal.moves_are_due in
       let due = subst (λ ns. answer ≡ answer_from (act_label (Rattle.mps_model.specs.Effect.world_after_moves w ns) slot label)) none
       legal.answer_is_due
       in
-      let one = (legal_step_replayed limit pools line w laid live c ms answer lawful).blocks in
+      let one = (legal_step_replayed limit pools line w laid live c ms answer legal).blocks in
       let same : blocks_of (occupancy_of after) ≡ blocks_of (occupancy_of w) =
       same_Some (blocks_of (occupancy_of after)) (blocks_of (occupancy_of w))
       (sym one
@@ -355,23 +332,12 @@ module _ (limit pools line : ℕ) (w : World) (laid : HasLayout limit w) (live :
       ∙ labelled_by limit w laid held slot label line
       ∙ ap (λ bs. Some (with_interned bs w)) (sym same)
       ∙ ap (λ (ls : List Name). Some (record { blocks = blocks_of (occupancy_of after); interned = length ls }))
-      (sym (labels_kept c ms answer supported refl))
-
-  of_call : (c : Call) (ms : List Move) (answer : Answer) → is_unsupported answer ≡ false → IsLegalStep w (the_step c ms answer)
-      → IsAnsweredStep w (the_step c ms answer) → LabelIsReplayed c ms answer
-  of_call (call.Intern label) ms answer supported lawful legal = intern_step label ms answer supported legal
-  of_call (call.Label slot label) ms answer supported lawful legal = label_step slot label ms answer supported lawful legal
-  of_call c ms answer supported lawful legal =
-      no_label c ms answer (no_record c answer line refl refl) (labels_kept c ms answer supported refl)
+      (sym (labels_kept c ms answer refl))
 
   label_replayed : (c : Call) (ms : List Move) (answer : Answer) → IsLegalStep w (the_step c ms answer) → LabelIsReplayed c ms answer
-  label_replayed c ms answer legal =
-      elim (which (is_unsupported answer) legal) [
-        | inl h ↦
-            no_label c ms answer (no_record_of_unsupported c answer line h.0)
-            (ap (λ (b : Bool). (if b then w else world_after_call w c ms answer).graph.labels) h.0)
-        | inr h ↦ of_call c ms answer h.0 legal h.1
-      ]
+  label_replayed (call.Intern label) ms answer legal = intern_step label ms answer legal
+  label_replayed (call.Label slot label) ms answer legal = label_step slot label ms answer legal
+  label_replayed c ms answer legal = no_label c ms answer (no_record c answer line refl refl) (labels_kept c ms answer refl)
 
   -- the records of a step
   pub step_labelled : (c : Call) (ms : List Move) (answer : Answer) → IsLegalStep w (the_step c ms answer)
@@ -386,13 +352,6 @@ module _ (limit pools line : ℕ) (w : World) (laid : HasLayout limit w) (live :
       ∙ ap (with_store (state_of w)) (legal_step_replayed limit pools line w laid live c ms answer legal).blocks)
       ∙ label_replayed c ms answer legal
 
-held_after : (w : World) (s : Step) → HeldAreLive w → IsLegalStep w s → HeldAreLive (world_after w s)
-held_after w s held legal =
-    elim (legal_step w s legal) [
-      | inl same ↦ subst HeldAreLive (sym same) held
-      | inr answered ↦ answered.answered.held_are_live
-    ]
-
 labelled_steps : (limit pools : ℕ) (w : World) (h : History) → HasLayout limit w → BlocksAreLive w → HeldAreLive w → IsLegalFrom w h
     → replayed_from (state_of w) (labelled_log_from pools h) ≡ Some (state_of (world_after_steps w h))
 labelled_steps limit pools w [] laid live held legal = refl
@@ -402,8 +361,8 @@ labelled_steps limit pools w (s ∷ ss) laid live held legal =
     replayed_append (state_of w) (records_with_label pools s) (labelled_log_from rest ss)
     ∙ ap (λ o. option_and_then (λ after. replayed_from after (labelled_log_from rest ss)) o)
     (step_labelled limit pools s.line w laid live held s.call s.moves s.answer legal.0)
-    ∙ labelled_steps (limit_after limit s.call) rest (world_after w s) ss one.layout (live_after w s live legal.0)
-    (held_after w s held legal.0) legal.1
+    ∙ labelled_steps (limit_after limit s.call) rest (world_after w s) ss one.layout legal.0.held_are_live.blocks
+    legal.0.held_are_live legal.1
 
 pub labelled_log_replays : LabelledLogReplays
 labelled_log_replays formats h legal =

@@ -7,7 +7,7 @@ use Rattle.std.specs.Option.{option_map_or}
 use Rattle.mps_base.specs.Address.{Address, word_of, address_of_word, address_of_grain, grains_needed}
 use Rattle.mps_base.specs.Placement.{Placement, Place, NewSegment, OverLimit, NoFreeRun}
 use Rattle.mps_base.specs.Run.{Run, lowest_fitting}
-use Rattle.mps_base.specs.Segment.{Segment, words_of_segment, gaps_of}
+use Rattle.mps_base.specs.Segment.{words_of_segment, gaps_of}
 use Rattle.mps_base.specs.declared.moves.Move.{Move}
 use Rattle.mps_base.specs.declared.names.Name.{Name}
 use Rattle.mps_base.specs.declared.names.Rank.TheVariants as rank
@@ -15,7 +15,7 @@ use Rattle.mps_base.specs.declared.names.Slot.{Slot}
 use Rattle.mps_base.specs.declared.refusal.Refusal.{Refusal}
 use Rattle.mps_base.specs.declared.refusal.Refusal.TheVariants as refusal
 use Rattle.mps_model.specs.declared.call.Call.TheVariants as call
-use Rattle.mps_model.specs.Answer.{Answer, is_unsupported}
+use Rattle.mps_model.specs.Answer.{Answer}
 use Rattle.mps_model.specs.Graph.{Cache, CacheClass, Manual, thing_in, with_last}
 use Rattle.mps_model.specs.World.{World, Pool, PoolKind, Collected, OneSize, AnySize, Frames, covered, is_automatic_kind, is_copying_pool, pool_at, with_tail}
 use Rattle.mps_model.specs.Checked.{Act, Checked, Found, Numbered, ◌>>=◌, ◌>>◌, required, refuse_when, done, numbered, as_cache, cache_named, pool_named, block_place_in, with_graph}
@@ -43,7 +43,7 @@ use Rattle.mps_laws.proofs.Positions.Segments.{among_new}
 use Rattle.mps_changes.proofs.ActChanges.{sized_is_manual}
 use Rattle.mps_laws.proofs.Acts.{cleared_kept, pool_named-is, shapes_kept}
 use Rattle.mps_laws.proofs.SameArena.{moved_alone}
-use Rattle.mps_laws.proofs.Replays.Steps.{answered_step, as_replayed}
+use Rattle.mps_laws.proofs.Replays.Steps.{acted_step, as_replayed}
 
 -- ---- what an alloc comes to
 
@@ -270,14 +270,14 @@ module _ (limit pools line : ℕ) (w : World) (laid : HasLayout limit w) where
       (made_at_placement limit w p words some line place q laid
       (manual_not_copying w.pools p.number p.value (pool_named-is w pool p e) a) refl f)
 
-  pub alloc_step : (pool : Name) (words : ℕ) (into : Slot) (ms : List Move) (answer : Answer) → is_unsupported answer ≡ false
+  pub alloc_step : (pool : Name) (words : ℕ) (into : Slot) (ms : List Move) (answer : Answer)
       → ms ≡ unless_refused answer (moves_of_alloc w (pool_named w pool) words)
       → answer ≡ answer_from (act_alloc w (world_after_moves w ms) pool words into)
       → IsReplayed limit w (world_after w (record { line = line; call = call.Alloc pool words into; moves = ms; answer = answer }))
       (replay_from (blocks_of (occupancy_of w)) (records_of_step pools
       (record { line = line; call = call.Alloc pool words into; moves = ms; answer = answer })))
-  alloc_step pool words into ms answer supported due is =
-      answered_step limit pools line w (call.Alloc pool words into) ms answer supported
+  alloc_step pool words into ms answer due is =
+      acted_step limit pools line w (call.Alloc pool words into) ms answer
       (alloc_replayed pool words ms (act_alloc w (world_after_moves w ms) pool words into)
       (alloc_case w (world_after_moves w ms) pool words into)
       (due ∙ ap (λ b. unless_refused b (moves_of_alloc w (pool_named w pool) words)) is))
@@ -382,14 +382,14 @@ module _ (limit pools line : ℕ) (w : World) (laid : HasLayout limit w) where
       (made_at_placement limit w (record { number = number; value = p }) words some line place at laid
       (manual_not_copying w.pools number p there (sized_is_manual p.kind words size)) refl room)
 
-  pub take_step : (cache : Name) (words : ℕ) (into : Slot) (ms : List Move) (answer : Answer) → is_unsupported answer ≡ false
+  pub take_step : (cache : Name) (words : ℕ) (into : Slot) (ms : List Move) (answer : Answer)
       → ms ≡ unless_refused answer (moves_of_cache_alloc w (cache_named w cache) words)
       → answer ≡ answer_from (act_cache_alloc w (world_after_moves w ms) cache words into)
       → IsReplayed limit w (world_after w (record { line = line; call = call.CacheAlloc cache words into; moves = ms; answer = answer }))
       (replay_from (blocks_of (occupancy_of w)) (records_of_step pools
       (record { line = line; call = call.CacheAlloc cache words into; moves = ms; answer = answer })))
-  take_step cache words into ms answer supported due is =
-      answered_step limit pools line w (call.CacheAlloc cache words into) ms answer supported
+  take_step cache words into ms answer due is =
+      acted_step limit pools line w (call.CacheAlloc cache words into) ms answer
       (take_replayed cache words ms (act_cache_alloc w (world_after_moves w ms) cache words into)
       (take_case w (world_after_moves w ms) cache words into)
       (due ∙ ap (λ b. unless_refused b (moves_of_cache_alloc w (cache_named w cache) words)) is))

@@ -1,21 +1,21 @@
 -- The law of replay: whole steps, and histories.
-use Rattle.std.proofs.Common.{◌≡◌, ◌∙◌, ◌⊎◌, ℕ, ◌+◌, ◌≤◌, Bool, true, false, refl, sym, ap, List, [], ◌∷◌, Some, None, subst, inl, inr, arith, max}
+use Rattle.std.proofs.Common.{◌≡◌, ◌∙◌, ℕ, ◌+◌, refl, sym, ap, List, [], ◌∷◌, Some, None, arith, max}
 use Rattle.std.proofs.lemmas.Bool.{false≢true}
 use Rattle.std.proofs.lemmas.Option.{none-some}
 use Rattle.std.proofs.lemmas.List.{length-map}
-use Rattle.std.specs.Prelude.{MatchBool, option_and_then}
+use Rattle.std.specs.Prelude.{option_and_then}
 use Rattle.mps_model.specs.Layout.{Layout}
 use Rattle.mps_base.specs.declared.moves.Move.{Move}
 use Rattle.mps_model.specs.declared.call.Call.{Call}
 use Rattle.mps_model.specs.declared.call.Call.TheVariants as call
-use Rattle.mps_model.specs.Answer.{Answer, is_unsupported}
+use Rattle.mps_model.specs.Answer.{Answer}
 use Rattle.mps_model.specs.World.{World, empty_world_of}
 use Rattle.mps_model.specs.Effect.{world_after_moves}
 use Rattle.mps_model.specs.LegalMove.{AreLegalMoves}
-use Rattle.mps_model.specs.Log.{records_of, records_of_step, log_from, pools_made_by}
+use Rattle.mps_model.specs.Log.{records_of_step, log_from, pools_made_by}
 use Rattle.mps_model.specs.Replay.{replay_from}
 use Rattle.mps_model.specs.Step.{Step, History}
-use Rattle.mps_model.specs.History.{IsLegalStep, IsAnsweredStep, IsLegalFrom, world_after, world_after_steps, live_blocks}
+use Rattle.mps_model.specs.History.{IsLegalStep, IsLegalFrom, world_after, world_after_steps, live_blocks}
 use Rattle.mps_model.proofs.Appending.{replay_from-append}
 use Rattle.mps_laws.specs.Replay.{StepReplaysToLiveBlocks, LogReplaysToLiveBlocks}
 use Rattle.mps_laws.proofs.Positions.Occupancy.{Occupant, OfBlock, OfReservation, OfBuffer, OfTail, occupancy_of, shape_of, run_of}
@@ -23,7 +23,7 @@ use Rattle.mps_laws.proofs.Replays.Blocks.{live_blocks-stored}
 use Rattle.mps_laws.proofs.Positions.LegalMoves.{HasLayout, IsReplayed, blocks_of}
 use Rattle.mps_laws.proofs.Replays.ReplayOfMoves.{moves_replayed}
 use Rattle.mps_laws.proofs.Positions.Making.{arena_laid_out}
-use Rattle.mps_laws.proofs.Replays.Steps.{with_command, answered_step, plain_step, commit_step}
+use Rattle.mps_laws.proofs.Replays.Steps.{acted_step, plain_step, commit_step}
 use Rattle.mps_laws.proofs.Replays.ManualSteps.{alloc_step, take_step}
 use Rattle.mps_laws.proofs.Replays.FreeSteps.{BlocksAreLive, cache_flush_step, pop_step, cache_free_step, free_step}
 use Rattle.mps_laws.proofs.Replays.ReserveReplayed.{reserve_step}
@@ -32,14 +32,6 @@ use Rattle.mps_laws.proofs.Replays.ReserveReplayed.{reserve_step}
 abbrev pub limit_after : ℕ → Call → ℕ
 limit_after limit (call.Arena grains most) = max limit (grains + 1)
 limit_after limit _ = limit
-
-limit_rises : (limit : ℕ) (c : Call) → limit ≤ limit_after limit c
-limit_rises limit (call.Arena grains most) = omega arith
-limit_rises limit _ = omega arith
-
-which : {A B : Type 0} (b : Bool) → MatchBool b A B → ((b ≡ true) × A) ⊎ ((b ≡ false) × B)
-which true a = inl (refl, a)
-which false b = inr (refl, b)
 
 module _ (limit pools line : ℕ) (w : World) (laid : HasLayout limit w) (live : BlocksAreLive w) where
   abbrev the_step : Call → List Move → Answer → Step
@@ -50,69 +42,38 @@ module _ (limit pools line : ℕ) (w : World) (laid : HasLayout limit w) (live :
       IsReplayed (limit_after limit c) w (world_after w (the_step c ms answer))
       (replay_from (blocks_of (occupancy_of w)) (records_of_step pools (the_step c ms answer)))
 
-  arena_step : (grains most : ℕ) (ms : List Move) (answer : Answer) → is_unsupported answer ≡ false → AreLegalMoves w None ms
+  arena_step : (grains most : ℕ) (ms : List Move) (answer : Answer) → AreLegalMoves w None ms
       → StepIsReplayed (call.Arena grains most) ms answer
-  arena_step grains most ms answer supported legal =
+  arena_step grains most ms answer legal =
       let r = moves_replayed limit w None ms line laid legal in
-      answered_step (max limit (grains + 1)) pools line w (call.Arena grains most) ms answer supported
+      acted_step (max limit (grains + 1)) pools line w (call.Arena grains most) ms answer
       (record {
         layout = arena_laid_out limit (max limit (grains + 1)) grains (occupancy_of (world_after_moves w ms)) (omega arith)
             (omega arith) r.layout;
         blocks = r.blocks;
       })
 
-  of_call : (c : Call) (ms : List Move) (answer : Answer) → is_unsupported answer ≡ false → IsAnsweredStep w (the_step c ms answer)
-      → StepIsReplayed c ms answer
-  of_call (call.Arena grains most) ms answer supported legal = arena_step grains most ms answer supported legal.moves_are_legal
-  of_call (call.Reserve point head) ms answer supported legal =
-      reserve_step limit pools line w laid point head ms answer supported legal.moves_are_legal legal.moves_are_due.segment
-  of_call (call.Commit point target) ms answer supported legal =
-      commit_step limit pools line w point laid target ms answer supported legal.moves_are_due legal.answer_is_due
-  of_call (call.Alloc pool words place) ms answer supported legal =
-      alloc_step limit pools line w laid pool words place ms answer supported legal.moves_are_due legal.answer_is_due
-  of_call (call.Free place) ms answer supported legal =
-      free_step limit pools line w laid place ms answer live supported legal.moves_are_due
-  of_call (call.CacheAlloc cache words place) ms answer supported legal =
-      take_step limit pools line w laid cache words place ms answer supported legal.moves_are_due legal.answer_is_due
-  of_call (call.CacheFree cache place) ms answer supported legal =
-      cache_free_step limit pools line w laid cache place ms answer supported legal.moves_are_due
-  of_call (call.CacheFlush cache) ms answer supported legal =
-      cache_flush_step limit pools line w laid cache ms answer supported legal.moves_are_due
-  of_call (call.Pop pool frame) ms answer supported legal =
-      pop_step limit pools line w laid pool frame ms answer supported legal.moves_are_due
-  of_call c ms answer supported legal =
-      plain_step limit pools line w c ms answer supported refl (moves_replayed limit w None ms line laid legal.moves_are_legal)
-
-  of_unsupported : (c : Call) (ms : List Move) (answer : Answer) → is_unsupported answer ≡ true → ms ≡ [] → StepIsReplayed c ms answer
-  of_unsupported c ms answer is none =
-      with_command (limit_after limit c) pools (the_step c ms answer) w (world_after w (the_step c ms answer))
-      (subst (λ b. IsReplayed (limit_after limit c) w (Rattle.std.specs.Prelude.if◌then◌else◌ b w
-      (Rattle.mps_model.specs.History.world_after_call w c ms answer))
-      (replay_from (blocks_of (occupancy_of w)) (records_of ms line))) (sym is)
-      (subst (λ (ns : List Move). IsReplayed (limit_after limit c) w w (replay_from (blocks_of (occupancy_of w)) (records_of ns line)))
-      (sym none)
-      (record {
-        layout = arena_laid_out limit (limit_after limit c) w.grains (occupancy_of w) (limit_rises limit c)
-            (let r = limit_rises limit c in omega (arith, r, laid.in_range)) laid;
-        blocks = refl;
-      })))
-
   pub legal_step_replayed : (c : Call) (ms : List Move) (answer : Answer) → IsLegalStep w (the_step c ms answer)
       → StepIsReplayed c ms answer
+  legal_step_replayed (call.Arena grains most) ms answer legal = arena_step grains most ms answer legal.moves_are_legal
+  legal_step_replayed (call.Reserve point head) ms answer legal =
+      reserve_step limit pools line w laid point head ms answer legal.moves_are_legal legal.moves_are_due.segment
+  legal_step_replayed (call.Commit point target) ms answer legal =
+      commit_step limit pools line w point laid target ms answer legal.moves_are_due legal.answer_is_due
+  legal_step_replayed (call.Alloc pool words place) ms answer legal =
+      alloc_step limit pools line w laid pool words place ms answer legal.moves_are_due legal.answer_is_due
+  legal_step_replayed (call.Free place) ms answer legal =
+      free_step limit pools line w laid place ms answer live legal.moves_are_due
+  legal_step_replayed (call.CacheAlloc cache words place) ms answer legal =
+      take_step limit pools line w laid cache words place ms answer legal.moves_are_due legal.answer_is_due
+  legal_step_replayed (call.CacheFree cache place) ms answer legal =
+      cache_free_step limit pools line w laid cache place ms answer legal.moves_are_due
+  legal_step_replayed (call.CacheFlush cache) ms answer legal =
+      cache_flush_step limit pools line w laid cache ms answer legal.moves_are_due
+  legal_step_replayed (call.Pop pool frame) ms answer legal =
+      pop_step limit pools line w laid pool frame ms answer legal.moves_are_due
   legal_step_replayed c ms answer legal =
-      elim (which (is_unsupported answer) legal) [
-        | inl h ↦ of_unsupported c ms answer h.0 h.1
-        | inr h ↦ of_call c ms answer h.0 h.1
-      ]
-
--- the blocks of tables of blocks are live after each step
-pub live_after : (w : World) (s : Step) → BlocksAreLive w → IsLegalStep w s → BlocksAreLive (world_after w s)
-live_after w s live legal =
-    elim (which (is_unsupported s.answer) legal) [
-      | inl h ↦ subst (λ b. BlocksAreLive (Rattle.std.specs.Prelude.if◌then◌else◌ b w
-          (Rattle.mps_model.specs.History.world_after_call w s.call s.moves s.answer))) (sym h.0) live
-      | inr h ↦ h.1.held_are_live.blocks
-    ]
+      plain_step limit pools line w c ms answer refl (moves_replayed limit w None ms line laid legal.moves_are_legal)
 
 -- ---- histories
 
@@ -128,7 +89,7 @@ steps_replayed limit pools w [] laid live legal = (record { limit = limit; layou
 steps_replayed limit pools w (s ∷ ss) laid live legal =
     let one = legal_step_replayed limit pools s.line w laid live s.call s.moves s.answer legal.0 in
     let rest = steps_replayed (limit_after limit s.call) (pools + pools_made_by s.call s.answer) (world_after w s) ss one.layout
-    (live_after w s live legal.0) legal.1 in (
+    legal.0.held_are_live.blocks legal.1 in (
       record { limit = rest.0.limit; layout = rest.0.layout; live = rest.0.live },
       replay_from-append (blocks_of (occupancy_of w)) (records_of_step pools s) (log_from (pools + pools_made_by s.call s.answer) ss)
           ∙ ap (λ o. option_and_then (λ after. replay_from after (log_from (pools + pools_made_by s.call s.answer) ss)) o) one.blocks

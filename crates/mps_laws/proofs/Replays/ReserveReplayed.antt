@@ -9,7 +9,7 @@ use Rattle.mps_base.specs.declared.moves.Move.TheVariants as moves
 use Rattle.mps_base.specs.declared.names.Name.{Name}
 use Rattle.mps_base.specs.declared.refusal.Refusal.TheVariants as refusal
 use Rattle.mps_model.specs.declared.call.Call.TheVariants as call
-use Rattle.mps_model.specs.Answer.{Answer, is_unsupported}
+use Rattle.mps_model.specs.Answer.{Answer}
 use Rattle.mps_model.specs.Graph.{Point, thing_in}
 use Rattle.mps_model.specs.Collection.{Collection}
 use Rattle.mps_model.specs.World.{World, Pool, id_at, is_copying_pool, object_is, pool_at}
@@ -31,7 +31,7 @@ use Rattle.mps_laws.proofs.Positions.LegalMoves.{HasLayout, IsReplayed, blocks_o
 use Rattle.mps_laws.proofs.Replays.ReplayOfMoves.{moves_replayed}
 use Rattle.mps_laws.proofs.Replays.ReserveSteps.{poll_then_own, reserved_at_place, in_own_buffer, in_own_gap}
 use Rattle.mps_laws.proofs.Acts.{point_named-is}
-use Rattle.mps_laws.proofs.Replays.Steps.{answered_step}
+use Rattle.mps_laws.proofs.Replays.Steps.{acted_step}
 
 -- ---- moves leave all names as they are
 
@@ -252,13 +252,13 @@ own_quiet store line v (Ok r) = of_placement (placement_of v (ForReserve r.point
     of_placement (NoFreeRun need longest) = refl
 
 module _ (limit pools line : ℕ) (w : World) (laid : HasLayout limit w) where
-  pub reserve_step : (name : Name) (head : ℕ) (ms : List Move) (answer : Answer) → is_unsupported answer ≡ false
+  pub reserve_step : (name : Name) (head : ℕ) (ms : List Move) (answer : Answer)
       → AreLegalMoves w None (moves_of_poll ms)
       → own_segment ms ≡ segment_where_judged (world_after_moves w (moves_of_poll ms)) name head
       → IsReplayed limit w (world_after w (record { line = line; call = call.Reserve name head; moves = ms; answer = answer }))
       (replay_from (blocks_of (occupancy_of w)) (records_of_step pools
       (record { line = line; call = call.Reserve name head; moves = ms; answer = answer })))
-  reserve_step name head ms answer supported legal own =
+  reserve_step name head ms answer legal own =
       let v = world_after_moves w (moves_of_poll ms) in
       let poll = moves_replayed limit w None (moves_of_poll ms) line laid legal in
       let units = units_asked w (call.Reserve name head) in
@@ -274,7 +274,7 @@ module _ (limit pools line : ℕ) (w : World) (laid : HasLayout limit w) where
       ∙ ap (λ o. option_and_then (λ after. replay_from after (records_of (own_segment ms) line)) o) poll.blocks
       ∙ ap (λ (ns : List Move). replay_from (blocks_of (occupancy_of v)) (records_of ns line)) own
       ∙ own_quiet (blocks_of (occupancy_of v)) line v x in
-      answered_step limit pools line w (call.Reserve name head) ms answer supported
+      acted_step limit pools line w (call.Reserve name head) ms answer
       (subst (λ (ns : List Move). IsReplayed limit w (world_from (asking units (after_own_segment v ns number))
       (reserve_from v (asking units (after_own_segment v ns number)) name head x))
       (replay_from (blocks_of (occupancy_of w)) (records_of ms line)))

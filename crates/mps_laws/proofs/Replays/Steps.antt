@@ -13,7 +13,7 @@ use Rattle.mps_base.specs.declared.refusal.Refusal.TheVariants as refusal
 use Rattle.mps_model.specs.declared.call.Call.{Call}
 use Rattle.mps_model.specs.declared.call.Call.TheVariants as call
 use Rattle.mps_model.specs.declared.reply.Reply.TheVariants as reply
-use Rattle.mps_model.specs.Answer.{Answer, is_accepted, is_block, is_unsupported}
+use Rattle.mps_model.specs.Answer.{Answer, is_accepted, is_block}
 use Rattle.mps_model.specs.Graph.{Point, Reservation, entry_at, with_last, ids_of_client}
 use Rattle.mps_model.specs.World.{World, PointMemory}
 use Rattle.mps_model.specs.Checked.{Act, Checked, Found, Numbered, ◌>>=◌, required, says, done, point_named, slot_in, with_graph}
@@ -98,30 +98,28 @@ changed_replayed limit w v v' after change r = record {
   blocks = r.blocks ∙ ap Some (sym (change_blocks limit (occupancy_of v) (occupancy_of v') change));
 }
 
--- a step that was answered, from the world that its act leaves
-pub answered_step : (limit pools line : ℕ) (w : World) (c : Call) (ms : List Move) (answer : Answer) → is_unsupported answer ≡ false
+-- a step, from the world that its act leaves
+pub acted_step : (limit pools line : ℕ) (w : World) (c : Call) (ms : List Move) (answer : Answer)
     → IsReplayed limit w (world_from (moved_world w c ms) (act (is_block answer) (judged_world w c ms) (moved_world w c ms) c))
     (replay_from (blocks_of (occupancy_of w)) (records_of ms line))
     → IsReplayed limit w (world_after w (record { line = line; call = c; moves = ms; answer = answer }))
     (replay_from (blocks_of (occupancy_of w)) (records_of_step pools (record { line = line; call = c; moves = ms; answer = answer })))
-answered_step limit pools line w c ms answer supported r =
+acted_step limit pools line w c ms answer r =
     let s : Step = record { line = line; call = c; moves = ms; answer = answer } in
     let x = world_from (moved_world w c ms) (act (is_block answer) (judged_world w c ms) (moved_world w c ms) c) in
     with_command limit pools s w (world_after w s)
-    (subst (λ b. IsReplayed limit w (if b then w else with_client_remembered x)
-    (replay_from (blocks_of (occupancy_of w)) (records_of ms line))) (sym supported)
     (as_replayed limit w x (with_client_remembered x) (replay_from (blocks_of (occupancy_of w)) (records_of ms line))
-    (remembered_kept x) r))
+    (remembered_kept x) r)
 
 -- a step whose call neither reserves nor makes a block nor the arena: where its moves are replayed, so is the step
-pub plain_step : (limit pools line : ℕ) (w : World) (c : Call) (ms : List Move) (answer : Answer) → is_unsupported answer ≡ false
+pub plain_step : (limit pools line : ℕ) (w : World) (c : Call) (ms : List Move) (answer : Answer)
     → is_placing c ≡ false → IsReplayed limit w (world_after_moves w ms) (replay_from (blocks_of (occupancy_of w)) (records_of ms line))
     → IsReplayed limit w (world_after w (record { line = line; call = c; moves = ms; answer = answer }))
     (replay_from (blocks_of (occupancy_of w)) (records_of_step pools (record { line = line; call = c; moves = ms; answer = answer })))
-plain_step limit pools line w c ms answer supported plain r =
+plain_step limit pools line w c ms answer plain r =
     let v = moved_world w c ms in
     let x = act (is_block answer) (judged_world w c ms) v c in
-    answered_step limit pools line w c ms answer supported
+    acted_step limit pools line w c ms answer
     (changed_replayed limit w v (world_from v x) (replay_from (blocks_of (occupancy_of w)) (records_of ms line))
     (for_world (Changes limit v) v x (act_changes limit (is_block answer) (judged_world w c ms) v c plain) (nothing refl))
     (as_replayed limit w (world_after_moves w ms) v (replay_from (blocks_of (occupancy_of w)) (records_of ms line))
@@ -274,18 +272,18 @@ module _ (limit pools line : ℕ) (w : World) (point : Name) (laid : HasLayout l
       of_point (Err why) = refl
       of_point (Ok p) = of_reservation p p.value.reservation
 
-  pub commit_step : (target : Slot) (ms : List Move) (answer : Answer) → is_unsupported answer ≡ false
+  pub commit_step : (target : Slot) (ms : List Move) (answer : Answer)
       → ms ≡ if_accepted answer (moves_of_commit w (point_named w point))
       → answer ≡ answer_from (act_commit (world_after_moves w ms) point target)
       → IsReplayed limit w (world_after w (record { line = line; call = call.Commit point target; moves = ms; answer = answer }))
       (replay_from (blocks_of (occupancy_of w)) (records_of_step pools
       (record { line = line; call = call.Commit point target; moves = ms; answer = answer })))
-  commit_step target ms answer supported due is =
+  commit_step target ms answer due is =
       let stays : world_after_moves w ms ≡ w = ap (world_after_moves w) due ∙ commit_moves (point_named w point) answer in
       let answered : answer ≡ answer_from (act_commit w point target) = is ∙ ap (λ v. answer_from (act_commit v point target)) stays in
       let all : ms ≡ if_accepted (answer_from (act_commit w point target)) (moves_of_commit w (point_named w point)) =
       due ∙ ap (λ a. if_accepted a (moves_of_commit w (point_named w point))) answered in
-      answered_step limit pools line w (call.Commit point target) ms answer supported
+      acted_step limit pools line w (call.Commit point target) ms answer
       (subst (λ v. IsReplayed limit w (world_from v (act_commit v point target))
       (replay_from (blocks_of (occupancy_of w)) (records_of ms line))) (sym stays)
       (subst (λ (ns : List Move). IsReplayed limit w (world_from w (act_commit w point target))

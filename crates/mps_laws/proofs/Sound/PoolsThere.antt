@@ -27,7 +27,6 @@ use Rattle.mps_laws.proofs.Sound.Substituting.{owners_substituted}
 use Rattle.mps_changes.proofs.ActChanges.{of_changes}
 use Rattle.mps_laws.proofs.Acts.{pool_named-is, point_named-is, ForAct, accepted, refused}
 use Rattle.mps_laws.proofs.LeftByActs.{owners, owners-graph_with_cells, owners-graph_with_word, owners-graph_cleared, owners-splatted}
-use Rattle.mps_laws.proofs.LegalHistories.{IsAnswered}
 use Rattle.mps_laws.proofs.OwnSegments.{own_segment_taken}
 
 abbrev pub IsPoolThere : List Pool → ℕ → Type 0
@@ -178,10 +177,10 @@ moved_world_leaves w c ms =
 
 -- ---- the acts that make objects or change points
 
-named_pool : (w : World) (name : Name) (p : Numbered Pool) → pool_named w name ≡ Ok p → IsPoolThere w.pools p.number
+pub named_pool : (w : World) (name : Name) (p : Numbered Pool) → pool_named w name ≡ Ok p → IsPoolThere w.pools p.number
 named_pool w name p e = slice_get_within w.pools p.number p.value (pool_named-is w name p e)
 
-named_point : (w : World) (name : Name) (p : Numbered Point) → HasPools w → point_named w name ≡ Ok p → IsPoolThere w.pools p.value.pool
+pub named_point : (w : World) (name : Name) (p : Numbered Point) → HasPools w → point_named w name ≡ Ok p → IsPoolThere w.pools p.value.pool
 named_point w name p h e = point-at w.pools w.graph.points p.number p.value h.of_points (point_named-is w name p e).1
 
 module _ (v : World) (h : HasPools v) where
@@ -251,15 +250,14 @@ judged_pools : (w : World) (c : Call) (ms : List Move) → (judged_world w c ms)
 judged_pools w (call.Reserve point head) ms = (moves_leave_pools w (moves_of_poll ms)).pools
 judged_pools w _ ms = refl
 
-pub step_has_pools : (w : World) (s : Step) → HasPools w → IsAnswered w s → HasPools (world_after w s)
-step_has_pools w s h answered =
+pub step_has_pools : (w : World) (s : Step) → HasPools w → HasPools (world_after w s)
+step_has_pools w s h =
     let judged = judged_world w s.call s.moves in
     let moved = moved_world w s.call s.moves in
     let leaves = moved_world_leaves w s.call s.moves in
     let result = act (is_block s.answer) judged moved s.call in
-    subst HasPools (sym answered.after)
-    (after_act result (leaves.there h)
-    (act_has_pools moved (leaves.there h) (is_block s.answer) judged s.call (leaves.pools ∙ sym (judged_pools w s.call s.moves))))
+    after_act result (leaves.there h)
+    (act_has_pools moved (leaves.there h) (is_block s.answer) judged s.call (leaves.pools ∙ sym (judged_pools w s.call s.moves)))
   where
     after_act : (result : Checked Act) → HasPools (moved_world w s.call s.moves) → ForAct HasPools result
         → HasPools (with_client_remembered (world_from (moved_world w s.call s.moves) result))

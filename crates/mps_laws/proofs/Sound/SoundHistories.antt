@@ -1,7 +1,7 @@
 -- Each legal step leaves a sound graph, so each world that a legal history reaches has one.
-use Rattle.std.proofs.Common.{◌≡◌, ◌∙◌, ◌⊎◌, ℕ, Bool, true, false, refl, sym, List, [], ◌∷◌, ◌++◌, Option, Some, None, Ok, Err, subst, inl, inr}
+use Rattle.std.proofs.Common.{◌≡◌, ◌∙◌, ℕ, Bool, true, false, refl, sym, List, [], ◌∷◌, ◌++◌, Option, Some, None, Ok, Err, subst, inl, inr}
 use Rattle.std.proofs.lemmas.Bool.{false≢true, and_parts, cases_Bool}
-use Rattle.std.specs.Prelude.{MatchBool, slice_get, not, ◌&&◌, if◌then◌else◌}
+use Rattle.std.specs.Prelude.{slice_get, not, ◌&&◌, if◌then◌else◌}
 use Rattle.std.specs.Option.{option_map_or}
 use Rattle.std.specs.List.{list_all}
 use Rattle.mps_base.specs.Address.{Address}
@@ -13,8 +13,8 @@ use Rattle.mps_base.specs.declared.names.Name.{Name}
 use Rattle.mps_base.specs.declared.names.Slot.{Slot}
 use Rattle.mps_model.specs.declared.call.Call.{Call}
 use Rattle.mps_model.specs.declared.call.Call.TheVariants as call
-use Rattle.mps_model.specs.Answer.{Answer, is_accepted, is_refused, is_block, is_unsupported}
-use Rattle.mps_model.specs.Graph.{Graph, Object, Reservation, contains, entry_at, is_automatic, object_at, ids_in_slots, ids_in_holds, ids_in_reservations, Cache, CacheClass, PoolFrames, ids_in_frames, ids_of_cache}
+use Rattle.mps_model.specs.Answer.{Answer, is_accepted, is_refused, is_block}
+use Rattle.mps_model.specs.Graph.{Object, Reservation, contains, entry_at, is_automatic, object_at, ids_in_slots, ids_in_holds, ids_in_reservations, Cache, CacheClass, PoolFrames, ids_in_frames, ids_of_cache}
 use Rattle.mps_model.specs.World.{World, Pool, id_at, ids_in_pairs, is_live, segment_of, is_copying_pool, is_empty_segment, is_any_size_kind, pool_is}
 use Rattle.mps_model.specs.Checked.{Checked, Found, Numbered, pool_named, point_named, block_place_in, number_named, as_point, cache_named}
 use Rattle.mps_model.specs.Accessing.{address_or_null}
@@ -30,7 +30,7 @@ use Rattle.mps_model.specs.Reply.{act, world_from}
 use Rattle.mps_model.specs.Step.{Step}
 use Rattle.mps_model.specs.Flip.{at_address}
 use Rattle.mps_model.specs.Policy.{units_asked}
-use Rattle.mps_model.specs.History.{IsLegalStep, IsAnsweredStep, HeldAreLive, asking, judged_world, moved_world, after_own_segment, with_buffer, rank_of_point, own_segment, moves_of_poll, with_client_remembered, world_after, world_after_call, alloc_at, moves_of_alloc, moves_of_commit, commit_of, if_accepted, unless_refused, moves_of_free, free_of, free_of_object, give_back_empty, moves_if_not_kept, moves_if_not_taken, moves_of_cache_alloc, moves_of_cache_flush, moves_of_cache_free, moves_of_frame, moves_of_frees, moves_of_pop}
+use Rattle.mps_model.specs.History.{IsLegalStep, HeldAreLive, asking, judged_world, moved_world, after_own_segment, with_buffer, rank_of_point, own_segment, moves_of_poll, with_client_remembered, world_after, alloc_at, moves_of_alloc, moves_of_commit, commit_of, if_accepted, unless_refused, moves_of_free, free_of, free_of_object, give_back_empty, moves_if_not_kept, moves_if_not_taken, moves_of_cache_alloc, moves_of_cache_flush, moves_of_cache_free, moves_of_frame, moves_of_frees, moves_of_pop}
 use Rattle.mps_laws.proofs.Finding.{id_at-found}
 use Rattle.mps_laws.proofs.Positions.LegalMoves.{HasLayout}
 use Rattle.mps_laws.proofs.Acts.{for_world}
@@ -306,12 +306,11 @@ module _ (limit line : ℕ) (w : World) (laid : Rattle.mps_laws.proofs.Positions
   the_step c ms answer = record { line = line; call = c; moves = ms; answer = answer }
 
   -- from the world in which the call takes effect
-  finished : (c : Call) (ms : List Move) (answer : Answer) → is_unsupported answer ≡ false
+  finished : (c : Call) (ms : List Move) (answer : Answer)
       → IsSoundGraph (world_from (moved_world w c ms) (act (is_block answer) (judged_world w c ms) (moved_world w c ms) c))
       → IsSoundGraph (world_after w (the_step c ms answer))
-  finished c ms answer supported sound =
+  finished c ms answer sound =
       let x = world_from (moved_world w c ms) (act (is_block answer) (judged_world w c ms) (moved_world w c ms) c) in
-      subst (λ b. IsSoundGraph (if b then w else with_client_remembered x)) (sym supported)
       (quiet x (with_client_remembered x) sound refl refl refl refl).sound
 
   acted : (marked : Bool) (v : World) (c : Call) → IsMovedWell w v → (is_finalize c ≡ true → All (is_live v) (ids_in_slots v.graph))
@@ -321,10 +320,9 @@ module _ (limit line : ℕ) (w : World) (laid : Rattle.mps_laws.proofs.Positions
       (act_sound marked w v s m.grown m.sound c finalize substitute plain) m.sound
 
   reserved : (name : Rattle.mps_base.specs.declared.names.Name.Name) (head : ℕ) (ms : List Move) (answer : Answer)
-      → is_unsupported answer ≡ false
-      → IsAnsweredStep w (the_step (call.Reserve name head) ms answer)
+      → IsLegalStep w (the_step (call.Reserve name head) ms answer)
       → IsSoundGraph (world_after w (the_step (call.Reserve name head) ms answer))
-  reserved name head ms answer supported legal =
+  reserved name head ms answer legal =
       let judged = world_after_moves w (moves_of_poll ms) in
       let poll = moves_well w None (moves_of_poll ms) s legal.moves_are_legal in
       let number = number_named w name as_point in
@@ -333,84 +331,74 @@ module _ (limit line : ℕ) (w : World) (laid : Rattle.mps_laws.proofs.Positions
       let units = units_asked w (call.Reserve name head) in
       let v = asking units u in
       let m = then_well judged u v own.0 (asked_well units u own.0.sound) in
-      finished (call.Reserve name head) ms answer supported
+      finished (call.Reserve name head) ms answer
       (for_world IsSoundGraph v (Rattle.mps_model.specs.Allocating.act_reserve judged v name head)
       (reserve_sound judged name head v m.grown m.sound (asked_graph units u ∙ own.1)) m.sound)
 
-  of_call : (c : Call) (ms : List Move) (answer : Answer) → is_unsupported answer ≡ false → IsAnsweredStep w (the_step c ms answer)
+  of_call : (c : Call) (ms : List Move) (answer : Answer) → IsLegalStep w (the_step c ms answer)
       → IsSoundGraph (world_after w (the_step c ms answer))
-  of_call (call.Reserve name head) ms answer supported legal = reserved name head ms answer supported legal
-  of_call (call.Commit point target) ms answer supported legal =
-      finished (call.Commit point target) ms answer supported
+  of_call (call.Reserve name head) ms answer legal = reserved name head ms answer legal
+  of_call (call.Commit point target) ms answer legal =
+      finished (call.Commit point target) ms answer
       (acted (is_block answer) (world_after_moves w ms) (call.Commit point target)
       (subst (λ ns. IsMovedWell w (world_after_moves w ns)) (sym legal.moves_are_due) (commit_well w (point_named w point) answer s))
       (λ h. absurd (false≢true h)) (λ h. absurd (false≢true h)) refl)
-  of_call (call.Alloc pool words place) ms answer supported legal =
-      finished (call.Alloc pool words place) ms answer supported
+  of_call (call.Alloc pool words place) ms answer legal =
+      finished (call.Alloc pool words place) ms answer
       (acted (is_block answer) (world_after_moves w ms) (call.Alloc pool words place)
       (subst (λ ns. IsMovedWell w (world_after_moves w ns)) (sym legal.moves_are_due) (alloc_well w (pool_named w pool) words answer s))
       (λ h. absurd (false≢true h)) (λ h. absurd (false≢true h)) refl)
-  of_call (call.Free place) ms answer supported legal =
-      finished (call.Free place) ms answer supported
+  of_call (call.Free place) ms answer legal =
+      finished (call.Free place) ms answer
       (acted (is_block answer) (world_after_moves w ms) (call.Free place)
       (subst (λ ns. IsMovedWell w (world_after_moves w ns)) (sym legal.moves_are_due) (free_well limit w place answer laid live s))
       (λ h. absurd (false≢true h)) (λ h. absurd (false≢true h)) refl)
-  of_call (call.CacheAlloc cache words place) ms answer supported legal =
-      finished (call.CacheAlloc cache words place) ms answer supported
+  of_call (call.CacheAlloc cache words place) ms answer legal =
+      finished (call.CacheAlloc cache words place) ms answer
       (acted (is_block answer) (world_after_moves w ms) (call.CacheAlloc cache words place)
       (subst (λ ns. IsMovedWell w (world_after_moves w ns)) (sym legal.moves_are_due)
       (cache_alloc_well w (cache_named w cache) words answer s))
       (λ h. absurd (false≢true h)) (λ h. absurd (false≢true h)) refl)
-  of_call (call.CacheFree cache place) ms answer supported legal =
-      finished (call.CacheFree cache place) ms answer supported
+  of_call (call.CacheFree cache place) ms answer legal =
+      finished (call.CacheFree cache place) ms answer
       (acted (is_block answer) (world_after_moves w ms) (call.CacheFree cache place)
       (subst (λ ns. IsMovedWell w (world_after_moves w ns)) (sym legal.moves_are_due)
       (cache_free_well limit w (cache_named w cache) place answer laid s))
       (λ h. absurd (false≢true h)) (λ h. absurd (false≢true h)) refl)
-  of_call (call.CacheFlush cache) ms answer supported legal =
-      finished (call.CacheFlush cache) ms answer supported
+  of_call (call.CacheFlush cache) ms answer legal =
+      finished (call.CacheFlush cache) ms answer
       (acted (is_block answer) (world_after_moves w ms) (call.CacheFlush cache)
       (subst (λ ns. IsMovedWell w (world_after_moves w ns)) (sym legal.moves_are_due) (cache_flush_well limit w cache answer laid s))
       (λ h. absurd (false≢true h)) (λ h. absurd (false≢true h)) refl)
-  of_call (call.Pop pool frame) ms answer supported legal =
-      finished (call.Pop pool frame) ms answer supported
+  of_call (call.Pop pool frame) ms answer legal =
+      finished (call.Pop pool frame) ms answer
       (acted (is_block answer) (world_after_moves w ms) (call.Pop pool frame)
       (subst (λ ns. IsMovedWell w (world_after_moves w ns)) (sym legal.moves_are_due) (pop_well limit w pool frame answer laid s framed))
       (λ h. absurd (false≢true h)) (λ h. absurd (false≢true h)) refl)
-  of_call (call.Finalize slot) ms answer supported legal =
-      finished (call.Finalize slot) ms answer supported
+  of_call (call.Finalize slot) ms answer legal =
+      finished (call.Finalize slot) ms answer
       (acted (is_block answer) (world_after_moves w ms) (call.Finalize slot) (moves_well w None ms s legal.moves_are_legal)
       (λ h. subst (λ (ns : List Move). SlotsAreLive (world_after_moves w ns)) (sym legal.moves_are_due) slots)
       (λ h. absurd (false≢true h)) refl)
-  of_call (call.TransformApply transform) ms answer supported legal =
-      finished (call.TransformApply transform) ms answer supported
+  of_call (call.TransformApply transform) ms answer legal =
+      finished (call.TransformApply transform) ms answer
       (acted (is_block answer) (world_after_moves w ms) (call.TransformApply transform) (moves_well w None ms s legal.moves_are_legal)
       (λ h. absurd (false≢true h)) (λ h.
       subst (λ (ns : List Move). All (auto (world_after_moves w ns)) (ids_in_pairs (world_after_moves w ns).state))
       (sym legal.moves_are_due) pairs) refl)
-  of_call (call.Step units) ms answer supported legal =
+  of_call (call.Step units) ms answer legal =
       let m = moves_well w None ms s legal.moves_are_legal in
       let u = world_after_moves w ms in
       let asked = units_asked w (call.Step units) in
-      finished (call.Step units) ms answer supported
+      finished (call.Step units) ms answer
       (acted (is_block answer) (asking asked u) (call.Step units) (then_well w u (asking asked u) m (asked_well asked u m.sound))
       (λ h. absurd (false≢true h)) (λ h. absurd (false≢true h)) refl)
-  of_call c ms answer supported legal =
-      finished c ms answer supported
+  of_call c ms answer legal =
+      finished c ms answer
       (acted (is_block answer) (world_after_moves w ms) c (moves_well w None ms s legal.moves_are_legal) (λ h. absurd (false≢true h))
       (λ h. absurd (false≢true h)) refl)
-
-  which : {A B : Type 0} (b : Bool) → MatchBool b A B → ((b ≡ true) × A) ⊎ ((b ≡ false) × B)
-  which true a = inl (refl, a)
-  which false b = inr (refl, b)
 
   pub step_sound : (c : Call) (ms : List Move) (answer : Answer) → IsLegalStep w (the_step c ms answer)
       → IsSoundGraph (world_after w (the_step c ms answer)) × SlotsAreLive (world_after w (the_step c ms answer))
   step_sound c ms answer legal =
-      elim (which (is_unsupported answer) legal) [
-        | inl h ↦ (
-          subst (λ b. IsSoundGraph (if b then w else world_after_call w c ms answer)) (sym h.0) s,
-          subst (λ b. SlotsAreLive (if b then w else world_after_call w c ms answer)) (sym h.0) slots,
-        )
-        | inr h ↦ (of_call c ms answer h.0 h.1, slots_held (world_after w (the_step c ms answer)) h.1.held_are_live)
-      ]
+      (of_call c ms answer legal, slots_held (world_after w (the_step c ms answer)) legal.held_are_live)

@@ -17,7 +17,7 @@ use Rattle.mps_laws.proofs.Sound.SoundGraph.{IsSoundGraph, Grows, is_sound_reser
 use Rattle.mps_laws.proofs.Sound.SoundActs.{reservation_written}
 use Rattle.mps_laws.proofs.Sound.SoundParts.{new_is_sound}
 
-record IsCheckedReserve (judged : World) (name : Name) (head : ℕ) (r : Reserving) : Type 0 where
+pub record IsCheckedReserve (judged : World) (name : Name) (head : ℕ) (r : Reserving) : Type 0 where
   pub point : point_named judged name ≡ Ok r.point
   pub sound : is_sound_reservation judged r.point.value.pool (record { head = head; cells = r.cells; is_doomed = false }) ≡ true
 
@@ -50,7 +50,7 @@ module _ (judged : World) (name : Name) (head : ℕ) where
   of_pool p None r e f h = absurd (cc)
   of_pool p (Some pool) r e f h = of_checks p pool (not (takes_head judged pool head)) (is_some p.value.reservation) r e f refl h
 
-  checked_reserve : (r : Reserving) → check_reserve judged name head ≡ Ok r → IsCheckedReserve judged name head r
+  pub checked_reserve : (r : Reserving) → check_reserve judged name head ≡ Ok r → IsCheckedReserve judged name head r
   checked_reserve r h = of_point (point_named judged name) refl h
     where
       of_point : (x : Checked (Numbered Point)) → point_named judged name ≡ x

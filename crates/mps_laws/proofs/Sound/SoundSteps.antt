@@ -231,9 +231,9 @@ module _ (judged v : World) (j : IsSoundGraph judged) (grown : Grows judged v) (
       (inr (all-written (auto v) slots_of v.graph.tables into.number (Some (slice_set into.list into.index (Some id))) s.slots
       (entries-written (auto v) into.list into.index (Some id) (slots_pass into (Now slot e)) parts.0)))
       (inl refl) (inl refl) (inl refl) (inr parts.1)
-  change_sound live pairs other (TableMade name slots) = new_table v s name slots
-  change_sound live pairs other (AreaMade name words) = new_area v s name words
-  change_sound live pairs other (BlocksMade name places e) = new_blocks v s name places
+  change_sound live pairs other (TableMade name slots) = new_table v s name.name slots
+  change_sound live pairs other (AreaMade name words) = new_area v s name.name words
+  change_sound live pairs other (BlocksMade name places e) = new_blocks v s name.name places
   change_sound live pairs other (TableDropped name n named) =
       held_written v s (record v.graph { tables = slice_set v.graph.tables n None; names = without_name v.graph.names name }) refl refl
       (inr (all-written (auto v) slots_of v.graph.tables n None s.slots refl)) (inl refl) (inl refl) (inl refl) (inl refl)
@@ -293,8 +293,8 @@ module _ (judged v : World) (j : IsSoundGraph judged) (grown : Grows judged v) (
         messages = inl refl;
       })
   change_sound live pairs other (PoolMade name p e made) =
-      untouched v (with_pool v name p) s refl (λ n q h. slice_get-kept v.pools p q n h) refl refl refl refl refl refl refl refl
-  change_sound live pairs other (PointMade name pool of at_rank e is may) = new_point v s name of.number at_rank (
+      untouched v (with_pool v name.name p) s refl (λ n q h. slice_get-kept v.pools p q n h) refl refl refl refl refl refl refl refl
+  change_sound live pairs other (PointMade name pool of at_rank e is may) = new_point v s name.name of.number at_rank (
     kind_of_pool is_automatic_kind v.pools of.number of.value (pool_named-is v pool of is) (may_is_automatic of.value.kind at_rank
         (ap not may)),
     (λ weak. kind_of_pool is_weak_kind v.pools of.number of.value (pool_named-is v pool of is)
