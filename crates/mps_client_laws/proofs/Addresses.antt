@@ -7,7 +7,7 @@ use Rattle.mps_base.specs.declared.moves.Move.{Move}
 use Rattle.mps_base.specs.declared.moves.Move.TheVariants as moves
 use Rattle.mps_model.specs.declared.call.Call.{Call}
 use Rattle.mps_model.specs.declared.call.Call.TheVariants as call
-use Rattle.mps_model.specs.Answer.{is_block, is_unsupported}
+use Rattle.mps_model.specs.Answer.{is_block}
 use Rattle.mps_model.specs.Step.{Step, History}
 use Rattle.mps_model.specs.Graph.{entry_at, is_automatic}
 use Rattle.mps_model.specs.World.{World, address_of, id_at, is_copying_pool, object_is, with_tail}
@@ -15,7 +15,7 @@ use Rattle.mps_model.specs.Checked.{Act, Checked}
 use Rattle.mps_model.specs.Effect.{where_one, world_after_move, world_after_moves, after_moved, after_free, holding, segment_of_move, without_object, with_collection, reclaiming, segment_base_of}
 use Rattle.mps_model.specs.Policy.{units_asked}
 use Rattle.mps_model.specs.Reply.{act, world_from}
-use Rattle.mps_model.specs.History.{after_its_moves, after_own_segment, asking, judged_world, moved_world, moves_of_poll, own_segment, rank_of_point, with_buffer, with_segment_for_point, world_after, world_after_call, world_after_steps}
+use Rattle.mps_model.specs.History.{after_its_moves, after_own_segment, asking, judged_world, moved_world, moves_of_poll, own_segment, rank_of_point, with_buffer, with_segment_for_point, world_after, world_after_steps}
 use Rattle.mps_changes.specs.Change.{ForAct, accepted, refused}
 use Rattle.mps_laws.specs.Replay.{reached}
 use Rattle.mps_laws.proofs.Lookups.{entry_at-set_other, entry_at-set_same, entry_within}
@@ -196,7 +196,9 @@ module _ (id : ℕ) (Good : ℕ → Type 0) where
 
   step_lies : (w : World) (s : Step) → MayMove (none_of_moves still w s.moves) → none_of_moves frees w s.moves ≡ true → LiesIn w
       → LiesIn (world_after w s)
-  step_lies w s may none l = by_case (is_unsupported s.answer)
+  step_lies w s may none l =
+      act_lies s.call moved (act (is_block s.answer) (judged_world w s.call s.moves) moved s.call)
+      (act_leaves (is_block s.answer) (judged_world w s.call s.moves) moved s.call) moved_lie
     where
       moved : World
       moved = moved_world w s.call s.moves
@@ -205,12 +207,6 @@ module _ (id : ℕ) (Good : ℕ → Type 0) where
       moved_lie =
           subst Lies (sym (asking_addresses (units_asked w s.call) (after_its_moves w s.call s.moves)))
           (its_moves_lie w s.call s.moves may none l)
-
-      by_case : (b : Bool) → LiesIn (if b then w else world_after_call w s.call s.moves s.answer)
-      by_case true = l
-      by_case false =
-          act_lies s.call moved (act (is_block s.answer) (judged_world w s.call s.moves) moved s.call)
-          (act_leaves (is_block s.answer) (judged_world w s.call s.moves) moved s.call) moved_lie
 
   pub steps_lie : (w : World) (ss : History) → MayMove (none_of_steps still w ss) → none_of_steps frees w ss ≡ true → LiesIn w
       → LiesIn (world_after_steps w ss)

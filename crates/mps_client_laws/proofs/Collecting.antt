@@ -20,16 +20,14 @@ use Rattle.mps_model.specs.Checked.{cells_of_body}
 use Rattle.mps_model.specs.Collecting.{with_state}
 use Rattle.mps_model.specs.Effect.{where_one, world_after_move, world_after_moves, holding, segment_of_move, without_object, with_collection, reclaiming, segment_base_of}
 use Rattle.mps_model.specs.LegalMove.{AreLegalMoves, ForOne, IsLegalMove, IsLegalSplat, first_move}
-use Rattle.mps_model.specs.History.{AreMovesOf, HeldAreLive, moves_of_collector, with_client_remembered, world_after, world_after_call}
+use Rattle.mps_model.specs.History.{IsLegalStep, AreMovesOf, HeldAreLive, moves_of_collector, with_client_remembered, world_after, world_after_call}
 use Rattle.mps_laws.specs.Replay.{reached}
-use Rattle.mps_laws.proofs.LegalHistories.{IsAnswered}
 use Rattle.mps_laws.proofs.Reading.{contains-append_left, contains-append_right, held_is_live}
 use Rattle.mps_laws.proofs.Sound.Referred.{of_live}
 use Rattle.mps_client_laws.specs.Objects.{Identity, identity_of, identity_at, cell_at, cells_nulled, cells_splatted, is_cell, reference_cell_of, moves_leave_cell}
 use Rattle.mps_client_laws.specs.Collecting.{held_ids, is_dependent, lasting_targets, CollectLeavesWhatIsReached}
 use Rattle.mps_client_laws.proofs.Contained.{either_or}
 use Rattle.mps_client_laws.proofs.WritesOfMoves.{move_leaves_objects, moves_leave_objects}
-use Rattle.mps_client_laws.proofs.ReadingBack.{accepted_is_answered}
 use Rattle.mps_laws.proofs.Parked.{collect_ends, remembered_runs}
 
 -- ---- what moves leave of roots
@@ -288,12 +286,12 @@ targets_kept before after from to keeps h = by_object (object_at before from) re
 
 -- ---- the end of a `collect`
 
-module _ (w : World) (s : Step) (answered : IsAnswered w s) (is : s.call ≡ call.Collect) where
+module _ (w : World) (s : Step) (legal : IsLegalStep w s) (is : s.call ≡ call.Collect) where
   abbrev moved : World
   moved = world_after_moves w s.moves
 
   pub after_is : world_after w s ≡ with_client_remembered (with_state moved (Parked []))
-  after_is = answered.after ∙ ap (λ c. world_after_call w c s.moves s.answer) is
+  after_is = ap (λ c. world_after_call w c s.moves s.answer) is
 
   pub after_graph : (world_after w s).graph ≡ moved.graph
   after_graph = ap (λ (u : World). u.graph) after_is
@@ -301,10 +299,10 @@ module _ (w : World) (s : Step) (answered : IsAnswered w s) (is : s.call ≡ cal
   at_rest : is_running (world_after w s) ≡ false
   at_rest =
       ap is_running after_is ∙ remembered_runs (ids_of_client moved.graph) moved.collection
-      ∙ collect_ends w s.moves (subst (λ c. AreMovesOf w c s.answer s.moves) is answered.answered.moves_are_due)
+      ∙ collect_ends w s.moves (subst (λ c. AreMovesOf w c s.answer s.moves) is legal.moves_are_due)
 
   held : HeldAreLive (world_after w s)
-  held = answered.answered.held_are_live
+  held = legal.held_are_live
 
   lasting_cells : (id k : ℕ) (cell : Cell) → object_is is_weak_object w id ≡ false → is_dependent w.graph id ≡ false
       → cell_at w.graph id k ≡ Some cell → cell_at (world_after w s).graph id k ≡ Some cell
@@ -312,7 +310,7 @@ module _ (w : World) (s : Step) (answered : IsAnswered w s) (is : s.call ≡ cal
       ap (λ g. cell_at g id k) after_graph
       ∙ (moves_leave_objects w s.moves).cells id k cell
       (legal_moves_leave_lasting w None s.moves id k strong free
-      (subst (λ c. AreLegalMoves w None (moves_of_collector c s.moves)) is answered.answered.moves_are_legal))
+      (subst (λ c. AreLegalMoves w None (moves_of_collector c s.moves)) is legal.moves_are_legal))
       there
 
   all_referred : list_all (is_live (world_after w s)) (flat_map (targets (world_after w s).graph) (live_ids (world_after w s))) ≡ true
@@ -340,9 +338,9 @@ module _ (w : World) (s : Step) (answered : IsAnswered w s) (is : s.call ≡ cal
 pub collect_leaves_what_is_reached : CollectLeavesWhatIsReached
 collect_leaves_what_is_reached formats steps later s id legal is accepted path =
     let w = reached formats steps in
-    let answered = accepted_is_answered w s (IsLegalFrom-later (empty_world_of formats) steps (s ∷ later) legal).0 accepted in
+    let here = (IsLegalFrom-later (empty_world_of formats) steps (s ∷ later) legal).0 in
     record {
       live = PathLeads-holds (lasting_targets w.graph) (held_ids w.graph) (λ n. is_live (world_after w s) n ≡ true)
-          (first_live w s answered is) (next_live w s answered is) path;
-      cells = λ k cell strong free there. lasting_cells w s answered is id k cell strong free there;
+          (first_live w s here is) (next_live w s here is) path;
+      cells = λ k cell strong free there. lasting_cells w s here is id k cell strong free there;
     }

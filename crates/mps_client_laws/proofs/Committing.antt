@@ -7,7 +7,7 @@ use Rattle.mps_base.specs.declared.refusal.Refusal.TheVariants as refusal
 use Rattle.mps_model.proofs.Appending.{IsLegalFrom-later}
 use Rattle.mps_model.specs.declared.call.Call.TheVariants as call
 use Rattle.mps_model.specs.declared.reply.Reply.TheVariants as reply
-use Rattle.mps_model.specs.Answer.{Answer, Replied, is_accepted, is_block, is_unsupported}
+use Rattle.mps_model.specs.Answer.{Answer, Replied, is_accepted, is_block}
 use Rattle.mps_model.specs.Step.{Step}
 use Rattle.mps_model.specs.Graph.{Graph, Point, Reservation, object_at}
 use Rattle.mps_model.specs.World.{World, empty_world, empty_world_of}
@@ -15,16 +15,14 @@ use Rattle.mps_model.specs.Checked.{Act, Checked, Numbered, done, point_named, r
 use Rattle.mps_model.specs.Allocating.{act_commit, committed_object, with_object, with_reservation, world_committed}
 use Rattle.mps_model.specs.Effect.{world_after_moves}
 use Rattle.mps_model.specs.Reply.{answer_from, reply_to, world_from}
-use Rattle.mps_model.specs.History.{AreMovesOf, commit_of, if_accepted, judged_world, moved_world, moves_of_commit, with_client_remembered, world_after, world_after_call}
+use Rattle.mps_model.specs.History.{IsLegalStep, AreMovesOf, commit_of, if_accepted, judged_world, moved_world, moves_of_commit, with_client_remembered, world_after, world_after_call}
 use Rattle.mps_changes.proofs.Checks.{required-is}
 use Rattle.mps_laws.specs.Held.{target_of_slot}
 use Rattle.mps_laws.specs.Replay.{reached}
 use Rattle.mps_laws.proofs.Lookups.{slice_get-at_last}
-use Rattle.mps_laws.proofs.LegalHistories.{IsAnswered, supported_step}
 use Rattle.mps_laws.proofs.Reading.{bind_ok}
 use Rattle.mps_client_laws.specs.Committing.{IsMade, CommitMakesTheObject, FlippedMakesNone}
 use Rattle.mps_client_laws.proofs.QuietCalls.{accepted_act}
-use Rattle.mps_client_laws.proofs.ReadingBack.{accepted_is_answered}
 use Rattle.mps_client_laws.proofs.Slots.{slot_written}
 
 -- the record of a commit changes no world
@@ -41,21 +39,21 @@ commit_moves_nothing w answer p = by_case (is_accepted answer) p
     by_case true (Err why) = refl
     by_case false p = refl
 
-module _ (w : World) (s : Step) (point : Name) (target : Slot) (answered : IsAnswered w s) (is : s.call ≡ call.Commit point target) where
+module _ (w : World) (s : Step) (point : Name) (target : Slot) (legal : IsLegalStep w s) (is : s.call ≡ call.Commit point target) where
   unmoved : world_after_moves w s.moves ≡ w
   unmoved =
-      ap (world_after_moves w) (subst (λ c. AreMovesOf w c s.answer s.moves) is answered.answered.moves_are_due)
+      ap (world_after_moves w) (subst (λ c. AreMovesOf w c s.answer s.moves) is legal.moves_are_due)
       ∙ commit_moves_nothing w s.answer (point_named w point)
 
   pub commit_world : world_after w s ≡ with_client_remembered (world_from w (act_commit w point target))
   commit_world =
-      answered.after ∙ ap (λ c. world_after_call w c s.moves s.answer) is
+      ap (λ c. world_after_call w c s.moves s.answer) is
       ∙ ap (λ v. with_client_remembered (world_from v (act_commit v point target))) unmoved
 
   pub commit_answer : s.answer ≡ answer_from (act_commit w point target)
   commit_answer =
       subst (λ c. s.answer ≡ reply_to (is_block s.answer) (judged_world w c s.moves) (moved_world w c s.moves) c) is
-      answered.answered.answer_is_due
+      legal.answer_is_due
       ∙ ap (λ v. answer_from (act_commit v point target)) unmoved
 
 -- an accepted commit is of a live reservation
@@ -127,19 +125,18 @@ flipped_act (Err why) due = absurd cc
 pub commit_makes_the_object : CommitMakesTheObject
 commit_makes_the_object formats steps later s point target legal is accepted =
     let w = reached formats steps in
-    let answered = accepted_is_answered w s (IsLegalFrom-later (empty_world_of formats) steps (s ∷ later) legal).0 accepted in
-    let due = commit_answer w s point target answered is in
+    let here = (IsLegalFrom-later (empty_world_of formats) steps (s ∷ later) legal).0 in
+    let due = commit_answer w s point target here is in
     let a = accepted_act (act_commit w point target) s.answer due accepted in
     made_in w a.0.world (world_after w s) point target
-    (ap (λ (u : World). u.graph) (commit_world w s point target answered is ∙ ap (λ x. with_client_remembered (world_from w x)) a.1))
+    (ap (λ (u : World). u.graph) (commit_world w s point target here is ∙ ap (λ x. with_client_remembered (world_from w x)) a.1))
     (made_by_act w point target a.0 a.1 (sym (ap is_accepted (due ∙ ap answer_from a.1)) ∙ accepted))
 
 pub flipped_makes_none : FlippedMakesNone
 flipped_makes_none formats steps later s point target legal is says_flipped =
     let w = reached formats steps in
-    let answered = supported_step w s (ap is_unsupported says_flipped)
-    (IsLegalFrom-later (empty_world_of formats) steps (s ∷ later) legal).0 in
-    let a = flipped_act (act_commit w point target) (sym says_flipped ∙ commit_answer w s point target answered is) in
+    let here = (IsLegalFrom-later (empty_world_of formats) steps (s ∷ later) legal).0 in
+    let a = flipped_act (act_commit w point target) (sym says_flipped ∙ commit_answer w s point target here is) in
     ap (λ (u : World). u.graph.objects)
-    (commit_world w s point target answered is ∙ ap (λ x. with_client_remembered (world_from w x)) a.1)
+    (commit_world w s point target here is ∙ ap (λ x. with_client_remembered (world_from w x)) a.1)
     ∙ none_by_act w point target a.0 a.1 a.2

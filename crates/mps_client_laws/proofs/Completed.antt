@@ -14,10 +14,10 @@ use Rattle.mps_model.specs.Effect.{Everything, world_after_moves}
 use Rattle.mps_model.specs.Flip.{flip_of, world_at_flip}
 use Rattle.mps_model.specs.LegalMove.{AreLegalMoves, first_move}
 use Rattle.mps_model.specs.Posts.{IsWhole}
-use Rattle.mps_model.specs.History.{AreMovesOf, HeldAreLive, moves_of_collector, with_client_remembered, world_after}
+use Rattle.mps_model.specs.History.{IsLegalStep, AreMovesOf, HeldAreLive, moves_of_collector, with_client_remembered, world_after}
 use Rattle.mps_laws.specs.Replay.{reached}
 use Rattle.mps_laws.proofs.Flipping.{HasNone}
-use Rattle.mps_laws.proofs.LegalHistories.{IsAnswered, IsLegalFrom-first}
+use Rattle.mps_laws.proofs.LegalHistories.{IsLegalFrom-first}
 use Rattle.mps_laws.proofs.Held.{held_after}
 use Rattle.mps_laws.proofs.Parked.{remembered_runs}
 use Rattle.mps_laws.proofs.Positions.LegalMoves.{HasLayout}
@@ -28,7 +28,6 @@ use Rattle.mps_laws.proofs.Sound.SoundMoves.{move_well, moves_well}
 use Rattle.mps_client_laws.specs.Complete.{OfEachCollect, moves_after_flip}
 use Rattle.mps_client_laws.proofs.CollectFlips.{HasFullFlip, IsCarried, at_flip_is, after_flip_is, carried, full_flip, moved_is}
 use Rattle.mps_client_laws.proofs.Collecting.{after_is}
-use Rattle.mps_client_laws.proofs.ReadingBack.{accepted_is_answered}
 use Rattle.mps_client_laws.proofs.SoundlyReached.{IsSoundlyReached, soundly_reached}
 
 -- ---- the flip, and the moves after it
@@ -58,9 +57,9 @@ record IsKeptIn (limit : ℕ) (w : World) : Type 0 where
   layout : HasLayout limit w
   sound : IsSoundGraph w
 
-module _ (w : World) (s : Step) (k : IsSoundlyReached w) (answered : IsAnswered w s) (is : s.call ≡ call.Collect) where
+module _ (w : World) (s : Step) (k : IsSoundlyReached w) (legal : IsLegalStep w s) (is : s.call ≡ call.Collect) where
   pub the_flip : HasFullFlip w s.moves
-  the_flip = full_flip w s.moves (subst (λ c. AreMovesOf w c s.answer s.moves) is answered.answered.moves_are_due)
+  the_flip = full_flip w s.moves (subst (λ c. AreMovesOf w c s.answer s.moves) is legal.moves_are_due)
 
   abbrev v : World
   v = world_after_moves w the_flip.earlier
@@ -74,7 +73,7 @@ module _ (w : World) (s : Step) (k : IsSoundlyReached w) (answered : IsAnswered 
   all_legal : AreLegalMoves w None (the_flip.earlier ++ flip_of v Everything ∷ the_flip.later)
   all_legal =
       subst (AreLegalMoves w None) the_flip.whole
-      (subst (λ c. AreLegalMoves w None (moves_of_collector c s.moves)) is answered.answered.moves_are_legal)
+      (subst (λ c. AreLegalMoves w None (moves_of_collector c s.moves)) is legal.moves_are_legal)
 
   at_v : IsCarried (IsKeptIn k.limit) v (flip_of v Everything ∷ the_flip.later)
   at_v =
@@ -87,11 +86,11 @@ module _ (w : World) (s : Step) (k : IsSoundlyReached w) (answered : IsAnswered 
 
   after_moves : world_after w s ≡ with_client_remembered (with_state moved (Parked []))
   after_moves =
-      after_is w s answered is
+      after_is w s legal is
       ∙ ap (λ u. with_client_remembered (with_state u (Parked []))) (moved_is w s.moves the_flip)
 
   held : HeldAreLive (with_client_remembered (with_state moved (Parked [])))
-  held = subst HeldAreLive after_moves answered.answered.held_are_live
+  held = subst HeldAreLive after_moves legal.held_are_live
 
   rests : is_running moved ≡ false
   rests = ap is_running (sym (moved_is w s.moves the_flip)) ∙ the_flip.ends
@@ -134,11 +133,11 @@ of_each_collect Fact each formats steps later s legal is accepted =
     let first = empty_world_of formats in
     let w = reached formats steps in
     let k = soundly_reached formats steps (IsLegalFrom-first first steps (s ∷ later) legal) in
-    let answered = accepted_is_answered w s (IsLegalFrom-later first steps (s ∷ later) legal).0 accepted in
-    let f = the_flip w s k answered is in
+    let here = (IsLegalFrom-later first steps (s ∷ later) legal).0 in
+    let f = the_flip w s k here is in
     let v = world_after_moves w f.earlier in
     subst (λ flipped. Fact w flipped (moves_after_flip s.moves) (world_after w s)) (sym (at_flip_is w s.moves f))
     (subst (λ ms. Fact w (world_at_flip v Everything) ms (world_after w s)) (sym (after_flip_is w s.moves f))
-    (subst (Fact w (world_at_flip v Everything) f.later) (sym (after_moves w s k answered is))
+    (subst (Fact w (world_at_flip v Everything) f.later) (sym (after_moves w s k here is))
     (each w v f.later k (held_after formats steps (IsLegalFrom-first first steps (s ∷ later) legal))
-    (λ rests. ap (world_after_moves w) (f.none_earlier rests)) (completed w s k answered is))))
+    (λ rests. ap (world_after_moves w) (f.none_earlier rests)) (completed w s k here is))))

@@ -16,15 +16,13 @@ use Rattle.mps_model.specs.Effect.{Everything, world_after_moves}
 use Rattle.mps_model.specs.Flip.{flip_of, world_at_flip}
 use Rattle.mps_model.specs.Posts.{IsDecided, IsWhole, IsWidelyReachableWith}
 use Rattle.mps_model.specs.Units.{AreUnitsToEnd}
-use Rattle.mps_model.specs.History.{AreMovesOf, AreMovesOfCollect, FinishesCollection, world_after}
+use Rattle.mps_model.specs.History.{IsLegalStep, AreMovesOf, AreMovesOfCollect, FinishesCollection, world_after}
 use Rattle.mps_laws.specs.Replay.{reached}
-use Rattle.mps_laws.proofs.LegalHistories.{IsAnswered}
 use Rattle.mps_laws.proofs.Reading.{contains-append_left}
 use Rattle.mps_laws.proofs.Sound.Referred.{live_is_among}
 use Rattle.mps_client_laws.specs.Collecting.{held_ids, IsReachedByDependents, WhatDependentsReachStays, WhatIsNotReachedIsGone}
 use Rattle.mps_client_laws.proofs.Contained.{all_contained, contains_filtered}
 use Rattle.mps_client_laws.proofs.Collecting.{after_is, after_graph, move_roots, still_held}
-use Rattle.mps_client_laws.proofs.ReadingBack.{accepted_is_answered}
 
 -- ---- a whole collection
 
@@ -69,30 +67,30 @@ widely_reachable w posts id path =
     (λ from to reachable h. goes_on reachable h)
     path
 
-stays_after : (w : World) (s : Step) (id : ℕ) (answered : IsAnswered w s) (is : s.call ≡ call.Collect) → is_running w ≡ false
+stays_after : (w : World) (s : Step) (id : ℕ) (legal : IsLegalStep w s) (is : s.call ≡ call.Collect) → is_running w ≡ false
     → is_live_automatic w id ≡ true → IsReachedByDependents w.graph id → is_live (world_after w s) id ≡ true
-stays_after w s id answered is rests live path =
+stays_after w s id legal is rests live path =
     let moved = world_after_moves w s.moves in
-    let all = whole w s.moves rests (subst (λ c. AreMovesOf w c s.answer s.moves) is answered.answered.moves_are_due) in
+    let all = whole w s.moves rests (subst (λ c. AreMovesOf w c s.answer s.moves) is legal.moves_are_due) in
     let parts = and_parts (is_live w id) (object_is is_automatic w id) live in
     let among = contains_filtered (object_is is_automatic w) (live_ids w) id (live_is_among w id parts.0) parts.1 in
-    ap (λ (u : World). is_live u id) (after_is w s answered is)
+    ap (λ (u : World). is_live u id) (after_is w s legal is)
     ∙ kept (world_at_flip w Everything) moved all.posts id
     (all_contained (IsDecided (world_at_flip w Everything) moved all.posts) (live_automatic_ids (world_at_flip w Everything)) id
     all.survivors among)
     (widely_reachable w all.posts id path)
 
-gone_after : (w : World) (s : Step) (id : ℕ) (posts : List ℕ) (answered : IsAnswered w s) (is : s.call ≡ call.Collect)
+gone_after : (w : World) (s : Step) (id : ℕ) (posts : List ℕ) (legal : IsLegalStep w s) (is : s.call ≡ call.Collect)
     → is_running w ≡ false → is_live_automatic w id ≡ true → (world_after w s).graph.messages ≡ w.graph.messages ++ posts
     → (IsWidelyReachableWith (world_at_flip w Everything) posts id → ⊥) → is_live (world_after w s) id ≡ false
-gone_after w s id posts answered is rests live posted lost =
+gone_after w s id posts legal is rests live posted lost =
     let moved = world_after_moves w s.moves in
-    let all = whole w s.moves rests (subst (λ c. AreMovesOf w c s.answer s.moves) is answered.answered.moves_are_due) in
+    let all = whole w s.moves rests (subst (λ c. AreMovesOf w c s.answer s.moves) is legal.moves_are_due) in
     let same : all.posts ≡ posts = append_cancel_left w.graph.messages all.posts posts
-    (sym all.posted ∙ sym (ap (λ g. g.messages) (after_graph w s answered is)) ∙ posted) in
+    (sym all.posted ∙ sym (ap (λ g. g.messages) (after_graph w s legal is)) ∙ posted) in
     let parts = and_parts (is_live w id) (object_is is_automatic w id) live in
     let among = contains_filtered (object_is is_automatic w) (live_ids w) id (live_is_among w id parts.0) parts.1 in
-    ap (λ (u : World). is_live u id) (after_is w s answered is)
+    ap (λ (u : World). is_live u id) (after_is w s legal is)
     ∙ decided (world_at_flip w Everything) moved posts id
     (subst (λ ps. IsDecided (world_at_flip w Everything) moved ps id) same
     (all_contained (IsDecided (world_at_flip w Everything) moved all.posts) (live_automatic_ids (world_at_flip w Everything)) id
@@ -103,10 +101,10 @@ pub what_dependents_reach_stays : WhatDependentsReachStays
 what_dependents_reach_stays formats steps later s id legal is accepted rests live path =
     let w = reached formats steps in
     stays_after w s id
-    (accepted_is_answered w s (IsLegalFrom-later (empty_world_of formats) steps (s ∷ later) legal).0 accepted) is rests live path
+    (IsLegalFrom-later (empty_world_of formats) steps (s ∷ later) legal).0 is rests live path
 
 pub what_is_not_reached_is_gone : WhatIsNotReachedIsGone
 what_is_not_reached_is_gone formats steps later s id posts legal is accepted rests live posted lost =
     let w = reached formats steps in
     gone_after w s id posts
-    (accepted_is_answered w s (IsLegalFrom-later (empty_world_of formats) steps (s ∷ later) legal).0 accepted) is rests live posted lost
+    (IsLegalFrom-later (empty_world_of formats) steps (s ∷ later) legal).0 is rests live posted lost

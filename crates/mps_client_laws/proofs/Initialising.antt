@@ -18,7 +18,7 @@ use Rattle.mps_laws.proofs.Entries.{entry_at-written}
 use Rattle.mps_laws.proofs.Reading.{bind_ok, next_ok}
 use Rattle.mps_client_laws.specs.Initialising.{InitWritesTheNumber, InitWritesTheReference}
 use Rattle.mps_client_laws.specs.Reservations.{reservation_found, reservation_of}
-use Rattle.mps_client_laws.proofs.ReadingBack.{accepted_is_answered, quiet_graph}
+use Rattle.mps_client_laws.proofs.ReadingBack.{quiet_graph}
 use Rattle.mps_client_laws.proofs.Reservations.{number_is_quiet, reference_is_quiet}
 use Rattle.mps_client_laws.proofs.ReservationsOfMoves.{reservation_is}
 
@@ -46,8 +46,8 @@ module _ (w u : World) (point : Name) (r : Reservation) (there : reservation_of 
 pub init_writes_the_number : InitWritesTheNumber
 init_writes_the_number formats steps later s point k value reserved legal is accepts there lives =
     let w = reached formats steps in
-    let answered = accepted_is_answered w s (IsLegalFrom-later (empty_world_of formats) steps (s ∷ later) legal).0 accepts in
-    let q = quiet_graph (call.InitNumber point k value) (number_is_quiet point k value) w s answered is accepts in
+    let here = (IsLegalFrom-later (empty_world_of formats) steps (s ∷ later) legal).0 in
+    let q = quiet_graph (call.InitNumber point k value) (number_is_quiet point k value) w s here is accepts in
     let p = bind_ok (point_named w point) _ q.0 q.1 in
     let r = bind_ok (required (p.0).value.reservation refusal.NotOpen) _ q.0 p.2 in
     let last = next_ok (number_at (r.0).cells k) _ q.0 r.2 in
@@ -58,8 +58,8 @@ init_writes_the_number formats steps later s point k value reserved legal is acc
 pub init_writes_the_reference : InitWritesTheReference
 init_writes_the_reference formats steps later s point k source reserved legal is accepts there lives =
     let w = reached formats steps in
-    let answered = accepted_is_answered w s (IsLegalFrom-later (empty_world_of formats) steps (s ∷ later) legal).0 accepts in
-    let q = quiet_graph (call.InitReference point k source) (reference_is_quiet point k source) w s answered is accepts in
+    let here = (IsLegalFrom-later (empty_world_of formats) steps (s ∷ later) legal).0 in
+    let q = quiet_graph (call.InitReference point k source) (reference_is_quiet point k source) w s here is accepts in
     let p = bind_ok (point_named w point) _ q.0 q.1 in
     let from = bind_ok (slot_in w source) _ q.0 p.2 in
     let r = bind_ok (required (p.0).value.reservation refusal.NotOpen) _ q.0 from.2 in

@@ -41,3 +41,5 @@ pub mod Initialising
 pub mod Substituting
 pub mod Dependents
 pub mod Popping
+pub mod CachedBlocks
+pub mod Places

@@ -2,10 +2,10 @@
 use Rattle.std.proofs.Common.{◌≡◌, ℕ, Bool, true, false, refl, sym, ◌∙◌, ap, List, [], ◌∷◌, map, Option, Some, None}
 use Rattle.std.proofs.lemmas.Bool.{true≢false, and_parts}
 use Rattle.std.proofs.lemmas.Option.{none-some, slice_get-map}
-use Rattle.std.specs.Prelude.{not, if◌then◌else◌, slice_get, option_and_then}
+use Rattle.std.specs.Prelude.{not, slice_get, option_and_then}
 use Rattle.mps_model.specs.declared.call.Call.{Call}
 use Rattle.mps_model.specs.declared.call.Call.TheVariants as call
-use Rattle.mps_model.specs.Answer.{is_block, is_unsupported}
+use Rattle.mps_model.specs.Answer.{is_block}
 use Rattle.mps_model.specs.Step.{Step}
 use Rattle.mps_model.specs.Graph.{Graph, Object, Cell, with_last, graph_with_cells, object_with_cells, object_at, target_of_cell}
 use Rattle.mps_model.specs.World.{World}
@@ -13,7 +13,7 @@ use Rattle.mps_model.specs.Checked.{Act, Checked, cells_of_body, words_of_body}
 use Rattle.mps_model.specs.Caches.{graph_cleared}
 use Rattle.mps_model.specs.Allocating.{graph_with_word}
 use Rattle.mps_model.specs.Reply.{act, world_from}
-use Rattle.mps_model.specs.History.{judged_world, moved_world, world_after, world_after_call}
+use Rattle.mps_model.specs.History.{judged_world, moved_world, world_after}
 use Rattle.mps_changes.specs.Change.{ForAct, accepted, refused}
 use Rattle.mps_changes.proofs.Checks.{for_world}
 use Rattle.mps_laws.proofs.Lookups.{slice_get-kept, map-with_last}
@@ -123,17 +123,6 @@ after_act P marked judged v c each before =
 
 -- ---- what a step leaves
 
--- a fact of the graph of a world that a step changes only through moves and its act
-after_step : (Holds : Graph → Type 0) (w : World) (s : Step) → Holds w.graph
-    → Holds (world_from (moved_world w s.call s.moves) (act (is_block s.answer) (judged_world w s.call s.moves)
-    (moved_world w s.call s.moves) s.call)).graph
-    → Holds (world_after w s).graph
-after_step Holds w s before after = by_case (is_unsupported s.answer)
-  where
-    by_case : (b : Bool) → Holds (if b then w else world_after_call w s.call s.moves s.answer).graph
-    by_case true = before
-    by_case false = after
-
 not_false : (b : Bool) → not b ≡ true → b ≡ false
 not_false true h = absurd (true≢false (sym h))
 not_false false h = refl
@@ -146,9 +135,8 @@ identity_after_step w s id is there =
     let now : identity_at moved.graph id ≡ Some is =
     sym (slice_get-map identity_of moved.graph.objects id) ∙ ap (λ is. slice_get is id) left.identities
     ∙ slice_get-map identity_of w.graph.objects id ∙ there in
-    after_step (λ g. identity_at g id ≡ Some is) w s there
-    (after_act (λ u. identity_at u.graph id ≡ Some is) (is_block s.answer) (judged_world w s.call s.moves) moved s.call
-    (identity_kept s.call moved id is now) now)
+    after_act (λ u. identity_at u.graph id ≡ Some is) (is_block s.answer) (judged_world w s.call s.moves) moved s.call
+    (identity_kept s.call moved id is now) now
 
 pub cell_after_step : (w : World) (s : Step) (id k : ℕ) (cell : Cell) → leaves_cell w s id k ≡ true → cell_at w.graph id k ≡ Some cell
     → cell_at (world_after w s).graph id k ≡ Some cell
@@ -157,10 +145,9 @@ cell_after_step w s id k cell leaves there =
     let left = moved_world_leaves w s.call s.moves in
     let parts = and_parts (not (writes_cell w s.call id k)) (moves_leave_cell w s.moves id k) leaves in
     let now = left.cells id k cell parts.1 there in
-    after_step (λ g. cell_at g id k ≡ Some cell) w s there
-    (after_act (λ u. cell_at u.graph id k ≡ Some cell) (is_block s.answer) (judged_world w s.call s.moves) moved s.call
+    after_act (λ u. cell_at u.graph id k ≡ Some cell) (is_block s.answer) (judged_world w s.call s.moves) moved s.call
     (cell_kept s.call moved id k cell (same_cells_written moved w s.call id k left.names left.tables
-    (moved_alone w s.call s.moves).state (now ∙ sym there) ∙ not_false (writes_cell w s.call id k) parts.0) now) now)
+    (moved_alone w s.call s.moves).state (now ∙ sym there) ∙ not_false (writes_cell w s.call id k) parts.0) now) now
 
 pub word_after_step : (w : World) (s : Step) (id k word : ℕ) → writes_word w s.call id k ≡ false → word_at w.graph id k ≡ Some word
     → word_at (world_after w s).graph id k ≡ Some word
@@ -168,10 +155,9 @@ word_after_step w s id k word leaves there =
     let moved = moved_world w s.call s.moves in
     let left = moved_world_leaves w s.call s.moves in
     let now = left.words id k ∙ there in
-    after_step (λ g. word_at g id k ≡ Some word) w s there
-    (after_act (λ u. word_at u.graph id k ≡ Some word) (is_block s.answer) (judged_world w s.call s.moves) moved s.call
+    after_act (λ u. word_at u.graph id k ≡ Some word) (is_block s.answer) (judged_world w s.call s.moves) moved s.call
     (word_kept s.call moved id k word (same_words_written moved w s.call id k left.names left.blocks (moved_alone w s.call s.moves).caches
-    ∙ leaves) now) now)
+    ∙ leaves) now) now
 
 -- ---- the laws
 

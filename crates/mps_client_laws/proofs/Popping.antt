@@ -15,20 +15,20 @@ use Rattle.mps_model.proofs.Cutting.{world_after_moves-append}
 use Rattle.mps_model.specs.declared.call.Call.{Call}
 use Rattle.mps_model.specs.declared.call.Call.TheVariants as call
 use Rattle.mps_model.specs.declared.reply.Reply.TheVariants as reply
-use Rattle.mps_model.specs.Answer.{Answer, Replied, is_unsupported}
+use Rattle.mps_model.specs.Answer.{Answer, Replied}
 use Rattle.mps_model.specs.Checked.{Act, Checked, ◌>>=◌, done, required, with_graph}
 use Rattle.mps_model.specs.Collection.{Collection}
 use Rattle.mps_model.specs.Effect.{after_free, reclaiming, segment_base_of, where_one, with_collection, without_object, world_after_moves}
 use Rattle.mps_model.specs.Flip.{at_address}
 use Rattle.mps_model.specs.Frames.{act_pop, blocks_popped, frame_in, frames_named, graph_popped}
 use Rattle.mps_model.specs.Graph.{PoolFrames, contains, entry_at, is_automatic}
-use Rattle.mps_model.specs.History.{AreMovesOf, free_of, free_of_object, give_back_empty, moves_of_frame, moves_of_frees, moves_of_pop, with_client_remembered, world_after, world_after_call}
+use Rattle.mps_model.specs.History.{IsLegalStep, AreMovesOf, free_of, free_of_object, give_back_empty, moves_of_frame, moves_of_frees, moves_of_pop, with_client_remembered, world_after, world_after_call}
 use Rattle.mps_model.specs.Reply.{world_from}
 use Rattle.mps_model.specs.Step.{Step}
 use Rattle.mps_model.specs.World.{World, empty_world_of, id_at, is_any_size_kind, is_empty_segment, object_is, pool_is, segment_of}
 use Rattle.mps_laws.specs.Replay.{reached}
 use Rattle.mps_laws.proofs.Finding.{id_at-there}
-use Rattle.mps_laws.proofs.LegalHistories.{IsAnswered, IsLegalFrom-first, supported_step}
+use Rattle.mps_laws.proofs.LegalHistories.{IsLegalFrom-first}
 use Rattle.mps_laws.proofs.Lookups.{entry_at-set_none, entry_at-set_other}
 use Rattle.mps_client_laws.specs.Popping.{IsPopped, PopFreesWhatWasMadeSince}
 use Rattle.mps_client_laws.proofs.Addresses.{no_two_have_one_address}
@@ -226,11 +226,11 @@ module _ (w : World) (apart : AreApart w) (pool : Name) (f : PoolFrames) (frame 
           ap (λ (x : World). entry_at x.addresses id) is ∙ sym (ap (λ (x : World). entry_at x.addresses id) freed.row.is)
           ∙ freed.gone id
 
-  pub popped_step : (s : Step) → IsAnswered w s → s.call ≡ call.Pop pool frame → s.answer ≡ Replied reply.Ok
+  pub popped_step : (s : Step) → IsLegalStep w s → s.call ≡ call.Pop pool frame → s.answer ≡ Replied reply.Ok
       → IsPopped w (world_after w s) f frame before
-  popped_step s answered is given =
+  popped_step s legal is given =
       after (world_after w s)
-      (answered.after ∙ ap (λ c. world_after_call w c s.moves s.answer) is
+      (ap (λ c. world_after_call w c s.moves s.answer) is
       ∙ ap (λ a. world_after_call w (call.Pop pool frame) s.moves a) given
       ∙ ap (λ m. world_after_call w (call.Pop pool frame) m (Replied reply.Ok)) moves_are
       ∙ ap (λ (x : World). with_client_remembered (world_from x (act_pop x pool frame))) freed.row.is
@@ -239,7 +239,7 @@ module _ (w : World) (apart : AreApart w) (pool : Name) (f : PoolFrames) (frame 
       moves_are : s.moves ≡ ms
       moves_are =
           subst (λ (a : Answer). AreMovesOf w (call.Pop pool frame) a s.moves) given
-          (subst (λ (c : Call). AreMovesOf w c s.answer s.moves) is answered.answered.moves_are_due) ∙ due
+          (subst (λ (c : Call). AreMovesOf w c s.answer s.moves) is legal.moves_are_due) ∙ due
 
 -- ---- the law
 
@@ -249,4 +249,4 @@ pop_frees_what_was_made_since formats steps later s pool f frame before legal is
     let first = IsLegalFrom-first (empty_world_of formats) steps (s ∷ later) legal in
     let here = (IsLegalFrom-later (empty_world_of formats) steps (s ∷ later) legal).0 in
     popped_step w (λ i j at one two. no_two_have_one_address formats steps i j at first one two) pool f frame before named opened s
-    (supported_step w s (ap is_unsupported given) here) is given
+    here is given

@@ -1,5 +1,5 @@
 -- A step of a call that makes no moves: its answer and the world after it are those of its act.
-use Rattle.std.proofs.Common.{◌≡◌, Bool, true, true≢false, refl, sym, ◌∙◌, ap, subst, List, [], Ok, Err}
+use Rattle.std.proofs.Common.{◌≡◌, Bool, true, false, true≢false, refl, sym, ◌∙◌, ap, subst, List, [], Ok, Err}
 use Rattle.mps_base.specs.declared.moves.Move.{Move}
 use Rattle.mps_model.specs.declared.call.Call.{Call}
 use Rattle.mps_model.specs.Answer.{Answer, Replied, is_accepted, is_block}
@@ -7,9 +7,12 @@ use Rattle.mps_model.specs.declared.reply.Reply.TheVariants as reply
 use Rattle.mps_model.specs.Step.{Step}
 use Rattle.mps_model.specs.World.{World}
 use Rattle.mps_model.specs.Checked.{Act, Checked, ◌>>◌, done}
-use Rattle.mps_model.specs.Reply.{act_in, answer_from, reply_to, world_from}
-use Rattle.mps_model.specs.History.{AreMovesOf, judged_world, moved_world, with_client_remembered, world_after, world_after_call}
-use Rattle.mps_laws.proofs.LegalHistories.{IsAnswered}
+use Rattle.mps_model.specs.Reply.{act, answer_from, reply_to, world_from}
+use Rattle.mps_model.specs.History.{IsLegalStep, AreMovesOf, judged_world, moved_world, with_client_remembered, world_after, world_after_call}
+
+-- what a call comes to in a world in which it is judged and takes effect
+abbrev pub act_in : World → Call → Checked Act
+act_in w c = act false w w c
 
 -- a call that makes no moves, and asks no units
 pub record IsQuiet (c : Call) : Type 0 where
@@ -17,19 +20,18 @@ pub record IsQuiet (c : Call) : Type 0 where
   pub world : (w : World) (answer : Answer) → world_after_call w c [] answer ≡ with_client_remembered (world_from w (act_in w c))
   pub reply : (marked : Bool) (w : World) → reply_to marked (judged_world w c []) (moved_world w c []) c ≡ answer_from (act_in w c)
 
-module _ (c : Call) (quiet : IsQuiet c) (w : World) (s : Step) (answered : IsAnswered w s) (is : s.call ≡ c) where
+module _ (c : Call) (quiet : IsQuiet c) (w : World) (s : Step) (legal : IsLegalStep w s) (is : s.call ≡ c) where
   no_moves : s.moves ≡ []
-  no_moves = quiet.none w s.answer s.moves (subst (λ d. AreMovesOf w d s.answer s.moves) is answered.answered.moves_are_due)
+  no_moves = quiet.none w s.answer s.moves (subst (λ d. AreMovesOf w d s.answer s.moves) is legal.moves_are_due)
 
   pub quiet_world : world_after w s ≡ with_client_remembered (world_from w (act_in w c))
   quiet_world =
-      answered.after ∙ ap (λ d. world_after_call w d s.moves s.answer) is ∙ ap (λ ms. world_after_call w c ms s.answer) no_moves
-      ∙ quiet.world w s.answer
+      ap (λ d. world_after_call w d s.moves s.answer) is ∙ ap (λ ms. world_after_call w c ms s.answer) no_moves ∙ quiet.world w s.answer
 
   pub quiet_answer : s.answer ≡ answer_from (act_in w c)
   quiet_answer =
       subst (λ d. s.answer ≡ reply_to (is_block s.answer) (judged_world w d s.moves) (moved_world w d s.moves) d) is
-      answered.answered.answer_is_due
+      legal.answer_is_due
       ∙ ap (λ ms. reply_to (is_block s.answer) (judged_world w c ms) (moved_world w c ms) c) no_moves
       ∙ quiet.reply (is_block s.answer) w
 

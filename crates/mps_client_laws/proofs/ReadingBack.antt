@@ -1,5 +1,5 @@
 -- What a read gives after a write.
-use Rattle.std.proofs.Common.{◌≡◌, ℕ, true, false, refl, sym, ◌∙◌, ap, subst, List, [], ◌∷◌, ◌++◌, Option, Some, None, Ok, Err}
+use Rattle.std.proofs.Common.{◌≡◌, ℕ, true, refl, sym, ◌∙◌, ap, subst, List, [], ◌∷◌, ◌++◌, Option, Some, None, Ok, Err}
 use Rattle.std.proofs.lemmas.Option.{none-some, same_Some}
 use Rattle.std.specs.Prelude.{slice_get, slice_set, option_and_then, option_map}
 use Rattle.std.specs.Option.{option_map_or}
@@ -9,9 +9,8 @@ use Rattle.mps_model.specs.Layout.{Layout}
 use Rattle.mps_model.proofs.Appending.{world_after_steps-append, IsLegalFrom-later}
 use Rattle.mps_model.specs.declared.call.Call.{Call}
 use Rattle.mps_model.specs.declared.call.Call.TheVariants as call
-use Rattle.mps_model.specs.declared.reply.Reply.{Reply}
 use Rattle.mps_model.specs.declared.reply.Reply.TheVariants as reply
-use Rattle.mps_model.specs.Answer.{Answer, Replied, Dumped, is_accepted, is_unsupported}
+use Rattle.mps_model.specs.Answer.{Replied, is_accepted}
 use Rattle.mps_model.specs.Step.{Step, History}
 use Rattle.mps_model.specs.Graph.{Graph, Object, Body, Automatic, Manual, Cell, HeadCell, NumberCell, ReferenceCell, object_at, target_of_cell, retargeted, with_target_cell, graph_with_cells, object_with_cells, body_with_cells}
 use Rattle.mps_model.specs.World.{World, empty_world_of}
@@ -19,33 +18,20 @@ use Rattle.mps_model.specs.Checked.{Act, Checked, Found, Numbered, ◌>>=◌, sa
 use Rattle.mps_model.specs.Allocating.{act_load, act_store, block_in, body_with_word, graph_with_word, words_at}
 use Rattle.mps_model.specs.Accessing.{act_number, act_put, act_set_number}
 use Rattle.mps_model.specs.LegalMove.{target_in_cell}
-use Rattle.mps_model.specs.Reply.{act_in, answer_from, world_from}
+use Rattle.mps_model.specs.Reply.{answer_from, world_from}
 use Rattle.mps_model.specs.History.{IsLegalFrom, IsLegalStep, with_client_remembered, world_after, world_after_steps}
 use Rattle.mps_changes.proofs.Checks.{required-is}
 use Rattle.mps_laws.specs.Held.{target_of_slot, target_found}
 use Rattle.mps_laws.specs.Replay.{reached}
 use Rattle.mps_laws.proofs.Entries.{slice_get-written}
 use Rattle.mps_laws.proofs.FoundBy.{object_found, number_found}
-use Rattle.mps_laws.proofs.LegalHistories.{IsAnswered, supported_step, IsLegalFrom-first}
+use Rattle.mps_laws.proofs.LegalHistories.{IsLegalFrom-first}
 use Rattle.mps_laws.proofs.Reading.{bind_ok, gets_reach_live_objects}
 use Rattle.mps_client_laws.specs.Objects.{cell_at, word_at, block_of_place}
 use Rattle.mps_client_laws.specs.ReadingBack.{IsWriteAndRead, GetGivesWhatWasPut, NumAnswersWhatWasSet, LoadAnswersWhatWasStored}
 use Rattle.mps_client_laws.proofs.Cells.{this_is_changed, object_with_word}
 use Rattle.mps_client_laws.proofs.Objects.{cells_stay, words_stay, cell_after_step}
-use Rattle.mps_client_laws.proofs.QuietCalls.{IsQuiet, quiet_world, quiet_answer, checked_ok, done_world, accepted_act}
-
--- ---- answers
-
-given_ok : (given : Reply) → is_accepted (Replied given) ≡ true → given ≡ reply.Ok
-given_ok reply.Ok accepted = refl
-given_ok _ accepted = absurd cc
-
-accepted_is_supported : (a : Answer) → is_accepted a ≡ true → is_unsupported a ≡ false
-accepted_is_supported (Replied given) accepted = ap (λ r. is_unsupported (Replied r)) (given_ok given accepted)
-accepted_is_supported (Dumped words) accepted = refl
-
-pub accepted_is_answered : (w : World) (s : Step) → IsLegalStep w s → is_accepted s.answer ≡ true → IsAnswered w s
-accepted_is_answered w s legal accepted = supported_step w s (accepted_is_supported s.answer accepted) legal
+use Rattle.mps_client_laws.proofs.QuietCalls.{IsQuiet, act_in, quiet_world, quiet_answer, checked_ok, done_world, accepted_act}
 
 -- ---- what a write leaves
 
@@ -222,9 +208,8 @@ module _ (formats : ℕ → Layout) (steps between later : History) (write read 
   legal_before : IsLegalFrom first (steps ++ write ∷ between)
   legal_before = IsLegalFrom-first first (steps ++ write ∷ between) (read ∷ later) both.legal
 
-  pub write_is_answered : IsAnswered (reached formats steps) write
-  write_is_answered =
-      accepted_is_answered (reached formats steps) write (IsLegalFrom-later first steps (write ∷ between) legal_before).0 both.accepted
+  pub write_is_legal : IsLegalStep (reached formats steps) write
+  write_is_legal = (IsLegalFrom-later first steps (write ∷ between) legal_before).0
 
   pub read_is_legal : IsLegalStep (reached formats (steps ++ write ∷ between)) read
   read_is_legal = (IsLegalFrom-later first (steps ++ write ∷ between) (read ∷ later) both.legal).0
@@ -234,11 +219,11 @@ module _ (formats : ℕ → Layout) (steps between later : History) (write read 
   at_read = sym (world_after_steps-append first steps (write ∷ between))
 
 -- the graph of the world after an accepted quiet call
-pub quiet_graph : (c : Call) → IsQuiet c → (w : World) (s : Step) → IsAnswered w s → s.call ≡ c → is_accepted s.answer ≡ true
+pub quiet_graph : (c : Call) → IsQuiet c → (w : World) (s : Step) → IsLegalStep w s → s.call ≡ c → is_accepted s.answer ≡ true
     → (a : Act) × (act_in w c ≡ Ok a) × ((world_after w s).graph ≡ a.world.graph)
-quiet_graph c quiet w s answered is accepted =
-    let a = accepted_act (act_in w c) s.answer (quiet_answer c quiet w s answered is) accepted in
-    (a.0, a.1, ap (λ (u : World). u.graph) (quiet_world c quiet w s answered is ∙ ap (λ x. with_client_remembered (world_from w x)) a.1))
+quiet_graph c quiet w s legal is accepted =
+    let a = accepted_act (act_in w c) s.answer (quiet_answer c quiet w s legal is) accepted in
+    (a.0, a.1, ap (λ (u : World). u.graph) (quiet_world c quiet w s legal is ∙ ap (λ x. with_client_remembered (world_from w x)) a.1))
 
 put_is_quiet : (target source : Slot) (k : ℕ) → IsQuiet (call.Put target k source)
 put_is_quiet target source k = record { none = λ w a ms e. e; world = λ w a. refl; reply = λ m w. refl }
@@ -263,7 +248,7 @@ get_gives_what_was_put formats steps between later put get target source into fr
     let w = reached formats steps in
     let v = reached formats (steps ++ put ∷ between) in
     let a = quiet_graph (call.Put target k source) (put_is_quiet target source k) w put
-    (write_is_answered formats steps between later put get both) is_put both.accepted in
+    (write_is_legal formats steps between later put get both) is_put both.accepted in
     let cell = put_leaves w target id k refers source a.0 a.1 in
     let then = ap (λ g. cell_at g id k) a.2 ∙ cell.1 in
     let before = subst (λ (u : World). cell_at u.graph id k ≡ Some cell.0) (at_read formats steps between later put get both)
@@ -278,13 +263,13 @@ num_answers_what_was_set formats steps between later set num target source k val
     let w = reached formats steps in
     let v = reached formats (steps ++ set ∷ between) in
     let a = quiet_graph (call.SetNumber target k value) (set_number_is_quiet target k value) w set
-    (write_is_answered formats steps between later set num both) is_set both.accepted in
+    (write_is_legal formats steps between later set num both) is_set both.accepted in
     let then = ap (λ g. cell_at g id k) a.2 ∙ set_number_leaves w target id k refers value a.0 a.1 in
     let before = subst (λ (u : World). cell_at u.graph id k ≡ Some (NumberCell value)) (at_read formats steps between later set num both)
     (cells_stay (world_after w set) between id k (NumberCell value) leave then) in
     number_is_answered v source id k reads value answered before
     (sym says ∙ quiet_answer (call.Number source k) (number_is_quiet source k) v num
-    (supported_step v num (ap is_unsupported says) (read_is_legal formats steps between later set num both)) is_num)
+    (read_is_legal formats steps between later set num both) is_num)
 
 pub load_answers_what_was_stored : LoadAnswersWhatWasStored
 load_answers_what_was_stored formats steps between later store load target source k value answered id both is_store holds leave is_load says
@@ -292,10 +277,10 @@ load_answers_what_was_stored formats steps between later store load target sourc
     let w = reached formats steps in
     let v = reached formats (steps ++ store ∷ between) in
     let a = quiet_graph (call.Store target k value) (store_is_quiet target k value) w store
-    (write_is_answered formats steps between later store load both) is_store both.accepted in
+    (write_is_legal formats steps between later store load both) is_store both.accepted in
     let then = ap (λ g. word_at g id k) a.2 ∙ store_leaves w target id k holds value a.0 a.1 in
     let before = subst (λ (u : World). word_at u.graph id k ≡ Some value) (at_read formats steps between later store load both)
     (words_stay (world_after w store) between id k value leave then) in
     word_is_answered v source id k reads value answered before
     (sym says ∙ quiet_answer (call.Load source k) (load_is_quiet source k) v load
-    (supported_step v load (ap is_unsupported says) (read_is_legal formats steps between later store load both)) is_load)
+    (read_is_legal formats steps between later store load both) is_load)

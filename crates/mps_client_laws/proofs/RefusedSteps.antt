@@ -11,7 +11,7 @@ use Rattle.mps_base.specs.declared.refusal.Refusal.{Refusal}
 use Rattle.mps_base.specs.declared.refusal.Refusal.TheVariants as refusal
 use Rattle.mps_model.specs.declared.call.Call.{Call}
 use Rattle.mps_model.specs.declared.call.Call.TheVariants as call
-use Rattle.mps_model.specs.Answer.{is_block, is_refused, is_unsupported, refused}
+use Rattle.mps_model.specs.Answer.{is_block, is_refused, refused}
 use Rattle.mps_model.specs.Step.{Step}
 use Rattle.mps_model.specs.Graph.{Graph, Point, new_cells}
 use Rattle.mps_model.specs.World.{World, empty_world, is_running, pool_at}
@@ -22,7 +22,6 @@ use Rattle.mps_model.specs.Effect.{world_after_moves}
 use Rattle.mps_model.specs.Policy.{polls, polls_for, units_asked, units_of_poll}
 use Rattle.mps_model.specs.Reply.{act, answer_from, world_from}
 use Rattle.mps_model.specs.History.{AreMovesOf, AreMovesOfReserve, IsLegalStep, IsPoll, after_its_moves, after_own_segment, asking, judged_world, moved_world, moves_of_poll, own_segment, segment_of_reserve, segment_taken, with_client_remembered, world_after}
-use Rattle.mps_laws.proofs.LegalHistories.{IsAnswered, supported_step}
 use Rattle.mps_laws.proofs.OwnSegments.{own_segment_taken}
 use Rattle.mps_laws.proofs.Reading.{bind_ok}
 use Rattle.mps_client_laws.specs.Refusals.{NoneIsOutOfMemory, RefusalsAreListed, RefusedStepsAreListed, RefusedStepsChangeNothing, RefusedStepsLeaveTheirMoves, RefusedStepsMakeNoMoves, RefusedPollsHaveNoPlace, is_without_place, refusals_of}
@@ -213,9 +212,6 @@ module _ (marked : Bool) (w : World) (why : Refusal) (ms : List Move) where
 -- ---- a refused step
 
 module _ (w : World) (s : Step) (why : Refusal) (legal : IsLegalStep w s) (is : s.answer ≡ refused why) where
-  was_answered : IsAnswered w s
-  was_answered = supported_step w s (ap is_unsupported is) legal
-
   abbrev judged : World
   judged = judged_world w s.call s.moves
 
@@ -228,7 +224,7 @@ module _ (w : World) (s : Step) (why : Refusal) (legal : IsLegalStep w s) (is : 
   act_refused : the_act ≡ Err why
   act_refused =
       act_is_refused the_act why (refusals_of_act (is_block s.answer) judged moved s.call)
-      (sym is ∙ was_answered.answered.answer_is_due)
+      (sym is ∙ legal.answer_is_due)
 
   its_refusal : IsOf why (refusals_of judged s.call)
   its_refusal = refusal_is the_act why (refusals_of_act (is_block s.answer) judged moved s.call) act_refused
@@ -236,11 +232,11 @@ module _ (w : World) (s : Step) (why : Refusal) (legal : IsLegalStep w s) (is : 
   its_moves : AreRefused w s.call s.moves why
   its_moves =
       refused_moves (is_block s.answer) w why s.moves s.call
-      (subst (λ answer. AreMovesOf w s.call answer s.moves) is was_answered.answered.moves_are_due) its_refusal act_refused
+      (subst (λ answer. AreMovesOf w s.call answer s.moves) is legal.moves_are_due) its_refusal act_refused
 
   its_world : world_after w s ≡ with_client_remembered (asking (units_asked w s.call) (world_after_moves w s.moves))
   its_world =
-      was_answered.after ∙ ap (λ x. with_client_remembered (world_from moved x)) act_refused
+      ap (λ x. with_client_remembered (world_from moved x)) act_refused
       ∙ ap (λ v. with_client_remembered (asking (units_asked w s.call) v)) its_moves.moved
 
 pub refused_steps_are_listed : RefusedStepsAreListed

@@ -1,5 +1,5 @@
 -- A `reserve`, an `init` of a reservation that a flip ended, and the `commit`.
-use Rattle.std.proofs.Common.{◌≡◌, ℕ, inl, inr, Bool, true, false, true≢false, refl, sym, ◌∙◌, ap, subst, List, ◌∷◌, ◌++◌, Option, Some, None, Ok, Err}
+use Rattle.std.proofs.Common.{◌≡◌, ℕ, Bool, true, false, true≢false, refl, sym, ◌∙◌, ap, subst, List, ◌∷◌, ◌++◌, Option, Some, None, Ok, Err}
 use Rattle.std.proofs.lemmas.Option.{none-some, same_Some}
 use Rattle.std.specs.Prelude.{if◌then◌else◌, not, ◌||◌, length, option_and_then}
 use Rattle.mps_base.specs.declared.names.Name.{Name}
@@ -16,19 +16,18 @@ use Rattle.mps_model.specs.World.{World, empty_world_of}
 use Rattle.mps_model.specs.Checked.{Act, Checked, Found, Numbered, ◌>>=◌, as_point, done, number_at, point_named, reference_at, required, says, slot_in, with_graph}
 use Rattle.mps_model.specs.Placement.{ForReserve, placement_of}
 use Rattle.mps_model.specs.Allocating.{act_commit, act_reserve, address_of_placement, check_reserve, refuse_without_place, with_reservation, with_reserved, with_reserved_cells, world_committed}
-use Rattle.mps_model.specs.Reply.{act_in, answer_from, reply_to, world_from}
+use Rattle.mps_model.specs.Reply.{answer_from, reply_to, world_from}
 use Rattle.mps_model.specs.History.{IsLegalStep, judged_world, moved_world, with_client_remembered, world_after, world_after_call}
 use Rattle.mps_changes.specs.Change.{ForAct, accepted, refused}
 use Rattle.mps_changes.proofs.Checks.{after_check, andthen, for_world, point_named-is, required-is, with_value}
 use Rattle.mps_laws.specs.Replay.{reached}
 use Rattle.mps_laws.specs.Staying.{are_without_flip}
 use Rattle.mps_laws.proofs.Entries.{entry_at-written}
-use Rattle.mps_laws.proofs.LegalHistories.{IsAnswered, IsLegalFrom-first, supported_step, legal_step}
+use Rattle.mps_laws.proofs.LegalHistories.{IsLegalFrom-first}
 use Rattle.mps_laws.proofs.Reading.{bind_ok, next_ok}
 use Rattle.mps_client_laws.specs.Reservations.{IsReserved, ReserveOpens, InitOfDoomedLeavesTheGraph, CommitAnswersByFlips, CommitSpendsTheReservation, answer_of_commit, initialised_point, reservation_found, reservation_of}
 use Rattle.mps_client_laws.proofs.Committing.{commit_answer, commit_world}
-use Rattle.mps_client_laws.proofs.QuietCalls.{IsQuiet, accepted_act, done_world, quiet_world}
-use Rattle.mps_client_laws.proofs.ReadingBack.{accepted_is_answered}
+use Rattle.mps_client_laws.proofs.QuietCalls.{IsQuiet, accepted_act, act_in, done_world, quiet_world}
 use Rattle.mps_client_laws.proofs.ReservationsOfMoves.{reservation_is}
 use Rattle.mps_client_laws.proofs.ReservationsStay.{reservations_stay}
 
@@ -56,14 +55,13 @@ reserve_act_opens judged v point head a e =
 reserve_step_opens : (w : World) (s : Step) (point : Name) (head : ℕ) → IsLegalStep w s → s.call ≡ call.Reserve point head
     → is_accepted s.answer ≡ true → IsReserved (world_after w s) point head
 reserve_step_opens w s point head legal is accepts =
-    let answered = accepted_is_answered w s legal accepts in
     let judged = judged_world w (call.Reserve point head) s.moves in
     let moved = moved_world w (call.Reserve point head) s.moves in
     let due = subst (λ c. s.answer ≡ reply_to (is_block s.answer) (judged_world w c s.moves) (moved_world w c s.moves) c) is
-    answered.answered.answer_is_due in
+    legal.answer_is_due in
     let a = accepted_act (act_reserve judged moved point head) s.answer due accepts in
     subst (λ (v : World). IsReserved v point head)
-    (sym (answered.after ∙ ap (λ c. world_after_call w c s.moves s.answer) is
+    (sym (ap (λ c. world_after_call w c s.moves s.answer) is
     ∙ ap (λ x. with_client_remembered (world_from moved x)) a.1))
     (let opened = reserve_act_opens judged moved point head a.0 a.1 in
     record { reserved = opened.reserved; there = opened.there; its_head = opened.its_head; lives = opened.lives })
@@ -106,25 +104,22 @@ module _ (w : World) (point : Name) (r : Reservation) (there : reservation_of w 
       with_value (required p.value.reservation refusal.NotOpen) (λ (s : Reservation) has.
       after_check (reference_at s.cells k) (unchanged p s _ is has))))
 
-  of_quiet : (c : Call) → IsQuiet c → (s : Step) → IsAnswered w s → s.call ≡ c → ForAct IsUnchanged (act_in w c)
+  of_quiet : (c : Call) → IsQuiet c → (s : Step) → IsLegalStep w s → s.call ≡ c → ForAct IsUnchanged (act_in w c)
       → (world_after w s).graph ≡ w.graph
-  of_quiet c quiet s answered is leaves =
-      ap (λ (u : World). u.graph) (quiet_world c quiet w s answered is) ∙ for_world IsUnchanged w (act_in w c) leaves refl
+  of_quiet c quiet s legal is leaves =
+      ap (λ (u : World). u.graph) (quiet_world c quiet w s legal is) ∙ for_world IsUnchanged w (act_in w c) leaves refl
 
   init_of_doomed : (s : Step) → IsLegalStep w s → initialised_point s.call ≡ Some point → (world_after w s).graph ≡ w.graph
-  init_of_doomed s legal is = elim (legal_step w s legal) [
-    | inl same ↦ ap (λ (u : World). u.graph) same
-    | inr answered ↦ by_call s.call refl is answered
-  ]
+  init_of_doomed s legal is = by_call s.call refl is
     where
-      by_call : (c : Call) → s.call ≡ c → initialised_point c ≡ Some point → IsAnswered w s → (world_after w s).graph ≡ w.graph
-      by_call (call.InitNumber other k value) e named answered =
-          of_quiet (call.InitNumber point k value) (number_is_quiet point k value) s answered
+      by_call : (c : Call) → s.call ≡ c → initialised_point c ≡ Some point → (world_after w s).graph ≡ w.graph
+      by_call (call.InitNumber other k value) e named =
+          of_quiet (call.InitNumber point k value) (number_is_quiet point k value) s legal
           (e ∙ ap (λ p. call.InitNumber p k value) (same_Some other point named)) (number_unchanged k value)
-      by_call (call.InitReference other k source) e named answered =
-          of_quiet (call.InitReference point k source) (reference_is_quiet point k source) s answered
+      by_call (call.InitReference other k source) e named =
+          of_quiet (call.InitReference point k source) (reference_is_quiet point k source) s legal
           (e ∙ ap (λ p. call.InitReference p k source) (same_Some other point named)) (reference_unchanged k source)
-      by_call _ e named answered = absurd (none-some point named)
+      by_call _ e named = absurd (none-some point named)
 
 pub init_of_doomed_leaves_the_graph : InitOfDoomedLeavesTheGraph
 init_of_doomed_leaves_the_graph formats steps later s point reserved legal is there ended =
@@ -172,9 +167,8 @@ commit_answers_by_flips formats steps between later reserve commit point target 
     let from_here = IsLegalFrom-later (empty_world_of formats) steps (reserve ∷ between) first in
     let opened = reserve_step_opens w reserve point are.head from_here.0 are.reserves are.accepted in
     let still = reservations_stay (world_after w reserve) between point opened.reserved from_here.1 are.elsewhere opened.there in
-    let answered = supported_step v commit are.supported
-    (IsLegalFrom-later (empty_world_of formats) (steps ++ reserve ∷ between) (commit ∷ later) are.legal).0 in
-    commit_answer v commit point target answered are.commits
+    let here = (IsLegalFrom-later (empty_world_of formats) (steps ++ reserve ∷ between) (commit ∷ later) are.legal).0 in
+    commit_answer v commit point target here are.commits
     ∙ commit_says v point target still.now
     (ap (λ (u : World). reservation_of u point) (world_after_steps-append (empty_world_of formats) steps (reserve ∷ between))
     ∙ still.there)
@@ -209,9 +203,9 @@ spent w point _ accepts (accepted e) = e
 spent w point _ accepts refused = absurd (true≢false accepts)
 
 pub commit_spends_the_reservation : CommitSpendsTheReservation
-commit_spends_the_reservation formats steps later s point target legal is supported accepts =
+commit_spends_the_reservation formats steps later s point target legal is accepts =
     let w = reached formats steps in
-    let answered = supported_step w s supported (IsLegalFrom-later (empty_world_of formats) steps (s ∷ later) legal).0 in
-    ap (λ (u : World). reservation_of u point) (commit_world w s point target answered is)
+    let here = (IsLegalFrom-later (empty_world_of formats) steps (s ∷ later) legal).0 in
+    ap (λ (u : World). reservation_of u point) (commit_world w s point target here is)
     ∙ spent w point (act_commit w point target)
-    (ap is_refused (sym (commit_answer w s point target answered is)) ∙ accepts) (spent_by_act w point target)
+    (ap is_refused (sym (commit_answer w s point target here is)) ∙ accepts) (spent_by_act w point target)

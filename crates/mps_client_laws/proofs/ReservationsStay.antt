@@ -2,14 +2,14 @@
 use Rattle.std.proofs.Common.{◌≡◌, inl, inr, ℕ, Bool, true, false, refl, sym, ◌∙◌, ap, subst, List, [], ◌∷◌, Option, Some, None, Ok}
 use Rattle.std.proofs.lemmas.Bool.{true≢false, and_parts, cases_eq, eq-eqb}
 use Rattle.std.proofs.lemmas.Option.{none-some, same_Some}
-use Rattle.std.specs.Prelude.{if◌then◌else◌, not, ◌&&◌, ◌||◌, MatchBool, is_some, option_and_then, slice_set}
+use Rattle.std.specs.Prelude.{not, ◌&&◌, ◌||◌, is_some, option_and_then, slice_set}
 use Rattle.std.specs.List.{list_any}
 use Rattle.mps_base.specs.declared.names.Name.{Name}
 use Rattle.mps_base.specs.declared.names.Slot.{Slot}
 use Rattle.mps_base.specs.declared.refusal.Refusal.TheVariants as refusal
 use Rattle.mps_model.specs.declared.call.Call.{Call}
 use Rattle.mps_model.specs.declared.call.Call.TheVariants as call
-use Rattle.mps_model.specs.Answer.{is_block, is_unsupported}
+use Rattle.mps_model.specs.Answer.{is_block}
 use Rattle.mps_model.specs.Step.{Step, History}
 use Rattle.mps_model.specs.Graph.{AreaThing, NamedThing, Point, PointThing, Reservation, TableThing, Thing, empty_graph, entry_at, thing_in, thing_named, with_last, without_name, TransformThing}
 use Rattle.mps_model.specs.World.{World, pool_at}
@@ -17,7 +17,7 @@ use Rattle.mps_model.specs.Checked.{Numbered, as_point, number_named, point_name
 use Rattle.mps_model.specs.Allocating.{Reserving, check_reserve, takes_head}
 use Rattle.mps_model.specs.Accessing.{same_target}
 use Rattle.mps_model.specs.Reply.{act, world_from}
-use Rattle.mps_model.specs.History.{IsAnsweredStep, IsLegalFrom, IsLegalStep, judged_world, moved_world, world_after, world_after_call, world_after_steps}
+use Rattle.mps_model.specs.History.{IsLegalFrom, judged_world, moved_world, world_after, world_after_steps}
 use Rattle.mps_changes.specs.Change.{AsideIs, Change, Aside, ChainMade, TableMade, AreaMade, BlocksMade, TableDropped, AreaDropped, Closed, Committed, DependencyMade, LabelMade, Opened, PointDropped, PointMade, PoolMade, Written, Substituted, TransformDropped, TransformMade, CacheMade}
 use Rattle.mps_changes.proofs.ActChanges.{of_changes}
 use Rattle.mps_changes.proofs.Checks.{for_world, point_named-is}
@@ -202,9 +202,12 @@ same_commits v w (call.Commit other target) point names = ap (λ ns. commits_at 
 same_commits v w _ point names = refl
 
 module _ (point : Name) (n : ℕ) where
-  step_later : (w : World) (s : Step) (r : Reservation) → IsLegalStep w s → commits_at w s.call point ≡ false
+  step_later : (w : World) (s : Step) (r : Reservation) → commits_at w s.call point ≡ false
       → HasReservation point n w.graph r → Later point n (world_after w s).graph r (list_any is_flip s.moves)
-  step_later w s r legal elsewhere h = by_case (is_unsupported s.answer) legal
+  step_later w s r elsewhere h =
+      subst (Later point n (world_after w s).graph r) (sym (or_false (list_any is_flip s.moves)))
+      (then_later point n moved.graph (world_after w s).graph r (list_any is_flip s.moves) false
+      (moved_later point n w s.moves r h s.call) acted)
     where
       judged : World
       judged = judged_world w s.call s.moves
@@ -212,20 +215,11 @@ module _ (point : Name) (n : ℕ) where
       moved : World
       moved = moved_world w s.call s.moves
 
-      acted : (now : Reservation) → HasReservation point n moved.graph now
-          → Later point n (world_after_call w s.call s.moves s.answer).graph now false
+      acted : (now : Reservation) → HasReservation point n moved.graph now → Later point n (world_after w s).graph now false
       acted now holds =
           act_later (is_block s.answer) s.call judged moved point n now holds
           (same_commits moved w s.call point (moved_world_leaves w s.call s.moves).names ∙ elsewhere)
           (judged_graph w s.call s.moves)
-
-      by_case : (b : Bool) → MatchBool b (s.moves ≡ []) (IsAnsweredStep w s)
-          → Later point n (if b then w else world_after_call w s.call s.moves s.answer).graph r (list_any is_flip s.moves)
-      by_case true none = subst (Later point n w.graph r) (sym (ap (list_any is_flip) none)) (stays point n w.graph r h)
-      by_case false answered =
-          subst (Later point n (world_after_call w s.call s.moves s.answer).graph r) (sym (or_false (list_any is_flip s.moves)))
-          (then_later point n moved.graph (world_after_call w s.call s.moves s.answer).graph r (list_any is_flip s.moves) false
-          (moved_later point n w s.moves r h s.call) acted)
 
   one_flips : (a b : Bool) → (a || not b) ≡ not (not a && b)
   one_flips true b = refl
@@ -239,7 +233,7 @@ module _ (point : Name) (n : ℕ) where
       subst (Later point n (world_after_steps (world_after w s) ss).graph r)
       (one_flips (list_any is_flip s.moves) (are_without_flip ss))
       (then_later point n (world_after w s).graph (world_after_steps (world_after w s) ss).graph r (list_any is_flip s.moves)
-      (not (are_without_flip ss)) (step_later w s r legal.0 (not_false (commits_at w s.call point) parts.0) h)
+      (not (are_without_flip ss)) (step_later w s r (not_false (commits_at w s.call point) parts.0) h)
       (λ now holds. steps_later (world_after w s) ss now legal.1 parts.1 holds))
 
 pub reservations_stay : ReservationsStay

@@ -14,7 +14,6 @@ use Rattle.mps_laws.proofs.LegalHistories.{IsLegalFrom-first}
 use Rattle.mps_laws.proofs.Positions.Segments.{found_among}
 use Rattle.mps_client_laws.specs.Complete.{SegmentsHaveLiveBlocks, has_live_block, is_one_size_kind}
 use Rattle.mps_client_laws.proofs.LiveBlocks.{block_in}
-use Rattle.mps_client_laws.proofs.ReadingBack.{accepted_is_answered}
 use Rattle.mps_client_laws.proofs.SegmentsInUse.{IsInUse, used, for_move, for_return}
 use Rattle.mps_client_laws.proofs.SegmentsOfBlocks.{IsWellUsed, step_used, well_used}
 use Rattle.mps_client_laws.proofs.SegmentsStand.{automatic_have_blocks}
@@ -51,6 +50,6 @@ segments_have_live_blocks formats steps later s legal is accepted base held foun
     let w = reached formats steps in
     let k = well_used formats steps (IsLegalFrom-first first steps (s ∷ later) legal) in
     let now = (IsLegalFrom-later first steps (s ∷ later) legal).0 in
-    let after = step_used w k.reached k.in_use s (accepted_is_answered w s now accepted) (step_soundly w s k.reached now) in
+    let after = step_used w k.reached k.in_use s now (step_soundly w s k.reached now) in
     held_has_block (world_after w s) after base held found (automatic_have_blocks formats steps later s legal is accepted base held found)
     other

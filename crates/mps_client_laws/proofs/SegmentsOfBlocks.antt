@@ -28,7 +28,7 @@ use Rattle.mps_model.specs.Placement.{ForAlloc, placement_of}
 use Rattle.mps_model.specs.Effect.{after_segment, holding, segment_of_move, world_after_moves}
 use Rattle.mps_model.specs.LegalMove.{AreLegalMoves}
 use Rattle.mps_model.specs.Reply.{act, answer_from, reply_to, world_from}
-use Rattle.mps_model.specs.History.{AreMovesOf, IsLegalFrom, IsLegalHistoryOf, alloc_at, judged_world, moved_world, moves_if_not_taken, moves_of_alloc, moves_of_cache_alloc, moves_of_collector, remembering, unless_refused, with_client_remembered, world_after, world_after_steps}
+use Rattle.mps_model.specs.History.{IsLegalStep, AreMovesOf, IsLegalFrom, IsLegalHistoryOf, alloc_at, judged_world, moved_world, moves_if_not_taken, moves_of_alloc, moves_of_cache_alloc, moves_of_collector, remembering, unless_refused, with_client_remembered, world_after, world_after_steps}
 use Rattle.mps_changes.specs.Change.{Change, Unchanged, Aside, ForAct, accepted, refused}
 use Rattle.mps_changes.proofs.ActChanges.{of_changes}
 use Rattle.mps_changes.proofs.Checks.{for_world, pool_named-is, required-is}
@@ -36,7 +36,6 @@ use Rattle.mps_laws.specs.Replay.{reached}
 use Rattle.mps_laws.proofs.Entries.{GoesOn, entry_at-append, slice_get-there}
 use Rattle.mps_laws.proofs.Frames.{frames_manual}
 use Rattle.mps_laws.proofs.LeftByActs.{IsCollectionLeft, Leaves, act_leaves}
-use Rattle.mps_laws.proofs.LegalHistories.{IsAnswered, legal_step}
 use Rattle.mps_laws.proofs.Lookups.{entry_at-at_last, entry_within, slice_get-at_last}
 use Rattle.mps_laws.proofs.Positions.LegalMoves.{HasLayout}
 use Rattle.mps_laws.proofs.Positions.Occupancy.{shape_of}
@@ -73,7 +72,7 @@ left_by c v (Err why) refused = record {
   collection = inl refl;
 }
 
-module _ (w : World) (s : Step) (answered : IsAnswered w s) where
+module _ (w : World) (s : Step) where
   abbrev v : World
   v = moved_world w s.call s.moves
 
@@ -108,7 +107,7 @@ module _ (w : World) (s : Step) (answered : IsAnswered w s) where
           ∙ ap (λ is. slice_get is id) (sym (moved_world_leaves w s.call s.moves).identities)
           ∙ slice_get-map identity_of v.graph.objects id ∙ e in
           ap (λ o. option_map_or by o false)
-          (ap (λ u. identity_at u.graph id) (sym answered.after) ∙ objects_keep_their_identity w (s ∷ []) id i before)
+          (objects_keep_their_identity w (s ∷ []) id i before)
           ∙ is
 
   condemned_before : (id : ℕ) → contains (condemned_of after.collection) id ≡ true → contains (condemned_of v.collection) id ≡ true
@@ -344,21 +343,15 @@ module _ (w : World) (k : IsSoundlyReached w) (h : AreInUse k.limit w None) wher
   call_used c ms answer limit' legal due said laid =
       moved_used k.limit w h (after_call c ms answer) c ms answer refl k.blocks (frames_manual w k.sound k.framed) legal due
 
-  pub step_used : (s : Step) → IsAnswered w s → IsSoundlyReached (world_after w s) → IsWellUsed (world_after w s)
-  step_used s answered k' =
-      let laid = subst (HasLayout k'.limit) answered.after k'.layout in
-      let l = answered.answered in
-      let kept = call_used s.call s.moves s.answer k'.limit l.moves_are_legal l.moves_are_due l.answer_is_due laid in
-      let used_after = acted w s answered kept k'.limit laid (subst IsSoundGraph answered.after k'.sound) in
-      record { reached = k'; in_use = subst (λ u. AreInUse k'.limit u None) (sym answered.after) used_after }
+  pub step_used : (s : Step) → IsLegalStep w s → IsSoundlyReached (world_after w s) → IsWellUsed (world_after w s)
+  step_used s legal k' =
+      let kept = call_used s.call s.moves s.answer k'.limit legal.moves_are_legal legal.moves_are_due legal.answer_is_due k'.layout in
+      record { reached = k'; in_use = acted w s kept k'.limit k'.layout k'.sound }
 
 steps_used : (w : World) (ss : History) → IsWellUsed w → IsLegalFrom w ss → IsWellUsed (world_after_steps w ss)
 steps_used w [] k legal = k
-steps_used w (s ∷ ss) k legal = steps_used (world_after w s) ss (next (legal_step w s legal.0)) legal.1
-  where
-    next : (world_after w s ≡ w) ⊎ IsAnswered w s → IsWellUsed (world_after w s)
-    next (inl same) = subst IsWellUsed (sym same) k
-    next (inr answered) = step_used w k.reached k.in_use s answered (step_soundly w s k.reached legal.0)
+steps_used w (s ∷ ss) k legal =
+    steps_used (world_after w s) ss (step_used w k.reached k.in_use s legal.0 (step_soundly w s k.reached legal.0)) legal.1
 
 pub well_used : (formats : ℕ → Layout) (steps : History) → IsLegalHistoryOf formats steps → IsWellUsed (reached formats steps)
 well_used formats steps legal =

@@ -8,7 +8,6 @@ use Rattle.mps_base.specs.declared.refusal.Refusal.{Refusal}
 use Rattle.mps_model.specs.Layout.{Layout}
 use Rattle.mps_model.proofs.Appending.{IsLegalFrom-later}
 use Rattle.mps_model.specs.declared.call.Call.TheVariants as call
-use Rattle.mps_model.specs.Answer.{is_unsupported}
 use Rattle.mps_model.specs.Step.{Step, History}
 use Rattle.mps_model.specs.Graph.{Graph}
 use Rattle.mps_model.specs.World.{World, empty_world, empty_world_of}
@@ -20,11 +19,10 @@ use Rattle.mps_model.specs.History.{IsLegalHistoryOf, IsLegalStep}
 use Rattle.mps_laws.specs.Held.{target_of_slot, target_found}
 use Rattle.mps_laws.specs.Replay.{reached}
 use Rattle.mps_laws.proofs.Entries.{slice_get-written, entry_at-written}
-use Rattle.mps_laws.proofs.LegalHistories.{supported_step}
 use Rattle.mps_laws.proofs.Reading.{bind_ok, slot_is, slot_in_is}
 use Rattle.mps_client_laws.specs.Slots.{CopyGivesTheSameObject, ClearLeavesNull, YesIsTheSameObject, NoIsAnotherObject, YesIsNoObject, NoIsAnObject}
 use Rattle.mps_client_laws.proofs.QuietCalls.{IsQuiet, quiet_answer, done_world}
-use Rattle.mps_client_laws.proofs.ReadingBack.{accepted_is_answered, quiet_graph}
+use Rattle.mps_client_laws.proofs.ReadingBack.{quiet_graph}
 
 -- a slot that was written refers to what was written
 pub slot_written : (w : World) (slot : Slot) (into : Found (Option ℕ)) (x : Option ℕ) → slot_in w slot ≡ Ok into
@@ -131,41 +129,41 @@ module _ (formats : ℕ → Layout) (steps later : History) (s : Step) (legal : 
 pub copy_gives_the_same_object : CopyGivesTheSameObject
 copy_gives_the_same_object formats steps later s target source legal is accepted =
     let w = reached formats steps in
-    let answered = accepted_is_answered w s (legal_here formats steps later s legal) accepted in
-    let a = quiet_graph (call.Copy target source) (copy_is_quiet target source) w s answered is accepted in
+    let here = legal_here formats steps later s legal in
+    let a = quiet_graph (call.Copy target source) (copy_is_quiet target source) w s here is accepted in
     ap (λ g. target_of_slot (of_graph g) target) a.2 ∙ copied w target source a.0 a.1
 
 pub clear_leaves_null : ClearLeavesNull
 clear_leaves_null formats steps later s slot legal is accepted =
     let w = reached formats steps in
-    let answered = accepted_is_answered w s (legal_here formats steps later s legal) accepted in
-    let a = quiet_graph (call.Clear slot) (clear_is_quiet slot) w s answered is accepted in
+    let here = legal_here formats steps later s legal in
+    let a = quiet_graph (call.Clear slot) (clear_is_quiet slot) w s here is accepted in
     ap (λ g. target_of_slot (of_graph g) slot) a.2 ∙ cleared w slot a.0 a.1
 
 pub yes_is_the_same_object : YesIsTheSameObject
 yes_is_the_same_object formats steps later s slot other legal is says =
     let w = reached formats steps in
-    let answered = supported_step w s (ap is_unsupported says) (legal_here formats steps later s legal) in
+    let here = legal_here formats steps later s legal in
     same_is_equal (target_of_slot w slot) (target_of_slot w other)
-    (same_answers w slot other true (sym says ∙ quiet_answer (call.Same slot other) (same_is_quiet slot other) w s answered is))
+    (same_answers w slot other true (sym says ∙ quiet_answer (call.Same slot other) (same_is_quiet slot other) w s here is))
 
 pub no_is_another_object : NoIsAnotherObject
 no_is_another_object formats steps later s slot other legal is says =
     let w = reached formats steps in
-    let answered = supported_step w s (ap is_unsupported says) (legal_here formats steps later s legal) in
+    let here = legal_here formats steps later s legal in
     other_is_unequal (target_of_slot w slot) (target_of_slot w other)
-    (same_answers w slot other false (sym says ∙ quiet_answer (call.Same slot other) (same_is_quiet slot other) w s answered is))
+    (same_answers w slot other false (sym says ∙ quiet_answer (call.Same slot other) (same_is_quiet slot other) w s here is))
 
 pub yes_is_no_object : YesIsNoObject
 yes_is_no_object formats steps later s slot legal is says =
     let w = reached formats steps in
-    let answered = supported_step w s (ap is_unsupported says) (legal_here formats steps later s legal) in
+    let here = legal_here formats steps later s legal in
     none_is_null (target_of_slot w slot)
-    (null_answers w slot true (sym says ∙ quiet_answer (call.Null slot) (null_is_quiet slot) w s answered is))
+    (null_answers w slot true (sym says ∙ quiet_answer (call.Null slot) (null_is_quiet slot) w s here is))
 
 pub no_is_an_object : NoIsAnObject
 no_is_an_object formats steps later s slot legal is says =
     let w = reached formats steps in
-    let answered = supported_step w s (ap is_unsupported says) (legal_here formats steps later s legal) in
+    let here = legal_here formats steps later s legal in
     some_is_object (target_of_slot w slot)
-    (null_answers w slot false (sym says ∙ quiet_answer (call.Null slot) (null_is_quiet slot) w s answered is))
+    (null_answers w slot false (sym says ∙ quiet_answer (call.Null slot) (null_is_quiet slot) w s here is))

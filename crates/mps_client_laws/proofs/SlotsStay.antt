@@ -10,14 +10,14 @@ use Rattle.mps_base.specs.declared.names.Name.{Name}
 use Rattle.mps_base.specs.declared.names.Slot.{Slot}
 use Rattle.mps_model.specs.declared.call.Call.{Call}
 use Rattle.mps_model.specs.declared.call.Call.TheVariants as call
-use Rattle.mps_model.specs.Answer.{is_block, is_unsupported}
+use Rattle.mps_model.specs.Answer.{is_block}
 use Rattle.mps_model.specs.Step.{Step}
 use Rattle.mps_model.specs.Graph.{NamedThing, Slots, Thing, entry_at, thing_in, with_last, without_name, empty_graph}
 use Rattle.mps_model.specs.World.{World, TransformPair, empty_world}
 use Rattle.mps_model.specs.Checked.{Act, Checked, Found, as_table, number_named, slot_in}
 use Rattle.mps_model.specs.Accessing.{same_target}
 use Rattle.mps_model.specs.Reply.{act, world_from}
-use Rattle.mps_model.specs.History.{judged_world, moved_world, moves_of_poll, world_after, world_after_call}
+use Rattle.mps_model.specs.History.{judged_world, moved_world, moves_of_poll, world_after}
 use Rattle.mps_changes.specs.Change.{ForAct, accepted, refused}
 use Rattle.mps_laws.proofs.Lookups.{entry_at-set_other, entry_is_there, entry_within, slice_get-set_other}
 use Rattle.mps_laws.proofs.Entries.{entry_at-written, entry_at-append}
@@ -262,7 +262,13 @@ not_false false h = refl
 
 slot_after_step : (w : World) (s : Step) (slot : Slot) (value : Option ℕ) → writes_slot w s.call slot ≡ false
     → slot_value w slot ≡ Some value → slot_value (world_after w s) slot ≡ Some value
-slot_after_step w s slot value unwritten there = by_case (is_unsupported s.answer)
+slot_after_step w s slot value unwritten there =
+    let left = moved_world_leaves w s.call s.moves in
+    let before = stands w slot value there in
+    let now = subst (λ ts. Stands moved.graph.names ts slot value) (sym left.tables)
+    (subst (λ ns. Stands ns w.graph.tables slot value) (sym left.names) before) in
+    by_act left.names left.tables now (act (is_block s.answer) judged moved s.call)
+    (slots_of_act (is_block s.answer) judged moved s.call)
   where
     moved : World
     moved = moved_world w s.call s.moves
@@ -278,16 +284,6 @@ slot_after_step w s slot value unwritten there = by_case (is_unsupported s.answe
         stood a.world slot value (stands_after s.call judged moved slot value (before.0 ∙ sym names) (before.1 ∙ sym tables)
         (same_slots_written moved w s.call slot names tables (moved_alone w s.call s.moves).state ∙ unwritten) now a.world writes)
     by_act names tables now _ refused = stood moved slot value now
-
-    by_case : (b : Bool) → slot_value (if b then w else world_after_call w s.call s.moves s.answer) slot ≡ Some value
-    by_case true = there
-    by_case false =
-        let left = moved_world_leaves w s.call s.moves in
-        let before = stands w slot value there in
-        let now = subst (λ ts. Stands moved.graph.names ts slot value) (sym left.tables)
-        (subst (λ ns. Stands ns w.graph.tables slot value) (sym left.names) before) in
-        by_act left.names left.tables now (act (is_block s.answer) judged moved s.call)
-        (slots_of_act (is_block s.answer) judged moved s.call)
 
 pub slots_stay : SlotsStay
 slots_stay w [] slot value leave there = there

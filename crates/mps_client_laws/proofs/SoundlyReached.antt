@@ -8,12 +8,13 @@ use Rattle.mps_model.specs.History.{IsLegalHistoryOf, IsLegalStep, IsLegalFrom, 
 use Rattle.mps_laws.specs.Replay.{reached}
 use Rattle.mps_laws.proofs.Caches.{AreRightCaches, caches_after}
 use Rattle.mps_laws.proofs.Frames.{AreRightFrames, frames_after, frames_manual}
+use Rattle.mps_laws.proofs.Parked.{pairs_after}
 use Rattle.mps_laws.proofs.Positions.LegalMoves.{HasLayout}
 use Rattle.mps_laws.proofs.Replays.FreeSteps.{BlocksAreLive}
-use Rattle.mps_laws.proofs.Replays.Replay.{limit_after, legal_step_replayed, live_after, empty_layout}
+use Rattle.mps_laws.proofs.Replays.Replay.{limit_after, legal_step_replayed, empty_layout}
 use Rattle.mps_laws.proofs.Sound.SoundGraph.{All, IsSoundGraph, auto}
 use Rattle.mps_laws.proofs.Sound.SoundHistories.{SlotsAreLive, step_sound}
-use Rattle.mps_laws.proofs.WellFormedHistories.{automatic_after, none_framed, places_made}
+use Rattle.mps_laws.proofs.WellFormedHistories.{none_framed, places_made}
 
 pub record IsSoundlyReached (w : World) : Type 0 where
   pub limit : ℕ
@@ -33,12 +34,12 @@ step_soundly w s k legal =
     record {
       limit = limit_after k.limit s.call;
       layout = r.layout;
-      blocks = live_after w s k.blocks legal;
+      blocks = legal.held_are_live.blocks;
       slots = sound.1;
       sound = sound.0;
-      cached = caches_after w s (places_made w k.sound) k.cached legal;
-      framed = frames_after w s k.framed k.cached legal;
-      pairs = automatic_after w s k.sound sound.0 k.pairs legal;
+      cached = caches_after w s (places_made w k.sound) k.cached;
+      framed = frames_after w s k.framed k.cached;
+      pairs = pairs_after w s k.sound sound.0 k.pairs;
     }
 
 steps_soundly : (w : World) (h : History) → IsSoundlyReached w → IsLegalFrom w h → IsSoundlyReached (world_after_steps w h)

@@ -14,21 +14,20 @@ use Rattle.mps_model.specs.Layout.{Layout}
 use Rattle.mps_model.specs.declared.call.Call.TheVariants as call
 use Rattle.mps_model.specs.declared.reply.Reply.TheVariants as reply
 use Rattle.mps_model.specs.declared.reply.Reply.{Reply}
-use Rattle.mps_model.specs.Answer.{Answer, Replied, is_unsupported}
+use Rattle.mps_model.specs.Answer.{Answer, Replied}
 use Rattle.mps_model.specs.Checked.{Act, Checked, as_transform, cells_of_body, number_named, refuse_when, says, transform_named}
 use Rattle.mps_model.specs.Graph.{Body, Automatic, Cell, Graph, HeadCell, Manual, NumberCell, Object, ReferenceCell, Slots, contains, entries, slots_of}
 use Rattle.mps_model.specs.History.{IsLegalHistoryOf, IsLegalStep, with_client_remembered, world_after}
-use Rattle.mps_model.specs.Reply.{act_in, answer_from, world_from}
+use Rattle.mps_model.specs.Reply.{answer_from, world_from}
 use Rattle.mps_model.specs.Step.{Step, History}
 use Rattle.mps_model.specs.Transforms.{act_transform_apply, body_substituted, cell_substituted, graph_substituted, has_live_reservation, is_blocked, is_old, new_for, object_substituted, pairs_of, slots_substituted, target_substituted, world_substituted}
 use Rattle.mps_model.specs.World.{TransformPair, World, empty_world_of, is_parked}
 use Rattle.mps_changes.proofs.Checks.{required-is}
 use Rattle.mps_laws.specs.Replay.{reached}
-use Rattle.mps_laws.proofs.LegalHistories.{IsAnswered, supported_step}
 use Rattle.mps_laws.proofs.Reading.{bind_ok, next_ok}
 use Rattle.mps_client_laws.specs.Objects.{pairs_named}
 use Rattle.mps_client_laws.specs.Substituting.{AreReferencesOf, IsBlockedStep, NoChangesNothing, NoReferenceIsToOld, NoSlotRefersToOld, YesIsNotBlocked, YesIsTheSubstitution, is_new}
-use Rattle.mps_client_laws.proofs.QuietCalls.{IsQuiet, quiet_answer, quiet_world}
+use Rattle.mps_client_laws.proofs.QuietCalls.{IsQuiet, act_in, quiet_answer, quiet_world}
 
 -- ---- the new object for an old one is a new one
 
@@ -189,13 +188,10 @@ module _ (formats : ℕ → Layout) (steps later : History) (s : Step) (transfor
   legal_here : IsLegalStep w s
   legal_here = (IsLegalFrom-later (empty_world_of formats) steps (s ∷ later) legal).0
 
-  module _ (r : Reply) (given : s.answer ≡ Replied r) (supported : is_unsupported (Replied r) ≡ false)
+  module _ (r : Reply) (given : s.answer ≡ Replied r)
       (none : (why : Refusal) → r ≡ reply.Refused why → ⊥) where
-    answered : IsAnswered w s
-    answered = supported_step w s (ap is_unsupported given ∙ supported) legal_here
-
     due : s.answer ≡ answer_from (act_in w (call.TransformApply transform))
-    due = quiet_answer (call.TransformApply transform) (apply_is_quiet transform) w s answered is
+    due = quiet_answer (call.TransformApply transform) (apply_is_quiet transform) w s legal_here is
 
     abbrev reply_in : Answer → Reply
     reply_in (Replied given) = given
@@ -216,7 +212,7 @@ module _ (formats : ℕ → Layout) (steps later : History) (s : Step) (transfor
     its_graph : (world_after w s).graph ≡ (the_act.0).world.graph
     its_graph =
         ap (λ (u : World). u.graph)
-        (quiet_world (call.TransformApply transform) (apply_is_quiet transform) w s answered is
+        (quiet_world (call.TransformApply transform) (apply_is_quiet transform) w s legal_here is
         ∙ ap (λ x. with_client_remembered (world_from w x)) the_act.1)
 
     the_pairs : (number : ℕ) × (number_named w transform as_transform ≡ Some number)
@@ -227,37 +223,37 @@ module _ (formats : ℕ → Layout) (steps later : History) (s : Step) (transfor
     pairs_are = named_pairs w transform the_pairs.0 the_pairs.1
 
   module _ (given : s.answer ≡ Replied reply.Yes) where
-    both : (is_blocked w (pairs_of w.state (the_pairs reply.Yes given refl yes_is_none).0) ≡ false)
-        × (((the_act reply.Yes given refl yes_is_none).0).world
-        ≡ world_substituted w transform (the_pairs reply.Yes given refl yes_is_none).0)
+    both : (is_blocked w (pairs_of w.state (the_pairs reply.Yes given yes_is_none).0) ≡ false)
+        × (((the_act reply.Yes given yes_is_none).0).world
+        ≡ world_substituted w transform (the_pairs reply.Yes given yes_is_none).0)
     both =
-        told_yes w transform (the_pairs reply.Yes given refl yes_is_none).0
-        (is_blocked w (pairs_of w.state (the_pairs reply.Yes given refl yes_is_none).0))
-        (the_act reply.Yes given refl yes_is_none).0 (the_pairs reply.Yes given refl yes_is_none).2
-        (its_answer reply.Yes given refl yes_is_none)
+        told_yes w transform (the_pairs reply.Yes given yes_is_none).0
+        (is_blocked w (pairs_of w.state (the_pairs reply.Yes given yes_is_none).0))
+        (the_act reply.Yes given yes_is_none).0 (the_pairs reply.Yes given yes_is_none).2
+        (its_answer reply.Yes given yes_is_none)
 
-    graph_is : (world_after w s).graph ≡ (world_substituted w transform (the_pairs reply.Yes given refl yes_is_none).0).graph
-    graph_is = its_graph reply.Yes given refl yes_is_none ∙ ap (λ (v : World). v.graph) both.1
+    graph_is : (world_after w s).graph ≡ (world_substituted w transform (the_pairs reply.Yes given yes_is_none).0).graph
+    graph_is = its_graph reply.Yes given yes_is_none ∙ ap (λ (v : World). v.graph) both.1
 
     pub substituted : AreReferencesOf (world_after w s).graph (graph_substituted w.graph (pairs_named w transform))
     substituted = record {
       objects = ap (λ (g : Graph). g.objects) graph_is
-          ∙ ap (λ ps. (graph_substituted w.graph ps).objects) (sym (pairs_are reply.Yes given refl yes_is_none));
+          ∙ ap (λ ps. (graph_substituted w.graph ps).objects) (sym (pairs_are reply.Yes given yes_is_none));
       slots = ap (λ (g : Graph). g.tables) graph_is
-          ∙ ap (λ ps. (graph_substituted w.graph ps).tables) (sym (pairs_are reply.Yes given refl yes_is_none));
+          ∙ ap (λ ps. (graph_substituted w.graph ps).tables) (sym (pairs_are reply.Yes given yes_is_none));
     }
 
     pub not_blocked : is_blocked w (pairs_named w transform) ≡ false
-    not_blocked = ap (is_blocked w) (pairs_are reply.Yes given refl yes_is_none) ∙ both.0
+    not_blocked = ap (is_blocked w) (pairs_are reply.Yes given yes_is_none) ∙ both.0
 
   pub blocked_step : s.answer ≡ Replied reply.No → IsBlockedStep w s transform
   blocked_step given =
-      let both = told_no w transform (the_pairs reply.No given refl no_is_none).0
-      (is_blocked w (pairs_of w.state (the_pairs reply.No given refl no_is_none).0)) (the_act reply.No given refl no_is_none).0
-      (the_pairs reply.No given refl no_is_none).2 (its_answer reply.No given refl no_is_none) in
+      let both = told_no w transform (the_pairs reply.No given no_is_none).0
+      (is_blocked w (pairs_of w.state (the_pairs reply.No given no_is_none).0)) (the_act reply.No given no_is_none).0
+      (the_pairs reply.No given no_is_none).2 (its_answer reply.No given no_is_none) in
       record {
-        blocked = ap (is_blocked w) (pairs_are reply.No given refl no_is_none) ∙ both.0;
-        graph = its_graph reply.No given refl no_is_none ∙ ap (λ (v : World). v.graph) both.1;
+        blocked = ap (is_blocked w) (pairs_are reply.No given no_is_none) ∙ both.0;
+        graph = its_graph reply.No given no_is_none ∙ ap (λ (v : World). v.graph) both.1;
       }
 
 -- ---- the laws

@@ -11,3 +11,4 @@ pub mod Initialising
 pub mod Substituting
 pub mod Dependents
 pub mod Popping
+pub mod Places

@@ -9,7 +9,7 @@ use Rattle.mps_model.specs.Layout.{Layout}
 use Rattle.mps_model.specs.declared.call.Call.{Call}
 use Rattle.mps_model.specs.declared.call.Call.TheVariants as call
 use Rattle.mps_model.specs.declared.reply.Reply.TheVariants as reply
-use Rattle.mps_model.specs.Answer.{Answer, Replied, is_accepted, is_refused, is_unsupported, refused}
+use Rattle.mps_model.specs.Answer.{Answer, Replied, is_accepted, is_refused, refused}
 use Rattle.mps_model.specs.Step.{Step, History}
 use Rattle.mps_model.specs.Graph.{HeadCell, NumberCell, Point, PointThing, Reservation, with_last}
 use Rattle.mps_model.specs.World.{World}
@@ -102,7 +102,6 @@ pub record AreReserveAndCommit (formats : ℕ → Layout) (steps between later :
   pub accepted : IsTrue (is_accepted reserve.answer)
   pub elsewhere : IsTrue (commit_elsewhere (world_after (reached formats steps) reserve) between point)
   pub commits : commit.call ≡ call.Commit point target
-  pub supported : is_unsupported commit.answer ≡ false
 
 -- A `commit` answers `flipped` exactly if a step after its `reserve` and before it has a flip. A flip in the poll of the `reserve` itself
 -- doesn't count, since the reservation is made after it. A `commit` has no flip.
@@ -117,7 +116,7 @@ CommitAnswersByFlips =
 abbrev pub CommitSpendsTheReservation : Type 0
 CommitSpendsTheReservation =
     (formats : ℕ → Layout) (steps later : History) (s : Step) (point : Name) (target : Slot)
-    → IsLegalHistoryOf formats (steps ++ s ∷ later) → s.call ≡ call.Commit point target → is_unsupported s.answer ≡ false
+    → IsLegalHistoryOf formats (steps ++ s ∷ later) → s.call ≡ call.Commit point target
     → is_refused s.answer ≡ false → reservation_of (world_after (reached formats steps) s) point ≡ None
 
 -- ---- vectors

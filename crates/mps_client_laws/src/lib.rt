@@ -9,6 +9,7 @@ ghost use Rattle.mps_client_laws.specs.Complete.{LiveObjectsAreReached, OthersWe
 ghost use Rattle.mps_client_laws.specs.Committing.{CommitMakesTheObject, FlippedMakesNone};
 ghost use Rattle.mps_client_laws.specs.Dependents.{ValuesGoWithTheirKeys};
 ghost use Rattle.mps_client_laws.specs.Initialising.{InitWritesTheNumber, InitWritesTheReference};
+ghost use Rattle.mps_client_laws.specs.Places.{AllocShowsZeros, AllocsShowAlike, CacheAllocShowsZeros, CacheFreeShowsNothing, FreeShowsNothing, FreesShowAlike};
 ghost use Rattle.mps_client_laws.specs.Popping.{PopFreesWhatWasMadeSince};
 ghost use Rattle.mps_client_laws.specs.ReadingBack.{GetGivesWhatWasPut, NumAnswersWhatWasSet, LoadAnswersWhatWasStored};
 ghost use Rattle.mps_client_laws.specs.Refusals.{RefusalsAreListed, RefusedStepsAreListed, NoneIsOutOfMemory, RefusedStepsMakeNoMoves, RefusedStepsChangeNothing, RefusedStepsLeaveTheirMoves, RefusedPollsHaveNoPlace};
@@ -148,4 +149,16 @@ pub fn values_go_with_their_keys()
 /// object lies where it lay, with its cells and words. The places of these blocks are empty then, and no other place changes.
 pub fn a_pop_frees_what_was_made_since()
     ensures { PopFreesWhatWasMadeSince }
+{}
+
+/// What places of tables of blocks show doesn't depend on allocation caches. After an accepted `alloc` or `calloc` of n words its place
+/// shows n zeros, after an accepted `free` or `cfree` nothing, and each other place what it showed. So a `calloc` and an `alloc` of as
+/// many words into one place, of one world, leave the same to be seen, and so do a `cfree` and a `free` of one place.
+pub fn places_change_alike()
+    ensures alloc { AllocShowsZeros }
+    ensures calloc { CacheAllocShowsZeros }
+    ensures free { FreeShowsNothing }
+    ensures cfree { CacheFreeShowsNothing }
+    ensures allocs { AllocsShowAlike }
+    ensures frees { FreesShowAlike }
 {}
