@@ -11,7 +11,7 @@ use Rattle.mps_base.specs.declared.refusal.Refusal.TheVariants as refusal
 use Rattle.mps_base.specs.Segment.{Segment, end_of_segment}
 use Rattle.mps_model.specs.declared.call.Call.{Call}
 use Rattle.mps_model.specs.declared.call.Call.TheVariants as call
-use Rattle.mps_model.specs.Answer.{Answer, is_block, is_unsupported}
+use Rattle.mps_model.specs.Answer.{Answer, is_block}
 use Rattle.mps_model.specs.Step.{Step}
 use Rattle.mps_model.specs.Graph.{contains, targets, position_of_first, ids_of_client, ids_in_blocks}
 use Rattle.mps_model.specs.Collection.{Collection}
@@ -85,7 +85,6 @@ pub record IsWellPlaced (w : World) : Type 0 where
 -- a step whose collector's part led to a state. Whether the step is legal isn't asked: that it leaves what the client holds live
 -- is part of what is shown
 pub record IsClientStep (w : World) (x : Collecting) (s : Step) : Type 0 where
-  pub supported : is_unsupported s.answer ≡ false
   pub collected : collected_world w s ≡ x.world
   pub moves_are_due : AreMovesOf w s.call s.answer s.moves
   pub marked_kept : IsMarkedKept x s.call s.answer

@@ -141,15 +141,15 @@ module _ (x : Collecting) (run : Running x) (judged : World) (c : Call) (answer 
       (slots_written x run into (Some id) (slot_found w slot into e) (got_right (FromMessage id ids are))) (still_holds x run)
       (λ n there. still_messages x run n (ap (λ ns. contains ns n) are ∙ contains_later id ids n there)))
   change_runs h different (TableMade name slots) =
-      roots_keep x run (graph_with_table w.graph name slots)
+      roots_keep x run (graph_with_table w.graph name.name slots)
       (held_by_parts x run (with_last w.graph.tables (Some (replicate slots None))) w.graph.areas w.graph.messages
       (new_table x run slots) (still_holds x run) (still_messages x run))
   change_runs h different (AreaMade name words) =
-      roots_keep x run (graph_with_area w.graph name words)
+      roots_keep x run (graph_with_area w.graph name.name words)
       (held_by_parts x run w.graph.tables (with_last w.graph.areas (Some (replicate words (PlainWord 0)))) w.graph.messages
       (still_slots x run) (new_area x run words) (still_messages x run))
   change_runs h different (BlocksMade name places e) =
-      roots_keep x run (graph_with_blocks w.graph name places)
+      roots_keep x run (graph_with_blocks w.graph name.name places)
       (held_by_parts x run w.graph.tables w.graph.areas w.graph.messages (still_slots x run) (still_holds x run) (still_messages x run))
   change_runs h different (TableDropped name n named) =
       roots_keep x run (record w.graph { tables = slice_set w.graph.tables n None; names = without_name w.graph.names name })
@@ -177,8 +177,8 @@ module _ (x : Collecting) (run : Running x) (judged : World) (c : Call) (answer 
   change_runs {u = u} h different (FramePushed name f e found) = aside_keeps x run w w.graph.blocks w.graph.caches u.graph.frames
   change_runs {u = u} h different (FramesPopped name f frame before e found opened) =
       aside_keeps x run w u.graph.blocks w.graph.caches u.graph.frames
-  change_runs h different (PoolMade name p e made) = with_pool_keeps x run (known.formed (pool_moves_nothing c e)) name p
-  change_runs h different (PointMade name pool of at_rank e is may) = with_point_keeps x run name of.number at_rank
+  change_runs h different (PoolMade name p e made) = with_pool_keeps x run (known.formed (pool_moves_nothing c e)) name.name p
+  change_runs h different (PointMade name pool of at_rank e is may) = with_point_keeps x run name.name of.number at_rank
   change_runs h different (PointDropped name p e is none) =
       without_point_keeps x run name p (point_found w name p is) (ap is_some none)
   change_runs h different (Opened name head r p at e is there) =

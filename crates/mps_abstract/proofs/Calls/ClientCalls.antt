@@ -9,7 +9,7 @@ use Rattle.mps_base.specs.declared.refusal.Refusal.TheVariants as refusal
 use Rattle.mps_model.specs.declared.call.Call.{Call}
 use Rattle.mps_model.specs.declared.call.Call.TheVariants as call
 use Rattle.mps_model.specs.Answer.{Answer, is_accepted, is_block}
-use Rattle.mps_model.specs.Graph.{Graph, Object, Point, Reservation, position_of_first, without_first, ids_of_client, ids_in_blocks}
+use Rattle.mps_model.specs.Graph.{Graph, Object, Point, Reservation, position_of_first, without_first, ids_in_blocks}
 use Rattle.mps_model.specs.World.{World, is_live}
 use Rattle.mps_model.specs.WellFormed.{IsWellFormed}
 use Rattle.mps_model.specs.Checked.{Act, Checked, Found, Numbered, ◌>>=◌, required, done, slot_in, object_in, block_place_in, cache_named, pool_named, point_named, number_named, as_point}
@@ -18,7 +18,7 @@ use Rattle.mps_model.specs.Effect.{world_after_moves}
 use Rattle.mps_model.specs.Policy.{units_asked}
 use Rattle.mps_model.specs.Reply.{act, world_from}
 use Rattle.mps_model.specs.Frames.{frames_named}
-use Rattle.mps_model.specs.History.{moves_of_collector, moves_of_poll, own_segment, after_own_segment, judged_world, moved_world, asking, remembering, with_client_remembered, world_after, world_after_call, AreMovesOf, moves_of_commit, commit_of, unless_refused, moves_of_free, moves_of_cache_flush, moves_of_pop, moves_of_cache_free}
+use Rattle.mps_model.specs.History.{moves_of_collector, moves_of_poll, own_segment, after_own_segment, judged_world, moved_world, asking, AreMovesOf, moves_of_commit, commit_of, unless_refused, moves_of_free, moves_of_cache_flush, moves_of_pop, moves_of_cache_free}
 use Rattle.mps_abstract.specs.Colours.{AreDifferent}
 use Rattle.mps_abstract.specs.Collecting.{Collecting, Running}
 use Rattle.mps_abstract.specs.ClientLaws.{AreApartFrom, IsWellPlaced, position_taken, collection_without, next_without, IsMarkedKept, IsReadKept, ClientsKeepRunning}
@@ -270,23 +270,11 @@ module _ (w : World) (x : Collecting) (run : Running x) (formed : IsWellFormed x
 
 pub clients_keep : ClientsKeepRunning
 clients_keep w x s run step =
-    let after = world_from (moved_world w s.call s.moves)
-    (act (is_block s.answer) (judged_world w s.call s.moves) (moved_world w s.call s.moves) s.call) in
-    let leads : world_after w s ≡ with_client_remembered after = ap
-    (λ b. if b then w else world_after_call w s.call s.moves s.answer) step.supported in
-    let middle = call_keeps w x run step.well_formed step.blocks_live s.call s.moves s.answer step.collected step.moves_are_due
-    step.marked_kept
-    step.read_kept (let after_call = subst IsWellPlaced leads step.well_placed in record {
-      different = after_call.different;
-      apart = after_call.apart;
-    }) in
-    subst (λ (v : World). Running (record x {
-      world = v;
-      running = remembering (ids_of_client v.graph) (collection_without (position_taken x.world s.call) x.running);
-      next = next_without (position_taken x.world s.call) x.next;
-    })) (sym leads)
-    (remembered_keeps (record x {
-      world = after;
+    remembered_keeps (record x {
+      world = world_from (moved_world w s.call s.moves)
+          (act (is_block s.answer) (judged_world w s.call s.moves) (moved_world w s.call s.moves) s.call);
       running = collection_without (position_taken x.world s.call) x.running;
       next = next_without (position_taken x.world s.call) x.next;
-    }) middle)
+    })
+    (call_keeps w x run step.well_formed step.blocks_live s.call s.moves s.answer step.collected step.moves_are_due step.marked_kept
+    step.read_kept (record { different = step.well_placed.different; apart = step.well_placed.apart }))

@@ -12,7 +12,7 @@ use Rattle.mps_base.specs.Segment.{Segment, is_in_segment}
 use Rattle.mps_base.specs.Zones.{zones_meet, zone_bit}
 use Rattle.mps_model.specs.Accessing.{address_or_null}
 use Rattle.mps_model.specs.Graph.{Object, contains, targets, is_automatic, object_at}
-use Rattle.mps_model.specs.World.{World, address_of, is_live, is_live_and, live_ids, live_automatic_ids, object_is}
+use Rattle.mps_model.specs.World.{World, is_live, is_live_and, live_ids, live_automatic_ids, object_is}
 use Rattle.mps_model.specs.WellFormed.{is_right_object}
 use Rattle.mps_model.specs.Effect.{Condemnation, Everything, Generations, condemned_ids, condemned_zones, condemned_by, lies_in_one}
 use Rattle.mps_abstract.specs.FlipLaws.{IsAtRest, AreRemembered, collecting_after_flip}

@@ -49,7 +49,7 @@ use Rattle.mps_trace_laws.proofs.Begin.CondemnedIds.{kind_is}
 use Rattle.mps_trace_laws.specs.Begin.Begun.{AFlipStands, IsFlipStanding}
 use Rattle.mps_trace_laws.proofs.Begin.MovesAtFlip.{moves_at_flip}
 use Rattle.mps_trace_laws.proofs.Begin.FlippedImage.{resting, image_marked, marked, now}
-use Rattle.mps_trace_laws.proofs.Begin.FlippedSegments.{segments_flipped, bit_is, is_held, models, moved, condemns, ranked, whole}
+use Rattle.mps_trace_laws.proofs.Begin.FlippedSegments.{segments_flipped, bit_is, is_held, models, moved, condemns, ranked}
 use Rattle.mps_trace_laws.proofs.Begin.NothingAtHand.{tails_are_empty, empty_tails_stand}
 use Rattle.mps_trace_laws.proofs.Begin.RankedNails.{ranked_areas}
 

@@ -1,5 +1,5 @@
 -- A fix leaves an object that isn't white where it is.
-use Rattle.std.proofs.Common.{◌≡◌, ◌∙◌, ℕ, true, false, sym, ap, List, Option, Some}
+use Rattle.std.proofs.Common.{◌≡◌, ◌∙◌, ℕ, false, sym, ap, List, Option, Some}
 use Rattle.std.proofs.lemmas.Bool.{false≢true}
 use Rattle.mps_base.specs.Address.{Address, Id, Word}
 use Rattle.mps_model.specs.Graph.{Object}

@@ -14,7 +14,7 @@ use Rattle.mps_model.specs.Checked.{Act, Checked}
 use Rattle.mps_model.specs.Collecting.{without_position}
 use Rattle.mps_model.specs.Effect.{after_free, after_moved, after_post, after_segment, after_splat, holding, placing, segment_base_of, segment_of_move, where_one, with_collection, without_object, reclaiming, world_after_move, world_after_moves}
 use Rattle.mps_model.specs.Graph.{entry_at, is_automatic}
-use Rattle.mps_model.specs.History.{after_its_moves, after_own_segment, asking, moved_world, judged_world, moves_of_collector, moves_of_poll, own_segment, rank_of_point, with_buffer, with_client_remembered, world_after, world_after_call}
+use Rattle.mps_model.specs.History.{after_its_moves, after_own_segment, asking, moved_world, judged_world, moves_of_collector, moves_of_poll, own_segment, rank_of_point, with_buffer, world_after}
 use Rattle.mps_model.specs.Checked.{number_named, as_point}
 use Rattle.mps_model.specs.Policy.{units_asked}
 use Rattle.mps_model.specs.Reply.{act, world_from}
@@ -185,9 +185,6 @@ module _ (w : World) (x : Collecting) (s : Step) (run : Running x) (step : IsCli
   abbrev acted : World
   acted = world_from moved (act (is_block s.answer) (judged_world w s.call s.moves) moved s.call)
 
-  leads : world_after w s ≡ with_client_remembered acted
-  leads = ap (λ b. if b then w else world_after_call w s.call s.moves s.answer) step.supported
-
   none_live : MakesNoneLive (world_after_moves w (moves_of_collector s.call s.moves)) (after_its_moves w s.call s.moves)
   none_live = client_makes_none w s.call s.moves
 
@@ -225,12 +222,11 @@ module _ (w : World) (x : Collecting) (s : Step) (run : Running x) (step : IsCli
   was_live : (id : Id) → is_live (world_after w s) id ≡ true → is_to_scan x.running.condemned x.colours id ≡ true
       → is_live x.world id ≡ true
   was_live id h is =
-      let now : is_live acted id ≡ true = sym (ap (λ (v : World). is_live v id) leads) ∙ h in
       let low = to_scan_known id is in
       let same = ap (λ (ps : List (Option Address)). length ps) collected_addresses in
       let long = none_live.as_long in
       let moved_long = ap (λ (ps : List (Option Address)). length ps) moved_addresses in
-      let before = act_makes_none id (omega (arith, low, same, long, moved_long)) now in
+      let before = act_makes_none id (omega (arith, low, same, long, moved_long)) h in
       ap (λ (ps : List (Option Address)). is_some (entry_at ps id)) (sym collected_addresses)
       ∙ none_live.live id (ap (λ (ps : List (Option Address)). is_some (entry_at ps id)) (sym moved_addresses) ∙ before)
 
