@@ -1,57 +1,116 @@
--- Pairs in a table, by their old addresses.
-use Rattle.std.proofs.Common.{ℕ, ◌≡◌, ◌≢◌, ◌+◌, ◌<◌, ◌≤◌, ◌==◌, ◌&&◌, Bool, true, false, cond, Option, Some, None, List, [], ◌∷◌, length, take, get_or, set, refl, sym, ap, ◌∙◌, inl, inr, arith}
+-- Pairs by their old addresses, while they are gathered.
+use Rattle.std.proofs.Common.{ℕ, ◌≡◌, ◌≢◌, ◌+◌, ◌<◌, ◌≤◌, ◌==◌, ◌&&◌, Bool, true, false, cond, eqb, Option, Some, None, List, [], ◌∷◌, ◌++◌, length, take, get_or, set, refl, sym, ap, ◌∙◌, subst, inl, inr, arith}
 use Rattle.std.specs.Prelude.{nat_eq, slice_set}
 use Rattle.std.specs.List.{find}
 use Rattle.std.specs.Map.{lookup}
 use Rattle.std.specs.Option.{option_or}
-use Rattle.std.proofs.lemmas.Bool.{false≢true}
+use Rattle.std.proofs.Math.ListN.{get_or-append}
+use Rattle.std.proofs.Math.Seq.{get_or-append_seam}
+use Rattle.std.proofs.lemmas.Bool.{false≢true, cases_lt}
 use Rattle.std.proofs.lemmas.Bool.Decides.{eqb_tells}
-use Rattle.std.proofs.lemmas.List.{length-set, get_or-set_same, get_or-set_other, take_more}
+use Rattle.std.proofs.lemmas.List.{length-append, length-set, get_or-set_same, get_or-set_other, take_all, take_more}
 use Rattle.std.proofs.lemmas.List.Folds.{find-append}
+use Rattle.std.proofs.lemmas.List.Sorted.{IsNonDecreasingBy-short}
 use Rattle.mps_base.specs.Address.{Address}
 use Rattle.mps_bits.specs.Table.{bit}
+use Rattle.mps_xform.specs.declared.replacements.Ranked.{Ranked}
 use Rattle.mps_xform.specs.declared.transforms.Pair.{Pair}
-use Rattle.mps_xform.specs.Inside.{AreSoundReplacements, after_add}
+use Rattle.mps_xform.specs.Inside.{AreMarked, AreRanked, AreSoundReplacements, by_old}
 use Rattle.mps_address_marks.specs.Marks.{mark_of}
 use Rattle.mps_xform.specs.Marks.{marks_count}
 use Rattle.mps_xform.specs.State.{is_of, max_pairs}
 
--- no pair, and no mark
-pub none_sound : (entries : List (ℕ × Pair)) (spare : ℕ) (marks : List Bool) → entries ≡ [] → max_pairs ≤ spare
-    → length marks ≡ marks_count → AreSoundReplacements entries spare marks
-none_sound entries spare marks none room whole = record {
-  room = omega (arith, room);
-  whole = whole;
-  marked = λ at unmarked. ap (λ (es : List (ℕ × Pair)). lookup (nat_eq at) es) none;
+eqb-sym : (a b : ℕ) → eqb a b ≡ eqb b a
+eqb-sym a b = grind arith
+
+-- of no pair the ranks ascend, and nothing is marked
+pub none_ranked : (rs : List Ranked) (bound : ℕ) → rs ≡ [] → AreRanked rs bound
+none_ranked rs bound none = record {
+  below = λ k d within. absurd (omega (arith, within, ap (λ (xs : List Ranked). length xs) none));
+  ascend = λ i j d lt within. absurd (omega (arith, within, ap (λ (xs : List Ranked). length xs) none));
 }
 
--- a pair is added, and its old address is marked
-module _ (entries entries' : List (ℕ × Pair)) (spare spare' : ℕ) (marks : List Bool) (pair : Pair) where
-  apart : (at : Address) → mark_of marks_count pair.old.0 < length marks
-      → bit (slice_set marks (mark_of marks_count pair.old.0) true) (mark_of marks_count at) ≡ false
-      → (nat_eq pair.old.0 at ≡ false) × (bit marks (mark_of marks_count at) ≡ false)
+pub none_marked : (rs : List Ranked) (marks : List Bool) → rs ≡ [] → AreMarked rs marks
+none_marked rs marks none = λ at unmarked. ap (λ (xs : List Ranked). lookup (nat_eq at) (by_old xs)) none
+
+pub none_sound : (rs : List Ranked) (capacity : ℕ) (marks : List Bool) → rs ≡ [] → max_pairs ≤ capacity → length marks ≡ marks_count
+    → AreSoundReplacements rs capacity marks
+none_sound rs capacity marks none room whole = record {
+  room = room;
+  whole = whole;
+  ascending = IsNonDecreasingBy-short (λ r. r.pair.old.0) rs (omega (arith, ap (λ (xs : List Ranked). length xs) none));
+  marked = none_marked rs marks none;
+}
+
+pub stay_ranked : (rs : List Ranked) (bound : ℕ) → AreRanked rs bound → AreRanked rs (bound + 1)
+stay_ranked rs bound ranked = record {
+  below = λ k d within. omega (arith, ranked.below k d within);
+  ascend = ranked.ascend;
+}
+
+-- one pair more
+module _ (rs : List Ranked) (new : Ranked) where
+  last : (k : ℕ) → k < length (rs ++ new ∷ []) → length rs ≤ k → k ≡ length rs
+  last k within past = omega (arith, within, past, length-append rs (new ∷ []))
+
+  at_last : (k : ℕ) (d : Ranked) → k ≡ length rs → get_or (rs ++ new ∷ []) k d ≡ new
+  at_last k d is = ap (λ (i : ℕ). get_or (rs ++ new ∷ []) i d) is ∙ get_or-append_seam rs new [] d
+
+  rank_at : (k : ℕ) (d : Ranked) → k < length rs → (get_or (rs ++ new ∷ []) k d).rank ≡ (get_or rs k d).rank
+  rank_at k d within = ap (λ (r : Ranked). r.rank) (get_or-append rs (new ∷ []) d k within)
+
+  rank_last : (k : ℕ) (d : Ranked) → k ≡ length rs → (get_or (rs ++ new ∷ []) k d).rank ≡ new.rank
+  rank_last k d is = ap (λ (r : Ranked). r.rank) (at_last k d is)
+
+  pub one_more_ranked : (bound : ℕ) → AreRanked rs bound → new.rank ≡ bound → AreRanked (rs ++ new ∷ []) (bound + 1)
+  one_more_ranked bound ranked is = record {
+    below = λ k d within.
+        elim (cases_lt k (length rs)) [
+          | inl before ↦ omega (arith, rank_at k d before, ranked.below k d before)
+          | inr past ↦ omega (arith, rank_last k d (last k within past), is)
+        ];
+    ascend = λ i j d lt within.
+        elim (cases_lt j (length rs)) [
+          | inl before ↦
+              omega (arith, rank_at i d (omega (arith, lt, before)), rank_at j d before, ranked.ascend i j d lt before)
+          | inr past ↦
+              let here : j ≡ length rs = last j within past in
+              omega (arith, rank_at i d (omega (arith, lt, here)), ranked.below i d (omega (arith, lt, here)), rank_last j d here, is)
+        ];
+  }
+
+  pub look_up_more : (old : ℕ) → lookup (nat_eq old) (by_old (rs ++ new ∷ []))
+      ≡ option_or (lookup (nat_eq old) (by_old rs)) (cond (new.pair.old.0 == old) (Some new.pair) None)
+  look_up_more old = go rs
+    where
+      go : (xs : List Ranked) → lookup (nat_eq old) (by_old (xs ++ new ∷ []))
+          ≡ option_or (lookup (nat_eq old) (by_old xs)) (cond (new.pair.old.0 == old) (Some new.pair) None)
+      go [] = ap (λ (b : Bool). cond b (Some new.pair) None) (eqb-sym old new.pair.old.0)
+      go (x ∷ xs) = by (nat_eq old x.pair.old.0) (go xs)
+        where
+          by : (b : Bool) → lookup (nat_eq old) (by_old (xs ++ new ∷ []))
+              ≡ option_or (lookup (nat_eq old) (by_old xs)) (cond (new.pair.old.0 == old) (Some new.pair) None)
+              → cond b (Some x.pair) (lookup (nat_eq old) (by_old (xs ++ new ∷ [])))
+              ≡ option_or (cond b (Some x.pair) (lookup (nat_eq old) (by_old xs))) (cond (new.pair.old.0 == old) (Some new.pair) None)
+          by true rest = refl
+          by false rest = rest
+
+  pub one_more_marked : (marks : List Bool) → AreMarked rs marks → mark_of marks_count new.pair.old.0 < length marks
+      → AreMarked (rs ++ new ∷ []) (slice_set marks (mark_of marks_count new.pair.old.0) true)
   unfolding bit
-  apart at within unmarked =
-      let m = mark_of marks_count pair.old.0 in
+  one_more_marked marks marked within at unmarked =
+      let m = mark_of marks_count new.pair.old.0 in
       let other : mark_of marks_count at ≢ m =
       λ same. false≢true (sym unmarked ∙ ap (λ (n : ℕ). get_or (set marks m true) n false) same
       ∙ get_or-set_same marks m true false within) in
-      elim (eqb_tells pair.old.0 at) [
+      elim (eqb_tells new.pair.old.0 at) [
         | inl same ↦ absurd (other (ap (mark_of marks_count) (sym same.1)))
-        | inr differs ↦ (differs.0, sym (get_or-set_other marks m (mark_of marks_count at) true false other) ∙ unmarked)
+        | inr differs ↦
+            look_up_more at
+            ∙ ap (λ (o : Option Pair). option_or o (cond (new.pair.old.0 == at) (Some new.pair) None))
+            (marked at (sym (get_or-set_other marks m (mark_of marks_count at) true false other) ∙ unmarked))
+            ∙ ap (λ (b : Bool). cond b (Some new.pair) None) differs.0
       ]
-
-  pub added_sound : AreSoundReplacements entries spare marks → max_pairs ≤ length entries' + spare'
-      → ((at : Address) → nat_eq pair.old.0 at ≡ false → lookup (nat_eq at) entries' ≡ lookup (nat_eq at) entries)
-      → mark_of marks_count pair.old.0 < marks_count
-      → AreSoundReplacements entries' spare' (slice_set marks (mark_of marks_count pair.old.0) true)
-  added_sound sound room others within = record {
-    room = room;
-    whole = length-set marks (mark_of marks_count pair.old.0) true ∙ sound.whole;
-    marked = λ at unmarked.
-        let a = apart at (omega (arith, within, sound.whole)) unmarked in
-        others at a.0 ∙ sound.marked at a.1;
-  }
 
 or_none : (o : Option Pair) → option_or o None ≡ o
 or_none None = refl
@@ -77,9 +136,70 @@ module _ (pairs : List Pair) (transform index : ℕ) (d : Pair) (within : index 
       (cond (t && ((get_or pairs index d).old.0 == old)) (Some (get_or pairs index d)) None)) is
 
   pub one_more : ((get_or pairs index d).transform == transform) ≡ true
-      → find test (take (index + 1) pairs) ≡ after_add (get_or pairs index d) (find test (take index pairs)) old
+      → find test (take (index + 1) pairs)
+      ≡ option_or (find test (take index pairs))
+      (cond ((get_or pairs index d).old.0 == old) (Some (get_or pairs index d)) None)
   one_more here = by_transform true here
 
   pub one_of_another : ((get_or pairs index d).transform == transform) ≡ false
       → find test (take (index + 1) pairs) ≡ find test (take index pairs)
   one_of_another other = by_transform false other ∙ or_none (find test (take index pairs))
+
+-- the pairs of a transform among the first ones are there, and their marks
+pub record AreGathered (pairs : List Pair) (transform count : ℕ) (rs : List Ranked) (marks : List Bool) : Type 0 where
+  pub few : length rs ≤ count
+  pub whole : length marks ≡ marks_count
+  pub marked : AreMarked rs marks
+  pub ascending : AreRanked rs count
+  pub pairs_alike : (old : ℕ) → lookup (nat_eq old) (by_old rs) ≡ find (λ p. is_of transform p && (p.old.0 == old)) (take count pairs)
+
+module _ (pairs : List Pair) (transform index : ℕ) (d : Pair) (rs : List Ranked) (marks : List Bool) (within : index < length pairs)
+    (before : AreGathered pairs transform index rs marks) where
+  pub another_passed : ((get_or pairs index d).transform == transform) ≡ false → AreGathered pairs transform (index + 1) rs marks
+  another_passed other = record {
+    few = omega (arith, before.few);
+    whole = before.whole;
+    marked = before.marked;
+    ascending = stay_ranked rs index before.ascending;
+    pairs_alike = λ old. before.pairs_alike old ∙ sym (one_of_another pairs transform index d within old other);
+  }
+
+  pub one_more_gathered : (rs' : List Ranked) (marks' : List Bool) → ((get_or pairs index d).transform == transform) ≡ true
+      → mark_of marks_count (get_or pairs index d).old.0 < marks_count
+      → rs' ≡ rs ++ record { pair = get_or pairs index d; rank = index } ∷ []
+      → marks' ≡ slice_set marks (mark_of marks_count (get_or pairs index d).old.0) true
+      → AreGathered pairs transform (index + 1) rs' marks'
+  one_more_gathered rs' marks' here in_table is marked =
+      let new : Ranked = record { pair = get_or pairs index d; rank = index } in
+      let m = mark_of marks_count new.pair.old.0 in
+      let P : List Ranked → Type 0 = λ xs. AreGathered pairs transform (index + 1) xs marks' in
+      let Q : List Bool → Type 0 = λ bs. AreGathered pairs transform (index + 1) (rs ++ new ∷ []) bs in
+      let gathered : AreGathered pairs transform (index + 1) (rs ++ new ∷ []) (slice_set marks m true) = record {
+        few = omega (arith, before.few, length-append rs (new ∷ []));
+        whole = length-set marks m true ∙ before.whole;
+        marked = one_more_marked rs new marks before.marked (omega (arith, in_table, before.whole));
+        ascending = one_more_ranked rs new index before.ascending refl;
+        pairs_alike = λ old.
+            look_up_more rs new old
+            ∙ ap (λ (o : Option Pair). option_or o (cond (new.pair.old.0 == old) (Some new.pair) None)) (before.pairs_alike old)
+            ∙ sym (one_more pairs transform index d within old here);
+      } in
+      subst P (sym is) (subst Q (sym marked) gathered)
+
+pub none_gathered : (pairs : List Pair) (transform : ℕ) (rs : List Ranked) (marks : List Bool) → rs ≡ [] → length marks ≡ marks_count
+    → AreGathered pairs transform 0 rs marks
+none_gathered pairs transform rs marks none whole = record {
+  few = omega (arith, ap (λ (xs : List Ranked). length xs) none);
+  whole = whole;
+  marked = none_marked rs marks none;
+  ascending = none_ranked rs 0 none;
+  pairs_alike = λ old. ap (λ (xs : List Ranked). lookup (nat_eq old) (by_old xs)) none;
+}
+
+-- after the last pair those of the transform are all there
+pub all_gathered : (pairs : List Pair) (transform count : ℕ) (rs : List Ranked) (marks : List Bool) → length pairs ≤ count
+    → AreGathered pairs transform count rs marks
+    → (old : ℕ) → lookup (nat_eq old) (by_old rs) ≡ find (λ p. is_of transform p && (p.old.0 == old)) pairs
+all_gathered pairs transform count rs marks all gathered old =
+    gathered.pairs_alike old
+    ∙ ap (λ (ps : List Pair). find (λ p. is_of transform p && (p.old.0 == old)) ps) (take_all count pairs all)

@@ -1,10 +1,11 @@
 -- What is true of all transforms.
-use Rattle.std.specs.Prelude.{ℕ, ◌≡◌, ◌+◌, ◌≤◌, ◌==◌, Bool, true, Option, Some, None, List, length, slice_index_or, false, if◌then◌else◌, nat_eq}
+use Rattle.std.specs.Prelude.{ℕ, ◌≡◌, ◌<◌, ◌≤◌, Bool, true, false, None, List, length, map, slice_index_or, nat_eq}
 use Rattle.std.specs.List.{All}
-use Rattle.std.specs.Option.{option_or}
+use Rattle.std.specs.List.Sorted.{IsNonDecreasingBy}
 use Rattle.std.specs.Map.{lookup}
 use Rattle.mps_bits.specs.Table.{bit}
 use Rattle.mps_base.specs.Address.{Address}
+use Rattle.mps_xform.specs.declared.replacements.Ranked.{Ranked}
 use Rattle.mps_xform.specs.declared.transforms.Pair.{Pair}
 use Rattle.mps_address_marks.specs.Marks.{mark_of}
 use Rattle.mps_xform.specs.Marks.{marks_count}
@@ -16,12 +17,22 @@ pub record AreSoundTransforms (live : List Bool) (pairs : List Pair) (capacity :
   pub room : max_pairs ≤ capacity
   pub known : All (λ p. slice_index_or live p.transform false ≡ true) pairs
 
--- there is room for all pairs that there may be, and an address without a mark is the old one of none
-pub record AreSoundReplacements (entries : List (ℕ × Pair)) (spare : ℕ) (marks : List Bool) : Type 0 where
-  pub room : max_pairs ≤ length entries + spare
-  pub whole : length marks ≡ marks_count
-  pub marked : (at : Address) → bit marks (mark_of marks_count at) ≡ false → lookup (nat_eq at) entries ≡ None
+-- pairs by their old addresses
+abbrev pub by_old : List Ranked → List (ℕ × Pair)
+by_old rs = map (λ r. (r.pair.old.0, r.pair)) rs
 
--- the pair of an old address after one was added, which gives way to an earlier one
-abbrev pub after_add : (pair : Pair) → (before : Option Pair) → (old : Address) → Option Pair
-after_add pair before old = option_or before (if pair.old.0 == old then Some pair else None)
+-- an address without a mark is the old one of none of these
+abbrev pub AreMarked : List Ranked → (marks : List Bool) → Type 0
+AreMarked rs marks = (at : Address) → bit marks (mark_of marks_count at) ≡ false → lookup (nat_eq at) (by_old rs) ≡ None
+
+-- the ranks ascend, and are below a bound
+pub record AreRanked (rs : List Ranked) (bound : ℕ) : Type 0 where
+  pub below : All (λ r. r.rank < bound) rs
+  pub ascend : (i j : ℕ) (d : Ranked) → i < j → j < length rs → (slice_index_or rs i d).rank < (slice_index_or rs j d).rank
+
+-- There is room for all pairs that there may be, and they ascend by their old addresses. An address without a mark is the old one of none.
+pub record AreSoundReplacements (rs : List Ranked) (capacity : ℕ) (marks : List Bool) : Type 0 where
+  pub room : max_pairs ≤ capacity
+  pub whole : length marks ≡ marks_count
+  pub ascending : IsNonDecreasingBy (λ r. r.pair.old.0) rs
+  pub marked : AreMarked rs marks

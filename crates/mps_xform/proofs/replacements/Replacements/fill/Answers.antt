@@ -1,32 +1,22 @@
-use Rattle.std.proofs.Common.{ℕ, ◌∙◌, List, Option, get_or, ap, sym, arith}
-use Rattle.std.proofs.lemmas.Bool.{eq-eqb, ne_eqb}
-use Rattle.std.specs.Prelude.{nat_eq, length}
-use Rattle.std.specs.Map.{lookup}
-use Rattle.mps_xform.specs.declared.transforms.Pair.{Pair}
-use Rattle.mps_xform.specs.Inside.{after_add}
-use Rattle.mps_xform.specs.State.{pair_in}
-use Rattle.mps_xform.proofs.Filled.{one_more, one_of_another}
+use Rattle.std.proofs.Common.{◌∙◌, arith, rules}
+use Rattle.std.specs.List.Sorted.{IsSortedByKey}
+use Rattle.std.proofs.lemmas.List.Sorted.{answers_always}
+use Rattle.mps_xform.proofs.Sorted.{key_of, key_cmp, sorted_sound, found_alike}
 use Rattle.mps_xform.proofs.replacements.Replacements.fill.Goals as goal
-use Rattle.mps_xform.proofs.replacements.Replacements.fill.Goals.{then-pair-transform, else-pair-transform}
 
-pub loop-index-preserved : goal.loop-index-preserved
-loop-index-preserved c =
-    let pairs = c.args.pairs.now in
-    let index = c.loop-index.index in
-    let so_far = c.loop-index.invariant in
-    elim c.if-pair-transform.branch [
-      | then-pair-transform w ↦ (
-        omega (arith, so_far.0, w.add.ensures.length, ap length w.self-is),
-        λ old.
-            ap (λ (es : List (ℕ × Pair)). lookup (nat_eq old) es) w.self-is ∙ w.add.ensures.pairs old
-            ∙ ap (λ (o : Option Pair). after_add (get_or pairs index (pair_in 0 0 0)) o old) (so_far.1 old)
-            ∙ sym (one_more pairs c.args.transform index (pair_in 0 0 0) c.loop-index-test.true old (eq-eqb _ _ w.if-pair-transform.true)),
-      )
-      | else-pair-transform w ↦ (
-        omega (arith, so_far.0, ap length w.self-is),
-        λ old.
-            ap (λ (es : List (ℕ × Pair)). lookup (nat_eq old) es) w.self-is ∙ so_far.1 old
-            ∙ sym (one_of_another pairs c.args.transform index (pair_in 0 0 0) c.loop-index-test.true old
-            (ne_eqb _ _ w.if-pair-transform.false)),
-      )
-    ]
+pub invariant_of-self : goal.invariant_of-self
+invariant_of-self c =
+    let sorted : IsSortedByKey key_of key_cmp c.sort_unstable_by_key.new.self.items =
+    c.sort_unstable_by_key.ensures.sorted key_of (answers_always _ _ _ (λ f a r g h. search rules)) in
+    sorted_sound c.gather.new.ranked.items c.sort_unstable_by_key.new.self.items _ _ c.gather.new.marks c.gather.ensures.ascending
+    c.sort_unstable_by_key.ensures.permutation sorted
+    (omega (arith, c.self.invariant.room, c.clear.ensures.capacity, c.gather.ensures.capacity, c.sort_unstable_by_key.ensures.capacity))
+    c.gather.ensures.whole c.gather.ensures.marked
+
+pub returns : goal.returns
+returns c = λ old.
+    let sorted : IsSortedByKey key_of key_cmp c.sort_unstable_by_key.new.self.items =
+    c.sort_unstable_by_key.ensures.sorted key_of (answers_always _ _ _ (λ f a r g h. search rules)) in
+    found_alike c.gather.new.ranked.items c.sort_unstable_by_key.new.self.items _ old c.gather.ensures.ascending
+    c.sort_unstable_by_key.ensures.permutation sorted
+    ∙ c.gather.ensures.pairs old
