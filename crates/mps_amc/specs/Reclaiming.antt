@@ -11,7 +11,8 @@ use Rattle.mps_extents.specs.Extents.{is_covered}
 use Rattle.mps_format.specs.Layout.{Layout, IsPadLength}
 use Rattle.mps_format.specs.Front.{front_layout}
 use Rattle.mps_seg.specs.Segs.{SegsState, IsEmptyAt, IsUsed}
-pub use Rattle.mps_seg.specs.Reclaiming.{is_lost, lost_between, without_block, without_blocks, moves_freed, IsSpan, CanReclaim, lost_of, freed_in, moves_freed_in}
+pub use Rattle.mps_seg.specs.Reclaiming.{is_lost, lost_between, lost_of, without_block, without_blocks}
+pub use Rattle.mps_seg.specs.Reclaiming.{moves_freed, moves_freed_in, freed_in, IsSpan, CanReclaim}
 
 -- a word lies in a pad, which lies between two words
 pub record LiesInPad (f : Layout) (low high : Word) (words : List ℕ) (i : Word) : Type 0 where

@@ -1,5 +1,5 @@
 -- How a call comes to follow its moves, and that without pairs nothing follows from them.
-use Rattle.std.proofs.Common.{◌≡◌, ◌∙◌, ℕ, refl, sym, ap, subst, List, [], ◌∷◌, length}
+use Rattle.std.proofs.Common.{◌≡◌, ◌∙◌, ℕ, refl, sym, ap, List, [], ◌∷◌, length}
 use Rattle.std.proofs.Math.Seq.{drop-length}
 use Rattle.std.specs.Prelude.{drop}
 use Rattle.mps_base.specs.Trail.{Moves}
@@ -8,7 +8,7 @@ use Rattle.mps_base.specs.declared.moves.Move.TheVariants as moves
 use Rattle.mps_dep.specs.State.{dependent_of, without_address}
 use Rattle.mps_dep.specs.declared.dependents.Pair.{Pair}
 use Rattle.mps_format.specs.Layout.{Layout}
-use Rattle.mps_heap_spec.specs.Following.{Follows, made_since, move_followed, moves_followed, splat_followed, with_dependents}
+use Rattle.mps_heap_spec.specs.Following.{Follows, move_followed, moves_followed, splat_followed, with_dependents}
 use Rattle.mps_heap_spec.specs.State.{HeapState}
 
 module _ {F : Type 0} (layout : F → Layout) (h : HeapState F) (none : h.beside.dependents ≡ []) where
@@ -30,12 +30,6 @@ module _ {F : Type 0} (layout : F → Layout) (h : HeapState F) (none : h.beside
   pub nothing_followed : (ms : List Move) → moves_followed layout h ms ≡ h
   nothing_followed [] = refl
   nothing_followed (m ∷ ms) = ap (λ (g : HeapState F). moves_followed layout g ms) (no_move_followed m) ∙ nothing_followed ms
-
--- what a call first left it leaves, if there is no pair then
-pub nothing_follows : {F : Type 0} {layout : F → Layout} {m m' : Moves} {Left : HeapState F → Moves → Type 0} {h' : HeapState F}
-    → (is : Follows layout m Left h' m') → is.made.beside.dependents ≡ [] → Left h' m'
-nothing_follows {layout = layout} {m = m} {m' = m'} {Left = Left} is none =
-    subst (λ g. Left g m') (sym (is.followed ∙ nothing_followed layout is.made none (made_since m m'))) is.left
 
 module _ {F : Type 0} {layout : F → Layout} {m : Moves} {Left : HeapState F → Moves → Type 0} where
   -- a call made no move

@@ -48,8 +48,8 @@ module _ {F : Type 0} where
     HasFlipped None h' trail' = (h' ≡ h) × (trail' ≡ trail)
     HasFlipped (Some due) h' trail' = IsStarted layout (condemned_by due) h trail h' trail'
 
-    -- a poll: where a collection runs, its units were done, or fewer if it ended in them, and their moves were followed; else the generation
-    -- that is due was flipped
+    -- a poll: if a collection runs, its units were done, or fewer if it ended in them, and their moves were followed; else the
+    -- generation that is due was flipped
     abbrev pub HasPolled : (h' : HeapState F) (trail' : Moves) → Type 0
     HasPolled h' trail' =
         MatchBool (is_some h.running) (Follows layout trail (HasDoneUnits layout h trail units_of_poll) h' trail')
