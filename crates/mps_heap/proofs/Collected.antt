@@ -1,5 +1,5 @@
 -- What a heap needs to end the collection that runs and to collect everything, and what it then guarantees.
-use Rattle.std.proofs.Common.{◌≡◌, ◌∙◌, ℕ, List, ◌*◌, ◌<◌, ◌≤◌, ◌^◌, true, sym, ap, arith}
+use Rattle.std.proofs.Common.{◌≡◌, ◌∙◌, ℕ, List, ◌*◌, ◌<◌, ◌≤◌, ◌^◌, true, sym, ap, arith, refl}
 use Rattle.std.proofs.lemmas.Bool.{ltb-true}
 use Rattle.mps_base.specs.Trail.{Moves}
 use Rattle.mps_base.specs.declared.moves.Move.{Move}
@@ -56,7 +56,7 @@ module _ {F : Type 0} (layout : F → Layout) (h : HeapState F) (some : StandsFo
     pub parked_rightly : (between : HeapState F) (m' : Moves) → EndsFirst between m'
         → IsRightMoving layout h call.Park m.moves m'.moves ok (with_arena between arena.Parked) × KeepsRoom m m'
     parked_rightly between m' units = (
-      right_in_each layout h call.Park m.moves m'.moves ok (with_arena between arena.Parked) one
+      right_in_each layout h call.Park refl m.moves m'.moves ok (with_arena between arena.Parked) one
           (λ w st. park_is_right layout h whole m room w st between m' units),
       units_keep_room layout h whole m room one.0 one.1 (units_to_end h) units.made m' units.left,
     )
@@ -75,7 +75,7 @@ module _ {F : Type 0} (layout : F → Layout) (h : HeapState F) (some : StandsFo
     pub stepped_rightly : (n : ℕ) (h' : HeapState F) (m' : Moves) (answer : Progress) → HasStepped layout h m n h' m' answer
         → IsRightMoving layout h (call.Step n) m.moves m'.moves (says_progress answer) h' × KeepsRoom m m'
     stepped_rightly n h' m' answer stepped = (
-      right_in_each layout h (call.Step n) m.moves m'.moves (says_progress answer) h' one
+      right_in_each layout h (call.Step n) refl m.moves m'.moves (says_progress answer) h' one
           (λ w st. stepped_is_right layout h whole m room w st n h' m' answer stepped),
       stepped_keeps_room layout h whole m room one.0 one.1 n h' m' answer stepped,
     )

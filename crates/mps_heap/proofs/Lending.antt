@@ -11,13 +11,14 @@ use Rattle.mps_base.specs.declared.refusal.Refusal.TheVariants as refusal
 use Rattle.mps_format.specs.Layout.{Layout}
 use Rattle.mps_laws.proofs.Reading.{bind_ok}
 use Rattle.mps_laws.proofs.Same as same
+use Rattle.mps_laws.proofs.WellFormedHistories.{step_grains}
 use Rattle.mps_laws.proofs.Same.{Alike, Same, fits, same_err, same_then}
 use Rattle.mps_model.specs.Allocating.{words_at}
 use Rattle.mps_model.specs.Allocating as model
 use Rattle.mps_model.specs.declared.call.Call.TheVariants as call
 use Rattle.mps_model.specs.declared.reply.Reply.TheVariants as reply
 use Rattle.mps_model.specs.Answer.{Replied}
-use Rattle.mps_model.specs.History.{world_after}
+use Rattle.mps_model.specs.History.{world_after, world_after_steps}
 use Rattle.mps_model.specs.Checked.{Checked, Found, Numbered, ◌>>=◌, ◌>>◌, cells_of_body, refuse_when, required}
 use Rattle.mps_model.specs.Graph.{Cell, NumberCell, Object}
 use Rattle.mps_model.specs.World as world
@@ -40,6 +41,7 @@ use Rattle.mps_refinement.proofs.Lookups.Blocks.{begins_at_object}
 use Rattle.mps_refinement.proofs.Lookups.BlockWords.{store_is_right}
 use Rattle.mps_refinement.proofs.Lookups.LeafCells.{leaf_numbers}
 use Rattle.mps_refinement.proofs.Worlds.Known.{known_now}
+use Rattle.mps_refinement.proofs.Worlds.Staying.{one_world}
 use Rattle.mps_refinement.proofs.Lookups.LiveObjects.{IsObject, object_then}
 use Rattle.mps_refinement.proofs.Lookups.Loans.{block_borrowed, fits_ours}
 use Rattle.mps_refinement.specs.Storing.{AreRight, stores}
@@ -259,6 +261,14 @@ module _ {F : Type 0} (layout : F → Layout) (h : HeapState F) (slot : Slot) wh
 
 -- ---- by the result of a call
 
+-- stores leave the arena its grains
+grains_of_stores : (w : World) (line : ℕ) (place : Slot) (k : ℕ) (xs : List ℕ)
+    → (world_after_steps w (stores line place k xs)).grains ≡ w.grains
+grains_of_stores w line place k [] = refl
+grains_of_stores w line place k (x ∷ xs) =
+    let s = step_of line (call.Store place k x) [] (Replied reply.Ok) in
+    grains_of_stores (world_after w s) line place (k + 1) xs ∙ step_grains line w s.call [] s.answer refl
+
 module _ {F : Type 0} (layout : F → Layout) (h : HeapState F) (place : Slot) where
   pub borrowed_or_refused : (result : Result (Bor (List ℕ)) Refusal)
       → MatchResult result (λ words. IsBlockBorrowed h place words.now) (λ why. IsNoBlock h place why)
@@ -281,3 +291,13 @@ module _ {F : Type 0} (layout : F → Layout) (h : HeapState F) (place : Slot) w
       → StandsForSome layout h → StandsForSome layout after
   written_or_refused_stays Leaves after (Ok r) written some = written_stays layout h place (Leaves r) after written some
   written_or_refused_stays Leaves after (Err why) none some = subst (StandsForSome layout) (sym none.1) some
+
+  -- and its arena has as many grains
+  pub written_or_refused_grains : {R : Type 0} (Leaves : R → List ℕ → List ℕ → Type 0) (after : HeapState F) (result : Result R Refusal)
+      → MatchResult result (λ r. IsBlockWritten h place (Leaves r) after) (λ why. IsNoBlock h place why × (after ≡ h))
+      → StandsForSome layout h → after.segs.grains ≡ h.segs.grains
+  written_or_refused_grains Leaves after (Ok r) written some =
+      let s = one_world layout h some in
+      let b = written_is_right layout h place (Leaves r) after written in
+      (b.are_stored.stored s.0 0 s.1).stands.parts.grains ∙ grains_of_stores s.0 0 place 0 b.left ∙ sym s.1.parts.grains
+  written_or_refused_grains Leaves after (Err why) none some = ap (λ (x : HeapState F). x.segs.grains) none.1

@@ -1,4 +1,5 @@
 pub mod Collected
+pub mod Grains
 pub mod Lending
 pub mod NewHeaps
 pub mod Reserving

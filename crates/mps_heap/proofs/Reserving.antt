@@ -1,5 +1,5 @@
 -- What a heap needs to reserve a block, and what it then guarantees.
-use Rattle.std.proofs.Common.{◌≡◌, ◌<◌, ℕ, true, arith}
+use Rattle.std.proofs.Common.{◌≡◌, ◌<◌, ℕ, true, arith, refl}
 use Rattle.std.proofs.lemmas.Bool.{ltb-true}
 use Rattle.mps_base.specs.Trail.{Moves}
 use Rattle.mps_base.specs.declared.names.Name.{Name}
@@ -42,7 +42,7 @@ module _ {F : Type 0} (layout : F → Layout) (h : HeapState F) (some : StandsFo
         → IsRightMoving layout h (call.Reserve name head) m.moves trail_after.moves (answer_to says_ok result) after × KeepsRoom m
         trail_after
     reserved_rightly name head result after trail_after reserved = (
-      right_in_each layout h (call.Reserve name head) m.moves trail_after.moves (answer_to says_ok result) after one
+      right_in_each layout h (call.Reserve name head) refl m.moves trail_after.moves (answer_to says_ok result) after one
           (λ w st. (a_reserve_is_right layout h whole m room w st made name head result after trail_after reserved).0),
       (a_reserve_is_right layout h whole m room one.0 one.1 made name head result after trail_after reserved).1,
     )

@@ -51,6 +51,7 @@ impl<F: Format> Heap<F> {
         requires nonzero { 0 < grains }
         requires at_most { grains ≤ max_grains }
         ensures right { IfOk result (λ heap. IsNewHeap F.layout grains limit heap) }
+        ensures grains { IfOk result (λ heap. heap.segs.grains ≡ grains) }
     {
         let state = State::new(alloc, grains, limit)?;
         Ok(Heap { state })

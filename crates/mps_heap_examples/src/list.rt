@@ -1,5 +1,5 @@
 // A list of numbers in a heap.
-ghost use Rattle.std.specs.Prelude.{◌≡◌, ◌+◌, ◌<◌, ◌≤◌, length};
+ghost use Rattle.std.specs.Prelude.{◌≡◌, ◌+◌, ◌*◌, ◌<◌, ◌≤◌, length};
 ghost use Rattle.mps_heap.specs.Collect.{most_moves};
 ghost use Rattle.mps_heap.specs.RightMoving.{KeepsRoom};
 
@@ -44,7 +44,9 @@ fn cursor() -> Slot {
 }
 
 /// Makes what the list needs, which is empty: a pool of its items, two slots, and a point.
-pub fn make(heap: &mut Heap<Tail>) -> Result<(), Refusal> {
+pub fn make(heap: &mut Heap<Tail>) -> Result<(), Refusal>
+    ensures grains { heap.new.segs.grains ≡ heap.old.segs.grains }
+{
     heap.pool(named(b'p'), Kind::Amc, Tail)?;
     heap.table(named(b't'), 2)?;
     heap.point(named(b'x'), named(b'p'), Rank::Exact)
@@ -74,6 +76,7 @@ pub fn push(heap: &mut Heap<Tail>, trail: &mut Trail, number: u64) -> Result<boo
 pub fn pop(heap: &mut Heap<Tail>, trail: &mut Trail) -> Result<(), Refusal>
     requires room { most_moves heap.old.segs.grains ≤ trail.old.spare + length trail.old.moves }
     ensures room { KeepsRoom trail.old trail.new }
+    ensures grains { heap.new.segs.grains ≡ heap.old.segs.grains }
 {
     trail.clear();
     heap.get(trail, first(), first(), NEXT)
@@ -85,6 +88,7 @@ pub fn pop(heap: &mut Heap<Tail>, trail: &mut Trail) -> Result<(), Refusal>
 pub fn mark_new(heap: &mut Heap<Tail>, trail: &mut Trail, most: u64) -> Result<u64, Refusal>
     requires room { most_moves heap.old.segs.grains ≤ trail.old.spare + length trail.old.moves }
     ensures room { KeepsRoom trail.old trail.new }
+    ensures grains { heap.new.segs.grains ≡ heap.old.segs.grains }
 {
     heap.copy(cursor(), first())?;
     for count in 0..most {
@@ -99,7 +103,9 @@ pub fn mark_new(heap: &mut Heap<Tail>, trail: &mut Trail, most: u64) -> Result<u
 }
 
 /// Collects all that was dropped, if that can be done, with a trail that has room for it. Returns whether it was done.
-pub fn collect(alloc: Global, heap: &mut Heap<Tail>) -> Result<bool, AllocError> {
+pub fn collect(alloc: Global, heap: &mut Heap<Tail>) -> Result<bool, AllocError>
+    ensures grains { heap.new.segs.grains ≡ heap.old.segs.grains }
+{
     if !heap.can_collect() {
         return Ok(false);
     }
@@ -108,11 +114,29 @@ pub fn collect(alloc: Global, heap: &mut Heap<Tail>) -> Result<bool, AllocError>
     Ok(true)
 }
 
+/// Collects up to `times` times with one trail, and returns how often. The whole room of the trail is enough for each, since the arena
+/// stays as large as it is.
+pub fn collect_often(heap: &mut Heap<Tail>, trail: &mut Trail, times: u64) -> u64
+    requires room { 2 * most_moves heap.old.segs.grains ≤ trail.old.spare + length trail.old.moves }
+    ensures room { KeepsRoom trail.old trail.new }
+    ensures grains { heap.new.segs.grains ≡ heap.old.segs.grains }
+{
+    for done in 0..times {
+        if !heap.can_collect() {
+            return done;
+        }
+        trail.clear();
+        heap.collect(trail);
+    }
+    times
+}
+
 /// The sum of the first numbers of the list, at most `most` of them, modulo 2^64. This is a runtime's inner loop: it takes no memory, and
 /// each call in it is a few look-ups.
 pub fn sum(heap: &mut Heap<Tail>, trail: &mut Trail, most: u64) -> Result<u64, Refusal>
     requires room { most_moves heap.old.segs.grains ≤ trail.old.spare + length trail.old.moves }
     ensures room { KeepsRoom trail.old trail.new }
+    ensures grains { heap.new.segs.grains ≡ heap.old.segs.grains }
 {
     let mut total = 0u64;
     heap.copy(cursor(), first())?;

@@ -3,7 +3,7 @@ ghost use Rattle.std.specs.Prelude.{◌≡◌, ◌+◌, IfOk, []};
 ghost use Rattle.mps_heap.specs.Collect.{most_moves};
 
 use crate::list::named;
-use crate::{HEAD, Tail, collect, make, mark_new, pop, push, sum};
+use crate::{HEAD, Tail, collect, collect_often, make, mark_new, pop, push, sum};
 use mps_base::{Addr, Kind, Rank, Refusal, Slot, Trail};
 use mps_format::{Format, Leaf};
 use mps_heap::Heap;
@@ -170,6 +170,16 @@ fn push_one(alloc: Global, heap: &mut Heap<Tail>, number: u64) -> Result<bool, R
     push(heap, &mut trail, number)
 }
 
+/// Calls of a runtime with one trail, a hundred collections among them, and then the sum of the list.
+fn live_with_one_trail(alloc: Global, heap: &mut Heap<Tail>) -> Result<u64, Refusal> {
+    let mut trail = Trail::new(alloc, 2 * heap.most_moves() + 1).map_err(|_| Refusal::OutOfMemory)?;
+    push(heap, &mut trail, 20)?;
+    let times = collect_often(heap, &mut trail, 100);
+    push(heap, &mut trail, times)?;
+    collect_often(heap, &mut trail, 1);
+    sum(heap, &mut trail, 10)
+}
+
 /// A runtime collects: what is in the list stays, and what was dropped is gone.
 fn collect_list(rt: &impl Abort, alloc: Global, heap: &mut Heap<Tail>) {
     assert!(rt; make(heap).is_ok());
@@ -185,6 +195,8 @@ fn collect_list(rt: &impl Abort, alloc: Global, heap: &mut Heap<Tail>) {
     assert!(rt; push_one(alloc, heap, 10) == Ok(true));
     assert!(rt; sum_of(alloc, heap, 10) == Ok(16));
     assert!(rt; mark(alloc, heap, 10) == Ok(1));
+    assert!(rt; live_with_one_trail(alloc, heap) == Ok(136));
+    assert!(rt; heap.live() == (6, 24));
 }
 
 #[test]

@@ -1,11 +1,11 @@
 -- Calls that make no moves, while a collection runs: each is a legal step, and preserves the invariant of the abstract collector.
-use Rattle.std.specs.Prelude.{◌≡◌, ℕ, Bool, true, false, IsTrue, [], refl}
+use Rattle.std.specs.Prelude.{◌≡◌, ◌≤◌, ℕ, Bool, true, false, IsTrue, [], refl}
 use Rattle.std.specs.List.{list_all}
-use Rattle.mps_abstract.specs.Collecting.{Collecting, Running}
+use Rattle.mps_abstract.specs.Collecting.{Collecting, Running, units_left}
 use Rattle.mps_abstract.specs.ClientLaws.{IsMarkedKept, after_client}
 use Rattle.mps_model.specs.declared.call.Call.{Call}
 use Rattle.mps_model.specs.declared.call.Call.TheVariants as call
-use Rattle.mps_model.specs.Answer.{Answer, is_block, is_unsupported}
+use Rattle.mps_model.specs.Answer.{Answer, is_block}
 use Rattle.mps_model.specs.Graph.{ids_in_blocks}
 use Rattle.mps_model.specs.History.{IsLegalStep, with_client_remembered, world_after}
 use Rattle.mps_model.specs.Reply.{act, answer_from, world_from}
@@ -37,17 +37,17 @@ never_moves _ = true
 -- white object
 pub record IsQuietCall (x : Collecting) (c : Call) (answer : Answer) : Type 0 where
   pub never : never_moves c ≡ true
-  pub supported : is_unsupported answer ≡ false
   pub well_formed : IsWellFormed x.world
   pub blocks_live : IsTrue (list_all (is_live x.world) (ids_in_blocks x.world.graph))
   pub answers : answer ≡ answer_from (act (is_block answer) x.world x.world c)
   pub marked_kept : IsMarkedKept x c answer
 
--- a step from a world, whose collector's part led to a state, is legal, and the invariant is true after it. The world after it is this
--- one, with what the client holds remembered
+-- a step from a world, whose collector's part led to a state, is legal, the invariant is true after it, and no more units are left than in
+-- that state. The world after it is this one, with what the client holds remembered
 pub record RunsOn (w : World) (x : Collecting) (s : Step) (after : World) : Type 0 where
   pub legal : IsLegalStep w s
   pub running : Running (after_client w x s)
+  pub no_more : units_left (after_client w x s) ≤ units_left x
   pub world : world_after w s ≡ with_client_remembered after
 
 -- so it is of every quiet call, whose collector's part does nothing

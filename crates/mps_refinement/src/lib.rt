@@ -13,7 +13,8 @@ pub fn a_collect_is_right<F>()
     ensures { ACollectIsRight F }
 {}
 
-/// While a collection runs, each call that makes no moves is a legal step, and preserves the invariant of the abstract collector.
+/// While a collection runs, each call that makes no moves is a legal step. It preserves the invariant of the abstract collector, and leaves
+/// no more units than there were.
 pub fn quiet_calls_run_on()
     ensures { QuietCallsRunOn }
 {}

@@ -1,7 +1,7 @@
 // Areas, whose words may lie in objects.
 #![tactic(auto)]
 
-ghost use Rattle.std.specs.Prelude.{[]};
+ghost use Rattle.std.specs.Prelude.{[], ◌≡◌};
 ghost use Rattle.mps_model.specs.declared.call.Call.TheVariants as call;
 ghost use Rattle.mps_refinement.specs.RightStep.{IsRight};
 ghost use Rattle.mps_refinement.specs.Answering.{answer_to, says_block, says_ok, says_word};
@@ -15,6 +15,7 @@ impl<F: Format> Heap<F> {
     /// Stores a word in an area, and says whether it holds an object from now on: one in which the word lies.
     pub fn poke(&mut self, place: Slot, word: u64) -> Result<bool, Refusal>
         ensures right { IsRight F.layout self.old (call.Poke place word) [] (answer_to says_block result) self.new }
+        ensures grains { self.new.segs.grains ≡ self.old.segs.grains }
     {
         areas::poke(&mut self.state, place, word)
     }
@@ -29,6 +30,7 @@ impl<F: Format> Heap<F> {
     /// Stores the address of the object in a slot in an area, where it holds the object.
     pub fn pin(&mut self, place: Slot, slot: Slot) -> Result<(), Refusal>
         ensures right { IsRight F.layout self.old (call.Pin place slot) [] (answer_to says_ok result) self.new }
+        ensures grains { self.new.segs.grains ≡ self.old.segs.grains }
     {
         areas::pin(&mut self.state, place, slot)
     }
@@ -36,6 +38,7 @@ impl<F: Format> Heap<F> {
     /// A slot becomes the object that a word of an area holds. Refuses `NotARef` if it holds none.
     pub fn take(&mut self, slot: Slot, place: Slot) -> Result<(), Refusal>
         ensures right { IsRight F.layout self.old (call.Take slot place) [] (answer_to says_ok result) self.new }
+        ensures grains { self.new.segs.grains ≡ self.old.segs.grains }
     {
         areas::take(&mut self.state, slot, place)
     }

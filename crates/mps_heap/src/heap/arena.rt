@@ -1,7 +1,7 @@
 // The arena, and what lives in it.
 #![tactic(auto)]
 
-ghost use Rattle.std.specs.Prelude.{[]};
+ghost use Rattle.std.specs.Prelude.{[], ◌≡◌};
 ghost use Rattle.mps_model.specs.declared.call.Call.TheVariants as call;
 ghost use Rattle.mps_refinement.specs.RightStep.{IsRight};
 ghost use Rattle.mps_refinement.specs.Answering.{answer_to, says_number, says_ok, says_pair};
@@ -18,6 +18,7 @@ impl<F: Format> Heap<F> {
     /// Sets the commit limit, in grains. Refuses `BelowCommitted` if more grains are held.
     pub fn limit(&mut self, n: u32) -> Result<(), Refusal>
         ensures right { IsRight F.layout self.old (call.Limit n) [] (answer_to says_ok result) self.new }
+        ensures grains { self.new.segs.grains ≡ self.old.segs.grains }
     {
         arena::limit(&mut self.state, n)
     }
@@ -32,6 +33,7 @@ impl<F: Format> Heap<F> {
     /// The arena is clamped: it does nothing by itself. No transform has a pair any more.
     pub fn clamp(&mut self)
         ensures right { IsRight F.layout self.old call.Clamp [] (Replied reply.Ok) self.new }
+        ensures grains { self.new.segs.grains ≡ self.old.segs.grains }
     {
         arena::clamp(&mut self.state);
     }
@@ -39,6 +41,7 @@ impl<F: Format> Heap<F> {
     /// The arena is unclamped: it may collect by itself. No transform has a pair any more.
     pub fn release(&mut self)
         ensures right { IsRight F.layout self.old call.Release [] (Replied reply.Ok) self.new }
+        ensures grains { self.new.segs.grains ≡ self.old.segs.grains }
     {
         arena::release(&mut self.state);
     }

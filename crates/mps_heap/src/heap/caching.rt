@@ -27,6 +27,7 @@ impl<F: Format> Heap<F> {
         ensures right { (sizes limits : List ℕ) → take (length classes.now) sizes ≡ map (λ c. c.words) classes.now
             → take (length classes.now) limits ≡ map (λ c. c.limit) classes.now
             → IsRight F.layout self.old (call.Cache name pool (length classes.now) sizes limits) [] (answer_to says_ok result) self.new }
+        ensures grains { self.new.segs.grains ≡ self.old.segs.grains }
     {
         caching::cache(&mut self.state, name, pool, classes)
     }
@@ -44,6 +45,7 @@ impl<F: Format> Heap<F> {
         ensures right { IsRightMoving F.layout self.old (call.CacheAlloc cache words place) trail.old.moves trail.new.moves
             (answer_to says_ok result) self.new }
         ensures room { KeepsRoom trail.old trail.new }
+        ensures grains { self.new.segs.grains ≡ self.old.segs.grains }
     {
         caching::calloc(&mut self.state, trail, cache, words, place)
     }
@@ -55,6 +57,7 @@ impl<F: Format> Heap<F> {
         ensures right { IsRightMoving F.layout self.old (call.CacheFree cache place) trail.old.moves trail.new.moves
             (answer_to says_ok result) self.new }
         ensures room { KeepsRoom trail.old trail.new }
+        ensures grains { self.new.segs.grains ≡ self.old.segs.grains }
     {
         caching::cfree(&mut self.state, trail, cache, place)
     }
@@ -75,6 +78,7 @@ impl<F: Format> Heap<F> {
         ensures right { IsRightMoving F.layout self.old (call.CacheFlush cache) trail.old.moves trail.new.moves
             (answer_to says_ok result) self.new }
         ensures room { KeepsRoom trail.old trail.new }
+        ensures grains { self.new.segs.grains ≡ self.old.segs.grains }
     {
         caching::cflush(&mut self.state, trail, cache)
     }

@@ -48,6 +48,7 @@ impl<F: Format> Heap<F> {
         ensures right { IsRightMoving F.layout self.old call.Collect trail.old.moves trail.new.moves (Replied reply.Ok) self.new }
         ensures units { units_left self.new ≡ 0 }
         ensures room { KeepsRoom trail.old trail.new }
+        ensures grains { self.new.segs.grains ≡ self.old.segs.grains }
     {
         units::is_whole(&self.state);
         units::end_collection(&mut self.state, trail);
@@ -62,6 +63,7 @@ impl<F: Format> Heap<F> {
         ensures right { IsRightMoving F.layout self.old call.Park trail.old.moves trail.new.moves (Replied reply.Ok) self.new }
         ensures units { units_left self.new ≡ 0 }
         ensures room { KeepsRoom trail.old trail.new }
+        ensures grains { self.new.segs.grains ≡ self.old.segs.grains }
     {
         units::is_whole(&self.state);
         units::end_collection(&mut self.state, trail);
@@ -76,6 +78,7 @@ impl<F: Format> Heap<F> {
         ensures right { IsRightMoving F.layout self.old call.Start trail.old.moves trail.new.moves (answer_to says_ok result) self.new }
         ensures units { BeginsWithin (check_start self.old) self.old self.new }
         ensures room { KeepsRoom trail.old trail.new }
+        ensures grains { self.new.segs.grains ≡ self.old.segs.grains }
     {
         units::is_whole(&self.state);
         collecting::start(&mut self.state, trail)
@@ -96,6 +99,7 @@ impl<F: Format> Heap<F> {
             (answer_to says_ok result) self.new }
         ensures units { BeginsWithin (check_start_chain self.old chain generation) self.old self.new }
         ensures room { KeepsRoom trail.old trail.new }
+        ensures grains { self.new.segs.grains ≡ self.old.segs.grains }
     {
         units::is_whole(&self.state);
         collecting::start_chain(&mut self.state, trail, chain, generation)
@@ -109,6 +113,7 @@ impl<F: Format> Heap<F> {
         ensures units { StepsDown self.old n result self.new }
         ensures ticks { HasTicked self.old n result steps.old steps.new }
         ensures room { KeepsRoom trail.old trail.new }
+        ensures grains { self.new.segs.grains ≡ self.old.segs.grains }
     {
         units::is_whole(&self.state);
         steps::step(&mut self.state, trail, n, steps)

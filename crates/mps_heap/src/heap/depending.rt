@@ -1,7 +1,7 @@
 // Location dependencies.
 #![tactic(auto)]
 
-ghost use Rattle.std.specs.Prelude.{[]};
+ghost use Rattle.std.specs.Prelude.{[], ◌≡◌};
 ghost use Rattle.mps_model.specs.declared.call.Call.TheVariants as call;
 ghost use Rattle.mps_refinement.specs.RightStep.{IsRight};
 ghost use Rattle.mps_refinement.specs.Answering.{answer_to, says_bool, says_ok};
@@ -18,6 +18,7 @@ impl<F: Format> Heap<F> {
     /// Makes a dependency on nothing. Refuses `NameTaken`, `TooMany` if there are 256, and `OutOfMemory`.
     pub fn ld(&mut self, name: Name) -> Result<(), Refusal>
         ensures right { IsRightMaking F.layout self.old (call.Dependency name) result self.new }
+        ensures grains { self.new.segs.grains ≡ self.old.segs.grains }
     {
         without_key(making::ld(&mut self.state, name))
     }
@@ -25,6 +26,7 @@ impl<F: Format> Heap<F> {
     /// A dependency depends on nothing any more, as of now.
     pub fn ld_reset(&mut self, name: Name) -> Result<(), Refusal>
         ensures right { IsRight F.layout self.old (call.DependencyReset name) [] (answer_to says_ok result) self.new }
+        ensures grains { self.new.segs.grains ≡ self.old.segs.grains }
     {
         depending::ld_reset(&mut self.state, name)
     }
@@ -32,6 +34,7 @@ impl<F: Format> Heap<F> {
     /// A dependency depends on the address of the object in a slot too.
     pub fn ld_add(&mut self, name: Name, slot: Slot) -> Result<(), Refusal>
         ensures right { IsRight F.layout self.old (call.DependencyAdd name slot) [] (answer_to says_ok result) self.new }
+        ensures grains { self.new.segs.grains ≡ self.old.segs.grains }
     {
         depending::ld_add(&mut self.state, name, slot)
     }
@@ -39,6 +42,7 @@ impl<F: Format> Heap<F> {
     /// A dependency depends on what another depends on too.
     pub fn ld_merge(&mut self, name: Name, source: Name) -> Result<(), Refusal>
         ensures right { IsRight F.layout self.old (call.DependencyMerge name source) [] (answer_to says_ok result) self.new }
+        ensures grains { self.new.segs.grains ≡ self.old.segs.grains }
     {
         depending::ld_merge(&mut self.state, name, source)
     }

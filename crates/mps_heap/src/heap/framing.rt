@@ -23,6 +23,7 @@ impl<F: Format> Heap<F> {
     /// `OutOfMemory`.
     pub fn pool_snc(&mut self, name: Name) -> Result<(), Refusal>
         ensures right { IsRightMaking F.layout self.old (call.PoolFrames name) result self.new }
+        ensures grains { self.new.segs.grains ≡ self.old.segs.grains }
     {
         without_key(making::pool_snc(&mut self.state, name))
     }
@@ -31,6 +32,7 @@ impl<F: Format> Heap<F> {
     /// one of frames, and `TooMany` if 4,096 frames of all pools are open.
     pub fn push(&mut self, pool: Name) -> Result<u32, Refusal>
         ensures right { IsRight F.layout self.old (call.Push pool) [] (answer_to says_number result) self.new }
+        ensures grains { self.new.segs.grains ≡ self.old.segs.grains }
     {
         framing::push(&mut self.state, pool)
     }
@@ -53,6 +55,7 @@ impl<F: Format> Heap<F> {
         ensures right { IsRightMoving F.layout self.old (call.Pop pool frame) trail.old.moves trail.new.moves
             (answer_to says_ok result) self.new }
         ensures room { KeepsRoom trail.old trail.new }
+        ensures grains { self.new.segs.grains ≡ self.old.segs.grains }
     {
         framing::pop(&mut self.state, trail, pool, frame)
     }

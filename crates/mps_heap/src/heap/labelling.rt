@@ -1,7 +1,7 @@
 // Labels of the log.
 #![tactic(auto)]
 
-ghost use Rattle.std.specs.Prelude.{[]};
+ghost use Rattle.std.specs.Prelude.{[], ◌≡◌};
 ghost use Rattle.mps_model.specs.declared.call.Call.TheVariants as call;
 ghost use Rattle.mps_refinement.specs.RightStep.{IsRight};
 ghost use Rattle.mps_refinement.specs.Answering.{answer_to, says_interned, says_labelled};
@@ -16,6 +16,7 @@ impl<F: Format> Heap<F> {
     /// heap. Refuses `NameTaken`, and `TooMany` if there are 256 labels.
     pub fn intern(&mut self, name: Name) -> Result<u32, Refusal>
         ensures right { IsRight F.layout self.old (call.Intern name) [] (answer_to says_interned result) self.new }
+        ensures grains { self.new.segs.grains ≡ self.old.segs.grains }
     {
         labelling::intern(&mut self.state, name)
     }

@@ -1,7 +1,7 @@
 // The words of manual blocks and of leaf objects are borrowed.
 #![tactic(auto)]
 
-ghost use Rattle.std.specs.Prelude.{MatchResult, Ok, Err, map};
+ghost use Rattle.std.specs.Prelude.{MatchResult, Ok, Err, map, ◌≡◌};
 ghost use Rattle.std.specs.Fn.{FnOnceReturnsAtMut};
 ghost use Rattle.mps_model.specs.Graph.{NumberCell};
 ghost use Rattle.mps_heap.specs.Lending.{ComesTo, IsBorrowedAndWritten, IsNotBorrowed, words_of_block, cells_of_leaf};
@@ -33,6 +33,7 @@ impl<F: Format> Heap<F> {
         ensures right { MatchResult result
             (λ r. IsBorrowedAndWritten F.layout self.old place (λ words left. FnOnceReturnsAtMut W.FnOnce write words r left) self.new)
             (λ why. IsNotBorrowed F.layout self.old place why self.new) }
+        ensures grains { self.new.segs.grains ≡ self.old.segs.grains }
     {
         lending::lend_mut(&mut self.state, place, write)
     }

@@ -23,6 +23,7 @@ impl<F: Format> Heap<F> {
         requires at_most { length capacities.now ≤ 8 }
         ensures right { (numbers : List ℕ) → take (length capacities.now) numbers ≡ capacities.now
             → IsRightMaking F.layout self.old (call.Chain name (length capacities.now) numbers) result self.new }
+        ensures grains { self.new.segs.grains ≡ self.old.segs.grains }
     {
         without_key(making::chain(&mut self.state, name, capacities))
     }
@@ -32,6 +33,7 @@ impl<F: Format> Heap<F> {
     pub fn pool(&mut self, name: Name, kind: Kind, format: F) -> Result<(), Refusal>
         ensures right { (number : ℕ) → IsRightMakingIn F.layout (MeansLayout number (F.layout format)) self.old (call.Pool name kind number)
             result self.new }
+        ensures grains { self.new.segs.grains ≡ self.old.segs.grains }
     {
         without_key(making::pool(&mut self.state, name, kind, format))
     }
@@ -48,6 +50,7 @@ impl<F: Format> Heap<F> {
         requires { IsTrue (is_copying_kind (Collected kind)) }
         ensures right { (number : ℕ) → IsRightMakingIn F.layout (MeansLayout number (F.layout format)) self.old
             (call.PoolOnChain name kind number chain) result self.new }
+        ensures grains { self.new.segs.grains ≡ self.old.segs.grains }
     {
         without_key(making::pool_on_chain(&mut self.state, name, kind, format, chain))
     }
@@ -55,6 +58,7 @@ impl<F: Format> Heap<F> {
     /// Makes a manual pool of blocks of `words` words. Refuses `BadSize` too, if that isn't 1 to 65,536.
     pub fn pool_mfs(&mut self, name: Name, words: u64) -> Result<(), Refusal>
         ensures right { IsRightMaking F.layout self.old (call.PoolMfs name words) result self.new }
+        ensures grains { self.new.segs.grains ≡ self.old.segs.grains }
     {
         without_key(making::pool_mfs(&mut self.state, name, words))
     }
@@ -62,6 +66,7 @@ impl<F: Format> Heap<F> {
     /// Makes a manual pool of blocks of any sizes.
     pub fn pool_mvff(&mut self, name: Name) -> Result<(), Refusal>
         ensures right { IsRightMaking F.layout self.old (call.PoolMvff name) result self.new }
+        ensures grains { self.new.segs.grains ≡ self.old.segs.grains }
     {
         without_key(making::pool_mvff(&mut self.state, name))
     }
@@ -70,6 +75,7 @@ impl<F: Format> Heap<F> {
     /// places together, and `OutOfMemory`.
     pub fn table(&mut self, name: Name, n: u32) -> Result<(), Refusal>
         ensures right { IsRightMaking F.layout self.old (call.Table name n) result self.new }
+        ensures grains { self.new.segs.grains ≡ self.old.segs.grains }
     {
         without_key(making::table(&mut self.state, name, n))
     }
@@ -77,6 +83,7 @@ impl<F: Format> Heap<F> {
     /// Makes an area of n words, all 0. Refuses as `table` does.
     pub fn area(&mut self, name: Name, n: u32) -> Result<(), Refusal>
         ensures right { IsRightMaking F.layout self.old (call.Area name n) result self.new }
+        ensures grains { self.new.segs.grains ≡ self.old.segs.grains }
     {
         without_key(making::area(&mut self.state, name, n))
     }
@@ -84,6 +91,7 @@ impl<F: Format> Heap<F> {
     /// Makes a table of n places for manual blocks, all empty. Refuses as `table` does.
     pub fn blocks(&mut self, name: Name, n: u32) -> Result<(), Refusal>
         ensures right { IsRightMaking F.layout self.old (call.Blocks name n) result self.new }
+        ensures grains { self.new.segs.grains ≡ self.old.segs.grains }
     {
         without_key(making::blocks(&mut self.state, name, n))
     }
@@ -91,6 +99,7 @@ impl<F: Format> Heap<F> {
     /// Drops a table or an area, whose name is free again. Refuses `BadName` for anything else.
     pub fn drop_root(&mut self, name: Name) -> Result<(), Refusal>
         ensures right { IsRight F.layout self.old (call.DropRoot name) [] (answer_to says_ok result) self.new }
+        ensures grains { self.new.segs.grains ≡ self.old.segs.grains }
     {
         making::drop_root(&mut self.state, name)
     }
@@ -99,6 +108,7 @@ impl<F: Format> Heap<F> {
     /// `TooMany` if there are 256.
     pub fn point(&mut self, name: Name, pool: Name, rank: Rank) -> Result<(), Refusal>
         ensures right { IsRightMaking F.layout self.old (call.Point name pool rank) result self.new }
+        ensures grains { self.new.segs.grains ≡ self.old.segs.grains }
     {
         without_key(making::point(&mut self.state, name, pool, rank))
     }
@@ -106,6 +116,7 @@ impl<F: Format> Heap<F> {
     /// Drops a point, whose name is free again. Refuses `Open` if it has an open reservation.
     pub fn drop_point(&mut self, name: Name) -> Result<(), Refusal>
         ensures right { IsRight F.layout self.old (call.DropPoint name) [] (answer_to says_ok result) self.new }
+        ensures grains { self.new.segs.grains ≡ self.old.segs.grains }
     {
         making::drop_point(&mut self.state, name)
     }

@@ -1,7 +1,7 @@
 // Manual blocks.
 #![tactic(auto)]
 
-ghost use Rattle.std.specs.Prelude.{[], ◌<◌};
+ghost use Rattle.std.specs.Prelude.{[], ◌<◌, ◌≡◌};
 ghost use Rattle.mps_model.specs.declared.call.Call.TheVariants as call;
 ghost use Rattle.mps_refinement.specs.RightStep.{IsRight};
 ghost use Rattle.mps_refinement.specs.Answering.{answer_to, says_number, says_ok};
@@ -26,6 +26,7 @@ impl<F: Format> Heap<F> {
         ensures right { IsRightMoving F.layout self.old (call.Alloc pool words place) trail.old.moves trail.new.moves
             (answer_to says_ok result) self.new }
         ensures room { KeepsRoom trail.old trail.new }
+        ensures grains { self.new.segs.grains ≡ self.old.segs.grains }
     {
         manual::alloc(&mut self.state, trail, pool, words, place)
     }
@@ -37,6 +38,7 @@ impl<F: Format> Heap<F> {
         ensures right { IsRightMoving F.layout self.old (call.Free place) trail.old.moves trail.new.moves
             (answer_to says_ok result) self.new }
         ensures room { KeepsRoom trail.old trail.new }
+        ensures grains { self.new.segs.grains ≡ self.old.segs.grains }
     {
         manual::free(&mut self.state, trail, place)
     }
@@ -51,6 +53,7 @@ impl<F: Format> Heap<F> {
     /// Writes a word of the block in a place. Refuses as `load` does.
     pub fn store(&mut self, place: Slot, word: u64, n: u64) -> Result<(), Refusal>
         ensures right { IsRight F.layout self.old (call.Store place word n) [] (answer_to says_ok result) self.new }
+        ensures grains { self.new.segs.grains ≡ self.old.segs.grains }
     {
         manual::store(&mut self.state, place, word, n)
     }

@@ -29,6 +29,7 @@ impl<F: Format> Heap<F> {
     /// A slot becomes null.
     pub fn clear(&mut self, slot: Slot) -> Result<(), Refusal>
         ensures right { IsRight F.layout self.old (call.Clear slot) [] (answer_to says_ok result) self.new }
+        ensures grains { self.new.segs.grains ≡ self.old.segs.grains }
     {
         objects::clear(&mut self.state, slot)
     }
@@ -77,6 +78,7 @@ impl<F: Format> Heap<F> {
     /// Writes a number into a cell of the object in a slot. Refuses as `num` does.
     pub fn set_num(&mut self, slot: Slot, cell: u64, n: u64) -> Result<(), Refusal>
         ensures right { IsRight F.layout self.old (call.SetNumber slot cell n) [] (answer_to says_ok result) self.new }
+        ensures grains { self.new.segs.grains ≡ self.old.segs.grains }
     {
         objects::set_num(&mut self.state, slot, cell, n)
     }
@@ -104,6 +106,7 @@ impl<F: Format> Heap<F> {
     /// A cell of the object in a slot refers to what another slot has. Refuses as `get` does.
     pub fn put(&mut self, target: Slot, cell: u64, source: Slot) -> Result<(), Refusal>
         ensures right { IsRight F.layout self.old (call.Put target cell source) [] (answer_to says_ok result) self.new }
+        ensures grains { self.new.segs.grains ≡ self.old.segs.grains }
     {
         objects::put(&mut self.state, target, cell, source)
     }

@@ -1,7 +1,7 @@
 // Holders and their dependents.
 #![tactic(auto)]
 
-ghost use Rattle.std.specs.Prelude.{[]};
+ghost use Rattle.std.specs.Prelude.{[], ◌≡◌};
 ghost use Rattle.mps_model.specs.declared.call.Call.TheVariants as call;
 ghost use Rattle.mps_refinement.specs.RightStep.{IsRight};
 ghost use Rattle.mps_refinement.specs.Answering.{answer_to, says_ok};
@@ -19,6 +19,7 @@ impl<F: Format> Heap<F> {
     /// holder has no dependent and there are 1,024 pairs.
     pub fn depend(&mut self, holder: Slot, dependent: Slot) -> Result<(), Refusal>
         ensures right { IsRight F.layout self.old (call.Depend holder dependent) [] (answer_to says_ok result) self.new }
+        ensures grains { self.new.segs.grains ≡ self.old.segs.grains }
     {
         pairing::depend(&mut self.state, holder, dependent)
     }
@@ -26,6 +27,7 @@ impl<F: Format> Heap<F> {
     /// Takes its dependent from the object in a slot. Refuses as `addr` does, and `NotLinked` if it has none.
     pub fn undepend(&mut self, holder: Slot) -> Result<(), Refusal>
         ensures right { IsRight F.layout self.old (call.Undepend holder) [] (answer_to says_ok result) self.new }
+        ensures grains { self.new.segs.grains ≡ self.old.segs.grains }
     {
         pairing::undepend(&mut self.state, holder)
     }

@@ -1,7 +1,7 @@
 // Transforms.
 #![tactic(auto)]
 
-ghost use Rattle.std.specs.Prelude.{[]};
+ghost use Rattle.std.specs.Prelude.{[], ◌≡◌};
 ghost use Rattle.mps_model.specs.declared.call.Call.TheVariants as call;
 ghost use Rattle.mps_refinement.specs.RightStep.{IsRight};
 ghost use Rattle.mps_refinement.specs.Answering.{answer_to, says_bool, says_ok};
@@ -15,6 +15,7 @@ impl<F: Format> Heap<F> {
     /// Makes a transform without pairs. It takes no memory. Refuses `NameTaken`, and `TooMany` if there are 16 transforms.
     pub fn transform(&mut self, x: Name) -> Result<(), Refusal>
         ensures right { IsRight F.layout self.old (call.Transform x) [] (answer_to says_ok result) self.new }
+        ensures grains { self.new.segs.grains ≡ self.old.segs.grains }
     {
         transforming::transform(&mut self.state, x)
     }
@@ -25,6 +26,7 @@ impl<F: Format> Heap<F> {
     /// pairs in all.
     pub fn transadd(&mut self, x: Name, s: Slot, t: Slot) -> Result<(), Refusal>
         ensures right { IsRight F.layout self.old (call.TransformAdd x s t) [] (answer_to says_ok result) self.new }
+        ensures grains { self.new.segs.grains ≡ self.old.segs.grains }
     {
         transforming::transadd(&mut self.state, x, s, t)
     }
@@ -32,6 +34,7 @@ impl<F: Format> Heap<F> {
     /// Drops a transform with its pairs. Its name is free again. Refuses `BadName` if no transform has this name.
     pub fn transdrop(&mut self, x: Name) -> Result<(), Refusal>
         ensures right { IsRight F.layout self.old (call.TransformDrop x) [] (answer_to says_ok result) self.new }
+        ensures grains { self.new.segs.grains ≡ self.old.segs.grains }
     {
         transforming::transdrop(&mut self.state, x)
     }
@@ -43,6 +46,7 @@ impl<F: Format> Heap<F> {
     /// flip ended.
     pub fn transapply(&mut self, x: Name) -> Result<bool, Refusal>
         ensures right { IsRight F.layout self.old (call.TransformApply x) [] (answer_to says_bool result) self.new }
+        ensures grains { self.new.segs.grains ≡ self.old.segs.grains }
     {
         transforming::transapply(&mut self.state, x)
     }

@@ -48,7 +48,7 @@ use Rattle.mps_format.specs.declared.pool.Pool.TheVariants as pool
 use Rattle.mps_seg.specs.Placing.{placement_in_gaps}
 use Rattle.mps_seg.specs.Segs.{moves_after, segments_after}
 use Rattle.mps_refinement.specs.Answering.{answer_to, says_ok}
-use Rattle.mps_refinement.specs.RightStep.{IsRight, IsRightIn, step_of}
+use Rattle.mps_refinement.specs.RightStep.{IsRight, IsRightFrom, step_of}
 use Rattle.mps_refinement.specs.StandsFor.{AreParts, IsPool, IsReached, Past, address_of_target, IsInTime, collector_of}
 use Rattle.mps_refinement.specs.Framed.{AreFramed, IsNoted}
 use Rattle.mps_refinement.proofs.Parts.BlockParts.{parts_with_frames, world_with_frames}
@@ -228,7 +228,7 @@ module _ {F : Type 0} (layout : F → Layout) (h : HeapState F) (trail : Moves) 
               manual_not_copying w.pools p.number p.value (pool_named-is w name p pool_is) manual in
               let after : HasLayout (w.grains + 1) v =
               layout_made v ms due comes in
-              subst (λ ns. IsRightIn layout w (step_of line (call.Alloc name words place) ns (Replied reply.Ok))
+              subst (λ ns. IsRightFrom layout h w (step_of line (call.Alloc name words place) ns (Replied reply.Ok))
               (made_at p.number into q (record { 0 = address_of_placement q })).state) (sym (moves_are trail q p.number words none room))
               (done_is_right layout h trail none (call.Alloc name words place) w line past parts own reach time is_own ms
               (made_at p.number into q (record { 0 = address_of_placement q })).state v (record {
@@ -299,7 +299,7 @@ module _ {F : Type 0} (layout : F → Layout) (h : HeapState F) (trail : Moves) 
               layout_made : (v : World) (ms : List Move) → ms ≡ unless_refused ok (moves_of_alloc w (checked.pool_named w name) words)
                   → act_alloc w (world_after_moves w ms) name words place ≡ checked.done v → HasLayout (w.grains + 1) v
               layout_made v ms due comes =
-                  let r = alloc_step (w.grains + 1) 0 line w own.laid name words place ms ok refl due
+                  let r = alloc_step (w.grains + 1) 0 line w own.laid name words place ms ok due
                   (ap answer_from (sym comes)) in
                   subst (IsLaidOut (w.grains + 1)) (remembered_kept v)
                   (subst (λ x. HasLayout (w.grains + 1) (with_client_remembered (world_from (world_after_moves w ms) x))) comes r.layout)

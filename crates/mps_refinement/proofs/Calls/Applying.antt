@@ -253,7 +253,7 @@ module _ {F : Type 0} (layout : F → Layout) (h : HeapState F) (name : Name) wh
 
   not_applied : (why : Refusal) → check_apply h name ≡ Err why → IsRight layout h (call.TransformApply name) [] (answers.refused why) h
   not_applied why e = λ w line st.
-      plain_is_right layout w line (call.TransformApply name) (answers.refused why) (Err why) h h refl refl refl st (all_kept h)
+      plain_is_right layout w line (call.TransformApply name) (answers.refused why) (Err why) h h refl refl st (all_kept h)
       (same_err (LeadsTo st.past w) (check_apply h name) (act false w w (call.TransformApply name)) why
       (apply_alike st.past w st.parts (known_now st)) e)
       refl refl (record { past = st.past; timed = refl; parts = st.parts })
@@ -263,7 +263,7 @@ module _ {F : Type 0} (layout : F → Layout) (h : HeapState F) (name : Name) wh
   kept_from_applying key e blocked = λ w line st.
       let y = ours_ok (LeadsTo st.past w) (check_apply h name) (act false w w (call.TransformApply name)) key
       (apply_alike st.past w st.parts (known_now st)) e in
-      plain_is_right layout w line (call.TransformApply name) (Replied reply.No) (says reply.No w) h h refl refl refl st (all_kept h)
+      plain_is_right layout w line (call.TransformApply name) (Replied reply.No) (says reply.No w) h h refl refl st (all_kept h)
       (y.1 ∙ ap Ok (y.2.kept_from blocked)) refl refl (record { past = st.past; timed = refl; parts = st.parts })
 
   was_applied : (key : ℕ) (after : HeapState F) → check_apply h name ≡ Ok key → is_blocked_by h key ≡ false
@@ -271,7 +271,7 @@ module _ {F : Type 0} (layout : F → Layout) (h : HeapState F) (name : Name) wh
   was_applied key after e free applies = λ w line st.
       let y = ours_ok (LeadsTo st.past w) (check_apply h name) (act false w w (call.TransformApply name)) key
       (apply_alike st.past w st.parts (known_now st)) e in
-      plain_is_right layout w line (call.TransformApply name) (Replied reply.Yes) (Ok y.0) h after refl refl refl st
+      plain_is_right layout w line (call.TransformApply name) (Replied reply.Yes) (Ok y.0) h after refl refl st
       (subst (λ (z : HeapState F). KeepsAll (collector_of h) (collector_of z)) (sym applies.state) (y.2.keeps after.names)) y.1
       (sym (y.2.answer free)) (y.2.formats free)
       (subst (λ z. HasParts layout st.past.time z (y.0).world) (sym applies.state) (y.2.has free after.names applies.names))

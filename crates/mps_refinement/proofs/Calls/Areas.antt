@@ -11,7 +11,7 @@ use Rattle.mps_laws.proofs.Same as same
 use Rattle.mps_laws.proofs.Same.{Same, fits, same_then}
 use Rattle.mps_model.specs.declared.call.Call.TheVariants as call
 use Rattle.mps_model.specs.declared.reply.Reply.TheVariants as reply
-use Rattle.mps_model.specs.Answer.{is_unsupported, is_block}
+use Rattle.mps_model.specs.Answer.{is_block}
 use Rattle.mps_model.specs.Accessing.{act_poke_in, act_poked, held_in, hold_of, poked_in, AsBlock, AsNumber, AsMarked, poked, with_word as model_word}
 use Rattle.mps_model.specs.Checked.{Checked, Found, required, word_in as model_word_in, Act, says, with_graph, ◌>>=◌}
 use Rattle.mps_model.specs.Graph.{AreaWord, Hold, PlainWord, entry_at, contains}
@@ -95,7 +95,7 @@ module _ {F : Type 0} (layout : F → Layout) (h : HeapState F) where
   pub peeked_right : (place : Slot) (result : Checked ℕ) → result ≡ answer_of_peek h place
       → IsRight layout h (call.Peek place) [] (answer_to says_word result) h
   peeked_right place result =
-      reading_is_right layout says_word h (call.Peek place) refl refl (λ a. refl) (answer_of_peek h place) result
+      reading_is_right layout says_word h (call.Peek place) refl refl (answer_of_peek h place) result
       (λ w past parts reached.
       same_then (word_same layout past h w parts place) (λ entry found is.
       fits (ap (λ n. act_reading w (says_word n)) (sym (ap (λ (s : Stored). s.word) is.fit.value ∙ shown_is w found.value)))))
@@ -120,7 +120,7 @@ module _ {F : Type 0} (layout : F → Layout) (h : HeapState F) where
       → Comes h (after_pin layout h place slot) result after
       → IsRight layout h (call.Pin place slot) [] (answer_to says_ok result) after
   pinned_right place slot result after =
-      quiet_is_right layout says_ok h (call.Pin place slot) refl refl (λ a. refl) (after_pin layout h place slot) result after
+      quiet_is_right layout says_ok h (call.Pin place slot) refl refl (after_pin layout h place slot) result after
       (pinned_same place slot)
 
   taken_same : (slot place : Slot) → ComesToTheSame layout says_ok h (call.Take slot place) (after_take h slot place)
@@ -145,7 +145,7 @@ module _ {F : Type 0} (layout : F → Layout) (h : HeapState F) where
   pub taken_right : (slot place : Slot) (result : Checked (Unit {0})) (after : HeapState F) → Comes h (after_take h slot place) result after
       → IsRight layout h (call.Take slot place) [] (answer_to says_ok result) after
   taken_right slot place result after =
-      quiet_is_right layout says_ok h (call.Take slot place) refl refl (λ a. refl) (after_take h slot place) result after
+      quiet_is_right layout says_ok h (call.Take slot place) refl refl (after_take h slot place) result after
       (taken_same slot place)
 
   -- ---- poke
@@ -317,7 +317,7 @@ module _ {F : Type 0} (layout : F → Layout) (h : HeapState F) where
       → IsRight layout h (call.Poke place word) [] (answer_to says_block result) after
   poked_right place word result after =
       let holds = is_hold h word (block_over h.segs word) in
-      marked_is_right layout says_block h (call.Poke place word) refl (λ v. refl) supported (after_poke h place word) result after
+      marked_is_right layout says_block h (call.Poke place word) refl (λ v. refl) (after_poke h place word) result after
       (λ w past parts of. (
         subst (Same (Leads layout says_block h past w) (after_poke h place word))
             (sym (alike w word holds (block_of_word w word) (ours_word h place) (model_word_in w place)
@@ -331,7 +331,3 @@ module _ {F : Type 0} (layout : F → Layout) (h : HeapState F) where
             (block_held (ours_word h place) holds (λ at. with_area_word h at (stored word holds)) said) id
             (ap (λ v. block_of_word v word) (sym is) ∙ found),
       ))
-    where
-      supported : (b : Bool) → is_unsupported (says_block b) ≡ false
-      supported true = refl
-      supported false = refl

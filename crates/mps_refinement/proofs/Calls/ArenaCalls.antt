@@ -92,12 +92,12 @@ module _ {F : Type 0} (layout : F → Layout) (h : HeapState F) where
   pub limit_is_right : (limit : ℕ) (result : Checked (Unit {0})) (after : HeapState F) → Comes h (limit_set h limit) result after
       → IsRight layout h (call.Limit limit) [] (answer_to says_ok result) after
   limit_is_right limit result after comes =
-      quiet_is_right layout says_ok h (call.Limit limit) refl refl (λ a. refl) (limit_set h limit) result after
+      quiet_is_right layout says_ok h (call.Limit limit) refl refl (limit_set h limit) result after
       (λ w past parts reached. limit_same layout h w past parts limit) comes
 
   pub committed_is_right : (result : ℕ) → result ≡ held_grains h → IsRight layout h call.Committed [] (Replied (reply.Number result)) h
   committed_is_right result is =
-      answer_is_right layout says_number h call.Committed refl refl (λ a. refl) (Ok (held_grains h)) (Ok result)
+      answer_is_right layout says_number h call.Committed refl refl (Ok (held_grains h)) (Ok result)
       (λ w past parts reached.
       fits (record { answer = ap says_number (sym (held_grains_are layout h w past parts)); world = refl })) (ap Ok is)
 
@@ -107,7 +107,7 @@ module _ {F : Type 0} (layout : F → Layout) (h : HeapState F) where
       → ((w : World) → act false w w c ≡ done (with_state w (state_of arena []))) → after ≡ with_arena_anew h arena
       → IsRight layout h c [] (Replied reply.Ok) after
   state_is_right c arena after quiet once acts is =
-      quiet_is_right layout says_ok h c quiet once (λ a. refl) (ours.done (with_arena_anew h arena)) (Ok tt) after
+      quiet_is_right layout says_ok h c quiet once (ours.done (with_arena_anew h arena)) (Ok tt) after
       (λ w past parts reached.
       subst (λ x. Same (Leads layout says_ok h past w) (ours.done (with_arena_anew h arena)) x) (sym (acts w))
       (fits (record { answer = refl; keeps = all_kept h; formats = refl; has = anew_has layout h w past parts arena })))
@@ -125,6 +125,6 @@ module _ {F : Type 0} (layout : F → Layout) (h : HeapState F) where
   pub resting_park_is_right : (w : World) (st : StandsFor layout h w) → Rests st.past.time (collector_of h) w → (line : ℕ)
       → IsRightIn layout w (step_of line call.Park [] (Replied reply.Ok)) (with_arena h arena.Parked)
   resting_park_is_right w st rest line =
-      resting_is_right layout w line call.Park (Replied reply.Ok) refl refl refl st.reached
+      resting_is_right layout w line call.Park (Replied reply.Ok) refl refl st.reached
       (Err refusal.NotRegistered) st.past.time (collector_of h) (done (with_state w (world.Parked (world.pairs_in w.state))))
       (with_arena h arena.Parked) rest (all_kept h) refl refl (parked_has layout h w st.past st.parts)

@@ -60,7 +60,7 @@ use Rattle.mps_refinement.specs.Answering.{answer_to, says_ok}
 use Rattle.mps_refinement.specs.Beside.{kept_class}
 use Rattle.mps_snc.specs.State.{pool_at as framed_at}
 use Rattle.mps_refinement.specs.Framed.{AreFramed}
-use Rattle.mps_refinement.specs.RightStep.{IsRight, IsRightIn, step_of}
+use Rattle.mps_refinement.specs.RightStep.{IsRight, IsRightFrom, step_of}
 use Rattle.mps_refinement.specs.StandsFor.{AreOfFlip, AreParts, IsInTime, IsPool, IsReached, Past, address_of_id, collector_of}
 use Rattle.mps_refinement.proofs.Calls.BlockPlaced.{arena_is, empty_same, moves_are, none_where, placed_keeps, some_words, taken_where, untaken, with_true}
 use Rattle.mps_refinement.proofs.Parts.CachedTaken.{taken_parts}
@@ -247,7 +247,7 @@ module _ {F : Type 0} (layout : F → Layout) (h : HeapState F) (trail : Moves) 
 
             done_outcome : IsRightTake w line (block_taken h trail from any_size words into (Some at))
             done_outcome =
-                subst (λ ns. IsRightIn layout w (step_of line (call.CacheAlloc name words place) ns ok)
+                subst (λ ns. IsRightFrom layout h w (step_of line (call.CacheAlloc name words place) ns ok)
                 (with_block_taken h from.key words into at)) (sym none)
                 (done_is_right layout h trail none (call.CacheAlloc name words place) w line past parts own reach time is_own []
                 (with_block_taken h from.key words into at) v (record {
@@ -334,7 +334,7 @@ module _ {F : Type 0} (layout : F → Layout) (h : HeapState F) (trail : Moves) 
                 ∙ ap (λ y. y >> done v) room in
                 let after : HasLayout (w.grains + 1) v =
                 taken_laid w line own.laid name place v ms words due comes in
-                subst (λ ns. IsRightIn layout w (step_of line (call.CacheAlloc name words place) ns ok)
+                subst (λ ns. IsRightFrom layout h w (step_of line (call.CacheAlloc name words place) ns ok)
                 (made_at q.value.pool into x (record { 0 = address_of_placement x })).state)
                 (sym (moves_are trail x q.value.pool words none room))
                 (done_is_right layout h trail none (call.CacheAlloc name words place) w line past parts own reach time is_own ms

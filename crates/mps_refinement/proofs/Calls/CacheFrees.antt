@@ -51,7 +51,7 @@ use Rattle.mps_heap_spec.specs.State.{HeapState}
 use Rattle.mps_trace_laws.proofs.Image.Shaped.{all_at}
 use Rattle.mps_refinement.specs.Answering.{answer_to, says_ok}
 use Rattle.mps_refinement.specs.Beside.{kept_cache}
-use Rattle.mps_refinement.specs.RightStep.{IsRight, IsRightIn, step_of}
+use Rattle.mps_refinement.specs.RightStep.{IsRight, IsRightFrom, step_of}
 use Rattle.mps_refinement.specs.StandsFor.{AreParts, IsInTime, IsReached, Past, address_of_id, collector_of}
 use Rattle.mps_refinement.proofs.Calls.FreeingStep as freeing
 use Rattle.mps_refinement.proofs.Calls.Frees as frees
@@ -233,8 +233,8 @@ module _ {F : Type 0} (layout : F → Layout) (h : HeapState F) (trail : Moves) 
 
           kept_outcome : IsRightKeep w line (block_kept h trail into size words from at true)
           kept_outcome =
-              subst (λ ns. IsRightIn layout w (step_of line (call.CacheFree name place) ns ok) (with_block_kept h into.key words from at))
-              (sym none)
+              subst (λ ns. IsRightFrom layout h w (step_of line (call.CacheFree name place) ns ok)
+              (with_block_kept h into.key words from at)) (sym none)
               (done_is_right layout h trail none (call.CacheFree name place) w line past parts own reach time is_own []
               (with_block_kept h into.key words from at) v (record {
                 due = due;
@@ -311,10 +311,10 @@ module _ {F : Type 0} (layout : F → Layout) (h : HeapState F) (trail : Moves) 
               ∙ ap (λ o. keep_in m place q pl (required o refusal.NotABlock)) value ∙ ap (keep_block m place q pl id) same_pool
               ∙ ap (act_kept m q pl) missing_is in
               let layout_freed : HasLayout (w.grains + 1) v = kept_laid w line own.laid name place v ms due comes in
-              subst (λ ns. IsRightIn layout w (step_of line (call.CacheFree name place) ns ok)
+              subst (λ ns. IsRightFrom layout h w (step_of line (call.CacheFree name place) ns ok)
               (with_block_place (record h { segs = segs_after_free size h.segs at }) from 0)) (sym
               (frees.moves_are size h.segs trail at t none live.over))
-              (subst (λ segs. IsRightIn layout w (step_of line (call.CacheFree name place) ms ok)
+              (subst (λ segs. IsRightFrom layout h w (step_of line (call.CacheFree name place) ms ok)
               (with_block_place (record h { segs = segs }) from 0)) (sym (freed_is size h.segs at t live.over))
               (done_is_right layout h trail none (call.CacheFree name place) w line past parts own reach time is_own ms
               (with_block_place (record h { segs = segments_freed h.segs at t g }) from 0) v (record {

@@ -239,7 +239,7 @@ module _ {F : Type 0} (layout : F → Layout) (h : HeapState F) (name of : Name)
   no_cache : (why : Refusal) → check_cache h name of classes ≡ Err why
       → IsRight layout h (call.Cache name of (length classes) sizes limits) [] (answers.refused why) h
   no_cache why e = λ w line st.
-      plain_is_right layout w line (call.Cache name of (length classes) sizes limits) (answers.refused why) (Err why) h h refl refl refl st
+      plain_is_right layout w line (call.Cache name of (length classes) sizes limits) (answers.refused why) (Err why) h h refl refl st
       (all_kept h)
       (act_is layout h name of classes sizes limits are w st.past st.parts
       ∙ ap (λ x. x >>= (λ p. done (world_made layout h name of classes sizes limits are w st.past st.parts p)))
@@ -259,7 +259,7 @@ module _ {F : Type 0} (layout : F → Layout) (h : HeapState F) (name of : Name)
       >> (refuse_when (not (are_class_sizes 0 classes)) refusal.BadSize
       >> (refuse_when (are_caches_full h) (refusal.TooMany most_caches) >> Ok q)))) p passed).1 in
       plain_is_right layout w line (call.Cache name of (length classes) sizes limits) (Replied reply.Ok)
-      (done (world_made layout h name of classes sizes limits are w st.past st.parts y.0)) h after refl refl refl st
+      (done (world_made layout h name of classes sizes limits are w st.past st.parts y.0)) h after refl refl st
       (subst (λ (s : HeapState F). KeepsAll (collector_of h) (collector_of s)) (sym makes.state) (all_kept h))
       (act_is layout h name of classes sizes limits are w st.past st.parts
       ∙ ap (λ x. x >>= (λ q. done (world_made layout h name of classes sizes limits are w st.past st.parts q))) y.1) refl refl

@@ -25,7 +25,7 @@ use Rattle.mps_heap_spec.specs.Coming.{Comes, Outcome, answered, state_from}
 use Rattle.mps_heap_spec.specs.Finalizing.{running_without, without_registered}
 use Rattle.mps_heap_spec.specs.State.{HeapState}
 use Rattle.mps_refinement.proofs.Worlds.CollectorKept.{all_kept, KeepsCollector, time_after}
-use Rattle.mps_refinement.specs.RightStep.{IsRight, IsRightIn, step_of}
+use Rattle.mps_refinement.specs.RightStep.{IsRight, IsRightFrom, step_of}
 use Rattle.mps_refinement.specs.StandsFor.{AreParts, IsInTime, Past, address_of_id, StandsFor, AreRegisteredAt, collector_of, rests, runs}
 use Rattle.mps_refinement.proofs.Lookups.Found.{some_there}
 use Rattle.mps_refinement.proofs.Worlds.Known.{IsKnown, known_now}
@@ -224,25 +224,23 @@ module _ {F : Type 0} (layout : F → Layout) (h : HeapState F) (slot : Slot) (f
       → Comes h (after_definalize layout found h slot) result after
       → IsRight layout h (call.Definalize slot) [] (answer_to says_ok result) after
   definalized_is_right result after comes w line st =
-      subst (λ s. IsRightIn layout w (step_of line (call.Definalize slot) [] (answer_to says_ok result)) s) (sym comes.state)
-      (subst (λ r. IsRightIn layout w (step_of line (call.Definalize slot) [] (answer_to says_ok r))
+      subst (λ s. IsRightFrom layout h w (step_of line (call.Definalize slot) [] (answer_to says_ok result)) s) (sym comes.state)
+      (subst (λ r. IsRightFrom layout h w (step_of line (call.Definalize slot) [] (answer_to says_ok r))
       (state_from h (after_definalize layout found h slot))) (sym comes.answer)
       (of_both (after_definalize layout found h slot) (both_of w) refl (unregistered_same w st.past st.parts (known_now st) st.time)))
     where
       of_both : (o : Checked (Outcome F (Unit {0}))) (y : Checked (Act × ℕ)) → both_of w ≡ y → Same (TakesAway st.past w) o y
-          → IsRightIn layout w (step_of line (call.Definalize slot) [] (answer_to says_ok (answered o))) (state_from h o)
+          → IsRightFrom layout h w (step_of line (call.Definalize slot) [] (answer_to says_ok (answered o))) (state_from h o)
       of_both o y is (fits {a = out} {b = b} leads) =
           let taken : position_taken w (call.Definalize slot) ≡ Ok b.1 = takes_so w ∙ ap (λ z. z >>= (λ p. Ok p.1)) is in
-          answered_is_right layout w line (call.Definalize slot) (Replied reply.Ok) refl refl st.reached st.past.time (collector_of h)
-          (Ok b.0) out.state st.time
-          (known_now st) (subst (λ p. KeepsCollector p (collector_of h) (collector_of out.state)) (sym taken) leads.keeps)
+          answered_is_right layout w line (call.Definalize slot) (Replied reply.Ok) refl h st (Ok b.0) out.state
+          (subst (λ p. KeepsCollector p (collector_of h) (collector_of out.state)) (sym taken) leads.keeps)
           (acts_so w ∙ ap (λ z. z >>= (λ p. Ok p.0)) is) (sym leads.answer) (λ y of condemned colours. tt) leads.formats
           (subst (λ p. HasParts layout (time_after p st.past.time) out.state (b.0).world) (sym taken) leads.has)
       of_both o y is (same.refused {why = why}) =
           let taken : position_taken w (call.Definalize slot) ≡ Err why = takes_so w ∙ ap (λ z. z >>= (λ p. Ok p.1)) is in
-          answered_is_right layout w line (call.Definalize slot) (refused why) refl refl st.reached st.past.time (collector_of h) (Err why)
-          h st.time
-          (known_now st) (subst (λ p. KeepsCollector p (collector_of h) (collector_of h)) (sym taken) (all_kept h))
+          answered_is_right layout w line (call.Definalize slot) (refused why) refl h st (Err why) h
+          (subst (λ p. KeepsCollector p (collector_of h) (collector_of h)) (sym taken) (all_kept h))
           (acts_so w ∙ ap (λ z. z >>= (λ p. Ok p.0)) is) refl (λ y of condemned colours. tt) refl
           (subst (λ p. HasParts layout (time_after p st.past.time) h w) (sym taken)
           (record { past = st.past; timed = refl; parts = st.parts }))

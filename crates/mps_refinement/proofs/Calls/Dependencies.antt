@@ -12,7 +12,6 @@ use Rattle.mps_laws.proofs.Same.{Same, fits, same_next, same_refuse_when, same_t
 use Rattle.mps_ld.specs.Flips.{AreFlips}
 use Rattle.mps_ld.specs.State.{LdState, after_merge, reset_at}
 use Rattle.mps_model.specs.declared.call.Call.TheVariants as call
-use Rattle.mps_model.specs.Answer.{Answer}
 use Rattle.mps_model.specs.Checked.{Checked, Numbered, ◌>>◌, done, tells}
 use Rattle.mps_model.specs.Dependency as model_dependency
 use Rattle.mps_model.specs.Graph as graph
@@ -198,7 +197,7 @@ module _ {F : Type 0} (layout : F → Layout) (h : HeapState F) (name : Name) wh
   pub dependency_reset_is_right : (result : Checked (Unit {0})) (after : HeapState F) → Comes h (dependency_reset h name) result after
       → IsRight layout h (call.DependencyReset name) [] (answer_to says_ok result) after
   dependency_reset_is_right result after comes =
-      quiet_is_right layout says_ok h (call.DependencyReset name) refl refl (λ a. refl) (dependency_reset h name) result after
+      quiet_is_right layout says_ok h (call.DependencyReset name) refl refl (dependency_reset h name) result after
       (λ w past parts reached. reset_same layout h w past parts name) comes
 
   pub dependency_merge_is_right : (source : Name) (result : Checked (Unit {0})) (after : HeapState F)
@@ -206,7 +205,7 @@ module _ {F : Type 0} (layout : F → Layout) (h : HeapState F) (name : Name) wh
       after
       → IsRight layout h (call.DependencyMerge name source) [] (answer_to says_ok result) after
   dependency_merge_is_right source result after comes =
-      quiet_is_right layout says_ok h (call.DependencyMerge name source) refl refl (λ a. refl) (dependency_merged h name source) result
+      quiet_is_right layout says_ok h (call.DependencyMerge name source) refl refl (dependency_merged h name source) result
       after
       (λ w past parts reached. merge_same layout h w past parts name source) comes
 
@@ -216,10 +215,6 @@ module _ {F : Type 0} (layout : F → Layout) (h : HeapState F) (name : Name) wh
       → IsRight layout h (call.DependencyStale name) [] (answer_to says_bool result) h
   dependency_stale_is_right result each =
       λ w line st.
-      answer_is_right_in layout says_bool h (call.DependencyStale name) refl refl supported (is_dependency_stale w.flips h name) result w
+      answer_is_right_in layout says_bool h (call.DependencyStale name) refl refl (is_dependency_stale w.flips h name) result w
       line
       (stale_same layout h w st.past st.parts name) (each w.flips st.parts.flips) st
-    where
-      supported : (b : Bool) → Rattle.mps_model.specs.Answer.is_unsupported (says_bool b) ≡ false
-      supported true = refl
-      supported false = refl

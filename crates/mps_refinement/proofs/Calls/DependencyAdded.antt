@@ -60,6 +60,6 @@ module _ {F : Type 0} (layout : F → Layout) (h : HeapState F) where
       → Comes h (dependency_added layout h name slot) result after
       → IsRight layout h (call.DependencyAdd name slot) [] (answer_to says_ok result) after
   dependency_added_right name slot result after =
-      quiet_is_right layout says_ok h (call.DependencyAdd name slot) refl refl (λ a. refl) (dependency_added layout h name slot) result
+      quiet_is_right layout says_ok h (call.DependencyAdd name slot) refl refl (dependency_added layout h name slot) result
       after
       (added_same name slot)

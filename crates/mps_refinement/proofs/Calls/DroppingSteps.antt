@@ -50,7 +50,7 @@ module _ {F : Type 0} (layout : F → Layout) (h : HeapState F) (name : Name) (c
     where
       refused_right : (why : Refusal) → dropped ≡ Err why → IsRight layout h c [] (answers.refused why) h
       refused_right why e = λ w line st.
-          plain_is_right layout w line c (answers.refused why) (Err why) h h quiet arena refl st (all_kept h)
+          plain_is_right layout w line c (answers.refused why) (Err why) h h quiet arena st (all_kept h)
           (same_err (DropsTo st.past w) dropped (act false w w c) why
           (alike w st.past st.parts (known_now st)) e) refl refl
           (record { past = st.past; timed = refl; parts = st.parts })
@@ -60,7 +60,7 @@ module _ {F : Type 0} (layout : F → Layout) (h : HeapState F) (name : Name) (c
       dropped_right rest s e names is = λ w line st.
           let y = ours_ok (DropsTo st.past w) dropped (act false w w c) rest
           (alike w st.past st.parts (known_now st)) e in
-          plain_is_right layout w line c (Replied reply.Ok) (Ok y.0) h s quiet arena refl st
+          plain_is_right layout w line c (Replied reply.Ok) (Ok y.0) h s quiet arena st
           (subst (λ (z : HeapState F). KeepsAll (collector_of h) (collector_of z)) (sym is) ((y.2).keeps s.names)) y.1
           (sym (y.2).answer) (y.2).formats (subst (λ z. HasParts layout st.past.time z (y.0).world) (sym is) ((y.2).has s.names names))
 

@@ -78,7 +78,7 @@ module _ {F : Type 0} (layout : F → Layout) (h : HeapState F) (at : Address) w
       → IsRight layout h (call.Dump at) [] (Dumped (slice_range h.segs.words (word_of at) (word_of at + words))) h
   dump_is_right none words begins w line st =
       let found : Checked (List ℕ) = Ok (slice_range h.segs.words (word_of at) (word_of at + words)) in
-      answer_is_right_in layout Dumped h (call.Dump at) refl refl (λ a. refl) found found w line
+      answer_is_right_in layout Dumped h (call.Dump at) refl refl found found w line
       (begun_reads words begins w st.past st.parts (known_now st) (rests_there none st.past.time w st.time)) refl st
 
   -- as the answer for which the reply of the place of its words stands
@@ -110,7 +110,7 @@ module _ {F : Type 0} (layout : F → Layout) (h : HeapState F) (at : Address) w
       → IsRight layout h (call.Dump at) [] (answer.refused refusal.NotABlock) h
   dump_is_refused none_runs none w line st =
       let found : Checked (List ℕ) = Err refusal.NotABlock in
-      answer_is_right_in layout Dumped h (call.Dump at) refl refl (λ a. refl) found found w line
+      answer_is_right_in layout Dumped h (call.Dump at) refl refl found found w line
       (none_reads none w st.past st.parts (known_now st) (rests_there none_runs st.past.time w st.time)) refl st
 
   -- and while a collection runs
@@ -123,7 +123,7 @@ module _ {F : Type 0} (layout : F → Layout) (h : HeapState F) (at : Address) w
   dump_is_refused_running : is_some h.running ≡ true → IsRight layout h (call.Dump at) [] (answer.refused refusal.Running) h
   dump_is_refused_running some w line st =
       let found : Checked (List ℕ) = Err refusal.Running in
-      answer_is_right_in layout Dumped h (call.Dump at) refl refl (λ a. refl) found found w line
+      answer_is_right_in layout Dumped h (call.Dump at) refl refl found found w line
       (subst (λ x. Same (SaysOnly layout Dumped h (call.Dump at) w) (Err refusal.Running) x)
       (sym (running_refuses some st.past.time w st.time)) refused) refl st
 

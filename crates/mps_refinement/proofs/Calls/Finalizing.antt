@@ -1,5 +1,5 @@
 -- The calls on registrations and messages are right: `finalize`, `definalize`, `message`.
-use Rattle.std.proofs.Common.{◌≡◌, ◌∙◌, ℕ, ◌+◌, Bool, true, false, refl, sym, ap, ap₂, subst, List, [], ◌∷◌, length, map, Option, Some, Ok}
+use Rattle.std.proofs.Common.{◌≡◌, ◌∙◌, ℕ, ◌+◌, Bool, refl, sym, ap, ap₂, subst, List, [], ◌∷◌, length, map, Option, Some, Ok}
 use Rattle.std.proofs.lemmas.List.{length-map}
 use Rattle.std.specs.Prelude.{nat_le}
 use Rattle.mps_base.specs.Address.{Address, Id}
@@ -9,7 +9,6 @@ use Rattle.mps_trace.specs.State.{finals_count, max_finals, with_registration}
 use Rattle.mps_format.specs.Layout.{Layout}
 use Rattle.mps_laws.proofs.Same.{Same, fits, same_next, same_refuse_when, same_then}
 use Rattle.mps_model.specs.declared.call.Call.TheVariants as call
-use Rattle.mps_model.specs.Answer.{is_unsupported}
 use Rattle.mps_model.specs.Checked.{Checked, Found, with_graph}
 use Rattle.mps_model.specs.Collecting.{act_message_in, most_registrations}
 use Rattle.mps_model.specs.Graph.{with_last}
@@ -59,7 +58,7 @@ module _ {F : Type 0} (layout : F → Layout) (h : HeapState F) where
       → Comes h (after_finalize layout h slot) result after
       → IsRight layout h (call.Finalize slot) [] (answer_to says_ok result) after
   registered_right slot result after =
-      quiet_is_right layout says_ok h (call.Finalize slot) refl refl (λ a. refl) (after_finalize layout h slot) result after
+      quiet_is_right layout says_ok h (call.Finalize slot) refl refl (after_finalize layout h slot) result after
       (registered_same slot)
 
   -- the first message is taken, where these wait
@@ -104,8 +103,4 @@ module _ {F : Type 0} (layout : F → Layout) (h : HeapState F) where
   pub message_right : (slot : Slot) (result : Checked Bool) (after : HeapState F) → Comes h (message_taken h slot) result after
       → IsRight layout h (call.Message slot) [] (answer_to says_message result) after
   message_right slot result after =
-      quiet_is_right layout says_message h (call.Message slot) refl refl supported (message_taken h slot) result after (message_same slot)
-    where
-      supported : (b : Bool) → is_unsupported (says_message b) ≡ false
-      supported true = refl
-      supported false = refl
+      quiet_is_right layout says_message h (call.Message slot) refl refl (message_taken h slot) result after (message_same slot)

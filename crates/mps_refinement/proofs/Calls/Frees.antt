@@ -33,7 +33,7 @@ use Rattle.mps_heap_spec.specs.State.{HeapState}
 use Rattle.mps_format.specs.Pools.{size_of_pool}
 use Rattle.mps_refinement.specs.Answering.{answer_to, says_ok}
 use Rattle.mps_refinement.specs.Framed.{is_framed}
-use Rattle.mps_refinement.specs.RightStep.{IsRight, step_of, IsRightIn}
+use Rattle.mps_refinement.specs.RightStep.{IsRight, IsRightFrom, step_of}
 use Rattle.mps_refinement.specs.StandsFor.{AreParts, IsReached, Past, IsInTime, collector_of}
 use Rattle.mps_refinement.proofs.Lookups.Blocks.{same_address}
 use Rattle.mps_refinement.proofs.Parts.FreedParts.{any_size_alike, freed_is, not_automatic, parts_freed, segments_freed, unused_is, flip_after, segs_condemned, segs_kept, ranks_freed}
@@ -263,18 +263,18 @@ module _ {F : Type 0} (layout : F → Layout) (h : HeapState F) (trail : Moves) 
 
           layout_freed : HasLayout (w.grains + 1) v
           layout_freed =
-              let r = free_step (w.grains + 1) 0 line w own.laid place ms (Replied reply.Ok) own.live.blocks refl due in
+              let r = free_step (w.grains + 1) 0 line w own.laid place ms (Replied reply.Ok) own.live.blocks due in
               subst (IsLaidOut (w.grains + 1)) (remembered_kept v)
               (subst (λ x. HasLayout (w.grains + 1) (with_client_remembered (world_from (world_after_moves w ms) x))) comes r.layout)
 
           accepted_outcome : IsRightFree w line (from_block entry at)
           accepted_outcome =
               subst (IsRightFree w line) (sym outcome_is)
-              (subst (λ ns. IsRightIn layout w
+              (subst (λ ns. IsRightFrom layout h w
               (step_of line (call.Free place) ns (Replied reply.Ok))
               (with_block_place (record h { segs = segs_after_free size h.segs at }) entry 0)) (sym
               (moves_are size h.segs trail at t none live.over))
-              (subst (λ segs. IsRightIn layout w
+              (subst (λ segs. IsRightFrom layout h w
               (step_of line (call.Free place) ms (Replied reply.Ok))
               (with_block_place (record h { segs = segs }) entry 0)) (sym (freed_is size h.segs at t live.over))
               (done_is_right layout h trail none (call.Free place) w line past parts own reach time is_own ms

@@ -32,13 +32,13 @@ module _ {F : Type 0} (layout : F → Layout) (h : HeapState F) (target source :
   of_both x y e (fits {a = out} {b = a} leads) comes =
       subst (IsRightGet result) (sym comes.state)
       (subst (λ r. IsRightGet r out.state) (sym comes.answer)
-      (resting_is_right layout w line (call.Get target source k) (says_ok out.answer) refl refl refl st.reached
+      (resting_is_right layout w line (call.Get target source k) (says_ok out.answer) refl refl st.reached
       (Err refusal.NotRegistered) st.past.time (collector_of h) (Ok a) out.state rest leads.keeps e (sym leads.answer)
       leads.has))
   of_both x y e (same.refused {why = why}) comes =
       subst (IsRightGet result) (sym comes.state)
       (subst (λ r. IsRightGet r h) (sym comes.answer)
-      (resting_is_right layout w line (call.Get target source k) (refused why) refl refl refl st.reached
+      (resting_is_right layout w line (call.Get target source k) (refused why) refl refl st.reached
       (Err refusal.NotRegistered) st.past.time (collector_of h) (Err why) h rest (all_kept h) e refl
       (record { past = st.past; timed = refl; parts = st.parts })))
 

@@ -107,7 +107,7 @@ module _ {F : Type 0} (layout : F → Layout) (h : HeapState F) (w : World) (pas
 module _ {F : Type 0} (layout : F → Layout) (h : HeapState F) (name : Name) where
   not_interned : (why : Refusal) → check_label h name ≡ Err why → IsRight layout h (call.Intern name) [] (answers.refused why) h
   not_interned why e = λ w line st.
-      plain_is_right layout w line (call.Intern name) (answers.refused why) (Err why) h h refl refl refl st (all_kept h)
+      plain_is_right layout w line (call.Intern name) (answers.refused why) (Err why) h h refl refl st (all_kept h)
       (act_is layout h w st.past st.parts name
       ∙ ap (λ x. x >> after_intern layout h w st.past st.parts name)
       (same_err (λ a b. Unit {0}) (check_label h name) (model_checks layout h w st.past st.parts name) why
@@ -118,7 +118,7 @@ module _ {F : Type 0} (layout : F → Layout) (h : HeapState F) (name : Name) wh
       → IsRight layout h (call.Intern name) [] (says_interned number) after
   interned number after passed makes = λ w line st.
       plain_is_right layout w line (call.Intern name) (says_interned number) (after_intern layout h w st.past st.parts name) h after
-      refl refl refl st
+      refl refl st
       (subst (λ (s : HeapState F). KeepsAll (collector_of h) (collector_of s)) (sym makes.state) (all_kept h))
       (act_is layout h w st.past st.parts name
       ∙ ap (λ x. x >> after_intern layout h w st.past st.parts name)
@@ -169,7 +169,7 @@ module _ {F : Type 0} (layout : F → Layout) (h : HeapState F) where
   pub label_is_right : (slot : Slot) (name : Name) (result : Checked (Addr × ℕ)) → result ≡ labelled layout h slot name
       → IsRight layout h (call.Label slot name) [] (answer_to says_labelled result) h
   label_is_right slot name result =
-      reading_is_right layout says_labelled h (call.Label slot name) refl refl (λ a. refl) (labelled layout h slot name) result
+      reading_is_right layout says_labelled h (call.Label slot name) refl refl (labelled layout h slot name) result
       (λ w past parts reached.
       object_then layout past h w parts reached slot (λ b n is.
       same_then (label_same layout past h w parts name) (λ number found same.

@@ -101,7 +101,7 @@ module _ {F : Type 0} (layout : F → Layout) (h : HeapState F) (w : World) (pas
 pub live_is_right : {F : Type 0} (layout : F → Layout) (h : HeapState F) (result : ℕ × ℕ)
     → result ≡ (length h.segs.blocks, total h.segs.blocks) → IsRight layout h call.Live [] (says_pair result) h
 live_is_right layout h result is =
-    answer_is_right layout says_pair h call.Live refl refl (λ a. refl) (Ok (length h.segs.blocks, total h.segs.blocks)) (Ok result)
+    answer_is_right layout says_pair h call.Live refl refl (Ok (length h.segs.blocks, total h.segs.blocks)) (Ok result)
     (λ w past parts reached.
     fits (record {
       answer =

@@ -22,7 +22,7 @@ use Rattle.mps_heap_spec.specs.Making.{IsMaking, IsUntouched, Refused, OutOfMemo
 use Rattle.mps_heap_spec.specs.State.{HeapState}
 use Rattle.mps_refinement.proofs.Worlds.CollectorKept.{KeepsAll, all_kept}
 use Rattle.mps_refinement.specs.Making.{IsRightMaking, IsRightMakingIn, answer_of_making}
-use Rattle.mps_refinement.specs.RightStep.{IsRightIn, step_of}
+use Rattle.mps_refinement.specs.RightStep.{IsRightFrom, step_of}
 use Rattle.mps_refinement.specs.StandsFor.{AreParts, Past, StandsFor, numbered_thing, collector_of}
 use Rattle.mps_refinement.proofs.Parts.PartsMade.{untouched_stands, untouched_parts}
 use Rattle.mps_refinement.proofs.Worlds.Steps.{HasParts, plain_is_right}
@@ -106,12 +106,12 @@ module _ {F : Type 0} (layout : F → Layout) (h : HeapState F) (c : Call) (chec
       Right : Result ℕ Refusal → HeapState F → Type 0
       Right result after =
           (w : World) (line : ℕ) → Has w → StandsFor layout h w
-          → IsRightIn layout w (step_of line c [] (answer_of_making result)) after
+          → IsRightFrom layout h w (step_of line c [] (answer_of_making result)) after
 
       refused_right : (why : Refusal) → checks ≡ Err why → (after : HeapState F) → IsUntouched h after → Right (Err why) after
       refused_right why e after untouched = λ w line has st.
           let m = alike w st.past has st.parts (known_now st) in
-          plain_is_right layout w line c (answer_of_making {A = ℕ} (Err why)) (Err why) h after quiet arena refl st
+          plain_is_right layout w line c (answer_of_making {A = ℕ} (Err why)) (Err why) h after quiet arena st
           (subst (λ (s : HeapState F). KeepsAll (collector_of h) (collector_of s)) (sym untouched.state) (all_kept h))
           (m.comes ∙ ap (λ x. x >> done m.made) (same_err (λ a b. Unit {0}) checks m.models why m.alike e)) refl refl
           (record {
@@ -124,7 +124,7 @@ module _ {F : Type 0} (layout : F → Layout) (h : HeapState F) (c : Call) (chec
       made_right : (key : ℕ) → checks ≡ Ok tt → (after : HeapState F) → Makes key after → Right (Ok key) after
       made_right key e after makes = λ w line has st.
           let m = alike w st.past has st.parts (known_now st) in
-          plain_is_right layout w line c (Replied reply.Ok) (done m.made) h after quiet arena refl st (m.keeps key after makes)
+          plain_is_right layout w line c (Replied reply.Ok) (done m.made) h after quiet arena st (m.keeps key after makes)
           (m.comes ∙ ap (λ x. x >> done m.made) (alike_passed checks m.models m.alike e)) refl m.formats (m.has key after e makes)
 
       of_making : {result : Result ℕ Refusal} {after : HeapState F} → IsMaking h checks Makes result after

@@ -117,7 +117,7 @@ module _ {F : Type 0} (layout : F → Layout) (formats : ℕ → Layout) (lawful
   arena_right : (line : ℕ) → IsRightStep (empty_world_of formats) (arena_step line grains limit) world_then
   arena_right line =
       accepted_step (empty_world_of formats) line (call.Arena grains limit) (Replied reply.Ok)
-      (record { judged = refl; moved = refl; due = refl; marked = tt; supported = refl }) world_then refl
+      (record { judged = refl; moved = refl; due = refl; marked = tt }) world_then refl
       (resting_sound world_then refl (record { client = refl; blocks = refl; referred = refl; transforms = refl }))
 
   pub new_heap_is_right : (line : ℕ)

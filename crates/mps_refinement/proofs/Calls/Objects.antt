@@ -222,7 +222,7 @@ module _ {F : Type 0} (layout : F → Layout) (h : HeapState F) where
   pub head_right : (slot : Slot) (result : Checked ℕ) → result ≡ head_in layout h slot
       → IsRight layout h (call.Head slot) [] (answer_to says_head result) h
   head_right slot result =
-      reading_is_right layout says_head h (call.Head slot) refl refl (λ a. refl) (head_in layout h slot) result
+      reading_is_right layout says_head h (call.Head slot) refl refl (head_in layout h slot) result
       (λ w past parts reached.
       object_then layout past h w parts reached slot (λ b n is.
       fits (ap (λ body. act_reading w (says_head (model.head_of_body body))) is.body)))
@@ -230,7 +230,7 @@ module _ {F : Type 0} (layout : F → Layout) (h : HeapState F) where
   pub address_right : (slot : Slot) (result : Checked Address) → result ≡ address_in layout h slot
       → IsRight layout h (call.Address slot) [] (answer_to says_word result) h
   address_right slot result =
-      reading_is_right layout says_word h (call.Address slot) refl refl (λ a. refl) (address_in layout h slot) result
+      reading_is_right layout says_word h (call.Address slot) refl refl (address_in layout h slot) result
       (λ w past parts reached.
       object_then layout past h w parts reached slot (λ b n is.
       fits (ap (λ o. act_reading w (says_word (option_map_or (λ at. at) o 0))) is.address)))
@@ -238,7 +238,7 @@ module _ {F : Type 0} (layout : F → Layout) (h : HeapState F) where
   pub number_right : (slot : Slot) (k : ℕ) (result : Checked ℕ) → result ≡ number_in layout h slot k
       → IsRight layout h (call.Number slot k) [] (answer_to says_number result) h
   number_right slot k result =
-      reading_is_right layout says_number h (call.Number slot k) refl refl (λ a. refl) (number_in layout h slot k) result
+      reading_is_right layout says_number h (call.Number slot k) refl refl (number_in layout h slot k) result
       (λ w past parts reached.
       object_then layout past h w parts reached slot (λ b n is.
       same_then (number_same layout past h w parts b n is k) (λ cell number found.
@@ -264,13 +264,13 @@ module _ {F : Type 0} (layout : F → Layout) (h : HeapState F) where
       → Comes h (number_set layout h slot k value) result after
       → IsRight layout h (call.SetNumber slot k value) [] (answer_to says_ok result) after
   number_set_right slot k value result after =
-      quiet_is_right layout says_ok h (call.SetNumber slot k value) refl refl (λ a. refl) (number_set layout h slot k value) result after
+      quiet_is_right layout says_ok h (call.SetNumber slot k value) refl refl (number_set layout h slot k value) result after
       (number_set_same slot k value)
 
   pub tag_got_right : (slot : Slot) (k : ℕ) (result : Checked ℕ) → result ≡ tag_got layout h slot k
       → IsRight layout h (call.Tag slot k) [] (answer_to says_number result) h
   tag_got_right slot k result =
-      reading_is_right layout says_number h (call.Tag slot k) refl refl (λ a. refl) (tag_got layout h slot k) result
+      reading_is_right layout says_number h (call.Tag slot k) refl refl (tag_got layout h slot k) result
       (λ w past parts reached.
       object_then layout past h w parts reached slot (λ b n is.
       same_then (tag_same layout past h w parts b n is k) (λ cell tag found.
@@ -301,7 +301,7 @@ module _ {F : Type 0} (layout : F → Layout) (h : HeapState F) where
       → Comes h (tag_set layout h slot k tag) result after
       → IsRight layout h (call.SetTag slot k tag) [] (answer_to says_ok result) after
   tag_set_right slot k tag result after low =
-      quiet_is_right layout says_ok h (call.SetTag slot k tag) refl refl (λ a. refl) (tag_set layout h slot k tag) result after
+      quiet_is_right layout says_ok h (call.SetTag slot k tag) refl refl (tag_set layout h slot k tag) result after
       (tag_set_same slot k tag low)
 
   reference_put_same : (target : Slot) (k : ℕ) (source : Slot)
@@ -332,7 +332,7 @@ module _ {F : Type 0} (layout : F → Layout) (h : HeapState F) where
       → Comes h (reference_put layout h target k source) result after
       → IsRight layout h (call.Put target k source) [] (answer_to says_ok result) after
   reference_put_right target k source result after =
-      quiet_is_right layout says_ok h (call.Put target k source) refl refl (λ a. refl) (reference_put layout h target k source) result after
+      quiet_is_right layout says_ok h (call.Put target k source) refl refl (reference_put layout h target k source) result after
       (reference_put_same target k source)
 
   -- if the object of the source is black, as after a read barrier in its segment, what is read is the address that its object has now

@@ -159,12 +159,12 @@ pub depend_is_right : {F : Type 0} (layout : F → Layout) (h : HeapState F) (ho
     (after : HeapState F) → Comes h (dependent_linked layout h holder dependent) result after
     → IsRight layout h (call.Depend holder dependent) [] (answer_to says_ok result) after
 depend_is_right layout h holder dependent result after =
-    quiet_is_right layout says_ok h (call.Depend holder dependent) refl refl (λ a. refl) (dependent_linked layout h holder dependent)
+    quiet_is_right layout says_ok h (call.Depend holder dependent) refl refl (dependent_linked layout h holder dependent)
     result after (λ w past parts knows. depends_same layout h w past parts knows holder dependent)
 
 pub undepend_is_right : {F : Type 0} (layout : F → Layout) (h : HeapState F) (holder : Slot) (result : Checked (Unit {0}))
     (after : HeapState F) → Comes h (dependent_unlinked layout h holder) result after
     → IsRight layout h (call.Undepend holder) [] (answer_to says_ok result) after
 undepend_is_right layout h holder result after =
-    quiet_is_right layout says_ok h (call.Undepend holder) refl refl (λ a. refl) (dependent_unlinked layout h holder)
+    quiet_is_right layout says_ok h (call.Undepend holder) refl refl (dependent_unlinked layout h holder)
     result after (λ w past parts knows. undepends_same layout h w past parts knows holder)

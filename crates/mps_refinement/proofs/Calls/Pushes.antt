@@ -104,4 +104,4 @@ module _ {F : Type 0} (layout : F → Layout) (h : HeapState F) (name : Name) wh
   pub push_is_right : (result : Checked ℕ) (after : HeapState F) → Comes h (frame_pushed h name) result after
       → IsRight layout h (call.Push name) [] (answer_to says_number result) after
   push_is_right result after =
-      quiet_is_right layout says_number h (call.Push name) refl refl (λ n. refl) (frame_pushed h name) result after pushed_same
+      quiet_is_right layout says_number h (call.Push name) refl refl (frame_pushed h name) result after pushed_same

@@ -5,7 +5,7 @@ use Rattle.mps_laws.proofs.Same as same
 use Rattle.mps_laws.proofs.Same.{Same, fits}
 use Rattle.mps_model.specs.declared.call.Call.{Call}
 use Rattle.mps_model.specs.declared.reply.Reply.TheVariants as reply
-use Rattle.mps_model.specs.Answer.{Answer, Replied, is_unsupported}
+use Rattle.mps_model.specs.Answer.{Answer, Replied}
 use Rattle.mps_model.specs.Checked.{Act, Checked, ◌>>=◌, tells}
 use Rattle.mps_model.specs.Reply.{act}
 use Rattle.mps_model.specs.World.{World}
@@ -25,10 +25,6 @@ use Rattle.mps_refinement.proofs.Worlds.Known.{IsKnown}
 -- a call that says `ok` where it is accepted
 abbrev pub says_ok : Unit {0} → Answer
 says_ok done = Replied reply.Ok
-
-pub yes_or_no_supported : (b : Bool) → is_unsupported (says_bool b) ≡ false
-yes_or_no_supported true = refl
-yes_or_no_supported false = refl
 
 -- ---- acts
 
@@ -66,10 +62,10 @@ module _ {F : Type 0} (layout : F → Layout) {A : Type 0} (says : A → Answer)
   })
   reading_leads w past parts x y same.refused = same.refused
 
-  pub reading_is_right : never_moves c ≡ true → is_plain c ≡ true → ((a : A) → is_unsupported (says a) ≡ false) → (x result : Checked A)
+  pub reading_is_right : never_moves c ≡ true → is_plain c ≡ true → (x result : Checked A)
       → ((w : World) (past : Past) → AreParts layout past h w → IsKnown past.time w → Same (IsReading w says) x (act false w w c))
       → result ≡ x → IsRight layout h c [] (answer_to says result) h
-  reading_is_right quiet arena each x result reads is =
+  reading_is_right quiet arena x result reads is =
       subst (λ r. IsRight layout h c [] (answer_to says r) h) (sym is)
-      (quiet_is_right layout says h c quiet arena each (reading x) x h
+      (quiet_is_right layout says h c quiet arena (reading x) x h
       (λ w past parts reached. reading_leads w past parts x (act false w w c) (reads w past parts reached)) (reading_comes x))

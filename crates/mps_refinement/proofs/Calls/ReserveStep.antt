@@ -20,13 +20,13 @@ use Rattle.mps_laws.proofs.Replays.ReserveSteps.{poll_then_own}
 use Rattle.mps_laws.proofs.Replays.Steps.{remembered_kept}
 use Rattle.mps_model.specs.declared.call.Call.{Call}
 use Rattle.mps_model.specs.declared.call.Call.TheVariants as call
-use Rattle.mps_model.specs.Answer.{Answer, is_unsupported}
+use Rattle.mps_model.specs.Answer.{Answer}
 use Rattle.mps_model.specs.Checked.{Act, Checked, as_point, number_named}
 use Rattle.mps_model.specs.Allocating.{act_reserve}
 use Rattle.mps_model.specs.Collection.{Collection}
 use Rattle.mps_model.specs.Effect.{world_after_moves, holding, segment_of_move}
 use Rattle.mps_model.specs.Graph.{ids_in_blocks, thing_in}
-use Rattle.mps_model.specs.History.{AreMovesOfReserve, IsPollWhereDue, after_own_segment, asking, judged_world, moved_world, moves_of_poll, own_segment, last_move, rank_of_point, segment_where_judged, with_buffer, with_client_remembered, with_segment_for_point, world_after, world_after_call}
+use Rattle.mps_model.specs.History.{AreMovesOfReserve, IsPollWhereDue, after_own_segment, asking, judged_world, moved_world, moves_of_poll, own_segment, last_move, rank_of_point, segment_where_judged, with_buffer, with_client_remembered, with_segment_for_point, world_after}
 use Rattle.mps_model.specs.LegalMove.{AreLegalMoves}
 use Rattle.mps_model.specs.Policy.{units_asked}
 use Rattle.mps_model.specs.Reply.{answer_from, world_from}
@@ -138,7 +138,7 @@ module _ (w : World) (laid : HasLayout (w.grains + 1) w) (name : Name) (head : �
     (polled : Polls w name head poll v) (own : List Move) (cut : IsCut poll own)
     (own_is : own ≡ segment_where_judged v name head) (u : World)
     (taken : after_own_segment v own (number_named v name as_point) ≡ u) (result : Checked Act)
-    (acts : act_reserve v u name head ≡ result) (answer : Answer) (supported : is_unsupported answer ≡ false) where
+    (acts : act_reserve v u name head ≡ result) (answer : Answer) where
   abbrev c : Call
   c = call.Reserve name head
 
@@ -176,13 +176,11 @@ module _ (w : World) (laid : HasLayout (w.grains + 1) w) (name : Name) (head : �
   legal = subst (AreLegalMoves w None) (sym cut.polled) polled.legal
 
   after_is : world_after w (step_of 0 c ms answer) ≡ with_client_remembered (world_from (moved_world w c ms) result)
-  after_is =
-      ap (λ (b : Bool). if b then w else world_after_call w c ms answer) supported
-      ∙ ap (λ r. with_client_remembered (world_from (moved_world w c ms) r)) comes
+  after_is = ap (λ r. with_client_remembered (world_from (moved_world w c ms) r)) comes
 
   remembered_layout : HasLayout (w.grains + 1) (with_client_remembered (world_from (moved_world w c ms) result))
   remembered_layout =
-      subst (HasLayout (w.grains + 1)) after_is (reserve_step (w.grains + 1) 0 0 w laid name head ms answer supported legal segment).layout
+      subst (HasLayout (w.grains + 1)) after_is (reserve_step (w.grains + 1) 0 0 w laid name head ms answer legal segment).layout
 
   -- how the world after it is laid out
   pub layout_after : HasLayout (v.grains + 1) (world_from u result)
@@ -207,7 +205,6 @@ module _ (w : World) (laid : HasLayout (w.grains + 1) w) (name : Name) (head : �
 
     pub own_step : (y : Collecting) → y.world ≡ v → IsOwnStep w y c ms answer result
     own_step y is = record {
-      supported = supported;
       collected = ap (λ ps. asking (units_asked w c) (world_after_moves w ps)) cut.polled
           ∙ ap (λ n. asking n (world_after_moves w poll)) polled.asks ∙ polled.leads ∙ sym is;
       legal = legal;
@@ -237,7 +234,6 @@ module _ (w : World) (laid : HasLayout (w.grains + 1) w) (name : Name) (head : �
           comes = comes;
           answers = answers;
           marked = tt;
-          supported = supported;
           sound = subst (λ o. IsSound (world_from o result)) (sym moved_so) (sound rest.none);
         }) in
         let out = ap (λ o. world_from o result) moved_so in

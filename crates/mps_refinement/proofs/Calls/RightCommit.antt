@@ -20,12 +20,12 @@ use Rattle.mps_model.specs.declared.call.Call.TheVariants as call
 use Rattle.mps_model.specs.declared.reply.Reply.TheVariants as reply
 use Rattle.mps_model.specs.Allocating as model
 use Rattle.mps_model.specs.Allocating.{act_commit, reserved_address, world_committed}
-use Rattle.mps_model.specs.Answer.{Replied, refused, is_unsupported, Answer, is_block}
+use Rattle.mps_model.specs.Answer.{Replied, refused, Answer, is_block}
 use Rattle.mps_model.specs.Checked.{Act, Checked, Found, Numbered, done, point_named, says, with_graph}
 use Rattle.mps_model.specs.Effect.{world_after_moves}
 use Rattle.mps_model.specs.Graph as graph
 use Rattle.mps_model.specs.Graph.{Reservation, with_last, ids_in_blocks}
-use Rattle.mps_model.specs.History.{if_accepted, moves_of_commit, commit_of, with_client_remembered, world_after, world_after_call}
+use Rattle.mps_model.specs.History.{if_accepted, moves_of_commit, commit_of, with_client_remembered, world_after}
 use Rattle.mps_model.specs.World.{World, PointMemory, is_live}
 use Rattle.mps_heap_spec.specs.Allocating.{after_commit, with_closed}
 use Rattle.mps_refinement.proofs.Parts.CommittedParts.{with_new_kept}
@@ -37,7 +37,7 @@ use Rattle.mps_heap_spec.specs.declared.found.Kept.{Kept}
 use Rattle.mps_heap_spec.specs.Objects.{with_slot}
 use Rattle.mps_heap_spec.specs.State.{HeapState}
 use Rattle.mps_refinement.specs.Answering.{answer_to, says_committed}
-use Rattle.mps_refinement.specs.RightStep.{IsRight, IsRightIn, step_of}
+use Rattle.mps_refinement.specs.RightStep.{IsRight, IsRightFrom, step_of}
 use Rattle.mps_refinement.specs.StandsFor.{AreParts, IsHeld, IsReached, Past, AreOfFlip, IsInTime, collector_of}
 use Rattle.mps_refinement.proofs.Calls.Committing.{at, block_parts, block_sound, closed_parts, blocks_live}
 use Rattle.mps_refinement.proofs.Lookups.Found.{same_found}
@@ -216,17 +216,13 @@ module _ {F : Type 0} (layout : F → Layout) (past : Past) (h : HeapState F) (w
 
   abbrev IsRightOutcome : Checked (Moved F Committed) → Type 0
   IsRightOutcome o =
-      IsRightIn layout w (step_of line (call.Commit name target) (trail_moved trail o).moves (answer_to says_committed (answer_moved o)))
-      (state_moved h o)
-
-  supported : (c : Committed) → is_unsupported (says_committed c) ≡ false
-  supported AsBlock = refl
-  supported AsFlipped = refl
+      IsRightFrom layout h w
+      (step_of line (call.Commit name target) (trail_moved trail o).moves (answer_to says_committed (answer_moved o))) (state_moved h o)
 
   -- what it comes to shows all that a step asks
   module _ (ms : List Move) (answer : Answer) (result : Checked Act) (theirs : act_commit w name target ≡ result)
       (due : ms ≡ if_accepted answer (moves_of_commit w (point_named w name))) (still : world_after_moves w ms ≡ w)
-      (answers : answer ≡ answer_from result) (built : is_unsupported answer ≡ false)
+      (answers : answer ≡ answer_from result)
       (sound_after : w.collection ≡ None → IsSound (world_from w result))
       (blocks : list_all (is_live (world_from w result)) (ids_in_blocks (world_from w result).graph) ≡ true) where
     comes : act (is_block answer) w (world_after_moves w ms) (call.Commit name target) ≡ result
@@ -237,7 +233,6 @@ module _ {F : Type 0} (layout : F → Layout) (past : Past) (h : HeapState F) (w
 
     own : (y : Collecting) → y.world ≡ w → Running y → IsOwnStep w y (call.Commit name target) ms answer result
     own y is run = record {
-      supported = built;
       collected = sym is;
       legal = tt;
       due = due;
@@ -249,7 +244,7 @@ module _ {F : Type 0} (layout : F → Layout) (past : Past) (h : HeapState F) (w
       formed = subst IsWellFormed (sym is) knows.formed;
       blocks = subst (λ (v : World). list_all (is_live v) (ids_in_blocks v.graph) ≡ true) (sym is) knows.live.blocks;
       placed = placed_from_remembered (placed_from_layout (w.grains + 1) (world_after w (step_of line (call.Commit name target) ms answer))
-          (commit_step (w.grains + 1) 0 line w name knows.laid target ms answer built due
+          (commit_step (w.grains + 1) 0 line w name knows.laid target ms answer due
           (answers ∙ ap answer_from (sym comes))).layout);
       blocks_after = subst (λ (v : World). list_all (is_live v) (ids_in_blocks v.graph) ≡ true) (sym from_same) blocks;
     }
@@ -257,8 +252,7 @@ module _ {F : Type 0} (layout : F → Layout) (past : Past) (h : HeapState F) (w
         placed_from_remembered : IsWellPlaced (world_after w (step_of line (call.Commit name target) ms answer))
             → IsWellPlaced (world_from (world_after_moves w ms) result)
         placed_from_remembered fine =
-            let of = subst IsWellPlaced (ap (λ (b : Bool). if b then w else world_after_call w (call.Commit name target) ms answer) built
-            ∙ ap (λ r. with_client_remembered (world_from (world_after_moves w ms) r)) comes) fine in
+            let of = subst IsWellPlaced (ap (λ r. with_client_remembered (world_from (world_after_moves w ms) r)) comes) fine in
             record { different = of.different; apart = of.apart }
 
     moves_to : (after : HeapState F) → HasParts layout past.time after (world_from w result)
@@ -273,7 +267,6 @@ module _ {F : Type 0} (layout : F → Layout) (past : Past) (h : HeapState F) (w
         comes = comes;
         answers = answers;
         marked = tt;
-        supported = built;
         sound = subst IsSound (sym from_same) (sound_after rest);
       };
       formats = ap (λ (v : World). v.formats) from_same ∙ formats;
@@ -283,10 +276,10 @@ module _ {F : Type 0} (layout : F → Layout) (past : Past) (h : HeapState F) (w
 
   of_both : (x : Checked (Moved F Committed)) (y : Checked Act) → act_commit w name target ≡ y → Same CommitLeads x y → IsRightOutcome x
   of_both x y theirs (fits {a = o} {b = a} leads) =
-      moving_is_right layout past.time (collector_of h) w line (call.Commit name target) (λ v. refl) o.trail.moves (says_committed o.answer)
+      moving_is_right layout past h w parts knows.formed line (call.Commit name target) (λ v. refl) o.trail.moves (says_committed o.answer)
       o.state (Ok a) refl
       reach now
-      (moves_to o.trail.moves (says_committed o.answer) (Ok a) theirs leads.moves_are leads.still (sym leads.answer) (supported o.answer)
+      (moves_to o.trail.moves (says_committed o.answer) (Ok a) theirs leads.moves_are leads.still (sym leads.answer)
       leads.sound_after leads.blocks o.state leads.has (leads.keeps flips) leads.formats)
     where
       flips : AreOfFlip past.time.at_flip w → AreOfFlip past.time.at_flip a.world
@@ -294,10 +287,10 @@ module _ {F : Type 0} (layout : F → Layout) (past : Past) (h : HeapState F) (w
           (for_world (AreOfFlip past.time.at_flip) w (act false w w (call.Commit name target))
           (flips_kept false w w (call.Commit name target) past.time.at_flip knows.formed.addresses of) of)
   of_both x y theirs (same.refused {why}) =
-      subst (λ ms. IsRightIn layout w (step_of line (call.Commit name target) ms (refused why)) h) (sym none)
-      (moving_is_right layout past.time (collector_of h) w line (call.Commit name target) (λ v. refl) [] (refused why) h (Err why) refl
+      subst (λ ms. IsRightFrom layout h w (step_of line (call.Commit name target) ms (refused why)) h) (sym none)
+      (moving_is_right layout past h w parts knows.formed line (call.Commit name target) (λ v. refl) [] (refused why) h (Err why) refl
       reach now
-      (moves_to [] (refused why) (Err why) theirs refl refl refl refl sound knows.live.blocks h
+      (moves_to [] (refused why) (Err why) theirs refl refl refl sound knows.live.blocks h
       (record { past = past; timed = refl; parts = parts })
       (keeps_still layout) refl))
 
@@ -311,14 +304,14 @@ pub commit_is_right : {F : Type 0} (layout : F → Layout) (h : HeapState F) (tr
     → ComesMoving h trail (after_commit h trail name target) result after trail_after
     → IsRight layout h (call.Commit name target) trail_after.moves (answer_to says_committed result) after
 commit_is_right layout h trail name target result after trail_after wide none comes = λ w line st.
-    subst (λ s. IsRightIn layout w (step_of line (call.Commit name target) trail_after.moves (answer_to says_committed result)) s)
+    subst (λ s. IsRightFrom layout h w (step_of line (call.Commit name target) trail_after.moves (answer_to says_committed result)) s)
     (sym comes.state)
-    (subst (λ r. IsRightIn layout w (step_of line (call.Commit name target) trail_after.moves (answer_to says_committed r))
+    (subst (λ r. IsRightFrom layout h w (step_of line (call.Commit name target) trail_after.moves (answer_to says_committed r))
     (state_moved h (after_commit h trail name target))) (sym comes.answer)
-    (subst (λ (t : Moves). IsRightIn layout w (step_of line (call.Commit name target) t.moves
+    (subst (λ (t : Moves). IsRightFrom layout h w (step_of line (call.Commit name target) t.moves
     (answer_to says_committed (answer_moved (after_commit h trail name target))))
     (state_moved h (after_commit h trail name target))) (sym comes.moves)
-    (subst (λ o. IsRightIn layout w (step_of line (call.Commit name target) (trail_moved trail o).moves
+    (subst (λ o. IsRightFrom layout h w (step_of line (call.Commit name target) (trail_moved trail o).moves
     (answer_to says_committed (answer_moved o))) (state_moved h o))
     (commit_kept h (kept_in_time st.past.time h w st.time) trail name target)
     (committed_outcome layout st.past h w st.parts (known_now st) st.reached st.time (λ at white. wide) trail none line name target))))

@@ -236,7 +236,7 @@ module _ {F : Type 0} (layout : F → Layout) (h : HeapState F) (name : Name) (i
       → Comes h (number_initialised layout h name i value) result after
       → IsRight layout h (call.InitNumber name i value) [] (answer_to says result) after
   number_init_is_right value result after comes =
-      quiet_is_right layout says h (call.InitNumber name i value) refl refl (λ a. refl) (number_initialised layout h name i value) result
+      quiet_is_right layout says h (call.InitNumber name i value) refl refl (number_initialised layout h name i value) result
       after (λ w past parts reached.
       same_then (point_same layout past h w parts name) (λ k n found.
       same_then (same_required refusal.NotOpen (held_same (length w.flips) found.fit.memory.reserved_at k.value.reservation
@@ -247,7 +247,7 @@ module _ {F : Type 0} (layout : F → Layout) (h : HeapState F) (name : Name) (i
       → Comes h (reference_initialised layout h name i source) result after
       → IsRight layout h (call.InitReference name i source) [] (answer_to says result) after
   reference_init_is_right source result after comes =
-      quiet_is_right layout says h (call.InitReference name i source) refl refl (λ a. refl)
+      quiet_is_right layout says h (call.InitReference name i source) refl refl
       (reference_initialised layout h name i source)
       result after (λ w past parts reached.
       same_then (point_same layout past h w parts name) (λ k n found.

@@ -24,7 +24,7 @@ use Rattle.mps_model.specs.World.{World, is_live}
 use Rattle.mps_heap_spec.specs.Coming.{ComesMoving, Moved, answer_moved, state_moved, trail_moved}
 use Rattle.mps_heap_spec.specs.State.{HeapState}
 use Rattle.mps_refinement.specs.Answering.{answer_to, says_ok}
-use Rattle.mps_refinement.specs.RightStep.{IsRight, IsRightIn, step_of}
+use Rattle.mps_refinement.specs.RightStep.{IsRight, IsRightFrom, step_of}
 use Rattle.mps_refinement.specs.StandsFor.{AreParts, IsInTime, IsReached, Past, collector_of}
 use Rattle.mps_refinement.proofs.Worlds.Known.{IsKnown, known_now}
 use Rattle.mps_refinement.proofs.Worlds.RestingActs.{resting_sound}
@@ -48,7 +48,7 @@ module _ {F : Type 0} (layout : F → Layout) (h : HeapState F) (trail : Moves) 
   -- the step of the call with this outcome is right in a world
   abbrev pub IsRightOutcome : World → (line : ℕ) → Checked (Moved F (Unit {0})) → Type 0
   IsRightOutcome w line o =
-      IsRightIn layout w (step_of line c (trail_moved trail o).moves (answer_to says_ok (answer_moved o))) (state_moved h o)
+      IsRightFrom layout h w (step_of line c (trail_moved trail o).moves (answer_to says_ok (answer_moved o))) (state_moved h o)
 
   -- what a call that is done shows
   pub record IsDone (past : Past) (w : World) (ms : List Move) (state : HeapState F) (v : World) : Type 0 where
@@ -64,14 +64,13 @@ module _ {F : Type 0} (layout : F → Layout) (h : HeapState F) (trail : Moves) 
   module _ (w : World) (line : ℕ) (past : Past) (parts : AreParts layout past h w) (knows : IsKnown past.time w)
       (reach : IsReached w) (time : IsInTime past.time (collector_of h) w) (own : IsOwn w c) where
     pub done_is_right : (ms : List Move) (state : HeapState F) (v : World) → IsDone past w ms state v
-        → IsRightIn layout w (step_of line c ms (Replied reply.Ok)) state
+        → IsRightFrom layout h w (step_of line c ms (Replied reply.Ok)) state
     done_is_right ms state v is =
         let comes : act false (judged_world w c ms) (moved_world w c ms) c ≡ done v =
         ap (λ u. act false u (moved_world w c ms) c) (own.judged ms) ∙ is.comes in
-        moving_is_right layout past.time (collector_of h) w line c own.taken ms (Replied reply.Ok) state (done v) own.arena reach time
+        moving_is_right layout past h w parts knows.formed line c own.taken ms (Replied reply.Ok) state (done v) own.arena reach time
         (record {
           moving = λ y same run. record {
-            supported = refl;
             collected = own.collected ms (Replied reply.Ok) ∙ sym same;
             legal = own.legal ms;
             due = is.due;
@@ -91,7 +90,6 @@ module _ {F : Type 0} (layout : F → Layout) (h : HeapState F) (trail : Moves) 
             comes = comes;
             answers = refl;
             marked = own.possible (Replied reply.Ok);
-            supported = refl;
             sound = is.sound rest;
           };
           formats = is.formats;
@@ -103,10 +101,9 @@ module _ {F : Type 0} (layout : F → Layout) (h : HeapState F) (trail : Moves) 
     refusal_is_right why e =
         let comes : act false (judged_world w c []) (moved_world w c []) c ≡ Err why =
         ap (λ u. act false u (moved_world w c []) c) (own.judged []) ∙ ap (λ u. act false w u c) own.still ∙ e in
-        subst (λ ms. IsRightIn layout w (step_of line c ms (refused why)) h) (sym none)
-        (moving_is_right layout past.time (collector_of h) w line c own.taken [] (refused why) h (Err why) own.arena reach time (record {
+        subst (λ ms. IsRightFrom layout h w (step_of line c ms (refused why)) h) (sym none)
+        (moving_is_right layout past h w parts knows.formed line c own.taken [] (refused why) h (Err why) own.arena reach time (record {
           moving = λ y same run. record {
-            supported = refl;
             collected = own.collected [] (refused why) ∙ sym same;
             legal = own.legal [];
             due = own.unasked why;
@@ -126,7 +123,6 @@ module _ {F : Type 0} (layout : F → Layout) (h : HeapState F) (trail : Moves) 
             comes = comes;
             answers = refl;
             marked = own.possible (refused why);
-            supported = refl;
             sound = subst IsSound (sym own.still) (resting_sound w rest knows.live);
           };
           formats = ap (λ (u : World). u.formats) own.still;
@@ -142,7 +138,7 @@ module _ {F : Type 0} (layout : F → Layout) (h : HeapState F) (trail : Moves) 
       → IsRightOutcome w line o)
       → IsRight layout h c trail_after.moves (answer_to says_ok result) after
   outcome_is_right o result after trail_after comes right = λ w line st.
-      subst (λ s. IsRightIn layout w (step_of line c trail_after.moves (answer_to says_ok result)) s) (sym comes.state)
-      (subst (λ r. IsRightIn layout w (step_of line c trail_after.moves (answer_to says_ok r)) (state_moved h o)) (sym comes.answer)
-      (subst (λ (t : Moves). IsRightIn layout w (step_of line c t.moves (answer_to says_ok (answer_moved o))) (state_moved h o))
+      subst (λ s. IsRightFrom layout h w (step_of line c trail_after.moves (answer_to says_ok result)) s) (sym comes.state)
+      (subst (λ r. IsRightFrom layout h w (step_of line c trail_after.moves (answer_to says_ok r)) (state_moved h o)) (sym comes.answer)
+      (subst (λ (t : Moves). IsRightFrom layout h w (step_of line c t.moves (answer_to says_ok (answer_moved o))) (state_moved h o))
       (sym comes.moves) (right w line st.past st.parts (known_now st) st.reached st.time)))

@@ -91,7 +91,7 @@ module _ {F : Type 0} (layout : F → Layout) (past : Past) (h : HeapState F) (w
       subst (λ ms. IsRightIn layout w (step_of line the_call ms (refused why)) h)
       (Rattle.std.proofs.lemmas.List.append-nil poll ∙ sym none)
       (reserved_rightly w laid_before name head poll v polled [] (cut_without poll polled.never_own) own_is v refl (Err why) acts
-      (refused why) refl past.time knows refl knows.live.blocks layout line h h reach time
+      (refused why) past.time knows refl knows.live.blocks layout line h h reach time
       (record { past = past; timed = refl; parts = parts }) (λ rest. resting_sound v rest knows.live) (keeps_still layout) refl)
 
   refused_outcome : (why : Refusal) → model.check_reserve v name head ≡ Err why → IsRightOutcome (Err why)
@@ -228,10 +228,10 @@ module _ {F : Type 0} (layout : F → Layout) (past : Past) (h : HeapState F) (w
         let is = reserved_at_place v name head reserving check named word e in
         let cut = cut_without poll polled.never_own in
         let after : HasLayout (v.grains + 1) out =
-        layout_after w laid_before name head poll v polled [] cut is.own is.taken is.moved (done out) is.acts ok refl in
+        layout_after w laid_before name head poll v polled [] cut is.own is.taken is.moved (done out) is.acts ok in
         subst (λ ms. IsRightIn layout w (step_of line the_call ms ok) (state_moved h (outcome_at size (Place word))))
         (Rattle.std.proofs.lemmas.List.append-nil poll ∙ sym none)
-        (reserved_rightly w laid_before name head poll v polled [] cut is.own is.taken is.moved (done out) is.acts ok refl past.time knows
+        (reserved_rightly w laid_before name head poll v polled [] cut is.own is.taken is.moved (done out) is.acts ok past.time knows
         refl knows.live.blocks layout line h (state_moved h (outcome_at size (Place word))) reach time (record {
           past = past;
           timed = refl;
@@ -286,7 +286,7 @@ module _ {F : Type 0} (layout : F → Layout) (past : Past) (h : HeapState F) (w
         let cut = cut_segment poll (record { 0 = address_of_grain grain }) grains n.value.pool 0 in
         let seg : List Move = moves.Seg (record { 0 = address_of_grain grain }) grains n.value.pool 0 ∷ [] in
         let after : HasLayout (v.grains + 1) out =
-        layout_after w laid_before name head poll v polled seg cut is.own is.taken is.moved (done out) is.acts ok refl in
+        layout_after w laid_before name head poll v polled seg cut is.own is.taken is.moved (done out) is.acts ok in
         let heap_after = state_moved h (outcome_at size (NewSegment grain grains)) in
         let segments : segments_after (NewSegment grain grains) k.value.pool 0 k.value.rank h.segs.segments ≡ with_segment s v.segments =
         ap (λ (p : ℕ). with_segment (record {
@@ -315,7 +315,7 @@ module _ {F : Type 0} (layout : F → Layout) (past : Past) (h : HeapState F) (w
         ap (λ (xs : List Move). xs ++ moves.Seg (record { 0 = address_of_grain grain }) grains k.value.pool 0 ∷ []) none
         ∙ ap (λ (p : ℕ). poll ++ moves.Seg (record { 0 = address_of_grain grain }) grains p 0 ∷ []) found.fit.pool in
         subst (λ (xs : List Move). IsRightIn layout w (step_of line the_call xs ok) heap_after) (sym ms)
-        (reserved_rightly w laid_before name head poll v polled seg cut is.own is.taken is.moved (done out) is.acts ok refl past.time knows
+        (reserved_rightly w laid_before name head poll v polled seg cut is.own is.taken is.moved (done out) is.acts ok past.time knows
         refl knows.live.blocks layout line h heap_after reach time (record {
           past = past;
           timed = refl;

@@ -34,7 +34,7 @@ use Rattle.mps_pools.specs.Manual.{any_size}
 use Rattle.mps_root.specs.State.{RootsState}
 use Rattle.mps_heap_spec.specs.Manual.{Freeing, row_freed}
 use Rattle.mps_heap_spec.specs.State.{HeapState}
-use Rattle.mps_refinement.specs.RightStep.{IsRightIn, step_of}
+use Rattle.mps_refinement.specs.RightStep.{IsRightFrom, step_of}
 use Rattle.mps_refinement.specs.StandsFor.{AreParts, IsInTime, IsPool, IsReached, Past, collector_of}
 use Rattle.mps_refinement.proofs.Calls.RightOwn.{IsOwn, IsRightOutcome, done_is_right}
 use Rattle.mps_refinement.proofs.Collect.SameAddresses.{AreSame}
@@ -222,7 +222,7 @@ module _ {F : Type 0} (layout : F → Layout) (h : HeapState F) (trail : Moves) 
         trail = freed.trail;
       }))
   frees_are_right due comes =
-      subst (λ ns. IsRightIn layout w (step_of line c ns ok) (record h_left { segs = freed.segs }))
+      subst (λ ns. IsRightFrom layout h w (step_of line c ns ok) (record h_left { segs = freed.segs }))
       (sym (are_freed.moves ∙ ap (λ ns. ns ++ ms) none))
       (done_is_right layout h trail none c w line past parts own reach time is_own ms (record h_left { segs = freed.segs }) v (record {
         due = due;

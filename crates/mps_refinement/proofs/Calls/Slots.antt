@@ -23,7 +23,7 @@ use Rattle.mps_refinement.proofs.Worlds.Known.{IsKnown}
 use Rattle.mps_refinement.proofs.Lookups.LiveObjects.{MayRead, different, slot_may_read}
 use Rattle.mps_refinement.proofs.Lookups.Lookups.{slot_same}
 use Rattle.mps_refinement.proofs.Parts.PartsWritten.{slot_written}
-use Rattle.mps_refinement.proofs.Calls.Readings.{reading_is_right, says_ok, says_bool, tells_same, yes_or_no_supported}
+use Rattle.mps_refinement.proofs.Calls.Readings.{reading_is_right, says_ok, says_bool, tells_same}
 use Rattle.mps_refinement.proofs.Worlds.Steps.{ComesToTheSame, answer_to, quiet_is_right}
 
 -- ---- addresses and targets
@@ -93,7 +93,7 @@ module _ {F : Type 0} (layout : F → Layout) (h : HeapState F) where
       → Comes h (after_copy h target source) result after
       → IsRight layout h (call.Copy target source) [] (answer_to says_ok result) after
   copied_right target source result after =
-      quiet_is_right layout says_ok h (call.Copy target source) refl refl (λ a. refl) (after_copy h target source) result after
+      quiet_is_right layout says_ok h (call.Copy target source) refl refl (after_copy h target source) result after
       (copied_same target source)
 
   cleared_same : (slot : Slot) → ComesToTheSame layout says_ok h (call.Clear slot) (after_clear h slot)
@@ -109,12 +109,12 @@ module _ {F : Type 0} (layout : F → Layout) (h : HeapState F) where
   pub cleared_right : (slot : Slot) (result : Checked (Unit {0})) (after : HeapState F) → Comes h (after_clear h slot) result after
       → IsRight layout h (call.Clear slot) [] (answer_to says_ok result) after
   cleared_right slot result after =
-      quiet_is_right layout says_ok h (call.Clear slot) refl refl (λ a. refl) (after_clear h slot) result after (cleared_same slot)
+      quiet_is_right layout says_ok h (call.Clear slot) refl refl (after_clear h slot) result after (cleared_same slot)
 
   pub are_same_right : (slot other : Slot) (result : Checked Bool) → result ≡ are_same h slot other
       → IsRight layout h (call.Same slot other) [] (answer_to says_bool result) h
   are_same_right slot other result =
-      reading_is_right layout says_bool h (call.Same slot other) refl refl yes_or_no_supported (are_same h slot other) result
+      reading_is_right layout says_bool h (call.Same slot other) refl refl (are_same h slot other) result
       (λ w past parts reached.
       let of = reached in
       same_then (slot_same layout past h w parts slot) (λ one found is.
@@ -127,7 +127,7 @@ module _ {F : Type 0} (layout : F → Layout) (h : HeapState F) where
   pub is_null_right : (slot : Slot) (result : Checked Bool) → result ≡ is_null h slot
       → IsRight layout h (call.Null slot) [] (answer_to says_bool result) h
   is_null_right slot result =
-      reading_is_right layout says_bool h (call.Null slot) refl refl yes_or_no_supported (is_null h slot) result
+      reading_is_right layout says_bool h (call.Null slot) refl refl (is_null h slot) result
       (λ w past parts reached.
       let of = reached in
       same_then (slot_same layout past h w parts slot) (λ one found is.

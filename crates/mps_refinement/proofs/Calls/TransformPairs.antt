@@ -165,5 +165,5 @@ pub transadd_is_right : {F : Type 0} (layout : F → Layout) (h : HeapState F) (
     (after : HeapState F) → Comes h (pair_added layout h name old new) result after
     → IsRight layout h (call.TransformAdd name old new) [] (answer_to says_ok result) after
 transadd_is_right layout h name old new result after comes =
-    quiet_is_right layout says_ok h (call.TransformAdd name old new) refl refl (λ a. refl) (pair_added layout h name old new) result after
+    quiet_is_right layout says_ok h (call.TransformAdd name old new) refl refl (pair_added layout h name old new) result after
     (λ w past parts knows. add_same layout h w past parts knows name old new) comes

@@ -170,7 +170,7 @@ module _ {F : Type 0} (layout : F → Layout) (h : HeapState F) (name : Name) wh
   not_transformed : (why : Refusal) → check_transform h name ≡ Err why
       → IsRight layout h (call.Transform name) [] (answers.refused why) h
   not_transformed why e = λ w line st.
-      plain_is_right layout w line (call.Transform name) (answers.refused why) (Err why) h h refl refl refl st (all_kept h)
+      plain_is_right layout w line (call.Transform name) (answers.refused why) (Err why) h h refl refl st (all_kept h)
       (act_is layout h w st.past st.parts name
       ∙ ap (λ x. x >> done (world_made layout h w st.past st.parts name))
       (same_err (λ a b. Unit {0}) (check_transform h name) (model_checks layout h w st.past st.parts name) why
@@ -181,7 +181,7 @@ module _ {F : Type 0} (layout : F → Layout) (h : HeapState F) (name : Name) wh
       → IsRight layout h (call.Transform name) [] (Replied reply.Ok) after
   transformed key after passed makes = λ w line st.
       plain_is_right layout w line (call.Transform name) (Replied reply.Ok) (done (world_made layout h w st.past st.parts name)) h after
-      refl refl refl st
+      refl refl st
       (subst (λ (s : HeapState F). KeepsAll (collector_of h) (collector_of s)) (sym makes.state) (all_kept h))
       (act_is layout h w st.past st.parts name
       ∙ ap (λ x. x >> done (world_made layout h w st.past st.parts name))

@@ -1,6 +1,6 @@
 -- A heap and a world without their pairs: the parts of the one represent the other as they did, and what its collector does leaves the
 -- same.
-use Rattle.std.proofs.Common.{ℕ, refl, ap, []}
+use Rattle.std.proofs.Common.{refl, ap, []}
 use Rattle.mps_base.specs.Trail.{Moves}
 use Rattle.mps_format.specs.Layout.{Layout}
 use Rattle.mps_model.specs.World.{World}
@@ -8,7 +8,6 @@ use Rattle.mps_trace.specs.declared.condemn.Condemn.{Condemn}
 use Rattle.mps_heap_spec.specs.Collecting.{IsCollected, IsStarted}
 use Rattle.mps_heap_spec.specs.Following.{with_dependents}
 use Rattle.mps_heap_spec.specs.State.{HeapState}
-use Rattle.mps_heap_spec.specs.Units.{HasDoneUnits, ends, goes_on, none_runs}
 use Rattle.mps_refinement.specs.Following.{unpaired}
 use Rattle.mps_refinement.specs.StandsFor.{AreParts, Past}
 
@@ -57,13 +56,6 @@ module _ {F : Type 0} {layout : F → Layout} where
     transforms = p.transforms;
     framed = p.framed;
   }
-
-  -- units
-  pub units_without : {h h' : HeapState F} {m m' : Moves} {n : ℕ} → HasDoneUnits layout h m n h' m'
-      → HasDoneUnits layout (alone h) m n (alone h') m'
-  units_without (none_runs none is trail) = none_runs none (ap alone is) trail
-  units_without (goes_on run next is units state) = goes_on run next is units (ap alone state)
-  units_without (ends run is over state) = ends run is over (ap alone state)
 
   -- a flip
   pub started_without : {what : Condemn} {h h' : HeapState F} {m m' : Moves} → IsStarted layout what h m h' m'

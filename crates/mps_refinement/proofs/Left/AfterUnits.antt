@@ -1,7 +1,6 @@
 -- Units of a heap's collection: each is one less that is left, and after the last one none is.
 use Rattle.std.proofs.Common.{◌≡◌, ◌∙◌, ℕ, ◌+◌, ◌<◌, ◌≤◌, true, refl, sym, ap, subst, List, Option, Some, None, is_some, arith}
 use Rattle.std.proofs.lemmas.Bool.{false≢true}
-use Rattle.std.specs.Option.{option_map_or}
 use Rattle.std.specs.Prelude.{if◌then◌else◌, ◌≢◌}
 use Rattle.mps_base.specs.Trail.{Moves}
 use Rattle.mps_base.specs.declared.moves.Move.{Move}
@@ -26,8 +25,9 @@ use Rattle.mps_heap_spec.specs.declared.arena.ArenaState.TheVariants as arena
 use Rattle.mps_heap_spec.specs.declared.arena.Progress.{Progress}
 use Rattle.mps_heap_spec.specs.declared.arena.Progress.TheVariants.{Idle, More}
 use Rattle.mps_refinement.specs.StandsFor.{AreParts, Past, Runs, StandsFor, collector_of, runs}
-use Rattle.mps_refinement.specs.UnitsLeft.{StepsDown, units_from, units_left}
+use Rattle.mps_refinement.specs.UnitsLeft.{StepsDown, units_left}
 use Rattle.mps_refinement.proofs.Left.Alike.{units_alike}
+pub use Rattle.mps_refinement.proofs.Left.Alike.{none_at_rest}
 use Rattle.mps_refinement.proofs.Units.FromUnits.{collector_after}
 use Rattle.mps_refinement.proofs.Units.Ready.{units_are_few}
 use Rattle.mps_refinement.proofs.Following.Made.{following_leaves}
@@ -36,10 +36,6 @@ use Rattle.mps_refinement.proofs.Units.UnitsDone as going
 use Rattle.mps_refinement.proofs.Worlds.InSteps.{known_after_asked_units}
 use Rattle.mps_refinement.proofs.Worlds.RunningNow.{running_now}
 use Rattle.mps_refinement.proofs.Worlds.LikeReached.{IsBare}
-
--- at rest none is left
-pub none_at_rest : {F : Type 0} (h : HeapState F) → h.running ≡ None → units_left h ≡ 0
-none_at_rest h none = ap (λ (o : Option RunningState). option_map_or (units_from h.segs) o 0) none
 
 -- what a heap follows leaves as many
 pub as_many_followed : {F : Type 0} (layout : F → Layout) (h : HeapState F) (ms : List Move)

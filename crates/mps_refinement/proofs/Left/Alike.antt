@@ -1,5 +1,5 @@
 -- Where a collection runs a heap has as many units left as the abstract collector.
-use Rattle.std.proofs.Common.{◌≡◌, ◌∙◌, ◌+◌, ◌-◌, Bool, true, sym, ap, ap₂, subst, List, length, Option, Some, arith}
+use Rattle.std.proofs.Common.{◌≡◌, ◌∙◌, ◌+◌, ◌-◌, Bool, true, sym, ap, ap₂, subst, List, length, Option, Some, None, arith}
 use Rattle.std.specs.Prelude.{◌&&◌, ◌||◌, count_by, filter, is_some, nat_le}
 use Rattle.std.specs.Option.{option_map_or}
 use Rattle.mps_base.specs.Address.{Address, Id, grain_of, word_of}
@@ -119,3 +119,14 @@ module _ {F : Type 0} (layout : F → Layout) (past : Past) (h : HeapState F) (x
       let segments = ap (condemned_left h.segs) r.as_far.cursor ∙ segments_so x.cursor in
       now ∙ ap₂ (λ a b. a + b)
       (ap₂ (λ a b. a + b) blocks_so (ap₂ (λ a b. a - b) before next)) segments
+
+-- the same of a heap whose parts represent a well-formed world
+pub units_in_state : {F : Type 0} (layout : F → Layout) (past : Past) (h : HeapState F) (w : World) → AreParts layout past h w
+    → IsWellFormed w → (x : Collecting) → Runs past.time (collector_of h) w x → units_left h ≡ abstract.units_left x
+units_in_state layout past h w parts formed x r =
+    units_alike layout past h x (subst (AreParts layout past h) (sym r.world) parts) (subst IsWellFormed (sym r.world) formed)
+    (subst (λ v. Runs past.time (collector_of h) v x) (sym r.world) r)
+
+-- at rest none is left
+pub none_at_rest : {F : Type 0} (h : HeapState F) → h.running ≡ None → units_left h ≡ 0
+none_at_rest h none = ap (λ (o : Option RunningState). option_map_or (units_from h.segs) o 0) none

@@ -142,5 +142,5 @@ module _ {F : Type 0} (layout : F → Layout) (h : HeapState F) (whole : IsWhole
         reserves_within_by h.running h reserved.polled after
         (reserve_leaves_as_many layout polled.has.past reserved.polled polled.world polled.has.parts
         (subst (λ t. IsKnown t polled.world) (sym polled.has.timed) polled.known) after _ (right.right 0).stands
-        (subst (λ t. IsInTime t (collector_of reserved.polled) polled.world) (sym polled.has.timed) polled.now) reserved.trail_polled name head
-        result trail_after reserved.comes) polled.within
+        (subst (λ t. IsInTime t (collector_of reserved.polled) polled.world) (sym polled.has.timed) polled.now) reserved.trail_polled name
+        head result trail_after reserved.comes) polled.within

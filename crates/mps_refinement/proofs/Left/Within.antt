@@ -1,12 +1,12 @@
 -- At any time the units that were asked of a collection and those that a heap has left of it are no more than it may take.
-use Rattle.std.proofs.Common.{◌≡◌, ◌∙◌, ◌+◌, ◌≤◌, ap, sym, subst, arith}
+use Rattle.std.proofs.Common.{◌≡◌, ◌∙◌, ◌+◌, ◌≤◌, ap, sym, arith}
 use Rattle.std.proofs.lemmas.Option.{none-some, same_Some}
 use Rattle.mps_model.specs.Collection.{Collection}
 use Rattle.mps_model.specs.World.{World}
 use Rattle.mps_abstract.specs.Collecting.{Collecting}
-use Rattle.mps_refinement.specs.StandsFor.{AreParts, IsInTime, IsReached, Runs, collector_of, rests, runs}
+use Rattle.mps_refinement.specs.StandsFor.{IsInTime, Runs, collector_of, rests, runs}
 use Rattle.mps_refinement.specs.UnitsLeft.{UnitsStayWithin, units_left}
-use Rattle.mps_refinement.proofs.Left.Alike.{units_alike}
+use Rattle.mps_refinement.proofs.Left.Alike.{units_in_state}
 use Rattle.mps_refinement.proofs.Worlds.Reached.{reached_well_formed}
 
 pub units_stay_within : {F : Type 0} → UnitsStayWithin F
@@ -14,11 +14,7 @@ units_stay_within {F} layout h w c st there = of_time st.time
   where
     while_it_runs : (x : Collecting) → Runs st.past.time (collector_of h) w x → c.spent + units_left h ≤ c.units
     while_it_runs x r =
-        let left =
-        units_alike layout st.past h x (subst (AreParts layout st.past h) (sym r.world) st.parts)
-        (reached_well_formed x.world (subst IsReached (sym r.world) st.reached))
-        (subst (λ v. Runs st.past.time (collector_of h) v x) (sym r.world) r)
-        in
+        let left = units_in_state layout st.past h w st.parts (reached_well_formed w st.reached) x r in
         let same : x.running ≡ c =
         same_Some x.running c (sym r.invariant.runs ∙ ap (λ (v : World). v.collection) r.world ∙ there) in
         let within = r.invariant.units in

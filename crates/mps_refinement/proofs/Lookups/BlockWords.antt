@@ -41,7 +41,7 @@ module _ {F : Type 0} (layout : F → Layout) (h : HeapState F) where
   pub load_is_right : (place : Slot) (k : ℕ) (result : Checked ℕ) → result ≡ word_loaded h place k
       → IsRight layout h (call.Load place k) [] (answer_to says_number result) h
   load_is_right place k result is =
-      reading_is_right layout says_number h (call.Load place k) refl refl (λ a. refl) (word_loaded h place k) result (load_reads place k) is
+      reading_is_right layout says_number h (call.Load place k) refl refl (word_loaded h place k) result (load_reads place k) is
 
   -- ---- store
 
@@ -74,5 +74,5 @@ module _ {F : Type 0} (layout : F → Layout) (h : HeapState F) where
       → Comes h (word_stored h place k value) result after
       → IsRight layout h (call.Store place k value) [] (answer_to says_ok result) after
   store_is_right place k value result after comes =
-      quiet_is_right layout says_ok h (call.Store place k value) refl refl (λ a. refl) (word_stored h place k value) result after
+      quiet_is_right layout says_ok h (call.Store place k value) refl refl (word_stored h place k value) result after
       (λ w past parts reached. store_leads w past parts reached place k value) comes

@@ -34,7 +34,8 @@ use Rattle.mps_refinement.proofs.Parts.BlockWritten.{block_cleared, block_within
 use Rattle.mps_refinement.proofs.Parts.CachesWritten.{caches_written, heap_with_caches, world_with_caches}
 use Rattle.mps_refinement.proofs.Parts.FramedParts.{all_true}
 use Rattle.mps_refinement.proofs.Parts.PlaceWritten.{block_place_written}
-use Rattle.mps_refinement.proofs.Worlds.CachedBlocks.{taken_passes, taken_right, world_taken}
+use Rattle.mps_laws.proofs.TakenBlocks.{taken_right}
+use Rattle.mps_refinement.proofs.Worlds.CachedBlocks.{taken_passes, world_taken}
 use Rattle.mps_refinement.proofs.Worlds.Known.{IsKnown}
 use Rattle.mps_refinement.proofs.Worlds.ZeroedWords.{zeroed_cleared}
 

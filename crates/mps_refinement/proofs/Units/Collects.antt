@@ -152,7 +152,6 @@ module _ {F : Type 0} (layout : F → Layout) (w : World) (m : Moves) (between :
           there.appended ∙ ap (λ ms. ms ++ there.moves) is.appended ∙ append_assoc m.moves is.moves there.moves;
       right = λ line.
           made_step_is_right layout w reach line call.Collect both ok (world_collected w both) (record {
-            supported = refl;
             arena = refl;
             collectors = refl;
             due = record {

@@ -211,7 +211,8 @@ module _ {F : Type 0} (layout : F → Layout) (formats : List (Option (Policy F)
 
 module _ {F : Type 0} (layout : F → Layout) (past : Past) (h : HeapState F) (x : Collecting) (parts : AreParts layout past h x.world)
     (formed : IsWellFormed x.world) (none : x.world.graph.dependents ≡ []) (running : Running x)
-    (flip : AreOfFlip past.time.at_flip x.world) (formats : List (Option (Policy F))) (of : ChainsState) (y : Collecting) (ms : List Move) (leads : world_after_moves x.world ms ≡ y.world)
+    (flip : AreOfFlip past.time.at_flip x.world) (formats : List (Option (Policy F))) (of : ChainsState) (y : Collecting)
+    (ms : List Move) (leads : world_after_moves x.world ms ≡ y.world)
     (left : IsButCollected x.world y.world) (stays : StaysInPlace x y) (z : Traced) (f : FinalsState) (run : RunningState)
     (stands : UnitStands layout formats of past.time.at_flip z f run y) where
   abbrev pub time_then : Time

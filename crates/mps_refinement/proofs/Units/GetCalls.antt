@@ -37,6 +37,7 @@ use Rattle.mps_refinement.proofs.Worlds.LikeReached.{IsBare}
 use Rattle.mps_refinement.proofs.Units.UnitsMade.{since_are}
 use Rattle.mps_refinement.proofs.Following.WithoutPairs.{alone}
 use Rattle.mps_refinement.proofs.Worlds.RunningNow.{resting_now, running_now}
+use Rattle.mps_refinement.proofs.Worlds.Steps.{of_collector}
 use Rattle.mps_heap_spec.specs.Following.{moves_followed}
 
 module _ {F : Type 0} (layout : F → Layout) (h : HeapState F) (m : Moves) (room : most_moves h.segs.grains ≤ m.spare) where
@@ -166,8 +167,8 @@ module _ {F : Type 0} (layout : F → Layout) (h : HeapState F) (m : Moves) (roo
             appended = here.appended;
             right = λ v line stands.
                 let there = got_in v stands in
-                subst (λ ms. IsRightIn layout v (step_of line c ms (answer_to says_ok result)) after)
-                (append_cancel_left m.moves there.moves here.moves (sym there.appended ∙ here.appended)) (there.right line);
+                of_collector layout h refl (subst (λ ms. IsRightIn layout v (step_of line c ms (answer_to says_ok result)) after)
+                (append_cancel_left m.moves there.moves here.moves (sym there.appended ∙ here.appended)) (there.right line));
           },
           here.kept,
         )

@@ -95,7 +95,6 @@ module _ {F : Type 0} (layout : F → Layout) (past : Past) (h : HeapState F) (w
       → IsRightIn layout w (step_of line c [] (refused why)) h
   refused_get_is_right now why e =
       refusal_is_right layout past h w line c why refl reach parts now (record {
-        supported = refl;
         legal = tt;
         due = no_barrier (is_running w);
         possible = tt;
@@ -317,7 +316,6 @@ module _ {F : Type 0} (layout : F → Layout) (past : Past) (h : HeapState F) (w
       own =
           let placed = placed_from_layout (u.grains + 1) u knows_then.laid in
           record {
-            supported = refl;
             collected = sym on.world;
             legal = made.legal;
             due = due.1;

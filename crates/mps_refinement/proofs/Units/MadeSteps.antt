@@ -6,7 +6,7 @@ use Rattle.mps_format.specs.Layout.{Layout}
 use Rattle.mps_abstract.specs.ClientLaws.{position_taken}
 use Rattle.mps_changes.specs.Change.{makes_arena}
 use Rattle.mps_model.specs.declared.call.Call.{Call}
-use Rattle.mps_model.specs.Answer.{Answer, is_block, is_unsupported}
+use Rattle.mps_model.specs.Answer.{Answer, is_block}
 use Rattle.mps_model.specs.Checked.{Act, Checked}
 use Rattle.mps_model.specs.History.{AreMovesOf, IsPossiblyMarked, judged_world, moved_world, moves_of_collector}
 use Rattle.mps_model.specs.LegalMove.{AreLegalMoves}
@@ -22,7 +22,6 @@ use Rattle.mps_refinement.proofs.Worlds.Steps.{keeps_still, moved_to_rest, run_k
 
 -- a call with these moves and this answer, whose act leaves this world
 pub record LeavesAsMoved (w : World) (c : Call) (ms : List Move) (answer : Answer) (u : World) : Type 0 where
-  pub supported : is_unsupported answer ≡ false
   pub arena : makes_arena c ≡ false
   pub collectors : moves_of_collector c ms ≡ ms
   pub due : AreMovesOf w c answer ms
@@ -51,13 +50,11 @@ module _ {F : Type 0} (layout : F → Layout) (w : World) (reach : IsReached w) 
             comes = is.comes;
             answers = refl;
             marked = is.possible;
-            supported = is.supported;
             sound = resting_sound u rest.none made.live;
           }) made.has rest
       of_time (runs y r) =
           runs_on_is_right layout t (collector_of h) w u y r line c (is.not_taken y.world) ms answer h result is.arena reach
           (still_step_runs_on w y line c ms answer result r.invariant (record {
-            supported = is.supported;
             legal = legal;
             due = is.due;
             possible = is.possible;

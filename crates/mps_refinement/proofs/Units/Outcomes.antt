@@ -37,7 +37,7 @@ use Rattle.mps_heap_spec.specs.declared.arena.Progress.TheVariants.{Idle, More}
 use Rattle.mps_refinement.specs.Answering.{says_progress}
 use Rattle.mps_refinement.specs.Collect.Collecting.{ACollectIsRight}
 use Rattle.mps_refinement.specs.RightMoving.{IsRightMoving, IsRightMovingIn, KeepsRoom}
-use Rattle.mps_refinement.specs.RightStep.{IsRightIn, step_of}
+use Rattle.mps_refinement.specs.RightStep.{IsRightIn, is_of_client, step_of}
 use Rattle.mps_refinement.specs.StandsFor.{CollectorState, IsInTime, StandsFor, Time, rests, runs, state_of, time_at_rest}
 use Rattle.mps_refinement.proofs.Calls.ArenaCalls.{resting_park_is_right}
 use Rattle.mps_refinement.proofs.Following.Made.{following_leaves}
@@ -55,23 +55,24 @@ use Rattle.mps_refinement.proofs.Units.UnitsDone as going
 use Rattle.mps_refinement.proofs.Worlds.InSteps.{like_by_moves, running_unparked}
 use Rattle.mps_refinement.proofs.Worlds.LikeReached.{like_reached}
 use Rattle.mps_refinement.proofs.Worlds.RunningNow.{resting_now, running_now}
+use Rattle.mps_refinement.proofs.Worlds.Steps.{of_collector}
 
 -- ---- in each world
 
--- what is right in each world, by the moves that a trail got, is right
-pub right_in_each : {F : Type 0} (layout : F → Layout) (h : HeapState F) (c : Call) (trail trail_after : List Move) (answer : Answer)
-    (after : HeapState F) → (w : World) × StandsFor layout h w
+-- what a call in which a collector works does is right if it is right in each world, by the moves that a trail got
+pub right_in_each : {F : Type 0} (layout : F → Layout) (h : HeapState F) (c : Call) → is_of_client c ≡ false
+    → (trail trail_after : List Move) (answer : Answer) (after : HeapState F) → (w : World) × StandsFor layout h w
     → ((w : World) → StandsFor layout h w → IsRightMovingIn layout w c trail trail_after answer after)
     → IsRightMoving layout h c trail trail_after answer after
-right_in_each layout h c trail trail_after answer after one each =
+right_in_each layout h c not trail trail_after answer after one each =
     let here = each one.0 one.1 in
     record {
       moves = here.moves;
       appended = here.appended;
       right = λ w line stands.
           let there = each w stands in
-          subst (λ ms. IsRightIn layout w (step_of line c ms answer) after)
-          (append_cancel_left trail there.moves here.moves (sym there.appended ∙ here.appended)) (there.right line);
+          of_collector layout h not (subst (λ ms. IsRightIn layout w (step_of line c ms answer) after)
+          (append_cancel_left trail there.moves here.moves (sym there.appended ∙ here.appended)) (there.right line));
     }
 
 -- whether a collection is in progress, as it is said
@@ -328,6 +329,7 @@ a_collect_is_right layout h m between m_between h' m' may made first whole_then 
     collect_is_right layout h may.whole m (omega (arith, both_fit)) w st both_fit between m_between whole_then first made h' m' collected in
     record {
       right =
-          right_in_each layout h call.Collect m.moves m'.moves (Replied reply.Ok) h' (may.world, may.stands) (λ w st. (of_world w st).0);
+          right_in_each layout h call.Collect refl m.moves m'.moves (Replied reply.Ok) h' (may.world, may.stands)
+          (λ w st. (of_world w st).0);
       room = (of_world may.world may.stands).1;
     }

@@ -60,7 +60,6 @@ module _ {F : Type 0} (layout : F → Layout) (w : World) (reach : IsReached w) 
     appended = is.appended;
     right = λ line.
         made_step_is_right layout w reach line call.Park is.moves ok u (record {
-          supported = refl;
           arena = refl;
           collectors = refl;
           due = is.finishes;

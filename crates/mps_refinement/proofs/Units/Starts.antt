@@ -42,7 +42,7 @@ use Rattle.mps_heap_spec.specs.Units.{IsWhole}
 use Rattle.mps_heap_spec.specs.declared.found.Kept.{Kept}
 use Rattle.mps_refinement.specs.Answering.{answer_to, says_ok}
 use Rattle.mps_refinement.specs.RightMoving.{IsRightMoving, IsRightMovingIn, KeepsRoom}
-use Rattle.mps_refinement.specs.RightStep.{IsRightIn, step_of}
+use Rattle.mps_refinement.specs.RightStep.{IsRightIn, is_of_client, step_of}
 use Rattle.mps_refinement.specs.Following.{unpaired}
 use Rattle.mps_refinement.specs.StandsFor.{IsInTime, IsReached, StandsFor, collector_of, rests, runs}
 use Rattle.mps_refinement.proofs.Collect.BeforeAFlip.{is_before}
@@ -73,6 +73,7 @@ ok = Replied reply.Ok
 -- a call that flips this, if no collection runs
 pub record IsStartOf (w : World) (c : Call) (what : Condemnation) : Type 0 where
   pub arena : makes_arena c ≡ false
+  pub collector : is_of_client c ≡ false
   pub not_taken : (v : World) → position_taken v c ≡ Err refusal.NotRegistered
   pub all_collectors : moves_of_collector c (flip_act w what) ≡ flip_act w what
   pub due : AreMovesOf w c ok (flip_act w what)
@@ -83,6 +84,7 @@ pub record IsStartOf (w : World) (c : Call) (what : Condemnation) : Type 0 where
 -- one that is refused so
 pub record IsRefused (w : World) (c : Call) (why : Refusal) : Type 0 where
   pub arena : makes_arena c ≡ false
+  pub collector : is_of_client c ≡ false
   pub not_taken : (v : World) → position_taken v c ≡ Err refusal.NotRegistered
   pub no_moves : moves_of_collector c [] ≡ []
   pub due : AreMovesOf w c (refused why) []
@@ -96,9 +98,16 @@ pub data AreChecked {F : Type 0} (h : HeapState F) (w : World) (c : Call) : Chec
       → AreChecked h w c (Ok what)
   not_accepted : {why : Refusal} → IsRefused w c why → AreChecked h w c (Err why)
 
+-- in either a collector works
+collects : {F : Type 0} {h : HeapState F} {w : World} {c : Call} {checked : Checked Condemn} → AreChecked h w c checked
+    → is_of_client c ≡ false
+collects (accepted none numbered is) = is.collector
+collects (not_accepted is) = is.collector
+
 start_of_everything : (w : World) → IsStartOf w call.Start Everything
 start_of_everything w = record {
   arena = refl;
+  collector = refl;
   not_taken = λ v. refl;
   all_collectors = refl;
   due = refl;
@@ -110,6 +119,7 @@ start_of_everything w = record {
 start_is_refused : (w : World) → is_running w ≡ true → IsRefused w call.Start refusal.Running
 start_is_refused w there = record {
   arena = refl;
+  collector = refl;
   not_taken = λ v. refl;
   no_moves = refl;
   due = refl;
@@ -131,6 +141,7 @@ module _ (w : World) (chain : Name) (oldest : ℕ) where
       let u = world_after_moves w (flip_act w (Generations on.number oldest)) in
       record {
         arena = refl;
+        collector = refl;
         not_taken = λ v. refl;
         all_collectors = refl;
         due = sym (ap (λ x. flip_act_of_chain w x oldest) found);
@@ -145,6 +156,7 @@ module _ (w : World) (chain : Name) (oldest : ℕ) where
       → IsRefused w (call.StartChain chain oldest) why
   start_chain_is_refused why comes = record {
     arena = refl;
+    collector = refl;
     not_taken = λ v. refl;
     no_moves = refl;
     due = refl;
@@ -239,7 +251,6 @@ module _ (w : World) (reach : IsReached w) (c : Call) (line : ℕ) where
       → IsRightIn layout w (step_of line c (flip_act w what) ok) h'
   flip_step_is_right layout what m h' m' none starts flipped =
       made_step_is_right layout w reach line c (flip_act w what) ok (with_state (world_after_moves w (flip_act w what)) Unclamped) (record {
-        supported = refl;
         arena = starts.arena;
         collectors = starts.all_collectors;
         due = starts.due;
@@ -255,7 +266,6 @@ module _ (w : World) (reach : IsReached w) (c : Call) (line : ℕ) where
       → IsRightIn layout w (step_of line c [] (refused why)) h
   refused_step_is_right layout h st why is =
       refusal_is_right layout st.past h w line c why is.arena reach st.parts st.time (record {
-        supported = refl;
         legal = subst (AreLegalMoves w None) (sym is.no_moves) tt;
         due = is.due;
         possible = is.possible;
@@ -346,7 +356,7 @@ module _ {F : Type 0} (layout : F → Layout) (h : HeapState F) (whole : IsWhole
         → Starts layout checked h m result h' m'
         → IsRightMoving layout h c m.moves m'.moves (answer_to says_ok result) h' × KeepsRoom m m'
     a_start_is_right one checks starts = (
-      right_in_each layout h c m.moves m'.moves (answer_to says_ok result) h' one
+      right_in_each layout h c (collects (checks one.0 one.1)) m.moves m'.moves (answer_to says_ok result) h' one
           (λ w st. (in_world checked w st (checks w st) starts).right),
       (in_world checked one.0 one.1 (checks one.0 one.1) starts).room,
     )

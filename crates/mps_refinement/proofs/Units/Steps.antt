@@ -10,7 +10,7 @@ use Rattle.mps_laws.proofs.SameArena.{moved_alone}
 use Rattle.mps_model.specs.declared.call.Call.{Call}
 use Rattle.mps_model.specs.declared.call.Call.TheVariants as call
 use Rattle.mps_model.specs.declared.reply.Reply.TheVariants as reply
-use Rattle.mps_model.specs.Answer.{Answer, Replied, is_unsupported}
+use Rattle.mps_model.specs.Answer.{Answer, Replied}
 use Rattle.mps_model.specs.Collecting.{act_step}
 use Rattle.mps_model.specs.Collection.{Collection}
 use Rattle.mps_model.specs.Effect.{world_after_moves}
@@ -48,19 +48,12 @@ module _ {F : Type 0} (layout : F → Layout) (w : World) (reach : IsReached w) 
       of_running true e = is.units e
       of_running false e = is.none e
 
-  supported_then : is_unsupported said_then ≡ false
-  supported_then = elim (is_running u) as (λ b. is_unsupported (Replied (if b then reply.More else reply.Idle)) ≡ false) [
-    | true ↦ refl
-    | false ↦ refl
-  ]
-
   pub step_is_right : IsRightMovingIn layout w (call.Step n) m.moves m'.moves said_then h
   step_is_right = record {
     moves = is.moves;
     appended = is.appended;
     right = λ line.
         made_step_is_right layout w reach line (call.Step n) is.moves said_then u (record {
-          supported = supported_then;
           arena = refl;
           collectors = refl;
           due = due_then;
@@ -101,12 +94,6 @@ module _ {F : Type 0} (layout : F → Layout) (past : Past) (h : HeapState F) (w
   comes_still : act_step (asking (if is_unclamped w then Some n else None) w) ≡ Ok (record { answer = answer; world = w })
   comes_still = ap act_step none_asked
 
-  supported : is_unsupported answer ≡ false
-  supported = elim (is_running w) as (λ b. is_unsupported (Replied (if b then reply.More else reply.Idle)) ≡ false) [
-    | true ↦ refl
-    | false ↦ refl
-  ]
-
   due_still : MatchBool (is_unclamped w && is_running w) (AreUnits w n []) ([] ≡ no_moves)
   due_still = subst (λ b. MatchBool b (AreUnits w n []) ([] ≡ no_moves)) (sym idle) refl
 
@@ -119,7 +106,6 @@ module _ {F : Type 0} (layout : F → Layout) (past : Past) (h : HeapState F) (w
         comes = comes_still;
         answers = refl;
         marked = tt;
-        supported = supported;
         sound = reached_sound w reach rest.none;
       })
       (record { past = past; timed = refl; parts = parts }) rest
@@ -127,7 +113,6 @@ module _ {F : Type 0} (layout : F → Layout) (past : Past) (h : HeapState F) (w
       runs_on_is_right layout past.time (collector_of h) w w y q line the_call refl [] answer h
       (Ok (record { answer = answer; world = w })) refl reach
       (still_step_runs_on w y line the_call [] answer (Ok (record { answer = answer; world = w })) q.invariant (record {
-        supported = supported;
         legal = tt;
         due = due_still;
         possible = tt;

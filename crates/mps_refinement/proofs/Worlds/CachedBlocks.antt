@@ -1,8 +1,8 @@
 -- Worlds in which a block was taken from a cache, or put into one: what they hold is live, and they are laid out.
-use Rattle.std.proofs.Common.{◌≡◌, ◌∙◌, ℕ, ◌+◌, Bool, true, false, refl, sym, ap, subst, List, [], ◌∷◌, Option, Some, None, inl, inr}
-use Rattle.std.proofs.lemmas.Bool.{and_parts, cases_eq, eqb-true}
-use Rattle.std.proofs.lemmas.Option.{none-some, same_Some, slice_get_within}
-use Rattle.std.specs.Prelude.{◌==◌, ◌||◌, if◌then◌else◌, option_map, slice_get, slice_set}
+use Rattle.std.proofs.Common.{◌≡◌, ◌∙◌, ℕ, ◌+◌, Bool, true, refl, sym, ap, subst, List, [], ◌∷◌, Option, Some, None, inl, inr}
+use Rattle.std.proofs.lemmas.Bool.{cases_eq}
+use Rattle.std.proofs.lemmas.Option.{slice_get_within}
+use Rattle.std.specs.Prelude.{◌||◌, slice_get, slice_set}
 use Rattle.std.specs.List.{flat_map, list_all}
 use Rattle.std.specs.Option.{option_map_or}
 use Rattle.mps_base.specs.declared.moves.Move.{Move}
@@ -17,13 +17,12 @@ use Rattle.mps_laws.proofs.Replays.ManualSteps.{take_step}
 use Rattle.mps_laws.proofs.Replays.Steps.{remembered_kept}
 use Rattle.mps_model.specs.declared.reply.Reply.TheVariants as reply
 use Rattle.mps_model.specs.Answer.{Answer, Replied}
-use Rattle.mps_model.specs.Caches.{act_cache_alloc, act_cache_free, body_cleared, graph_cached, graph_cleared, graph_uncached, kept_in, last_of, taken_from, with_classes, without_last}
+use Rattle.mps_model.specs.Caches.{act_cache_alloc, act_cache_free, body_cleared, graph_cached, graph_cleared, graph_uncached, kept_in, taken_from, with_classes}
 use Rattle.mps_model.specs.Checked.{Found, Numbered, block_place_in, cache_named, done, with_graph}
 use Rattle.mps_model.specs.Effect.{world_after_moves}
 use Rattle.mps_model.specs.Graph.{Body, Automatic, Manual, Cache, CacheClass, Graph, Object, ids_in_blocks, ids_in_caches, ids_in_places, object_at, targets, targets_of, targets_of_body}
 use Rattle.mps_model.specs.History.{HeldAreLive, moves_of_cache_alloc, moves_of_cache_free, unless_refused, with_client_remembered}
 use Rattle.mps_model.specs.Reply.{answer_from, world_from}
-use Rattle.mps_model.specs.WellFormed.{is_right_block, is_right_class}
 use Rattle.mps_model.specs.World.{World, is_live, is_running, live_ids}
 
 abbrev ok : Answer
@@ -61,50 +60,6 @@ flat_map_same f g [] same = refl
 flat_map_same f g (x ∷ xs) same =
     ap (λ ys. Rattle.std.specs.Prelude.◌++◌ ys (flat_map f xs)) (same x)
     ∙ ap (λ ys. Rattle.std.specs.Prelude.◌++◌ (g x) ys) (flat_map_same f g xs same)
-
--- ---- what lies in a class
-
-last_passes : (test : ℕ → Bool) (ids : List ℕ) (id : ℕ) → list_all test ids ≡ true → last_of ids ≡ Some id → test id ≡ true
-last_passes test [] id all e = absurd (none-some id e)
-last_passes test (n ∷ []) id all e =
-    subst (λ m. test m ≡ true) (same_Some n id e) (and_parts (test n) true all).0
-last_passes test (n ∷ m ∷ ids) id all e = last_passes test (m ∷ ids) id (and_parts (test n) (list_all test (m ∷ ids)) all).1 e
-
--- the block that is taken is of the pool and of the size of its class
-pub taken_right : (w : World) (pool words : ℕ) (ks : List CacheClass) (id : ℕ) (left : List CacheClass)
-    → list_all (is_right_class w pool) ks ≡ true → taken_from ks words ≡ Some (id, left) → is_right_block w pool words id ≡ true
-taken_right w pool words [] id left all e = absurd (none-some (id, left) e)
-taken_right w pool words (k ∷ ks) id left all e =
-    let parts = and_parts (is_right_class w pool k) (list_all (is_right_class w pool) ks) all in
-    of_size (k.words == words) refl (λ rest is. taken_right w pool words ks id rest parts.1 is) parts.0 e
-  where
-    of_last : k.words ≡ words → list_all (is_right_block w pool k.words) k.cached ≡ true → (o : Option ℕ) → last_of k.cached ≡ o
-        → option_map {U = ℕ × List CacheClass} (λ i. (i, record k { cached = without_last k.cached } ∷ ks)) o ≡ Some (id, left)
-        → is_right_block w pool words id ≡ true
-    of_last size all None is h = absurd (none-some (id, left) h)
-    of_last size all (Some last) is h =
-        let same : last ≡ id =
-        ap (λ (t : ℕ × List CacheClass). t.0) (same_Some (last, record k { cached = without_last k.cached } ∷ ks) (id, left) h) in
-        subst (λ n. is_right_block w pool n id ≡ true) size
-        (last_passes (is_right_block w pool k.words) k.cached id all (is ∙ ap Some same))
-
-    of_rest : ((rest : List CacheClass) → taken_from ks words ≡ Some (id, rest) → is_right_block w pool words id ≡ true)
-        → (o : Option (ℕ × List CacheClass)) → taken_from ks words ≡ o
-        → option_map {U = ℕ × List CacheClass} (λ t. (t.0, k ∷ t.1)) o ≡ Some (id, left) → is_right_block w pool words id ≡ true
-    of_rest later None is h = absurd (none-some (id, left) h)
-    of_rest later (Some taken) is h =
-        let same : taken.0 ≡ id =
-        ap (λ (t : ℕ × List CacheClass). t.0) (same_Some (taken.0, k ∷ taken.1) (id, left) h) in
-        later taken.1 (is ∙ ap (λ n. Some (n, taken.1)) same)
-
-    of_size : (b : Bool) → (k.words == words) ≡ b
-        → ((rest : List CacheClass) → taken_from ks words ≡ Some (id, rest) → is_right_block w pool words id ≡ true)
-        → list_all (is_right_block w pool k.words) k.cached ≡ true
-        → (if b then option_map {U = ℕ × List CacheClass} (λ i. (i, record k { cached = without_last k.cached } ∷ ks)) (last_of k.cached)
-        else option_map {U = ℕ × List CacheClass} (λ t. (t.0, k ∷ t.1)) (taken_from ks words)) ≡ Some (id, left)
-        → is_right_block w pool words id ≡ true
-    of_size true same later all h = of_last (eqb-true k.words words same) all (last_of k.cached) refl h
-    of_size false same later all h = of_rest later (taken_from ks words) refl h
 
 -- ---- a block comes from a cache
 
@@ -169,13 +124,13 @@ module _ (w : World) (line : ℕ) (laid : HasLayout (w.grains + 1) w) (name : Na
   pub taken_laid : (words : ℕ) → ms ≡ unless_refused ok (moves_of_cache_alloc w (cache_named w name) words)
       → act_cache_alloc w (world_after_moves w ms) name words place ≡ done v → HasLayout (w.grains + 1) v
   taken_laid words due comes =
-      let r = take_step (w.grains + 1) 0 line w laid name words place ms ok refl due (ap answer_from (sym comes)) in
+      let r = take_step (w.grains + 1) 0 line w laid name words place ms ok due (ap answer_from (sym comes)) in
       subst (IsLaidOut (w.grains + 1)) (remembered_kept v)
       (subst (λ x. HasLayout (w.grains + 1) (with_client_remembered (world_from (world_after_moves w ms) x))) comes r.layout)
 
   pub kept_laid : ms ≡ unless_refused ok (moves_of_cache_free w (cache_named w name) (block_place_in w place))
       → act_cache_free (world_after_moves w ms) name place ≡ done v → HasLayout (w.grains + 1) v
   kept_laid due comes =
-      let r = cache_free_step (w.grains + 1) 0 line w laid name place ms ok refl due in
+      let r = cache_free_step (w.grains + 1) 0 line w laid name place ms ok due in
       subst (IsLaidOut (w.grains + 1)) (remembered_kept v)
       (subst (λ x. HasLayout (w.grains + 1) (with_client_remembered (world_from (world_after_moves w ms) x))) comes r.layout)

@@ -1,9 +1,10 @@
 -- What is known of the worlds in the middle of a step: those to which a read barrier, units or the end of a collection lead from one that
 -- is like a reached one.
-use Rattle.std.proofs.Common.{◌≡◌, ◌∙◌, ◌+◌, true, false, refl, sym, ap, subst, List, [], ◌∷◌, Some, None, inl, inr}
-use Rattle.std.proofs.lemmas.Bool.{cases_Bool, false≢true, or_right}
-use Rattle.std.specs.Prelude.{ℕ, Bool, ◌&&◌, ◌||◌, is_some, not, slice_get}
+use Rattle.std.proofs.Common.{◌≡◌, ◌∙◌, ◌+◌, true, false, refl, sym, ap, subst, List, [], ◌∷◌, length, Option, Some, None, inl, inr}
+use Rattle.std.proofs.lemmas.Bool.{and_from, and_parts, cases_Bool, false≢true, or_right}
+use Rattle.std.specs.Prelude.{ℕ, Bool, ◌&&◌, ◌||◌, is_some, nat_le, not, option_map, slice_get}
 use Rattle.std.specs.List.{flat_map, list_all}
+use Rattle.std.specs.Option.{option_map_or}
 use Rattle.mps_base.specs.Address.{Id}
 use Rattle.mps_base.specs.Segment.{Segment}
 use Rattle.mps_base.specs.declared.moves.Move.{Move}
@@ -29,23 +30,28 @@ use Rattle.mps_laws.proofs.Positions.LaidOut.{IsLaidOut}
 use Rattle.mps_laws.proofs.Positions.LegalMoves.{HasLayout}
 use Rattle.mps_laws.proofs.Replays.ReplayOfMoves.{moves_replayed}
 use Rattle.mps_laws.proofs.Replays.Steps.{asking_kept}
+use Rattle.mps_laws.proofs.RunningCollection.{running_in_steps}
 use Rattle.mps_laws.proofs.SameArena.{moved_alone}
+use Rattle.mps_laws.proofs.SegmentPools.{of_pools_in_steps}
 use Rattle.mps_laws.proofs.Sound.HeldIds.{all-append}
 use Rattle.mps_laws.proofs.Sound.PoolsThere.{HasPools, moves_leave_pools}
 use Rattle.mps_laws.proofs.Sound.SoundGraph.{All, IsSoundGraph, auto}
 use Rattle.mps_laws.proofs.Sound.SoundHistories.{slots_held}
 use Rattle.mps_laws.proofs.Sound.SoundMoves.{moves_well}
+use Rattle.mps_laws.proofs.Spending.{SpendsWithin, moves_spend, spends_within}
+use Rattle.mps_laws.proofs.ThingsNamed.{names_in_steps}
+use Rattle.mps_laws.proofs.WithinLimit.{within_in_steps}
 use Rattle.mps_model.specs.declared.call.Call.TheVariants as call
 use Rattle.mps_model.specs.Collecting.{with_state}
-use Rattle.mps_model.specs.Collection.{is_condemned}
+use Rattle.mps_model.specs.Collection.{Collection, is_condemned}
 use Rattle.mps_model.specs.Effect.{world_after_moves}
 use Rattle.mps_model.specs.Graph.{contains, ids_in_blocks, ids_of_client, is_automatic, object_at, targets, thing_in}
 use Rattle.mps_model.specs.History.{HeldAreLive, asking}
 use Rattle.mps_model.specs.LegalMove.{AreLegalMoves}
-use Rattle.mps_model.specs.WellFormed.{IsWellFormed, is_live_automatic}
-use Rattle.mps_model.specs.World.{World, Unclamped, address_of, ids_in_pairs, is_live, is_parked, is_running, live_ids, object_is}
+use Rattle.mps_model.specs.WellFormed.{IsWellFormed, is_live_automatic, is_right_collection}
+use Rattle.mps_model.specs.World.{World, Unclamped, address_of, ids_in_pairs, is_live, is_parked, is_running, live_ids, object_is, segment_at}
 use Rattle.mps_model.proofs.Reaching.{list_all-contains}
-use Rattle.mps_refinement.specs.StandsFor.{CollectorState, IsInTime, Time}
+use Rattle.mps_refinement.specs.StandsFor.{CollectorState, IsInTime, Time, rests, runs}
 use Rattle.mps_refinement.proofs.Worlds.Known.{IsKnown, known_of, not_both}
 use Rattle.mps_refinement.proofs.Worlds.LikeReached.{IsLikeReached, formed_in_steps}
 use Rattle.mps_refinement.proofs.Worlds.PlacedOnce.{ArePlacedOnce}
@@ -65,6 +71,8 @@ running_unparked w formed running =
 formed_again : (w : World) → is_parked w ≡ false → IsWellFormed (with_state w Unclamped) → IsWellFormed w
 formed_again w unparked f = record {
   segments = f.segments;
+  limit = f.limit;
+  pools = f.pools;
   addresses = f.addresses;
   apart = f.apart;
   objects = f.objects;
@@ -76,14 +84,45 @@ formed_again w unparked f = record {
   blocks = f.blocks;
   registered = f.registered;
   messages = f.messages;
+  names = f.names;
   labels = f.labels;
   dependents = f.dependents;
   parked = ap (λ b. not (b && is_running w)) unparked;
+  running = f.running;
   transforms = ap (list_all (is_live_automatic w)) (none_there w.state unparked);
   caches = f.caches;
   frames = f.frames;
   dependencies = f.dependencies;
 }
+
+-- no more units were asked of a collection that a heap has than it may take
+spends_in_time : (t : Time) (s : CollectorState) (w : World) → IsInTime t s w → SpendsWithin w
+spends_in_time t s w (rests r) = ap (λ o. option_map_or (λ (c : Collection). nat_le c.spent c.units) o true) r.none
+spends_in_time t s w (runs x r) = subst SpendsWithin r.world (spends_within x.world (left_rightly x r.invariant).units_are_left)
+
+-- a collection of which this many units more are asked
+abbrev asked_more : (count : ℕ) → Collection → Collection
+asked_more count c = record c { spent = c.spent + count }
+
+-- what a running collection names is there still once units are asked of it
+right_asked : (w : World) (count : ℕ) (o : Option Collection) → option_map_or (is_right_collection w) o true ≡ true
+    → option_map_or (λ (c : Collection). nat_le c.spent c.units) (option_map (asked_more count) o) true ≡ true
+    → option_map_or (is_right_collection (asking (Some count) w)) (option_map (asked_more count) o) true ≡ true
+right_asked w count None h spends = refl
+right_asked w count (Some c) h spends =
+    let automatic = list_all (object_is is_automatic w) c.condemned in
+    let held = list_all (λ base. is_some (segment_at w base)) c.condemned_segments in
+    let examined = nat_le c.examined c.registered_before in
+    let registered = nat_le c.registered_before (length w.graph.registered) in
+    let before = nat_le c.spent c.units in
+    let after = nat_le (c.spent + count) c.units in
+    let first = and_parts automatic (held && (examined && (registered && before))) h in
+    let second = and_parts held (examined && (registered && before)) first.1 in
+    let third = and_parts examined (registered && before) second.1 in
+    and_from automatic (held && (examined && (registered && after))) first.0
+    (and_from held (examined && (registered && after)) second.0
+    (and_from examined (registered && after) third.0
+    (and_from registered after (and_parts registered before third.1).0 spends)))
 
 -- ---- manual blocks
 
@@ -172,10 +211,14 @@ module _ (w : World) (like : IsLikeReached w) (ms : List Move) (legal : AreLegal
         record {
           kept = record {
             layout = laid_by_moves;
+            within = within_in_steps (w.grains + 1) w ms k.layout k.pools legal k.within;
+            pools = pools_by_moves;
+            of_pools = of_pools_in_steps (w.grains + 1) w ms k.layout k.pools legal k.of_pools;
             blocks = live.blocks;
             slots = slots_held after live;
             held = live;
             sound = graph_by_moves;
+            names = names_in_steps w ms k.names;
             named = λ number label e. ap (λ ns. thing_in ns label) alone.names
                 ∙ k.named number label (sym (ap (λ ls. slice_get ls number) alone.labels) ∙ e);
             paired = moves_paired w ms k.paired;
@@ -183,6 +226,8 @@ module _ (w : World) (like : IsLikeReached w) (ms : List Move) (legal : AreLegal
             framed = frames_moved w after alone.shapes alone.pools alone.blocks alone.frames k.framed;
             dated = dated_in_steps w ms k.dated;
             rests = λ parked. absurd (false≢true (sym unparked ∙ parked));
+            runs = running_in_steps w None ms legal k.runs;
+            spends = moves_spend w ms k.spends;
             pairs = subst (All (auto after)) (sym (none_there after.state unparked)) refl;
           };
           formed = formed_by_moves;
@@ -199,6 +244,8 @@ module _ (w : World) (like : IsLikeReached w) (ms : List Move) (legal : AreLegal
       let g = graph_by_moves in
       known_of now s u (record {
         segments = f.segments;
+        limit = f.limit;
+        pools = f.pools;
         addresses = f.addresses;
         apart = f.apart;
         objects = f.objects;
@@ -210,9 +257,11 @@ module _ (w : World) (like : IsLikeReached w) (ms : List Move) (legal : AreLegal
         blocks = f.blocks;
         registered = f.registered;
         messages = f.messages;
+        names = f.names;
         labels = f.labels;
         dependents = f.dependents;
         parked = ap (λ b. not (b && is_running u)) unparked;
+        running = right_asked after count after.collection f.running (spends_in_time now s u time);
         transforms = f.transforms;
         caches = f.caches;
         frames = f.frames;
@@ -255,9 +304,6 @@ module _ (x : Collecting) (run : Running x) (like : IsLikeReached x.world) (ms :
       ∙ list_all-contains (is_live w) (ids_in_blocks w.graph) id like.kept.held.blocks there)
 
   module _ (live : HeldAreLive v) where
-    formed_then : IsWellFormed v
-    formed_then = formed_by_moves w like ms legal unparked live
-
     pub known_then : (now : Time) (s : CollectorState) → IsInTime now s v → IsKnown now v
     known_then now s time = known_by_moves w like ms legal unparked live now s time
 

@@ -11,12 +11,17 @@ use Rattle.mps_laws.proofs.Epochs.{dated_in_steps}
 use Rattle.mps_laws.proofs.Frames.{frames_moved}
 use Rattle.mps_laws.proofs.Labels.{AreNamed}
 use Rattle.mps_laws.proofs.Positions.LegalMoves.{HasLayout}
+use Rattle.mps_laws.proofs.RunningCollection.{running_in_steps}
 use Rattle.mps_laws.proofs.SameArena.{moved_alone}
+use Rattle.mps_laws.proofs.SegmentPools.{of_pools_in_steps}
 use Rattle.mps_laws.proofs.Sound.PoolsThere.{HasPools}
 use Rattle.mps_laws.proofs.Sound.SoundGraph.{untouched}
 use Rattle.mps_laws.proofs.Sound.SoundMoves.{moves_well}
+use Rattle.mps_laws.proofs.Spending.{moves_spend}
+use Rattle.mps_laws.proofs.ThingsNamed.{names_in_steps}
 use Rattle.mps_laws.proofs.WellFormed.{well_formed}
 use Rattle.mps_laws.proofs.WellFormedHistories.{IsKeptWell, reached_kept}
+use Rattle.mps_laws.proofs.WithinLimit.{within_in_steps}
 use Rattle.mps_model.specs.declared.call.Call.TheVariants as call
 use Rattle.mps_model.specs.Collecting.{with_state}
 use Rattle.mps_model.specs.Effect.{world_after_moves}
@@ -49,6 +54,9 @@ unpaired_like_reached : (w : World) → IsLikeReached w → IsLikeReached (unpai
 unpaired_like_reached w like = record {
   kept = record {
     layout = like.kept.layout;
+    within = like.kept.within;
+    pools = record { of_objects = like.kept.pools.of_objects; of_points = like.kept.pools.of_points };
+    of_pools = like.kept.of_pools;
     blocks = like.kept.blocks;
     slots = like.kept.slots;
     held = record {
@@ -67,12 +75,15 @@ unpaired_like_reached w like = record {
       registered = like.kept.sound.registered;
       messages = like.kept.sound.messages;
     };
+    names = like.kept.names;
     named = like.kept.named;
     paired = refl;
     cached = like.kept.cached;
     framed = like.kept.framed;
     dated = like.kept.dated;
     rests = like.kept.rests;
+    runs = like.kept.runs;
+    spends = like.kept.spends;
     pairs = like.kept.pairs;
   };
   formed = unpaired_formed w like.formed;
@@ -99,8 +110,9 @@ formed_in_steps w ms like legal laid live =
     let named : AreNamed (world_after_moves w ms).graph = (λ number label e.
     ap (λ ns. thing_in ns label) alone.names ∙ k.named number label (sym (ap (λ ls. slice_get ls number) alone.labels) ∙ e)) in
     let v = world_after_moves w ms in
-    well_formed (with_state v Unclamped) laid
+    well_formed (with_state v Unclamped) laid (within_in_steps (w.grains + 1) w ms k.layout k.pools legal k.within)
+    (of_pools_in_steps (w.grains + 1) w ms k.layout k.pools legal k.of_pools)
     (untouched v (with_state v Unclamped) (moves_well w None ms k.sound legal).sound refl (λ n p e. e) refl refl refl refl refl refl refl
-    refl) named (moves_paired w ms k.paired) (caches_moved w v alone.shapes alone.pools alone.caches k.cached)
+    refl) (names_in_steps w ms k.names) named (moves_paired w ms k.paired) (caches_moved w v alone.shapes alone.pools alone.caches k.cached)
     (frames_moved w v alone.shapes alone.pools alone.blocks alone.frames k.framed) (dated_in_steps w ms k.dated) live
-    (λ h. absurd (false≢true h)) refl
+    (λ h. absurd (false≢true h)) (running_in_steps w None ms legal k.runs) (moves_spend w ms k.spends) refl

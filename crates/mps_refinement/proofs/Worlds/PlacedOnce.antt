@@ -12,14 +12,14 @@ use Rattle.mps_model.specs.Step.{Step}
 use Rattle.mps_model.specs.Graph.{Slots, entries, occurrences, with_last}
 use Rattle.mps_model.specs.World.{World, Pool, PoolKind, Collected, OneSize, AnySize, Frames, empty_world_of}
 use Rattle.mps_model.specs.Reply.{act}
-use Rattle.mps_model.specs.History.{judged_world, moved_world, world_after}
+use Rattle.mps_model.specs.History.{IsLegalStep, judged_world, moved_world, world_after}
 use Rattle.mps_changes.specs.Change.{Change, is_kind_made, PoolMade}
 use Rattle.mps_changes.proofs.ActChanges.{of_changes}
 use Rattle.mps_changes.proofs.OneMore.{occurrences-append, parts_pass}
 use Rattle.mps_laws.specs.Replay.{reached}
 use Rattle.mps_laws.proofs.Acts.{for_world}
 use Rattle.mps_laws.proofs.Held.{any_kind}
-use Rattle.mps_laws.proofs.LegalHistories.{IsAnswered, kept_by_steps}
+use Rattle.mps_laws.proofs.LegalHistories.{kept_by_steps}
 use Rattle.mps_laws.proofs.OnePlace.{AreInOnePlace, in_one_place}
 use Rattle.mps_refinement.specs.StandsFor.{IsReached}
 use Rattle.mps_refinement.proofs.Worlds.PlacesByMoves.{Places, places_of, moved_kept}
@@ -181,14 +181,13 @@ change_sized : {marked : Bool} {c : Call} {judged v u : World} → AreSized v.po
 change_sized {v = v} are (PoolMade name p e kind) = sized_last v.pools p are (some_words p.kind kind)
 change_sized are _ = are
 
-step_sized : (w : World) (s : Step) → AreSized w.pools → Unit {0} → IsAnswered w s → AreSized (world_after w s).pools
-step_sized w s are kind answered =
+step_sized : (w : World) (s : Step) → AreSized w.pools → Unit {0} → IsLegalStep w s → AreSized (world_after w s).pools
+step_sized w s are kind legal =
     let moved = moved_world w s.call s.moves in
     let judged = judged_world w s.call s.moves in
     let here : AreSized moved.pools = subst AreSized (sym (ap (λ (p : Places). p.pools) (moved_kept w s.call s.moves))) are in
-    subst (λ (u : World). AreSized u.pools) (sym answered.after)
-    (for_world (λ u. AreSized u.pools) moved (act (is_block s.answer) judged moved s.call)
-    (of_changes (is_block s.answer) judged moved s.call (λ u change. change_sized here change)) here)
+    for_world (λ u. AreSized u.pools) moved (act (is_block s.answer) judged moved s.call)
+    (of_changes (is_block s.answer) judged moved s.call (λ u change. change_sized here change)) here
 
 -- ---- histories
 

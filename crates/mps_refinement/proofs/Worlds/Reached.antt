@@ -34,7 +34,7 @@ reached_sound w r rest = resting_sound w rest (reached_live w r)
 pub reached_has_pools : (w : World) → IsReached w → HasPools w
 reached_has_pools w r =
     subst HasPools (sym r.is)
-    (kept_by_steps HasPools (λ s. Unit {0}) (λ v s has any answered. step_has_pools v s has answered) (empty_world_of w.formats) r.history
+    (kept_by_steps HasPools (λ s. Unit {0}) (λ v s has any legal. step_has_pools v s has) (empty_world_of w.formats) r.history
     (record { of_objects = tt; of_points = tt }) (any_kind r.history) r.legal)
 
 -- ---- one more step

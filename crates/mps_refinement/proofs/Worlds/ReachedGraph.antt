@@ -7,12 +7,13 @@ use Rattle.mps_model.specs.World.{World, empty_world_of, ids_in_pairs}
 use Rattle.mps_model.specs.History.{IsLegalFrom, world_after, world_after_steps}
 use Rattle.mps_laws.proofs.Replays.FreeSteps.{BlocksAreLive}
 use Rattle.mps_laws.proofs.Positions.LegalMoves.{HasLayout}
-use Rattle.mps_laws.proofs.Replays.Replay.{empty_layout, legal_step_replayed, limit_after, live_after}
+use Rattle.mps_laws.proofs.Replays.Replay.{empty_layout, legal_step_replayed, limit_after}
 use Rattle.mps_laws.proofs.Sound.SoundGraph.{IsSoundGraph, All, auto}
 use Rattle.mps_laws.proofs.Sound.SoundHistories.{SlotsAreLive, step_sound}
 use Rattle.mps_refinement.specs.StandsFor.{IsReached}
-use Rattle.mps_laws.proofs.WellFormedHistories.{automatic_after, none_framed, places_made}
+use Rattle.mps_laws.proofs.WellFormedHistories.{none_framed, places_made}
 use Rattle.mps_laws.proofs.Caches.{AreRightCaches, caches_after}
+use Rattle.mps_laws.proofs.Parked.{pairs_after}
 use Rattle.mps_laws.proofs.Frames.{AreRightFrames, frames_after, frames_manual}
 
 steps_sound : (limit : ℕ) (w : World) (h : History) → HasLayout limit w → BlocksAreLive w → SlotsAreLive w → IsSoundGraph w
@@ -23,9 +24,9 @@ steps_sound limit w (s ∷ ss) laid live slots sound pairs cached framed legal =
     let one = legal_step_replayed limit 0 s.line w laid live s.call s.moves s.answer legal.0 in
     let after = step_sound limit s.line w laid live slots sound pairs (frames_manual w sound framed) s.call s.moves s.answer
     legal.0 in
-    steps_sound (limit_after limit s.call) (world_after w s) ss one.layout (live_after w s live legal.0) after.1 after.0
-    (automatic_after w s sound after.0 pairs legal.0) (caches_after w s (places_made w sound) cached legal.0)
-    (frames_after w s framed cached legal.0) legal.1
+    steps_sound (limit_after limit s.call) (world_after w s) ss one.layout legal.0.held_are_live.blocks after.1 after.0
+    (pairs_after w s sound after.0 pairs) (caches_after w s (places_made w sound) cached)
+    (frames_after w s framed cached) legal.1
 
 empty_sound : (formats : ℕ → Layout) → IsSoundGraph (empty_world_of formats)
 empty_sound formats = record {

@@ -246,9 +246,9 @@ module _ (w : World) (rest : w.collection ≡ None) (sound : IsSound w) where
         live = (and_parts (is_live w id) (list_all (is_live w) ids) (subst (All (is_live w)) are parts.held.messages)).0;
         rightly = λ c is. none_kept c is;
       })) refl
-  change_sound h (TableMade name slots) = left (table_sound w sound name slots) refl
-  change_sound h (AreaMade name words) = left (area_sound w sound name words) refl
-  change_sound h (BlocksMade name places e) = left (blocks_sound w sound name places) refl
+  change_sound h (TableMade name slots) = left (table_sound w sound name.name slots) refl
+  change_sound h (AreaMade name words) = left (area_sound w sound name.name words) refl
+  change_sound h (BlocksMade name places e) = left (blocks_sound w sound name.name places) refl
   change_sound h (TableDropped name n named) = left (table_gone_sound w sound n name) refl
   change_sound h (AreaDropped name n named) = left (area_gone_sound w sound n name) refl
   change_sound h (CellsAre object change held write) =
@@ -274,14 +274,14 @@ module _ (w : World) (rest : w.collection ≡ None) (sound : IsSound w) where
   change_sound {c = c} h (PlaceEmptied from place id e found has freed) = absurd (true≢false (sym (freeing_moves c e) ∙ h))
   change_sound {c = c} h (Allocated p words place at e of kind size found empty) = absurd (true≢false (sym (allocating_moves c e) ∙ h))
   change_sound h (CacheMade name pool of classes e may none) =
-      left (cache_sound w sound name (record { pool = of.number; classes = classes }) none) refl
+      left (cache_sound w sound name.name (record { pool = of.number; classes = classes }) none) refl
   change_sound h (BlockUncached name cache words into place id classes e is taken found empty) = but may_move e refl h
   change_sound h (BlockCached name cache from place id classes e is found has own kept) = but may_move e refl h
   change_sound h (CacheFlushed name cache e is) = but may_move e refl h
   change_sound {u = u} h (FramePushed name f e found) = renamed refl refl refl refl sound.live.transforms
   change_sound h (FramesPopped name f frame before e found opened) = but may_move e refl h
   change_sound h (PoolMade name p e made) = renamed refl refl refl refl sound.live.transforms
-  change_sound h (PointMade name pool of at_rank e is may) = left (point_sound w sound name of.number at_rank) refl
+  change_sound h (PointMade name pool of at_rank e is may) = left (point_sound w sound name.name of.number at_rank) refl
   change_sound h (PointDropped name p e is none) = left (point_gone_sound w sound name p.number) refl
   change_sound h (Opened name head reserving p at e is there) = but may_move e refl h
   change_sound h (Written name p r change e there has lives write) =

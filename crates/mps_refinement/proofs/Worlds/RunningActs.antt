@@ -6,7 +6,7 @@ use Rattle.std.specs.List.{list_all}
 use Rattle.mps_base.specs.declared.refusal.Refusal.TheVariants as refusal
 use Rattle.mps_model.specs.declared.call.Call.{Call}
 use Rattle.mps_model.specs.declared.call.Call.TheVariants as call
-use Rattle.mps_model.specs.Answer.{Answer, is_block, is_unsupported}
+use Rattle.mps_model.specs.Answer.{Answer, is_block}
 use Rattle.mps_model.specs.Graph.{ids_in_blocks, ids_in_places}
 use Rattle.mps_model.specs.World.{World, is_live}
 use Rattle.mps_model.specs.Checked.{Act, Checked}
@@ -118,31 +118,29 @@ module _ (x : Collecting) (run : Running x) where
   abbrev w : World
   w = x.world
 
-  quiet_running : (c : Call) (answer : Answer) → never_moves c ≡ true → is_unsupported answer ≡ false → IsMarkedKept x c answer
-      → IsQuiet w c answer
-  quiet_running (call.Arena grains limit) answer h s kept = absurd (false≢true h)
-  quiet_running (call.Reserve point head) answer h s kept = absurd (false≢true h)
-  quiet_running (call.Commit point target) answer h s kept = absurd (false≢true h)
-  quiet_running (call.Alloc pool words place) answer h s kept = absurd (false≢true h)
-  quiet_running (call.Free place) answer h s kept = absurd (false≢true h)
-  quiet_running (call.CacheAlloc cache words place) answer h s kept = absurd (false≢true h)
-  quiet_running (call.CacheFree cache place) answer h s kept = absurd (false≢true h)
-  quiet_running (call.CacheFlush cache) answer h s kept = absurd (false≢true h)
-  quiet_running (call.Pop pool frame) answer h s kept = absurd (false≢true h)
-  quiet_running (call.Get target source cell) answer h s kept = absurd (false≢true h)
-  quiet_running call.Start answer h s kept = absurd (false≢true h)
-  quiet_running (call.StartChain chain generation) answer h s kept = absurd (false≢true h)
-  quiet_running (call.Step units) answer h s kept = absurd (false≢true h)
-  quiet_running call.Collect answer h s kept = absurd (false≢true h)
-  quiet_running call.Park answer h s kept = absurd (false≢true h)
-  quiet_running (call.Poke word value) answer h s kept = record {
+  quiet_running : (c : Call) (answer : Answer) → never_moves c ≡ true → IsMarkedKept x c answer → IsQuiet w c answer
+  quiet_running (call.Arena grains limit) answer h kept = absurd (false≢true h)
+  quiet_running (call.Reserve point head) answer h kept = absurd (false≢true h)
+  quiet_running (call.Commit point target) answer h kept = absurd (false≢true h)
+  quiet_running (call.Alloc pool words place) answer h kept = absurd (false≢true h)
+  quiet_running (call.Free place) answer h kept = absurd (false≢true h)
+  quiet_running (call.CacheAlloc cache words place) answer h kept = absurd (false≢true h)
+  quiet_running (call.CacheFree cache place) answer h kept = absurd (false≢true h)
+  quiet_running (call.CacheFlush cache) answer h kept = absurd (false≢true h)
+  quiet_running (call.Pop pool frame) answer h kept = absurd (false≢true h)
+  quiet_running (call.Get target source cell) answer h kept = absurd (false≢true h)
+  quiet_running call.Start answer h kept = absurd (false≢true h)
+  quiet_running (call.StartChain chain generation) answer h kept = absurd (false≢true h)
+  quiet_running (call.Step units) answer h kept = absurd (false≢true h)
+  quiet_running call.Collect answer h kept = absurd (false≢true h)
+  quiet_running call.Park answer h kept = absurd (false≢true h)
+  quiet_running (call.Poke word value) answer h kept = record {
     judged = refl;
     moved = refl;
     due = refl;
     marked = (left_rightly x run).marked word value answer kept;
-    supported = s;
   }
-  quiet_running c answer h s kept = record { judged = refl; moved = refl; due = refl; marked = tt; supported = s }
+  quiet_running c answer h kept = record { judged = refl; moved = refl; due = refl; marked = tt }
 
   nothing_read : (c : Call) → never_moves c ≡ true → IsReadKept x c
   nothing_read (call.Get target source cell) h = absurd (false≢true h)
@@ -177,7 +175,7 @@ module _ (x : Collecting) (run : Running x) where
     r = act (is_block answer) w w c
 
     q : IsQuiet w c answer
-    q = quiet_running c answer is.never is.supported is.marked_kept
+    q = quiet_running c answer is.never is.marked_kept
 
     placed : IsWellPlaced (world_from w r)
     placed = record {
@@ -187,7 +185,6 @@ module _ (x : Collecting) (run : Running x) where
 
     own : IsOwnStep w x c [] answer r
     own = record {
-      supported = is.supported;
       collected = nothing_collected 0 c answer is.never;
       legal = none_is_legal c;
       due = q.due;

@@ -1,23 +1,24 @@
 -- A step of the client with its own moves, while a collection runs, is legal, and the collector's invariant is true after it. The
 -- collector's part of the step may have led from another world.
-use Rattle.std.proofs.Common.{◌≡◌, ◌∙◌, ℕ, ◌*◌, ◌≤◌, Bool, true, false, refl, sym, ap, subst, List, [], ◌∷◌, None, Err, map, arith}
-use Rattle.std.specs.Prelude.{MatchBool, ◌||◌, is_some, if◌then◌else◌}
+use Rattle.std.proofs.Common.{◌≡◌, ◌∙◌, ℕ, ◌*◌, ◌≤◌, true, refl, sym, ap, subst, List, [], ◌∷◌, None, Err, map, arith}
+use Rattle.std.specs.Prelude.{◌||◌, is_some}
 use Rattle.std.specs.List.{list_all, flat_map}
 use Rattle.mps_base.specs.Address.{Address}
 use Rattle.mps_base.specs.Run.{IsAscending, end_of}
 use Rattle.mps_base.specs.Segment.{Segment, end_of_segment, grains_of_segment}
 use Rattle.mps_base.specs.declared.moves.Move.{Move}
 use Rattle.mps_base.specs.declared.refusal.Refusal.{Refusal}
-use Rattle.mps_abstract.specs.Collecting.{Collecting, Running}
-use Rattle.mps_abstract.specs.ClientLaws.{AreApartFrom, IsMarkedKept, IsReadKept, IsWellPlaced, after_client, collected_world, collection_without, next_without, position_taken}
+use Rattle.mps_abstract.specs.Collecting.{Collecting, Running, units_left}
+use Rattle.mps_abstract.specs.ClientLaws.{AreApartFrom, IsClientStep, IsMarkedKept, IsReadKept, IsWellPlaced, after_client, collected_world, collection_without, next_without, position_taken}
 use Rattle.mps_abstract.proofs.Calls.ClientCalls.{clients_keep}
 use Rattle.mps_abstract.proofs.Calls.ClientRegistrations.{remembered_keeps}
 use Rattle.mps_abstract.proofs.LeftRightly.{left_rightly}
+use Rattle.mps_trace_laws.proofs.Units.CallsLeave.{no_call_leaves_more}
 use Rattle.mps_laws.proofs.Positions.LegalMoves.{HasLayout, different}
 use Rattle.mps_laws.proofs.Positions.Occupancy.{occupancy_of}
 use Rattle.mps_laws.proofs.Positions.Segments.{AreAligned}
 use Rattle.mps_model.specs.declared.call.Call.{Call}
-use Rattle.mps_model.specs.Answer.{Answer, is_block, is_unsupported}
+use Rattle.mps_model.specs.Answer.{Answer, is_block}
 use Rattle.mps_model.specs.Step.{Step}
 use Rattle.mps_model.specs.Graph.{ids_in_blocks, ids_of_client, targets}
 use Rattle.mps_model.specs.World.{World, is_live, live_ids, ids_in_pairs}
@@ -25,7 +26,7 @@ use Rattle.mps_model.specs.WellFormed.{IsWellFormed}
 use Rattle.mps_model.specs.Checked.{Act, Checked}
 use Rattle.mps_model.specs.LegalMove.{AreLegalMoves}
 use Rattle.mps_model.specs.Reply.{act, answer_from, world_from}
-use Rattle.mps_model.specs.History.{IsAnsweredStep, HeldAreLive, AreMovesOf, IsPossiblyMarked, judged_world, moved_world, moves_of_collector, remembering, world_after, world_after_call, with_client_remembered}
+use Rattle.mps_model.specs.History.{HeldAreLive, AreMovesOf, IsPossiblyMarked, judged_world, moved_world, moves_of_collector, remembering, world_after, with_client_remembered}
 use Rattle.mps_refinement.specs.QuietCalls.{RunsOn}
 use Rattle.mps_refinement.specs.RightStep.{step_of}
 
@@ -58,7 +59,6 @@ placed_from_layout limit v laid = record {
 
 -- a call of the client, with all its moves and what it comes to. The collector's part of it led to the state's world
 pub record IsOwnStep (w : World) (x : Collecting) (c : Call) (ms : List Move) (answer : Answer) (r : Checked Act) : Type 0 where
-  pub supported : is_unsupported answer ≡ false
   pub collected : collected_world w (step_of 0 c ms answer) ≡ x.world
   pub legal : AreLegalMoves w None (moves_of_collector c ms)
   pub due : AreMovesOf w c answer ms
@@ -74,7 +74,6 @@ pub record IsOwnStep (w : World) (x : Collecting) (c : Call) (ms : List Move) (a
 
 -- a call with all its moves and what it comes to, if the invariant is true after it
 pub record IsAnswered (w : World) (c : Call) (ms : List Move) (answer : Answer) (r : Checked Act) : Type 0 where
-  pub supported : is_unsupported answer ≡ false
   pub legal : AreLegalMoves w None (moves_of_collector c ms)
   pub due : AreMovesOf w c answer ms
   pub possible : IsPossiblyMarked w c answer
@@ -88,9 +87,7 @@ module _ (w : World) (x : Collecting) (line : ℕ) (c : Call) (ms : List Move) (
   s = step_of line c ms answer
 
   pub after : world_after w s ≡ with_client_remembered (world_from (moved_world w c ms) r)
-  after =
-      ap (λ (b : Bool). if b then w else world_after_call w c ms answer) is.supported
-      ∙ ap (λ y. with_client_remembered (world_from (moved_world w c ms) y)) is.comes
+  after = ap (λ y. with_client_remembered (world_from (moved_world w c ms) y)) is.comes
 
   referred : Running (after_client w x s) → HeldAreLive (world_after w s)
   referred runs = record {
@@ -101,9 +98,10 @@ module _ (w : World) (x : Collecting) (line : ℕ) (c : Call) (ms : List Move) (
     transforms = ap (λ o. is_some o || list_all (is_live (world_after w s)) (ids_in_pairs (world_after w s).state)) runs.runs;
   }
 
-  pub answered_runs_on : Running (after_client w x s) → RunsOn w x s (world_from (moved_world w c ms) r)
-  answered_runs_on runs = record {
-    legal = subst (λ (b : Bool). MatchBool b (s.moves ≡ []) (IsAnsweredStep w s)) (sym is.supported) (record {
+  pub answered_runs_on : Running (after_client w x s) → units_left (after_client w x s) ≤ units_left x
+      → RunsOn w x s (world_from (moved_world w c ms) r)
+  answered_runs_on runs no_more = record {
+    legal = record {
       moves_are_legal = is.legal;
       moves_are_due = is.due;
       answer_is_due = is.answers ∙ ap answer_from (sym is.comes);
@@ -111,8 +109,9 @@ module _ (w : World) (x : Collecting) (line : ℕ) (c : Call) (ms : List Move) (
       held_are_live = referred runs;
       held_are_kept = (left_rightly (after_client w x s) runs).held_kept;
       units_are_left = (left_rightly (after_client w x s) runs).units_are_left;
-    });
+    };
     running = runs;
+    no_more = no_more;
     world = after;
   }
 
@@ -120,7 +119,6 @@ module _ (w : World) (x : Collecting) (run : Running x) (line : ℕ) (c : Call) 
     (own : IsOwnStep w x c ms answer r) where
   is_answered : IsAnswered w c ms answer r
   is_answered = record {
-    supported = own.supported;
     legal = own.legal;
     due = own.due;
     possible = own.possible;
@@ -132,9 +130,8 @@ module _ (w : World) (x : Collecting) (run : Running x) (line : ℕ) (c : Call) 
   placed_remembered : IsWellPlaced (with_client_remembered (world_from (moved_world w c ms) r))
   placed_remembered = record { different = own.placed.different; apart = own.placed.apart }
 
-  runs : Running (after_client w x (step_of line c ms answer))
-  runs = clients_keep w x (step_of line c ms answer) run (record {
-    supported = own.supported;
+  step : IsClientStep w x (step_of line c ms answer)
+  step = record {
     collected = own.collected;
     moves_are_due = own.due;
     marked_kept = own.marked;
@@ -142,10 +139,29 @@ module _ (w : World) (x : Collecting) (run : Running x) (line : ℕ) (c : Call) 
     well_formed = own.formed;
     blocks_live = own.blocks;
     well_placed = subst IsWellPlaced (sym (after w x line c ms answer r is_answered)) placed_remembered;
-  })
+  }
 
   pub own_step_runs_on : RunsOn w x (step_of line c ms answer) (world_from (moved_world w c ms) r)
-  own_step_runs_on = answered_runs_on w x line c ms answer r is_answered runs
+  own_step_runs_on =
+      answered_runs_on w x line c ms answer r is_answered (clients_keep w x (step_of line c ms answer) run step)
+      (no_call_leaves_more w x (step_of line c ms answer) run step)
+
+-- such a call leaves all objects and all registrations
+still_step_leaves_as_many : (w : World) (x : Collecting) (line : ℕ) (c : Call) (ms : List Move) (answer : Answer) (left : World)
+    → world_after w (step_of line c ms answer) ≡ with_client_remembered left → left ≡ x.world → (why : Refusal)
+    → position_taken x.world c ≡ Err why → units_left (after_client w x (step_of line c ms answer)) ≤ units_left x
+still_step_leaves_as_many w x line c ms answer left is still why none =
+    let held = ids_of_client (world_after w (step_of line c ms answer)).graph in
+    subst (λ v. units_left (record x {
+      world = v;
+      running = remembering held (collection_without (position_taken x.world c) x.running);
+      next = next_without (position_taken x.world c) x.next;
+    }) ≤ units_left x) (sym (is ∙ ap with_client_remembered still))
+    (subst (λ p. units_left (record x {
+      world = with_client_remembered x.world;
+      running = remembering held (collection_without p x.running);
+      next = next_without p x.next;
+    }) ≤ units_left x) (sym none) (omega arith))
 
 -- a call that leaves the world as the collector's part of the step left it: a refused one, or one that only answers. What the client
 -- holds is remembered, and nothing else changes
@@ -165,3 +181,4 @@ still_step_runs_on w x line c ms answer r run is still why none =
       running = remembering (ids_of_client x.world.graph) (collection_without p x.running);
       next = next_without p x.next;
     })) (sym none) (remembered_keeps x run)))
+    (still_step_leaves_as_many w x line c ms answer (world_from (moved_world w c ms) r) (after w x line c ms answer r is) still why none)

@@ -1,8 +1,9 @@
-use Rattle.std.proofs.Common.{subst}
+use Rattle.std.proofs.Common.{subst, ◌≡◌, refl}
 use Rattle.mps_model.specs.declared.call.Call.TheVariants as call
 use Rattle.mps_refinement.specs.Making.{IsRightMaking}
 use Rattle.mps_refinement.proofs.Calls.MakingRoots.{blocks_is_right}
 use Rattle.mps_refinement.proofs.Worlds.Staying.{making_stays}
+use Rattle.mps_heap.proofs.Grains.{making_grains_stay}
 use Rattle.mps_heap.proofs.Results.{making_without_key}
 use Rattle.mps_heap.proofs.heap.Heap.blocks.Goals as goal
 
@@ -21,4 +22,9 @@ returns g c = record {
       c.without_key.ensures.value
       (blocks_is_right g.F.Format.layout c.self.inside.state c.args.name c.args.n c.blocks-2.result c.blocks-2.new.state
       c.blocks-2.ensures));
+  grains = subst (λ x. c.blocks-2.new.state.segs.grains ≡ x.segs.grains) c.self.view_is
+      (making_grains_stay g.F.Format.layout c.self.inside.state c.blocks-2.new.state (call.Blocks c.args.name c.args.n)
+      c.without_key.result c.self.invariant (making_without_key g.F.Format.layout c.self.inside.state c.blocks-2.new.state (call.Blocks
+      c.args.name c.args.n) c.blocks-2.result c.without_key.result c.without_key.ensures.value (blocks_is_right g.F.Format.layout
+      c.self.inside.state c.args.name c.args.n c.blocks-2.result c.blocks-2.new.state c.blocks-2.ensures)) refl);
 }

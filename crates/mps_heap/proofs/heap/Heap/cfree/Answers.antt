@@ -1,11 +1,11 @@
-use Rattle.std.proofs.Common.{subst}
+use Rattle.std.proofs.Common.{subst, ◌≡◌, refl}
 use Rattle.mps_model.specs.declared.call.Call.TheVariants as call
 use Rattle.mps_heap_spec.specs.Caching.{block_to_cache}
 use Rattle.mps_refinement.specs.Answering.{answer_to, says_ok}
 use Rattle.mps_refinement.specs.RightMoving.{IsRightMoving}
 use Rattle.mps_refinement.proofs.Worlds.CachingTrails.{cfree_is_right_after, cfree_keeps_room}
 use Rattle.mps_refinement.proofs.Worlds.Room.{keeps_room}
-use Rattle.mps_refinement.proofs.Worlds.Staying.{stays}
+use Rattle.mps_refinement.proofs.Worlds.Staying.{stays, grains_stay}
 use Rattle.mps_heap.proofs.heap.Heap.cfree.Goals as goal
 
 pub invariant_of-self : goal.invariant_of-self
@@ -27,4 +27,10 @@ returns g c = record {
       (block_to_cache c.self.inside.state c.args.trail.now c.args.cache c.args.place c.cfree.ensures.outcome.words) c.cfree.result
       c.cfree.new.state c.cfree.new.trail c.cfree.ensures.outcome.comes (cfree_keeps_room g.F.Format.layout c.self.inside.state
       c.args.trail.now c.args.cache c.args.place c.cfree.ensures.outcome.words c.requires.fits);
+  grains = subst (λ x. c.cfree.new.state.segs.grains ≡ x.segs.grains) c.self.view_is
+      (grains_stay g.F.Format.layout c.self.inside.state c.cfree.new.state (call.CacheFree c.args.cache c.args.place)
+      (cfree_is_right_after g.F.Format.layout c.self.inside.state c.args.trail.now c.args.cache c.args.place c.cfree.result
+      c.cfree.new.state c.cfree.new.trail c.cfree.ensures.outcome).moves (answer_to says_ok c.cfree.result) c.self.invariant
+      (cfree_is_right_after g.F.Format.layout c.self.inside.state c.args.trail.now c.args.cache c.args.place c.cfree.result
+      c.cfree.new.state c.cfree.new.trail c.cfree.ensures.outcome).right refl);
 }

@@ -1,10 +1,10 @@
-use Rattle.std.proofs.Common.{subst, []}
+use Rattle.std.proofs.Common.{subst, [], ◌≡◌, refl}
 use Rattle.mps_model.specs.declared.call.Call.TheVariants as call
 use Rattle.mps_model.specs.declared.reply.Reply.TheVariants as reply
 use Rattle.mps_model.specs.Answer.{Replied}
 use Rattle.mps_refinement.specs.RightStep.{IsRight}
 use Rattle.mps_refinement.proofs.Calls.ArenaCalls.{clamp_is_right}
-use Rattle.mps_refinement.proofs.Worlds.Staying.{stays}
+use Rattle.mps_refinement.proofs.Worlds.Staying.{stays, grains_stay}
 use Rattle.mps_heap.proofs.heap.Heap.clamp.Goals as goal
 
 pub invariant_of-self : goal.invariant_of-self
@@ -16,4 +16,7 @@ pub returns : goal.returns
 returns g c = record {
   right = subst (λ h. IsRight g.F.Format.layout h call.Clamp [] (Replied reply.Ok) c.clamp.new.state) c.self.view_is (clamp_is_right
       g.F.Format.layout c.self.inside.state c.clamp.new.state c.clamp.ensures);
+  grains = subst (λ x. c.clamp.new.state.segs.grains ≡ x.segs.grains) c.self.view_is
+      (grains_stay g.F.Format.layout c.self.inside.state c.clamp.new.state call.Clamp [] (Replied reply.Ok) c.self.invariant
+      (clamp_is_right g.F.Format.layout c.self.inside.state c.clamp.new.state c.clamp.ensures) refl);
 }

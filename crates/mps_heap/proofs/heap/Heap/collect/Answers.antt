@@ -1,11 +1,11 @@
-use Rattle.std.proofs.Common.{◌≡◌, ◌*◌, ◌≤◌, true, sym, subst}
+use Rattle.std.proofs.Common.{◌≡◌, ◌*◌, ◌≤◌, true, sym, subst, refl}
 use Rattle.mps_model.specs.declared.call.Call.TheVariants as call
 use Rattle.mps_model.specs.declared.reply.Reply.TheVariants as reply
 use Rattle.mps_model.specs.Answer.{Replied}
 use Rattle.mps_heap_spec.specs.Collecting.{can_collect}
 use Rattle.mps_heap_spec.specs.Collect.{most_moves}
 use Rattle.mps_refinement.specs.RightMoving.{IsRightMoving}
-use Rattle.mps_refinement.proofs.Worlds.Staying.{stays}
+use Rattle.mps_refinement.proofs.Worlds.Staying.{stays, grains_stay}
 use Rattle.mps_heap.proofs.Collected.{can_collect_then, can_count, can_end_first, collected_rightly, few_epochs, none_left}
 use Rattle.mps_heap.proofs.heap.Heap.collect.Goals as goal
 
@@ -59,4 +59,7 @@ returns g c =
           c.end_collection.new.trail c.end_collection.ensures c.is_whole-2.ensures.whole c.collect.new.state c.collect.new.trail
           c.collect.ensures.collected;
       room = right.room;
+      grains = subst (λ x. c.collect.new.state.segs.grains ≡ x.segs.grains) c.self.view_is
+          (grains_stay layout c.self.inside.state c.collect.new.state call.Collect right.right.moves (Replied reply.Ok) c.self.invariant
+          right.right.right refl);
     }

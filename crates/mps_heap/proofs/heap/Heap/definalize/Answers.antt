@@ -1,9 +1,9 @@
-use Rattle.std.proofs.Common.{subst, []}
+use Rattle.std.proofs.Common.{subst, [], ◌≡◌, refl}
 use Rattle.mps_model.specs.declared.call.Call.TheVariants as call
 use Rattle.mps_refinement.specs.Answering.{answer_to, says_ok}
 use Rattle.mps_refinement.specs.RightStep.{IsRight}
 use Rattle.mps_refinement.proofs.Calls.Definalizing.{can_unregister, unregistered_right}
-use Rattle.mps_refinement.proofs.Worlds.Staying.{one_world, stays}
+use Rattle.mps_refinement.proofs.Worlds.Staying.{one_world, stays, grains_stay}
 use Rattle.mps_heap.proofs.heap.Heap.definalize.Goals as goal
 
 pub definalize-requires : goal.definalize-requires
@@ -23,4 +23,8 @@ returns g c = record {
       c.definalize.new.state) c.self.view_is
       (unregistered_right g.F.Format.layout c.self.inside.state c.args.slot c.definalize.result c.definalize.new.state
       c.definalize.ensures);
+  grains = subst (λ x. c.definalize.new.state.segs.grains ≡ x.segs.grains) c.self.view_is
+      (grains_stay g.F.Format.layout c.self.inside.state c.definalize.new.state (call.Definalize c.args.slot) [] (answer_to says_ok
+      c.definalize.result) c.self.invariant (unregistered_right g.F.Format.layout c.self.inside.state c.args.slot c.definalize.result
+      c.definalize.new.state c.definalize.ensures) refl);
 }

@@ -1,11 +1,11 @@
-use Rattle.std.proofs.Common.{subst}
+use Rattle.std.proofs.Common.{subst, ◌≡◌, refl}
 use Rattle.mps_model.specs.declared.call.Call.TheVariants as call
 use Rattle.mps_heap_spec.specs.Manual.{block_freed}
 use Rattle.mps_refinement.specs.Answering.{answer_to, says_ok}
 use Rattle.mps_refinement.specs.RightMoving.{IsRightMoving}
 use Rattle.mps_refinement.proofs.Worlds.Appending.{free_is_right_after}
 use Rattle.mps_refinement.proofs.Worlds.Room.{keeps_room, free_keeps_room}
-use Rattle.mps_refinement.proofs.Worlds.Staying.{stays}
+use Rattle.mps_refinement.proofs.Worlds.Staying.{stays, grains_stay}
 use Rattle.mps_heap.proofs.heap.Heap.free.Goals as goal
 
 pub invariant_of-self : goal.invariant_of-self
@@ -27,4 +27,9 @@ returns g c = record {
       c.free.new.state
       c.free.new.trail c.free.ensures (free_keeps_room g.F.Format.layout c.self.inside.state c.args.trail.now c.args.place
       c.requires.fits);
+  grains = subst (λ x. c.free.new.state.segs.grains ≡ x.segs.grains) c.self.view_is
+      (grains_stay g.F.Format.layout c.self.inside.state c.free.new.state (call.Free c.args.place) (free_is_right_after g.F.Format.layout
+      c.self.inside.state c.args.trail.now c.args.place c.free.result c.free.new.state c.free.new.trail c.free.ensures).moves (answer_to
+      says_ok c.free.result) c.self.invariant (free_is_right_after g.F.Format.layout c.self.inside.state c.args.trail.now c.args.place
+      c.free.result c.free.new.state c.free.new.trail c.free.ensures).right refl);
 }

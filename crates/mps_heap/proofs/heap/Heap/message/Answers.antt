@@ -1,9 +1,9 @@
-use Rattle.std.proofs.Common.{subst, []}
+use Rattle.std.proofs.Common.{subst, [], ◌≡◌, refl}
 use Rattle.mps_model.specs.declared.call.Call.TheVariants as call
 use Rattle.mps_refinement.specs.Answering.{answer_to, says_message}
 use Rattle.mps_refinement.specs.RightStep.{IsRight}
 use Rattle.mps_refinement.proofs.Calls.Finalizing.{message_right}
-use Rattle.mps_refinement.proofs.Worlds.Staying.{stays}
+use Rattle.mps_refinement.proofs.Worlds.Staying.{stays, grains_stay}
 use Rattle.mps_heap.proofs.heap.Heap.message.Goals as goal
 
 pub invariant_of-self : goal.invariant_of-self
@@ -17,4 +17,8 @@ returns g c = record {
   right = subst (λ h. IsRight g.F.Format.layout h (call.Message c.args.slot) [] (answer_to says_message c.message.result)
       c.message.new.state) c.self.view_is
       (message_right g.F.Format.layout c.self.inside.state c.args.slot c.message.result c.message.new.state c.message.ensures);
+  grains = subst (λ x. c.message.new.state.segs.grains ≡ x.segs.grains) c.self.view_is
+      (grains_stay g.F.Format.layout c.self.inside.state c.message.new.state (call.Message c.args.slot) [] (answer_to says_message
+      c.message.result) c.self.invariant (message_right g.F.Format.layout c.self.inside.state c.args.slot c.message.result
+      c.message.new.state c.message.ensures) refl);
 }

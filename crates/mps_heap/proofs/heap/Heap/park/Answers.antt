@@ -1,4 +1,4 @@
-use Rattle.std.proofs.Common.{◌≡◌, ◌≤◌, sym, subst}
+use Rattle.std.proofs.Common.{◌≡◌, ◌≤◌, sym, subst, refl}
 use Rattle.mps_model.specs.declared.call.Call.TheVariants as call
 use Rattle.mps_model.specs.declared.reply.Reply.TheVariants as reply
 use Rattle.mps_model.specs.Answer.{Replied}
@@ -6,7 +6,7 @@ use Rattle.mps_heap_spec.specs.Collect.{most_moves}
 use Rattle.mps_refinement.specs.RightMoving.{IsRightMoving}
 use Rattle.mps_refinement.specs.RightStep.{IsRight}
 use Rattle.mps_refinement.specs.UnitsLeft.{units_left}
-use Rattle.mps_refinement.proofs.Worlds.Staying.{stays}
+use Rattle.mps_refinement.proofs.Worlds.Staying.{stays, grains_stay}
 use Rattle.mps_heap.proofs.Collected.{can_end, none_left_parked, parked_rightly}
 use Rattle.mps_heap.proofs.heap.Heap.park.Goals as goal
 
@@ -43,4 +43,9 @@ returns g c =
           (none_left_parked layout h c.self.invariant c.is_whole.ensures.whole c.args.trail.now room c.end_collection.new.state
           c.end_collection.new.trail c.end_collection.ensures);
       room = parked.1;
+      grains = subst (λ x. c.park.new.state.segs.grains ≡ x.segs.grains) c.self.view_is
+          (grains_stay layout c.self.inside.state c.park.new.state call.Park (subst (λ x. IsRightMoving layout h call.Park
+          c.args.trail.now.moves c.end_collection.new.trail.moves (Replied reply.Ok) x) (sym c.park.ensures) parked.0).moves (Replied
+          reply.Ok) c.self.invariant (subst (λ x. IsRightMoving layout h call.Park c.args.trail.now.moves c.end_collection.new.trail.moves
+          (Replied reply.Ok) x) (sym c.park.ensures) parked.0).right refl);
     }

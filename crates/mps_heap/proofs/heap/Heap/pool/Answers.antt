@@ -1,8 +1,9 @@
-use Rattle.std.proofs.Common.{subst}
+use Rattle.std.proofs.Common.{◌≡◌, subst}
 use Rattle.mps_model.specs.declared.call.Call.TheVariants as call
 use Rattle.mps_refinement.specs.Making.{IsRightMakingIn, MeansLayout}
 use Rattle.mps_refinement.proofs.Calls.MakingPools.{pool_is_right}
 use Rattle.mps_refinement.proofs.Worlds.Staying.{pool_stays}
+use Rattle.mps_heap.proofs.Grains.{pool_grains_stay}
 use Rattle.mps_heap.proofs.Results.{making_in_without_key}
 use Rattle.mps_heap.proofs.heap.Heap.pool.Goals as goal
 
@@ -22,4 +23,5 @@ returns g c = record {
       (call.Pool c.args.name c.args.kind number) c.pool.result c.without_key.result c.without_key.ensures.value
       (pool_is_right g.F.Format.layout c.self.inside.state c.args.name c.args.kind c.args.format number c.pool.result c.pool.new.state
       c.pool.ensures));
+  grains = subst (λ x. c.pool.new.state.segs.grains ≡ x.segs.grains) c.self.view_is (pool_grains_stay c.pool.ensures);
 }

@@ -1,8 +1,9 @@
-use Rattle.std.proofs.Common.{subst}
+use Rattle.std.proofs.Common.{◌≡◌, subst}
 use Rattle.mps_model.specs.declared.call.Call.TheVariants as call
 use Rattle.mps_refinement.specs.Making.{IsRightMakingIn, MeansLayout}
 use Rattle.mps_refinement.proofs.Calls.MakingPools.{pool_on_chain_is_right}
 use Rattle.mps_refinement.proofs.Worlds.Staying.{pool_stays}
+use Rattle.mps_heap.proofs.Grains.{pool_on_chain_grains_stay}
 use Rattle.mps_heap.proofs.Results.{making_in_without_key}
 use Rattle.mps_heap.proofs.heap.Heap.pool_on_chain.Goals as goal
 
@@ -24,4 +25,6 @@ returns g c = record {
       c.without_key.result c.without_key.ensures.value
       (pool_on_chain_is_right g.F.Format.layout c.self.inside.state c.args.name c.args.kind c.args.format c.args.chain number c.requires
       c.pool_on_chain.result c.pool_on_chain.new.state c.pool_on_chain.ensures));
+  grains = subst (λ x. c.pool_on_chain.new.state.segs.grains ≡ x.segs.grains) c.self.view_is
+      (pool_on_chain_grains_stay c.pool_on_chain.ensures);
 }

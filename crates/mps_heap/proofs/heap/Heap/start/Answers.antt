@@ -1,11 +1,11 @@
-use Rattle.std.proofs.Common.{◌≡◌, ◌≤◌, true, sym, subst}
+use Rattle.std.proofs.Common.{◌≡◌, ◌≤◌, true, sym, subst, refl}
 use Rattle.mps_model.specs.declared.call.Call.TheVariants as call
 use Rattle.mps_heap_spec.specs.Collect.{most_moves}
 use Rattle.mps_heap_spec.specs.Collecting.{can_collect, check_start}
 use Rattle.mps_refinement.specs.Answering.{answer_to, says_ok}
 use Rattle.mps_refinement.specs.RightMoving.{IsRightMoving}
 use Rattle.mps_refinement.specs.UnitsLeft.{BeginsWithin}
-use Rattle.mps_refinement.proofs.Worlds.Staying.{stays}
+use Rattle.mps_refinement.proofs.Worlds.Staying.{stays, grains_stay}
 use Rattle.mps_heap.proofs.Starting.{can_start_here, started_rightly, started_within}
 use Rattle.mps_heap.proofs.heap.Heap.start.Goals as goal
 
@@ -42,4 +42,7 @@ returns g c =
           (started_within layout h c.self.invariant c.is_whole.ensures.whole c.args.trail.now room c.is_whole.ensures.made_before
           c.start.new.state c.start.new.trail c.start.result c.start.ensures);
       room = came.1;
+      grains = subst (λ x. c.start.new.state.segs.grains ≡ x.segs.grains) c.self.view_is
+          (grains_stay layout c.self.inside.state c.start.new.state call.Start came.0.moves (answer_to says_ok c.start.result)
+          c.self.invariant came.0.right refl);
     }

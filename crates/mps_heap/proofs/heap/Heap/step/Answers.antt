@@ -1,11 +1,11 @@
-use Rattle.std.proofs.Common.{◌≤◌, sym, subst}
+use Rattle.std.proofs.Common.{◌≤◌, sym, subst, ◌≡◌, refl}
 use Rattle.mps_model.specs.declared.call.Call.TheVariants as call
 use Rattle.mps_heap_spec.specs.Collect.{most_moves}
 use Rattle.mps_heap_code.specs.Ticks.{HasTicked}
 use Rattle.mps_refinement.specs.Answering.{says_progress}
 use Rattle.mps_refinement.specs.RightMoving.{IsRightMoving}
 use Rattle.mps_refinement.specs.UnitsLeft.{StepsDown}
-use Rattle.mps_refinement.proofs.Worlds.Staying.{stays}
+use Rattle.mps_refinement.proofs.Worlds.Staying.{stays, grains_stay}
 use Rattle.mps_heap.proofs.Collected.{can_step, stepped_down, stepped_rightly}
 use Rattle.mps_heap.proofs.heap.Heap.step.Goals as goal
 
@@ -40,4 +40,7 @@ returns g c =
           c.step.new.trail c.step.result c.step.ensures.stepped);
       ticks = subst (λ x. HasTicked x c.args.n c.step.result c.args.steps.now c.step.new.steps) c.self.view_is c.step.ensures.ticked;
       room = stepped.1;
+      grains = subst (λ x. c.step.new.state.segs.grains ≡ x.segs.grains) c.self.view_is
+          (grains_stay layout c.self.inside.state c.step.new.state (call.Step c.args.n) stepped.0.moves (says_progress c.step.result)
+          c.self.invariant stepped.0.right refl);
     }

@@ -1,10 +1,10 @@
-use Rattle.std.proofs.Common.{subst, []}
+use Rattle.std.proofs.Common.{subst, [], ◌≡◌, refl}
 use Rattle.mps_model.specs.declared.call.Call.TheVariants as call
 use Rattle.mps_refinement.specs.Answering.{answer_to, says_ok}
 use Rattle.mps_refinement.specs.RightStep.{IsRight}
 use Rattle.mps_refinement.proofs.Calls.TransformPairs.{transadd_is_right}
 use Rattle.mps_refinement.proofs.Calls.Transforming.{some_transforms_there}
-use Rattle.mps_refinement.proofs.Worlds.Staying.{stays}
+use Rattle.mps_refinement.proofs.Worlds.Staying.{stays, grains_stay}
 use Rattle.mps_heap.proofs.heap.Heap.transadd.Goals as goal
 
 pub transadd-requires : goal.transadd-requires
@@ -24,4 +24,8 @@ returns g c = record {
       (answer_to says_ok c.transadd.result) c.transadd.new.state) c.self.view_is
       (transadd_is_right g.F.Format.layout c.self.inside.state c.args.x c.args.s c.args.t c.transadd.result
       c.transadd.new.state c.transadd.ensures);
+  grains = subst (λ x. c.transadd.new.state.segs.grains ≡ x.segs.grains) c.self.view_is
+      (grains_stay g.F.Format.layout c.self.inside.state c.transadd.new.state (call.TransformAdd c.args.x c.args.s c.args.t) [] (answer_to
+      says_ok c.transadd.result) c.self.invariant (transadd_is_right g.F.Format.layout c.self.inside.state c.args.x c.args.s c.args.t
+      c.transadd.result c.transadd.new.state c.transadd.ensures) refl);
 }

@@ -1,9 +1,9 @@
-use Rattle.std.proofs.Common.{subst, []}
+use Rattle.std.proofs.Common.{◌≡◌, refl, subst, []}
 use Rattle.mps_model.specs.declared.call.Call.TheVariants as call
 use Rattle.mps_refinement.specs.Answering.{answer_to, says_ok}
 use Rattle.mps_refinement.specs.RightStep.{IsRight}
 use Rattle.mps_refinement.proofs.Calls.Pairing.{undepend_is_right}
-use Rattle.mps_refinement.proofs.Worlds.Staying.{stays}
+use Rattle.mps_refinement.proofs.Worlds.Staying.{grains_stay, stays}
 use Rattle.mps_heap.proofs.heap.Heap.undepend.Goals as goal
 
 pub invariant_of-self : goal.invariant_of-self
@@ -19,4 +19,9 @@ returns g c = record {
       c.undepend.new.state) c.self.view_is
       (undepend_is_right g.F.Format.layout c.self.inside.state c.args.holder c.undepend.result c.undepend.new.state
       c.undepend.ensures);
+  grains = subst (λ h. c.undepend.new.state.segs.grains ≡ h.segs.grains) c.self.view_is
+      (grains_stay g.F.Format.layout c.self.inside.state c.undepend.new.state (call.Undepend c.args.holder) [] (answer_to says_ok
+      c.undepend.result) c.self.invariant
+      (undepend_is_right g.F.Format.layout c.self.inside.state c.args.holder c.undepend.result c.undepend.new.state
+      c.undepend.ensures) refl);
 }
