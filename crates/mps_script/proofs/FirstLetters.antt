@@ -7,7 +7,7 @@ use Rattle.std.specs.Str.{bytes_eq}
 use Rattle.std.proofs.lemmas.Slice.Eq.{bytes_eq-Decides}
 use Rattle.mps_line_words.specs.Word.{is_space, word_at}
 use Rattle.mps_line_words.proofs.FirstWord.{no_word, word_more}
-use Rattle.mps_script.specs.Form.{Form, call_in, forms}
+use Rattle.mps_grammar.specs.Form.{Form, call_in, forms}
 
 -- the word begins with a letter of a range
 abbrev pub begins_in : (low high : ℕ) → List ℕ → Bool

@@ -5,7 +5,7 @@ use Rattle.mps_model.specs.declared.call.Call.{Call}
 use Rattle.mps_line_words.specs.Lines.{max_line_bytes}
 use Rattle.mps_line_words.specs.Word.{words, is_space, word_at, after_spaces, after_word}
 use Rattle.mps_line_words.proofs.FirstWord.{first_word, no_words_from, some_words_from, no_word, word_more}
-use Rattle.mps_script.specs.Form.{command_call}
+use Rattle.mps_grammar.specs.Form.{command_call}
 use Rattle.mps_script.specs.Line.{begins_comment, call_of_line, call_of_words, or_bad}
 
 -- a comment begins with its word

@@ -5,7 +5,7 @@ use Rattle.mps_model.specs.declared.call.Call.{Call}
 use Rattle.mps_script.specs.declared.line.BadLine.{BadLine}
 use Rattle.mps_line_words.specs.Lines.{is_line_feed, max_line_bytes}
 use Rattle.mps_line_words.specs.Word.{words}
-use Rattle.mps_script.specs.Form.{command_call}
+use Rattle.mps_grammar.specs.Form.{command_call}
 
 -- without the last part if that is empty
 abbrev pub without_empty_last : List (List ℕ) → List (List ℕ)

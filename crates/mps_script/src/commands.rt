@@ -1,12 +1,12 @@
 // The call of a command.
 ghost use Rattle.std.specs.Prelude.{◌≡◌};
-ghost use Rattle.mps_script.specs.Filled.{filled};
+ghost use Rattle.mps_grammar.specs.Filled.{filled};
 ghost use Rattle.mps_line_words.specs.Word.{words, word_at, after_word};
-ghost use Rattle.mps_script.specs.Form.{command_call};
+ghost use Rattle.mps_grammar.specs.Form.{command_call};
 
-use crate::a_to_k::{call_of_a_to_b, call_of_c, call_of_d_to_f, call_of_g_to_k};
-use crate::l_to_z::{call_of_l, call_of_m_to_o, call_of_p_to_r, call_of_s_to_z};
 use mps_model::Call;
+use mps_parser_a_to_k::{call_of_a_to_b, call_of_c, call_of_d_to_f, call_of_g_to_k};
+use mps_parser_l_to_z::{call_of_l, call_of_m_to_o, call_of_p_to_r, call_of_s_to_z};
 
 /// The call of a line at whose beginning a word stands, if its words are in the form of a command.
 #[inline(always)]

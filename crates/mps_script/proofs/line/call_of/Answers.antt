@@ -2,8 +2,8 @@ use Rattle.std.proofs.Common.{◌≡◌, ◌==◌, ◌∙◌, nat_lt, List, ℕ,
 use Rattle.std.proofs.lemmas.Bool.Decides.{nat_tests}
 use Rattle.mps_line_words.specs.Lines.{max_line_bytes}
 use Rattle.mps_line_words.specs.Word.{words, word_at, after_word}
-use Rattle.mps_script.specs.Form.{command_call}
-use Rattle.mps_script.specs.Filled.{filled}
+use Rattle.mps_grammar.specs.Form.{command_call}
+use Rattle.mps_grammar.specs.Filled.{filled}
 use Rattle.mps_script.specs.Line.{begins_comment, or_bad}
 use Rattle.mps_script.proofs.FirstOfLine.{of_blank, of_comment, of_command}
 use Rattle.mps_script.proofs.line.call_of.Goals as goal

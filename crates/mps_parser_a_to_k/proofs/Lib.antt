@@ -1,0 +1,3 @@
+pub mod Padded
+pub mod Capacities
+pub mod Classes

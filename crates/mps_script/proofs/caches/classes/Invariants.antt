@@ -1,6 +1,0 @@
-use Rattle.mps_line_words.specs.Word.{words}
-use Rattle.mps_script.proofs.Classes.{AreRead}
-use Rattle.mps_script.proofs.caches.classes.Given as goal
-
-abbrev pub invariant-loop-count : goal.invariant-loop-count
-invariant-loop-count l = AreRead (words l.fn.arguments) (words l.rest) l.sizes l.limits l.count
