@@ -149,7 +149,6 @@ fn put_plain(out: &mut [u8], reply: &Reply) -> usize
             let at = put(b"refused ", out, 0);
             put_refusal(out, at, &why)
         }
-        Reply::Unsupported => put(b"unsupported", out, 0),
     }
 }
 

@@ -1,3 +1,3 @@
-pub mod Built
+pub mod Asked
 pub mod Range
 pub mod RightAnswer

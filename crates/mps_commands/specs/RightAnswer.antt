@@ -1,14 +1,11 @@
 -- What the answer of a machine guarantees, in each of the worlds for which it stood, and in each line.
-use Rattle.std.specs.Prelude.{◌≡◌, ◌↔◌, ◌<◌, ◌^◌, ℕ, List, length, IsTrue}
+use Rattle.std.specs.Prelude.{ℕ, List}
 use Rattle.mps_base.specs.declared.moves.Move.{Move}
 use Rattle.mps_model.specs.declared.call.Call.{Call}
-use Rattle.mps_model.specs.declared.reply.Reply.{Reply}
-use Rattle.mps_model.specs.declared.reply.Reply.TheVariants as reply
 use Rattle.mps_model.specs.Answer.{Answer}
 use Rattle.mps_model.specs.Step.{Step}
 use Rattle.mps_model.specs.World.{World}
 use Rattle.mps_model.specs.History.{IsLegalStep, world_after}
-use Rattle.mps_commands.specs.Built.{Built}
 
 -- the step of a call in a line
 abbrev pub step_in : (line : ℕ) → Call → List Move → Answer → Step
@@ -22,15 +19,6 @@ IsLegalIn stood call moves answer = (w : World) (line : ℕ) → stood w → IsL
 abbrev pub StandsAfter : (stood stands : World → Type 0) → Call → List Move → Answer → Type 0
 StandsAfter stood stands call moves answer =
     (w : World) (line : ℕ) → stood w → stands (world_after w (step_in line call moves answer))
-
--- fewer flips came than 2^32. A run asks for no call in a world of more: it has fewer lines, and a line flips at most once
-abbrev pub HasFewFlips : World → Type 0
-HasFewFlips w = length w.flips < 2 ^ 32
-
--- the reply is `unsupported` exactly if that is said of the call, in a world of few flips
-abbrev pub IsUnsupportedExactly : Built → (stood : World → Type 0) → Call → Reply → Type 0
-IsUnsupportedExactly built stood call given =
-    (w : World) → stood w → HasFewFlips w → (given ≡ reply.Unsupported) ↔ IsTrue (built.is_unsupported w call)
 
 -- the machine represents what it represented before
 abbrev pub StandsStill : (stood stands : World → Type 0) → Type 0

@@ -1,11 +1,12 @@
 // A machine that answers the commands of a script.
-ghost use Rattle.std.specs.Prelude.{◌≡◌, ℕ, List, slice_get, OnOk, OnErr, IsTrue};
+ghost use Rattle.std.specs.Prelude.{◌≡◌, ℕ, List, Bool, slice_get, OnOk, OnErr, IsTrue};
 ghost use Rattle.mps_base.specs.declared.moves.Move.{Move};
 ghost use Rattle.mps_model.specs.Answer.{answer_of};
+ghost use Rattle.mps_model.specs.declared.call.Call.{Call};
 ghost use Rattle.mps_model.specs.World.{World};
-ghost use Rattle.mps_commands.specs.Built.{Built};
+ghost use Rattle.mps_commands.specs.Asked.{IsAsked};
 ghost use Rattle.mps_commands.specs.Range.{IsInRange};
-ghost use Rattle.mps_commands.specs.RightAnswer.{IsLegalIn, StandsAfter, IsUnsupportedExactly, StandsStill};
+ghost use Rattle.mps_commands.specs.RightAnswer.{IsLegalIn, StandsAfter, StandsStill};
 
 use mps_base::Move;
 use mps_model::{Call, Reply};
@@ -26,23 +27,23 @@ pub trait Commands {
     /// The words of the arena.
     ghost words: { Self → List ℕ };
 
-    /// What is built, and what takes memory.
-    ghost built: { Built };
+    /// Whether a call takes memory.
+    ghost takes_memory: { Call → Bool };
 
     /// Answers a call, and writes the reply if it is to stand. An `Err` says that memory is out: then nothing was done, and what
     /// stands there is left open.
     fn answer(&mut self, call: &Call, reply: &mut Reply) -> Result<(), AllocError>
-        requires { IsInRange call.now }
+        requires range { IsInRange call.now }
+        // It is asked in its turn: `arena` first and never again, and in a world of fewer than 2^32 flips.
+        requires asked { IsAsked (stands_for self.old) call.now }
         // In each line the call with its moves and its answer is a legal step.
         ensures legal { OnOk result (IsLegalIn (stands_for self.old) call.now (moves self.new)
             (answer_of (words self.new) reply.new)) }
         // The machine then represents the world after that step.
         ensures stands { OnOk result (StandsAfter (stands_for self.old) (stands_for self.new) call.now (moves self.new)
             (answer_of (words self.new) reply.new)) }
-        // In a world of fewer than 2^32 flips the reply is `unsupported` exactly if that is said of the call.
-        ensures unsupported { OnOk result (IsUnsupportedExactly built (stands_for self.old) call.now reply.new) }
         ensures unchanged { OnErr result (StandsStill (stands_for self.old) (stands_for self.new)) }
-        ensures memory { OnErr result (IsTrue (built.takes_memory call.now)) };
+        ensures memory { OnErr result (IsTrue (takes_memory call.now)) };
 
     /// The moves that the last call made, in order.
     fn moves(&self) -> &[Move]

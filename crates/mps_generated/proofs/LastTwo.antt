@@ -1,6 +1,6 @@
 -- The last two lines of a generated script, and their answers.
 use Rattle.std.proofs.Common.{◌≡◌, ℕ, ◌+◌, ◌-◌, ◌≤◌, Bool, true, false, if◌then◌else◌, List, [], ◌∷◌, ◌++◌, length, drop, refl, sym, ◌∙◌, ap, subst, arith, append_assoc, append-nil}
-use Rattle.std.specs.Prelude.{MatchBool, map}
+use Rattle.std.specs.Prelude.{map}
 use Rattle.std.proofs.Math.Seq.{drop-append_seam}
 use Rattle.std.proofs.lemmas.List.{length-append}
 use Rattle.mps_desk.specs.Desk.{Outside}
@@ -8,13 +8,12 @@ use Rattle.mps_model.specs.declared.call.Call.{Call}
 use Rattle.mps_model.specs.declared.call.Call.TheVariants as call
 use Rattle.mps_model.specs.declared.reply.Reply.{Reply}
 use Rattle.mps_model.specs.declared.reply.Reply.TheVariants as reply
-use Rattle.mps_model.specs.Answer.{Answer, Replied, Dumped, answer_of, is_block, is_unsupported}
+use Rattle.mps_model.specs.Answer.{Answer, Replied, answer_of, is_block}
 use Rattle.mps_model.specs.Reply.{reply_to}
 use Rattle.mps_model.specs.Step.{Step, History}
 use Rattle.mps_model.specs.Text.{line_of_answer}
 use Rattle.mps_model.specs.World.{World}
-use Rattle.mps_model.specs.History.{IsAnsweredStep, IsLegalFrom, IsLegalStep, judged_world, moved_world, world_after_history}
-use Rattle.mps_commands.specs.Built.{Built}
+use Rattle.mps_model.specs.History.{IsLegalFrom, IsLegalStep, judged_world, moved_world, world_after_history}
 use Rattle.mps_run.specs.declared.progress.Progress.{Progress}
 use Rattle.mps_run.specs.Ending.{Ending}
 use Rattle.mps_run.specs.Running.{LineLogged}
@@ -32,24 +31,15 @@ record IsReply (answer : Answer) : Type 0 where
   given : Reply
   is : answer ≡ Replied given
 
-unsupported_is_reply : (answer : Answer) → is_unsupported answer ≡ true → IsReply answer
-unsupported_is_reply (Replied given) e = record { given = given; is = refl }
-unsupported_is_reply (Dumped words) e = absurd (let wrong : false ≡ true = e in cc)
-
 live_is_reply : (marked : Bool) (judged after : World) → IsReply (reply_to marked judged after call.Live)
 live_is_reply marked judged after = record { given = _; is = refl }
 
 answer_of_live : (w : World) (s : Step) → s.call ≡ call.Live → IsLegalStep w s → IsReply s.answer
-answer_of_live w s is legal = at (is_unsupported s.answer) refl legal
-  where
-    at : (b : Bool) → is_unsupported s.answer ≡ b → MatchBool b (s.moves ≡ []) (IsAnsweredStep w s) → IsReply s.answer
-    at true e moves = unsupported_is_reply s.answer e
-    at false e answered =
-        let marked = is_block s.answer in
-        let judged = judged_world w s.call s.moves in
-        let after = moved_world w s.call s.moves in
-        subst IsReply (sym (answered.answer_is_due ∙ ap (λ (c : Call). reply_to marked judged after c) is))
-        (live_is_reply marked judged after)
+answer_of_live w s is legal =
+    let marked = is_block s.answer in
+    let judged = judged_world w s.call s.moves in
+    let after = moved_world w s.call s.moves in
+    subst IsReply (sym (legal.answer_is_due ∙ ap (λ (c : Call). reply_to marked judged after c) is)) (live_is_reply marked judged after)
 
 -- a reply that isn't a dump is the same answer whatever words the arena has
 any_words : (before after : List ℕ) (given : Reply) → IsReply (answer_of before given) → answer_of after given ≡ answer_of before given
@@ -94,31 +84,31 @@ last_of_two h s t =
     ∙ (ap answers_of (drop-append_seam h both)
     ∙ ap (λ (rest : List ℕ). line_of_answer s.answer ++ rest) (append-nil (line_of_answer t.answer))))
 
-module _ (built : Built) (stood between stands : World → Type 0) (p q r : Progress) (all left : List (List ℕ))
-    (old now mid late : Outside) (two : left ≡ last_two_lines) (f : LoggedSoFar built stood p all left old now)
+module _ (takes_memory : Call → Bool) (stood between stands : World → Type 0) (p q r : Progress) (all left : List (List ℕ))
+    (old now mid late : Outside) (two : left ≡ last_two_lines) (f : LoggedSoFar stood p all left old now)
     (has_live has_committed : Bool) (words_then words : List ℕ) (live committed : Reply)
-    (l : LineLogged built stood between (if has_live then answer_of words_then live ∷ [] else []) p q (first_line left) now mid)
-    (k : LineLogged built between stands (if has_committed then answer_of words committed ∷ [] else []) q r (first_line (drop 1 left))
+    (l : LineLogged stood between (if has_live then answer_of words_then live ∷ [] else []) p q (first_line left) now mid)
+    (k : LineLogged between stands (if has_committed then answer_of words committed ∷ [] else []) q r (first_line (drop 1 left))
     mid late)
     (unprinted : now.printed ≡ old.printed) (same : mid.printed ≡ now.printed) (later : late.printed ≡ mid.printed)
     (texts : AreLineTexts left) (few : q.lines ≤ max_lines) (few_later : r.lines ≤ max_lines) where
-  at_two : LoggedSoFar built stood p all last_two_lines old now
-  at_two = subst (λ (ls : List (List ℕ)). LoggedSoFar built stood p all ls old now) two f
+  at_two : LoggedSoFar stood p all last_two_lines old now
+  at_two = subst (λ (ls : List (List ℕ)). LoggedSoFar stood p all ls old now) two f
 
-  its_live : LineLogged built stood between (if has_live then answer_of words_then live ∷ [] else []) p q (first_line last_two_lines)
+  its_live : LineLogged stood between (if has_live then answer_of words_then live ∷ [] else []) p q (first_line last_two_lines)
       now mid
-  its_live = subst (λ (ls : List (List ℕ)). LineLogged built stood between (if has_live then answer_of words_then live ∷ [] else []) p q
+  its_live = subst (λ (ls : List (List ℕ)). LineLogged stood between (if has_live then answer_of words_then live ∷ [] else []) p q
       (first_line ls) now mid) two l
 
-  its_committed : LineLogged built between stands (if has_committed then answer_of words committed ∷ [] else []) q r
+  its_committed : LineLogged between stands (if has_committed then answer_of words committed ∷ [] else []) q r
       (first_line (drop 1 last_two_lines)) mid late
-  its_committed = subst (λ (ls : List (List ℕ)). LineLogged built between stands
+  its_committed = subst (λ (ls : List (List ℕ)). LineLogged between stands
       (if has_committed then answer_of words committed ∷ [] else []) q r (first_line (drop 1 ls)) mid late) two k
 
   their_texts : AreLineTexts last_two_lines
   their_texts = subst AreLineTexts two texts
 
-  abbrev whole : LoggedSoFar built stands r all [] old late
+  abbrev whole : LoggedSoFar stands r all [] old late
   whole =
       one_logged (one_logged at_two its_live same their_texts (omega arith) few) its_committed later
       (texts_later last_two_lines their_texts)
@@ -161,7 +151,7 @@ module _ (built : Built) (stood between stands : World → Type 0) (p q r : Prog
   -- both were run, and their answers printed, or a part of them
   pub leaves_both : (new : Outside) (ends : Ending)
       → PrintsOrFails (line_of_answer (answer_of words live) ++ line_of_answer (answer_of words committed)) ends late new
-      → LeavesGenerated built ends [] (text_of all) old new
+      → LeavesGenerated takes_memory ends [] (text_of all) old new
   leaves_both new ends prints =
-      leaves_at_end built stands r all old late new whole (later ∙ (same ∙ unprinted))
+      leaves_at_end takes_memory stands r all old late new whole (later ∙ (same ∙ unprinted))
       (line_of_answer (answer_of words live) ++ line_of_answer (answer_of words committed)) answers_now ends prints

@@ -1,15 +1,15 @@
 -- What a run of a generated script does: it runs the lines of the script as `run` would, logs what happens, and prints the last two
 -- answers alone.
-use Rattle.std.specs.Prelude.{ℕ, ◌≡◌, ◌+◌, ◌-◌, ◌⊎◌, false, Ok, Err, List, [], ◌∷◌, ◌++◌, length, take, drop, codes, refl}
+use Rattle.std.specs.Prelude.{ℕ, ◌≡◌, ◌+◌, ◌-◌, ◌⊎◌, Bool, false, Ok, Err, List, [], ◌∷◌, ◌++◌, length, take, drop, codes, refl}
 use Rattle.std.specs.Fmt.{digits}
 use Rattle.mps_desk.specs.Desk.{Outside, Asks, IsSteady, NothingWaits, making}
 use Rattle.mps_base.specs.Record.{records_bytes}
+use Rattle.mps_model.specs.declared.call.Call.{Call}
 use Rattle.mps_model.specs.declared.call.Call.TheVariants as call
 use Rattle.mps_model.specs.declared.reply.Reply.TheVariants as reply
 use Rattle.mps_model.specs.Answer.{Replied}
 use Rattle.mps_model.specs.Step.{Step, History}
 use Rattle.mps_model.specs.Log.{written_log, pools_made}
-use Rattle.mps_commands.specs.Built.{Built}
 use Rattle.mps_script.specs.Line.{lines_of}
 use Rattle.mps_report.specs.Streams.{appended}
 use Rattle.mps_report.specs.declared.stop.Stop.TheVariants as stop
@@ -41,28 +41,28 @@ pub record PrintsFront (later : List Line) (history : History) (text : List ℕ)
 -- Where it ends, of which these lines were run and those are the others, and what was printed: both answers at the end; a part of them,
 -- where printing failed; where the log failed, nothing, or a part of them after all lines were run; nothing at a command for which there
 -- is no memory. It ends nowhere else: no line is bad, and there are few enough.
-abbrev pub GeneratedEndsAt : Built → Ending → (ran later : List Line) → History → (text : List ℕ) → Type 0
-GeneratedEndsAt built (Ok done) ran later history text = (later ≡ []) × (text ≡ last_answers history)
-GeneratedEndsAt built (Err stop.WriteFailed) ran later history text = PrintsFront later history text
-GeneratedEndsAt built (Err stop.LogFailed) ran later history text = (text ≡ []) ⊎ PrintsFront later history text
-GeneratedEndsAt built (Err stop.OutOfMemory) ran later history text =
-    (text ≡ []) × NeedsMemory built (commands_from (length ran + 1) (take 1 later))
-GeneratedEndsAt built ends ran later history text = ⊥
+abbrev pub GeneratedEndsAt : (takes_memory : Call → Bool) → Ending → (ran later : List Line) → History → (text : List ℕ) → Type 0
+GeneratedEndsAt takes_memory (Ok done) ran later history text = (later ≡ []) × (text ≡ last_answers history)
+GeneratedEndsAt takes_memory (Err stop.WriteFailed) ran later history text = PrintsFront later history text
+GeneratedEndsAt takes_memory (Err stop.LogFailed) ran later history text = (text ≡ []) ⊎ PrintsFront later history text
+GeneratedEndsAt takes_memory (Err stop.OutOfMemory) ran later history text =
+    (text ≡ []) × NeedsMemory takes_memory (commands_from (length ran + 1) (take 1 later))
+GeneratedEndsAt takes_memory ends ran later history text = ⊥
 
 -- Lines of the script were run, and a history answers their commands. What was logged is the header and the records of that history, and
 -- where the log failed perhaps a prefix of the records of the next command.
-pub record LeavesGenerated (built : Built) (ends : Ending) (header script : List ℕ) (old new : Outside) : Type 0 where
+pub record LeavesGenerated (takes_memory : Call → Bool) (ends : Ending) (header script : List ℕ) (old new : Outside) : Type 0 where
   pub ran : List Line
   pub later : List Line
   pub lines : lines_of script ≡ ran ++ later
   pub history : History
-  pub run : HasRun built ran history
+  pub run : HasRun ran history
   pub part : Part
   pub is_part : (part ≡ Nothing) ⊎ (ends ≡ Err stop.LogFailed)
-  pub begun : IsOfNext built ran later history part
+  pub begun : IsOfNext ran later history part
   pub text : List ℕ
   pub printed : new.printed ≡ appended old.printed text
-  pub ends_at : GeneratedEndsAt built ends ran later history text
+  pub ends_at : GeneratedEndsAt takes_memory ends ran later history text
   pub logged : new.logged ≡ appended old.logged (header ++ (records_bytes (written_log history) ++ logged_of (pools_made history) part))
 
 -- It may end before the log has its header, where the log can't be made and begun.
@@ -70,8 +70,8 @@ abbrev pub EndsBeforeLog : Ending → (old new : Outside) → Type 0
 EndsBeforeLog (Err stop.LogFailed) old new = LeavesHeader old new
 EndsBeforeLog ends old new = ⊥
 
--- `gen -r`, on a machine of which this is built
-pub record RunsGeneratedScript (built : Built) (log : List ℕ) (seed count : ℕ) (status : ℕ) (old new : Outside) : Type 0 where
+-- `gen -r`, on a machine for which these calls take memory
+pub record RunsGeneratedScript (takes_memory : Call → Bool) (log : List ℕ) (seed count : ℕ) (status : ℕ) (old new : Outside) : Type 0 where
   -- there is one ending, which has this status: 0, or 4, 5 or 8 by what it leaves
   pub ends : Ending
   pub status_is : status ≡ status_of_ending ends
@@ -84,7 +84,7 @@ pub record RunsGeneratedScript (built : Built) (log : List ℕ) (seed count : �
   pub unread : new.input ≡ old.input
   pub in_faults : new.in_faults ≡ old.in_faults
   -- what was printed and logged is that of one history, which answers the commands of the generated lines
-  pub leaves : EndsBeforeLog ends old new ⊎ LeavesGenerated built ends log_header (script seed count) old new
+  pub leaves : EndsBeforeLog ends old new ⊎ LeavesGenerated takes_memory ends log_header (script seed count) old new
   -- with status 0 there was no fault but of reporting, and all that was logged and printed is written
   pub steady : status ≡ 0 → IsSteady old new
   pub written : status ≡ 0 → NothingWaits new

@@ -8,7 +8,7 @@ ghost use Rattle.mps_report.specs.Causes.{CauseOf};
 ghost use Rattle.mps_report.specs.Streams.{LogTakes};
 ghost use Rattle.mps_report.specs.declared.stop.Stop.TheVariants as stop;
 ghost use Rattle.mps_run.specs.Ending.{HasCause, RunsOn};
-ghost use Rattle.mps_run.specs.Running.{LineLogged, LineStops};
+ghost use Rattle.mps_run.specs.Running.{HasComeTo, LineLogged, LineStops};
 ghost use Rattle.mps_script.specs.Line.{lines_of};
 ghost use Rattle.mps_script.specs.Script.{is_grammatical};
 ghost use Rattle.mps_generated.specs.Run.{LeavesGenerated};
@@ -41,7 +41,7 @@ pub fn run_lines<D: Desk, C: Commands>(
     ensures unread { (D.outside desk.new).input ≡ (D.outside desk.old).input }
     ensures in_faults { (D.outside desk.new).in_faults ≡ (D.outside desk.old).in_faults }
     ensures log_written { result ≡ Err stop.WriteFailed → (D.outside desk.new).log_waits ≡ false }
-    ensures leaves { LeavesGenerated C.built result [] (text_of lines.old) (D.outside desk.old) (D.outside desk.new) }
+    ensures leaves { LeavesGenerated C.takes_memory result [] (text_of lines.old) (D.outside desk.old) (D.outside desk.new) }
 {
     let mut progress = Progress::new();
     // One place for the call of each line, and one for its reply.
@@ -77,13 +77,14 @@ fn log_next<D: Desk, C: Commands>(
 ) -> Result<bool, Stop<BadScriptLine>>
     requires bounded { progress.old.lines < 4294967295 }
     requires pools { progress.old.pools ≤ progress.old.lines }
+    requires come { HasComeTo (C.stands_for commands.old) progress.old }
     requires texts { AreLineTexts lines.old }
     requires some { 0 < length lines.old }
     ensures left { lines.new ≡ drop 1 lines.old }
-    ensures logged { IfOk result (λ has_call. LineLogged C.built (C.stands_for commands.old) (C.stands_for commands.new)
+    ensures logged { IfOk result (λ has_call. LineLogged (C.stands_for commands.old) (C.stands_for commands.new)
         (if has_call then answer_of (C.words commands.new) reply.new ∷ [] else []) progress.old progress.new (first_line lines.old)
         (D.outside desk.old) (D.outside desk.new)) }
-    ensures stops { IfErr result (λ why. LineStops C.built why (C.stands_for commands.old) progress.old (first_line lines.old)
+    ensures stops { IfErr result (λ why. LineStops C.takes_memory why (C.stands_for commands.old) progress.old (first_line lines.old)
         (D.outside desk.old) (D.outside desk.new)) }
     ensures cause { IfErr result (λ why. CauseOf (D.outside desk.old) (D.outside desk.new) why) }
     ensures steady { IfOk result (λ has_call. IsSteady (D.outside desk.old) (D.outside desk.new)) }

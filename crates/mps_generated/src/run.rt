@@ -30,7 +30,7 @@ pub fn run_generated<D: Desk, C: Commands>(
     requires begun { C.stands_for commands empty_world }
     requires few { count ≤ 1000000 }
     ensures statuses { (result ≡ 0) ⊎ (result ≡ 4) ⊎ (result ≡ 5) ⊎ (result ≡ 8) }
-    ensures runs { RunsGeneratedScript C.built log.now seed count result (D.outside desk.old) (D.outside desk.new) }
+    ensures runs { RunsGeneratedScript C.takes_memory log.now seed count result (D.outside desk.old) (D.outside desk.new) }
     ensures write_failed { result ≡ 4 → HasRisen (D.outside desk.old).out_faults (D.outside desk.new).out_faults }
     ensures log_failed { result ≡ 5 → HasRisen (D.outside desk.old).log_faults (D.outside desk.new).log_faults }
     ensures counts { CountsGrow (D.outside desk.old) (D.outside desk.new) }
@@ -57,7 +57,7 @@ fn run<D: Desk, C: Commands>(
     ensures unread { (D.outside desk.new).input ≡ (D.outside desk.old).input }
     ensures in_faults { (D.outside desk.new).in_faults ≡ (D.outside desk.old).in_faults }
     ensures leaves { EndsBeforeLog result (D.outside desk.old) (D.outside desk.new)
-        ⊎ LeavesGenerated C.built result header_of_log (script seed count) (D.outside desk.old) (D.outside desk.new) }
+        ⊎ LeavesGenerated C.takes_memory result header_of_log (script seed count) (D.outside desk.old) (D.outside desk.new) }
     ensures steady { OnOk result (IsSteady (D.outside desk.old) (D.outside desk.new)) }
     ensures written { OnOk result (NothingWaits (D.outside desk.new)) }
     ensures runs { RunsOn (D.outside desk.old) (D.outside desk.new) }

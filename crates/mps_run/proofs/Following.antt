@@ -1,13 +1,13 @@
 -- What follows from what a run leaves.
-use Rattle.std.proofs.Common.{◌≡◌, ◌≢◌, ℕ, Some, Ok, Err, List, [], ◌∷◌, ◌++◌, refl, sym, ◌∙◌, ap, arith, append-nil, subst, true, inl, inr, ◌⊎◌}
+use Rattle.std.proofs.Common.{◌≡◌, ◌≢◌, ℕ, Bool, Some, Ok, Err, List, [], ◌∷◌, ◌++◌, refl, sym, ◌∙◌, ap, arith, append-nil, subst, true, inl, inr, ◌⊎◌}
 use Rattle.std.specs.Option.{option_map}
 use Rattle.std.proofs.lemmas.List.{append_cancel_left}
 use Rattle.std.proofs.lemmas.Slice.Eq.{bytes_eq-Decides}
 use Rattle.mps_desk.specs.Desk.{Outside, File, Files, HasRisen, file_named, with_file}
 use Rattle.mps_desk.proofs.Files.{file_named-with_file_other}
 use Rattle.mps_base.specs.Record.{records_bytes}
+use Rattle.mps_model.specs.declared.call.Call.{Call}
 use Rattle.mps_model.specs.Log.{written_log, log_bytes, pools_made}
-use Rattle.mps_commands.specs.Built.{Built}
 use Rattle.mps_log_reader.specs.Ending.{is_input_verdict}
 use Rattle.mps_report.specs.declared.stop.Stop.TheVariants as stop
 use Rattle.mps_report.specs.Reports.{status_of_ending}
@@ -40,9 +40,9 @@ printed_none ends (SomeAnswer step count) old new is other = absurd (none is.bla
     none (inl write) = other.write write
     none (inr log) = other.log log is.fault
 
-answered_of : (built : Built) (ends : Ending) (script : List ℕ) (old new : Outside) → PrintsAll ends old new
-    → Leaves built ends log_header script old new → Answered built script old new
-answered_of built ends script old new other l = record {
+answered_of : (takes_memory : Call → Bool) (ends : Ending) (script : List ℕ) (old new : Outside) → PrintsAll ends old new
+    → Leaves takes_memory ends log_header script old new → Answered script old new
+answered_of takes_memory ends script old new other l = record {
   ran = l.ran;
   later = l.later;
   lines = l.lines;
@@ -53,13 +53,13 @@ answered_of built ends script old new other l = record {
       (answers_of l.history));
 }
 
-answered_nothing : (built : Built) (script : List ℕ) (old new : Outside) → new.printed ≡ old.printed → Answered built script old new
-answered_nothing built script old new same = record {
+answered_nothing : (script : List ℕ) (old new : Outside) → new.printed ≡ old.printed → Answered script old new
+answered_nothing script old new same = record {
   ran = [];
   later = lines_of script;
   lines = refl;
   history = [];
-  run = nothing_run built;
+  run = nothing_run;
   printed = same ∙ appended_empty old.printed;
 }
 
@@ -72,16 +72,17 @@ before_header (Err stop.WriteFailed) old new u = absurd u
 before_header (Err stop.TooLong) old new u = absurd u
 before_header (Err (stop.Bad bad)) old new u = absurd u
 
-answered_run : (built : Built) (ends : Ending) (script : List ℕ) (old new : Outside) → PrintsAll ends old new
-    → LeavesRun built ends script old new → Answered built script old new
-answered_run built ends script old new other (inl u) = answered_nothing built script old new (before_header ends old new u)
-answered_run built ends script old new other (inr l) = answered_of built ends script old new other l
+answered_run : (takes_memory : Call → Bool) (ends : Ending) (script : List ℕ) (old new : Outside) → PrintsAll ends old new
+    → LeavesRun takes_memory ends script old new → Answered script old new
+answered_run takes_memory ends script old new other (inl u) = answered_nothing script old new (before_header ends old new u)
+answered_run takes_memory ends script old new other (inr l) = answered_of takes_memory ends script old new other l
 
-pub answers_whole : (built : Built) (log script : List ℕ) (status : ℕ) (old new : Outside) → RunsScript built log script status old new
+pub answers_whole : (takes_memory : Call → Bool) (log script : List ℕ) (status : ℕ) (old new : Outside)
+    → RunsScript takes_memory log script status old new
     → status ≢ 4 → (status ≡ 5 → ¬ HasRisen old.out_faults new.out_faults)
-    → (bytes : List ℕ) → old.text script ≡ Some bytes → Answered built bytes old new
-answers_whole built log script status old new r write fault bytes e =
-    answered_run built r.ends bytes old new (record {
+    → (bytes : List ℕ) → old.text script ≡ Some bytes → Answered bytes old new
+answers_whole takes_memory log script status old new r write fault bytes e =
+    answered_run takes_memory r.ends bytes old new (record {
       write = λ is. write (r.status_is ∙ ap status_of_ending is);
       log = λ is. fault (r.status_is ∙ ap status_of_ending is);
     }) (r.leaves bytes e)
@@ -106,11 +107,12 @@ logged_none ends (SomeAnswer step count) pools old new is whole = absurd (none i
     none (inl write) = not_write_failed ends whole write
     none (inr log) = not_log_failed ends whole log
 
-whole_of : (built : Built) (ends : Ending) (script : List ℕ) (old new : Outside) → is_input_verdict (status_of_ending ends) ≡ true
-    → Leaves built ends log_header script old new → RanWhole built ends script old new
+whole_of : (takes_memory : Call → Bool) (ends : Ending) (script : List ℕ) (old new : Outside)
+    → is_input_verdict (status_of_ending ends) ≡ true
+    → Leaves takes_memory ends log_header script old new → RanWhole takes_memory ends script old new
 unfolding answered_of
-whole_of built ends script old new whole l = record {
-  answered = answered_of built ends script old new
+whole_of takes_memory ends script old new whole l = record {
+  answered = answered_of takes_memory ends script old new
       (record { write = not_write_failed ends whole; log = λ is. absurd (not_log_failed ends whole is) }) l;
   ends_at = l.ends_at;
   logged = l.logged ∙ ap (λ (p : List ℕ). appended old.logged (log_header ++ p))
@@ -119,21 +121,23 @@ whole_of built ends script old new whole l = record {
       ∙ append-nil (records_bytes (written_log l.history)));
 }
 
-whole_run : (built : Built) (ends : Ending) (script : List ℕ) (old new : Outside) → is_input_verdict (status_of_ending ends) ≡ true
-    → LeavesRun built ends script old new → RanWhole built ends script old new
-whole_run built ends script old new whole (inr l) = whole_of built ends script old new whole l
-whole_run built (Err stop.OutOfMemory) script old new whole (inl u) = absurd (let wrong : is_input_verdict 8 ≡ true = whole in cc)
-whole_run built (Err stop.ReadFailed) script old new whole (inl u) = absurd (let wrong : is_input_verdict 3 ≡ true = whole in cc)
-whole_run built (Err stop.LogFailed) script old new whole (inl u) = absurd (let wrong : is_input_verdict 5 ≡ true = whole in cc)
-whole_run built (Ok done) script old new whole (inl u) = absurd u
-whole_run built (Err stop.WriteFailed) script old new whole (inl u) = absurd u
-whole_run built (Err stop.TooLong) script old new whole (inl u) = absurd u
-whole_run built (Err (stop.Bad bad)) script old new whole (inl u) = absurd u
+whole_run : (takes_memory : Call → Bool) (ends : Ending) (script : List ℕ) (old new : Outside)
+    → is_input_verdict (status_of_ending ends) ≡ true
+    → LeavesRun takes_memory ends script old new → RanWhole takes_memory ends script old new
+whole_run takes_memory ends script old new whole (inr l) = whole_of takes_memory ends script old new whole l
+whole_run takes_memory (Err stop.OutOfMemory) script old new whole (inl u) = absurd (let wrong : is_input_verdict 8 ≡ true = whole in cc)
+whole_run takes_memory (Err stop.ReadFailed) script old new whole (inl u) = absurd (let wrong : is_input_verdict 3 ≡ true = whole in cc)
+whole_run takes_memory (Err stop.LogFailed) script old new whole (inl u) = absurd (let wrong : is_input_verdict 5 ≡ true = whole in cc)
+whole_run takes_memory (Ok done) script old new whole (inl u) = absurd u
+whole_run takes_memory (Err stop.WriteFailed) script old new whole (inl u) = absurd u
+whole_run takes_memory (Err stop.TooLong) script old new whole (inl u) = absurd u
+whole_run takes_memory (Err (stop.Bad bad)) script old new whole (inl u) = absurd u
 
-pub runs_whole : (built : Built) (log script : List ℕ) (status : ℕ) (old new : Outside) (r : RunsScript built log script status old new)
-    → is_input_verdict status ≡ true → (bytes : List ℕ) → old.text script ≡ Some bytes → RanWhole built r.ends bytes old new
-runs_whole built log script status old new r whole bytes e =
-    whole_run built r.ends bytes old new (subst (λ n. is_input_verdict n ≡ true) r.status_is whole) (r.leaves bytes e)
+pub runs_whole : (takes_memory : Call → Bool) (log script : List ℕ) (status : ℕ) (old new : Outside)
+    (r : RunsScript takes_memory log script status old new)
+    → is_input_verdict status ≡ true → (bytes : List ℕ) → old.text script ≡ Some bytes → RanWhole takes_memory r.ends bytes old new
+runs_whole takes_memory log script status old new r whole bytes e =
+    whole_run takes_memory r.ends bytes old new (subst (λ n. is_input_verdict n ≡ true) r.status_is whole) (r.leaves bytes e)
 
 -- ---- the file of the log
 
@@ -146,12 +150,12 @@ same_piece : (before first second : List ℕ) → appended (Some before) first �
 same_piece before first second e = append_cancel_left before first second (let same : before ++ first ≡ before ++ second = cc in same)
 
 -- what a whole run leaves in the file of the log, where the files and what was logged are known
-pub log_in_its_file : (built : Built) (log script : List ℕ) (status : ℕ) (old new : Outside)
-    → RunsScript built log script status old new
+pub log_in_its_file : (takes_memory : Call → Bool) (log script : List ℕ) (status : ℕ) (old new : Outside)
+    → RunsScript takes_memory log script status old new
     → is_input_verdict status ≡ true → (files : Files) → old.files ≡ Some files → (before : List ℕ) → old.logged ≡ Some before
-    → (bytes : List ℕ) → old.text script ≡ Some bytes → HoldsLog built log bytes files new
-log_in_its_file built log script status old new r whole files known before logged bytes e =
-    let ran = runs_whole built log script status old new r whole bytes e in
+    → (bytes : List ℕ) → old.text script ≡ Some bytes → HoldsLog log bytes files new
+log_in_its_file takes_memory log script status old new r whole files known before logged bytes e =
+    let ran = runs_whole takes_memory log script status old new r whole bytes e in
     let filed = r.in_file whole in
     let same : filed.bytes ≡ log_bytes ran.answered.history = same_piece before filed.bytes (log_bytes ran.answered.history)
     (ap (λ o. appended o filed.bytes) (sym logged) ∙ (sym filed.logged

@@ -6,7 +6,6 @@ use Rattle.std.proofs.lemmas.List.{take-append-drop}
 use Rattle.mps_desk.specs.Desk.{Outside}
 use Rattle.mps_model.specs.FirstCall.{is_arena}
 use Rattle.mps_model.specs.declared.call.Call.{Call}
-use Rattle.mps_commands.specs.Built.{Built}
 use Rattle.mps_script.specs.Line.{lines_of, call_of_line}
 use Rattle.mps_script.specs.Script.{is_good, call_or_none, calls_of, begin_with_arena, is_grammatical}
 use Rattle.mps_report.specs.declared.stop.Stop.TheVariants as stop
@@ -72,7 +71,7 @@ one_more_first ran later e =
 
 -- ---- how a run of one ends
 
-module _ (built : Built) (script : List ℕ) (old new : Outside) (good : is_grammatical (lines_of script) ≡ true)
+module _ (takes_memory : Call → Bool) (script : List ℕ) (old new : Outside) (good : is_grammatical (lines_of script) ≡ true)
     (few : length (lines_of script) ≤ max_lines) where
   no_bad_line : (ran later : List Line) → lines_of script ≡ ran ++ later → is_grammatical (ran ++ take 1 later) ≡ false → ⊥
   no_bad_line ran later lines bad =
@@ -83,7 +82,7 @@ module _ (built : Built) (script : List ℕ) (old new : Outside) (good : is_gram
       let size = ap length lines ∙ length-append ran later in omega (arith, size, count, more, few)
 
   ends_well : (ends : Ending) → HasCause ends old new → NoFaultRose old new → status_of_ending ends ≢ 8
-      → LeavesRun built ends script old new → status_of_ending ends ≡ 0
+      → LeavesRun takes_memory ends script old new → status_of_ending ends ≡ 0
   ends_well (Ok done) cause none memory l = refl
   ends_well (Err (stop.Bad bad)) cause none memory (inl u) = absurd u
   ends_well (Err (stop.Bad bad)) cause none memory (inr l) = absurd (no_bad_line l.ran l.later l.lines l.ends_at.2)
@@ -95,9 +94,10 @@ module _ (built : Built) (script : List ℕ) (old new : Outside) (good : is_gram
   ends_well (Err stop.WriteFailed) cause none memory l = absurd (none.printing cause)
   ends_well (Err stop.LogFailed) cause none memory l = absurd (none.logging cause)
 
-pub good_script : (built : Built) (log script : List ℕ) (status : ℕ) (old new : Outside) → RunsScript built log script status old new
+pub good_script : (takes_memory : Call → Bool) (log script : List ℕ) (status : ℕ) (old new : Outside)
+    → RunsScript takes_memory log script status old new
     → (bytes : List ℕ) → old.text script ≡ Some bytes → is_grammatical (lines_of bytes) ≡ true
     → length (lines_of bytes) ≤ max_lines → NoFaultRose old new → status ≢ 8 → status ≡ 0
-good_script built log script status old new r bytes e good few none memory =
+good_script takes_memory log script status old new r bytes e good few none memory =
     r.status_is
-    ∙ ends_well built bytes old new good few r.ends r.cause none (λ eight. memory (r.status_is ∙ eight)) (r.leaves bytes e)
+    ∙ ends_well takes_memory bytes old new good few r.ends r.cause none (λ eight. memory (r.status_is ∙ eight)) (r.leaves bytes e)

@@ -1,3 +1,4 @@
+pub mod Asked
 mod InRange
 mod RangesOfLists
 mod RangesOfReadings

@@ -1,6 +1,6 @@
 -- What was printed and logged of a run tells its history.
 use Rattle.std.proofs.Common.{◌≡◌, ◌<◌, ◌≤◌, ◌+◌, ℕ, Bool, true, false, List, [], ◌∷◌, ◌++◌, Option, Some, None, Ok, Err, get_or, refl, sym, ap, ◌∙◌, subst, arith, append-nil}
-use Rattle.std.specs.Prelude.{◌==◌, nat_le, filter, if◌then◌else◌, MatchBool, All, Result}
+use Rattle.std.specs.Prelude.{◌==◌, nat_le, filter, if◌then◌else◌, All, Result}
 use Rattle.std.specs.List.{AllByRecursion}
 use Rattle.std.proofs.lemmas.List.{append_cancel_left}
 use Rattle.std.proofs.lemmas.List.Elements.{filter-append, All-tail, All-head}
@@ -12,25 +12,23 @@ use Rattle.mps_event.specs.Grammar.{IsRecord}
 use Rattle.mps_event.proofs.Records.{one_beginning}
 use Rattle.mps_model.specs.declared.call.Call.{Call}
 use Rattle.mps_model.specs.declared.call.Call.TheVariants as call
-use Rattle.mps_model.specs.declared.reply.Reply.TheVariants as reply
-use Rattle.mps_model.specs.Answer.{Answer, Replied, Dumped, is_accepted, is_block, is_unsupported}
+use Rattle.mps_model.specs.Answer.{Answer, is_accepted, is_block}
 use Rattle.mps_model.specs.Step.{Step, History}
 use Rattle.mps_model.specs.World.{World, empty_world, block_of_word}
 use Rattle.mps_model.specs.Graph.{AreaWord}
 use Rattle.mps_model.specs.Checked.{Checked, Found, ◌>>=◌, word_in}
 use Rattle.mps_model.specs.Accessing.{Poked, AsBlock, AsNumber, AsMarked, act_poked, act_poke_in, poked}
 use Rattle.mps_model.specs.Reply.{answer_from, reply_to}
-use Rattle.mps_model.specs.History.{IsLegalStep, IsLegalFrom, IsAnsweredStep, judged_world, moved_world, world_after}
+use Rattle.mps_model.specs.History.{IsLegalStep, IsLegalFrom, judged_world, moved_world, world_after}
 use Rattle.mps_model.specs.Log.{record_of, records_of, records_of_accepted, records_of_command, records_of_step, log_from, log_of, log_bytes, pools_made_by, written_log, written_version}
 use Rattle.mps_model.specs.Text.{line_of_answer}
-use Rattle.mps_commands.specs.Built.{Built}
 use Rattle.mps_commands.specs.RightAnswer.{step_in}
 use Rattle.mps_laws.proofs.Replays.RecordsOfMoves.{records_of-injective}
 use Rattle.mps_laws.proofs.Replays.LabelledLogs.{is_unlabelled, without_labels}
 use Rattle.mps_laws.proofs.Replays.Lines.{on_line, on_line-own, on_line-later, records_of_line}
 use Rattle.mps_script.specs.declared.line.BadLine.{BadLine}
 use Rattle.mps_script.specs.Line.{call_of_line}
-use Rattle.mps_run.specs.Script.{Line, ScriptCommand, HasRun, IsStepUnsupportedWhereDue, AreUnsupportedWhereDue, answers_of, commands_of, commands_from, commands_of_call, command_of_step}
+use Rattle.mps_run.specs.Script.{Line, ScriptCommand, HasRun, answers_of, commands_of, commands_from, commands_of_call, command_of_step}
 
 -- ---- bytes tell records
 
@@ -149,32 +147,17 @@ answer_told m n judged after (call.Poke place word) x y e =
     poke_case after word x y m n (word_in after place) (block_of_word after word) e
 answer_told m n judged after _ x y e = refl
 
-unsupported_is : (a : Answer) → is_unsupported a ≡ true → a ≡ Replied reply.Unsupported
-unsupported_is (Replied reply.Unsupported) h = refl
-unsupported_is (Replied _) h = absurd cc
-unsupported_is (Dumped words) h = absurd cc
-
-module _ (built : Built) (w : World) (line : ℕ) (c : Call) (ms : List Move) (a b : Answer) (x y : List ℕ) where
-  told_case : (p q : Bool) → is_unsupported a ≡ p → is_unsupported b ≡ q
-      → MatchBool p (ms ≡ []) (IsAnsweredStep w (step_in line c ms a)) → MatchBool q (ms ≡ []) (IsAnsweredStep w (step_in line c ms b))
-      → IsStepUnsupportedWhereDue built w (step_in line c ms a) → IsStepUnsupportedWhereDue built w (step_in line c ms b)
+module _ (w : World) (line : ℕ) (c : Call) (ms : List Move) (a b : Answer) (x y : List ℕ) where
+  -- the answer, where the moves are known
+  told_answer : IsLegalStep w (step_in line c ms a) → IsLegalStep w (step_in line c ms b)
       → line_of_answer a ++ x ≡ line_of_answer b ++ y → a ≡ b
-  told_case true true is is' legal legal' due due' e = unsupported_is a is ∙ sym (unsupported_is b is')
-  told_case true false is is' legal legal' due due' e = unsupported_is a is ∙ sym (due'.1 (due.0 (unsupported_is a is)))
-  told_case false true is is' legal legal' due due' e = due.1 (due'.0 (unsupported_is b is')) ∙ sym (unsupported_is b is')
-  told_case false false is is' legal legal' due due' e =
+  told_answer legal legal' e =
       legal.answer_is_due
       ∙ answer_told (is_block a) (is_block b) (judged_world w c ms) (moved_world w c ms) c x y
       (ap (λ (said : Answer). line_of_answer said ++ x) (sym legal.answer_is_due)
       ∙ e
       ∙ ap (λ (said : Answer). line_of_answer said ++ y) legal'.answer_is_due)
       ∙ sym legal'.answer_is_due
-
-  -- the answer, where the moves are known
-  told_answer : IsLegalStep w (step_in line c ms a) → IsLegalStep w (step_in line c ms b)
-      → IsStepUnsupportedWhereDue built w (step_in line c ms a) → IsStepUnsupportedWhereDue built w (step_in line c ms b)
-      → line_of_answer a ++ x ≡ line_of_answer b ++ y → a ≡ b
-  told_answer legal legal' due due' e = told_case (is_unsupported a) (is_unsupported b) refl refl legal legal' due due' e
 
 -- ---- each command stands on a later line than the one before it
 
@@ -229,13 +212,13 @@ module _ (pools : ℕ) (h k : Step) (hs ks : History) where
       ∙ ap (records_of k.moves) (sym line))
 
 -- histories from a world on that answer the same commands are determined by what is printed and logged
-told_from : (built : Built) (w : World) (pools : ℕ) (hs ks : History) → commands_of hs ≡ commands_of ks → AscendLines hs → AscendLines ks
-    → IsLegalFrom w hs → IsLegalFrom w ks → AreUnsupportedWhereDue built w hs → AreUnsupportedWhereDue built w ks
+told_from : (w : World) (pools : ℕ) (hs ks : History) → commands_of hs ≡ commands_of ks → AscendLines hs → AscendLines ks
+    → IsLegalFrom w hs → IsLegalFrom w ks
     → log_from pools hs ≡ log_from pools ks → answers_of hs ≡ answers_of ks → hs ≡ ks
-told_from built w pools [] [] same up up' legal legal' due due' logs printed = refl
-told_from built w pools [] (k ∷ ks) same up up' legal legal' due due' logs printed = absurd cc
-told_from built w pools (h ∷ hs) [] same up up' legal legal' due due' logs printed = absurd cc
-told_from built w pools (h ∷ hs) (k ∷ ks) same up up' legal legal' due due' logs printed =
+told_from w pools [] [] same up up' legal legal' logs printed = refl
+told_from w pools [] (k ∷ ks) same up up' legal legal' logs printed = absurd cc
+told_from w pools (h ∷ hs) [] same up up' legal legal' logs printed = absurd cc
+told_from w pools (h ∷ hs) (k ∷ ks) same up up' legal legal' logs printed =
     let command : command_of_step h ≡ command_of_step k = cc in
     let others : commands_of hs ≡ commands_of ks = cc in
     let line : h.line ≡ k.line = ap (λ (c : ScriptCommand). c.line) command in
@@ -243,8 +226,8 @@ told_from built w pools (h ∷ hs) (k ∷ ks) same up up' legal legal' due due' 
     let alike : step_in h.line h.call h.moves k.answer ≡ k =
     λ j. record { line = (command j).line; call = (command j).call; moves = ms j; answer = k.answer } in
     let said : h.answer ≡ k.answer =
-    told_answer built w h.line h.call h.moves h.answer k.answer (answers_of hs) (answers_of ks) legal.0
-    (subst (IsLegalStep w) (sym alike) legal'.0) due.0 (subst (IsStepUnsupportedWhereDue built w) (sym alike) due'.0) printed in
+    told_answer w h.line h.call h.moves h.answer k.answer (answers_of hs) (answers_of ks) legal.0
+    (subst (IsLegalStep w) (sym alike) legal'.0) printed in
     let step : h ≡ k = λ j. record { line = (command j).line; call = (command j).call; moves = ms j; answer = said j } in
     let made = pools + pools_made_by h.call h.answer in
     let logs_then : records_of_step pools h ++ log_from made hs ≡ records_of_step pools h ++ log_from made ks =
@@ -253,20 +236,19 @@ told_from built w pools (h ∷ hs) (k ∷ ks) same up up' legal legal' due due' 
     let printed_then : line_of_answer h.answer ++ answers_of hs ≡ line_of_answer h.answer ++ answers_of ks =
     subst (λ (a : Answer). line_of_answer h.answer ++ answers_of hs ≡ line_of_answer a ++ answers_of ks) (sym said) printed in
     let rest : hs ≡ ks =
-    told_from built (world_after w h) made hs ks others up.1 up'.1 legal.1
-    (subst (λ (s : Step). IsLegalFrom (world_after w s) ks) (sym step) legal'.1) due.1
-    (subst (λ (s : Step). AreUnsupportedWhereDue built (world_after w s) ks) (sym step) due'.1)
+    told_from (world_after w h) made hs ks others up.1 up'.1 legal.1
+    (subst (λ (s : Step). IsLegalFrom (world_after w s) ks) (sym step) legal'.1)
     (append_cancel_left (records_of_step pools h) (log_from made hs) (log_from made ks) logs_then)
     (append_cancel_left (line_of_answer h.answer) (answers_of hs) (answers_of ks) printed_then) in
     λ j. step j ∷ rest j
 
-pub one_history : (built : Built) (ran : List Line) (these those : History) → HasRun built ran these → HasRun built ran those
+pub one_history : (ran : List Line) (these those : History) → HasRun ran these → HasRun ran those
     → answers_of these ≡ answers_of those → log_bytes these ≡ log_bytes those → these ≡ those
-one_history built ran these those runs runs' printed logged =
+one_history ran these those runs runs' printed logged =
     let records : written_log these ≡ written_log those =
     records_told (written_log these) (written_log those) runs.recorded runs'.recorded
     (append_cancel_left (header_bytes written_version) (records_bytes (written_log these)) (records_bytes (written_log those)) logged) in
     let blocks : log_of these ≡ log_of those =
     sym (without_labels 0 these) ∙ ap (filter is_unlabelled) records ∙ without_labels 0 those in
-    told_from built empty_world 0 these those (runs.commands ∙ sym runs'.commands) (lines_ascend ran 0 these runs.commands).1
-    (lines_ascend ran 0 those runs'.commands).1 runs.legal runs'.legal runs.unsupported runs'.unsupported blocks printed
+    told_from empty_world 0 these those (runs.commands ∙ sym runs'.commands) (lines_ascend ran 0 these runs.commands).1
+    (lines_ascend ran 0 those runs'.commands).1 runs.legal runs'.legal blocks printed

@@ -10,14 +10,13 @@ use Rattle.mps_base.specs.Record.{record_bytes, records_bytes}
 use Rattle.mps_model.specs.Step.{Step, History}
 use Rattle.mps_model.specs.Log.{labelled_log_from, written_log, pools_made}
 use Rattle.mps_model.specs.World.{World, empty_world}
-use Rattle.mps_model.specs.History.{world_after, world_after_steps, world_after_history}
+use Rattle.mps_model.specs.History.{world_after_history}
 use Rattle.mps_model.specs.Text.{line_of_answer}
 use Rattle.mps_model.proofs.Appending.{labelled_log_from-append, IsLegalFrom-append, world_after_steps-append}
 use Rattle.mps_model.specs.Any.{numbered_layout}
 use Rattle.mps_laws.proofs.Flipping.{no_more_than_steps}
 use Rattle.mps_laws.proofs.Replays.LabelledLogs.{labelled_log_replays}
-use Rattle.mps_commands.specs.Built.{Built}
-use Rattle.mps_commands.specs.RightAnswer.{HasFewFlips}
+use Rattle.mps_commands.specs.Asked.{has_arena}
 use Rattle.mps_script.specs.Line.{lines_of, call_of_line}
 use Rattle.mps_script.specs.Script.{has_arena_after, is_good_after, is_some_call}
 use Rattle.mps_report.specs.Streams.{appended}
@@ -25,79 +24,81 @@ use Rattle.mps_report.proofs.Appended.{appended_empty, appended_twice}
 use Rattle.mps_lines.specs.Buffer.{ComesNextOf, after_lines, length_of_line}
 use Rattle.mps_lines.specs.declared.next.Next.TheVariants as next
 use Rattle.mps_run.specs.declared.progress.Progress.{Progress}
-use Rattle.mps_run.specs.Running.{LineRan, not_begun}
-use Rattle.mps_run.specs.Script.{Line, HasRun, AreUnsupportedWhereDue, answers_of, commands_of, commands_of_call, max_lines}
+use Rattle.mps_run.specs.Running.{HasComeTo, LineRan, not_begun}
+use Rattle.mps_run.specs.Script.{Line, HasRun, answers_of, commands_of, commands_of_call, max_lines}
+use Rattle.mps_run.proofs.Asked.{arena_after_line}
+use Rattle.mps_run.proofs.InRange.{call_in_range}
 use Rattle.mps_run.proofs.LineByLine.{first_line, calls_of_history, commands_more, few_steps, grammar_more, arena_more}
 
 -- these lines were run, and this history answers their commands, wherever they came from: the machine stands for the world after
 -- it
-pub record HasCome (built : Built) (stands : World → Type 0) (p : Progress) (ran : List Line) (history : History) : Type 0 where
+pub record HasCome (stands : World → Type 0) (p : Progress) (ran : List Line) (history : History) : Type 0 where
   pub counted : length ran ≡ p.lines
-  pub run : HasRun built ran history
+  pub run : HasRun ran history
   pub stands_for : stands (world_after_history history)
   pub pools : p.pools ≡ pools_made history
   pub few : p.pools ≤ p.lines
   -- whether it has its arena, which its first call made
   pub arena : p.has_arena ≡ is_some_call (calls_of_history history)
+  -- then it is there
+  pub made : has_arena (world_after_history history) ≡ p.has_arena
 
 -- and what was printed and logged since then is that of the history
-pub record SoFar (built : Built) (stands : World → Type 0) (p : Progress) (old now : Outside) : Type 0 where
+pub record SoFar (stands : World → Type 0) (p : Progress) (old now : Outside) : Type 0 where
   pub ran : List Line
   pub history : History
-  pub come : HasCome built stands p ran history
+  pub come : HasCome stands p ran history
   pub printed : now.printed ≡ appended old.printed (answers_of history)
   pub logged : now.logged ≡ appended old.logged (records_bytes (written_log history))
 
-pub nothing_run : (built : Built) → HasRun built [] []
-nothing_run built = record {
+pub nothing_run : HasRun [] []
+nothing_run = record {
   bounded = omega arith;
   grammatical = refl;
   commands = refl;
   legal = tt;
-  unsupported = tt;
   replayed = refl;
   recorded = All-from_recursion (IsRecord Two) [] tt;
 }
 
-nothing_come : (built : Built) (stands : World → Type 0) → stands empty_world → HasCome built stands not_begun [] []
-nothing_come built stands h = record {
+nothing_come : (stands : World → Type 0) → stands empty_world → HasCome stands not_begun [] []
+nothing_come stands h = record {
   counted = refl;
-  run = nothing_run built;
+  run = nothing_run;
   stands_for = h;
   pools = refl;
   few = omega arith;
   arena = refl;
+  made = refl;
 }
 
-pub come_at_start : (built : Built) (stands : World → Type 0) (p : Progress) → p ≡ not_begun → stands empty_world
-    → HasCome built stands p [] []
-come_at_start built stands p is h = subst (λ (p : Progress). HasCome built stands p [] []) (sym is) (nothing_come built stands h)
+pub come_at_start : (stands : World → Type 0) (p : Progress) → p ≡ not_begun → stands empty_world → HasCome stands p [] []
+come_at_start stands p is h = subst (λ (p : Progress). HasCome stands p [] []) (sym is) (nothing_come stands h)
 
 -- before the first line
-abbrev pub at_start : (built : Built) (stands : World → Type 0) (p : Progress) (o : Outside) → p ≡ not_begun → stands empty_world
-    → SoFar built stands p o o
-at_start built stands p o is h = record {
+abbrev pub at_start : (stands : World → Type 0) (p : Progress) (o : Outside) → p ≡ not_begun → stands empty_world → SoFar stands p o o
+at_start stands p o is h = record {
   ran = [];
   history = [];
-  come = come_at_start built stands p is h;
+  come = come_at_start stands p is h;
   printed = appended_empty o.printed;
   logged = appended_empty o.logged;
 }
 
--- few flips came: no more than steps, and no more steps than lines
-pub few_flips : (built : Built) (stands : World → Type 0) (p : Progress) (ran : List Line) (history : History)
-    → HasCome built stands p ran history → HasFewFlips (world_after_history history)
-few_flips built stands p ran history c =
+-- no more flips came than steps, and no more steps than lines
+pub come_to : (stands : World → Type 0) (p : Progress) (ran : List Line) (history : History) → HasCome stands p ran history
+    → HasComeTo stands p
+come_to stands p ran history c =
     let flips : length (world_after_history history).flips ≤ length history = no_more_than_steps numbered_layout history c.run.legal in
     let steps : length history ≤ length ran = few_steps history ran c.run.commands in
-    omega (arith, flips, steps, c.run.bounded)
+    record {
+      world = world_after_history history;
+      stands = c.stands_for;
+      flips = omega (arith, flips, steps, c.counted);
+      arena = c.made;
+    }
 
 -- ---- one line more
-
-pub unsupported-append : (built : Built) (w : World) (h steps : History) → AreUnsupportedWhereDue built w h
-    → AreUnsupportedWhereDue built (world_after_steps w h) steps → AreUnsupportedWhereDue built w (h ++ steps)
-unsupported-append built w [] steps f g = g
-unsupported-append built w (s ∷ ss) steps f g = (f.0, unsupported-append built (world_after w s) ss steps f.1 g)
 
 pools_made-append : (h steps : History) → pools_made (h ++ steps) ≡ pools_made h + pools_made steps
 pools_made-append [] steps = sym (zero-add (pools_made steps))
@@ -110,13 +111,13 @@ log_more h steps pools count =
     labelled_log_from-append 0 h steps ∙ sym (ap (λ n. written_log h ++ labelled_log_from n steps) (count ∙ sym (zero-add (pools_made h))))
 
 -- the history with the steps of a line that was run
-module _ (built : Built) (stood stands_now : World → Type 0) (p q : Progress) (ran : List Line) (history : History) (line : Line)
-    (old new : Outside) (c : HasCome built stood p ran history) (l : LineRan built stood stands_now p q line old new)
+module _ (stood stands_now : World → Type 0) (p q : Progress) (ran : List Line) (history : History) (line : Line)
+    (old new : Outside) (c : HasCome stood p ran history) (l : LineRan stood stands_now p q line old new)
     (bounded : q.lines ≤ max_lines) where
   steps_answer : commands_of l.ran.steps ≡ commands_of_call (length ran + 1) (call_of_line line)
   steps_answer = l.ran.answered.answers ∙ ap (λ n. commands_of_call (n + 1) (call_of_line line)) (sym c.counted)
 
-  run_more : HasRun built (ran ++ line ∷ []) (history ++ l.ran.steps)
+  run_more : HasRun (ran ++ line ∷ []) (history ++ l.ran.steps)
   run_more =
       let legal = IsLegalFrom-append empty_world history l.ran.steps c.run.legal
       (l.ran.answered.legal (world_after_history history) c.stands_for) in
@@ -128,14 +129,12 @@ module _ (built : Built) (stood stands_now : World → Type 0) (p q : Progress) 
             ∙ (ap (λ (b : Bool). is_good_after b line) (sym c.arena) ∙ l.good);
         commands = commands_more history l.ran.steps ran line c.run.commands steps_answer;
         legal = legal;
-        unsupported = unsupported-append built empty_world history l.ran.steps c.run.unsupported
-            (l.ran.answered.unsupported (world_after_history history) c.stands_for (few_flips built stood p ran history c));
         replayed = labelled_log_replays numbered_layout (history ++ l.ran.steps) legal;
         recorded = subst (All (IsRecord Two)) (sym logs)
             (All-append (IsRecord Two) (written_log history) (labelled_log_from p.pools l.ran.steps) c.run.recorded l.ran.recorded);
       }
 
-  pub come_more : HasCome built stands_now q (ran ++ line ∷ []) (history ++ l.ran.steps)
+  pub come_more : HasCome stands_now q (ran ++ line ∷ []) (history ++ l.ran.steps)
   come_more = record {
     counted = let size = length-append ran (line ∷ []) in omega (arith, size, c.counted, l.lines);
     run = run_more;
@@ -145,6 +144,10 @@ module _ (built : Built) (stood stands_now : World → Type 0) (p q : Progress) 
     few = omega (arith, l.ran.at_most, c.few, l.lines);
     arena = l.arena ∙ (ap (λ (b : Bool). has_arena_after b (call_of_line line)) c.arena
         ∙ sym (arena_more history l.ran.steps (length ran + 1) (call_of_line line) steps_answer));
+    made = ap has_arena (world_after_steps-append empty_world history l.ran.steps)
+        ∙ (arena_after_line (world_after_history history) p.has_arena c.made (length ran + 1) (call_of_line line) l.ran.steps steps_answer
+        l.good (λ call e. call_in_range line call e)
+        ∙ sym l.arena);
   }
 
 -- what was printed of it
@@ -166,13 +169,13 @@ logged_more before now new h steps pools count first more =
     ∙ ap records_bytes (sym (log_more h steps pools count)))))
 
 -- the line after those that were run was run too. Meanwhile nothing was printed or logged but of it
-abbrev pub one_line_more : {built : Built} {stood stands_now : World → Type 0} {p q : Progress} {line : Line} {old now mid new : Outside}
-    → SoFar built stood p old now → mid.printed ≡ now.printed → mid.logged ≡ now.logged → LineRan built stood stands_now p q line mid new
-    → q.lines ≤ max_lines → SoFar built stands_now q old new
-one_line_more {built} {stood} {stands_now} {p} {q} {line} {old} {now} {mid} {new} f printed logged l bounded = record {
+abbrev pub one_line_more : {stood stands_now : World → Type 0} {p q : Progress} {line : Line} {old now mid new : Outside}
+    → SoFar stood p old now → mid.printed ≡ now.printed → mid.logged ≡ now.logged → LineRan stood stands_now p q line mid new
+    → q.lines ≤ max_lines → SoFar stands_now q old new
+one_line_more {stood} {stands_now} {p} {q} {line} {old} {now} {mid} {new} f printed logged l bounded = record {
   ran = f.ran ++ line ∷ [];
   history = f.history ++ l.ran.steps;
-  come = come_more built stood stands_now p q f.ran f.history line mid new f.come l bounded;
+  come = come_more stood stands_now p q f.ran f.history line mid new f.come l bounded;
   printed = printed_more old.printed mid.printed new.printed f.history l.ran.steps (printed ∙ f.printed) l.ran.printed;
   logged = logged_more old.logged mid.logged new.logged f.history l.ran.steps p.pools f.come.pools (logged ∙ f.logged) l.ran.logged;
 }

@@ -1,6 +1,6 @@
 -- The step of a command that was answered, from what was logged and printed of it, and of the line in which it stands.
 use Rattle.std.proofs.Common.{◌≡◌, ℕ, ◌+◌, ◌≤◌, Bool, true, None, Some, Ok, Err, OnOk, IfErr, [], ◌∷◌, ◌++◌, List, take, refl, sym, ◌∙◌, ap, subst, arith, append_assoc, append-nil, inl, inr, ◌⊎◌}
-use Rattle.std.specs.Prelude.{◌↔◌, IsTrue, if◌then◌else◌, is_ok, All, map}
+use Rattle.std.specs.Prelude.{if◌then◌else◌, is_ok, All, map}
 use Rattle.std.specs.List.{flat_map}
 use Rattle.std.proofs.lemmas.List.Elements.{All-from_recursion}
 use Rattle.mps_event.specs.declared.version.Version.TheVariants.{Two}
@@ -17,8 +17,7 @@ use Rattle.mps_model.specs.Step.{Step, History}
 use Rattle.mps_model.specs.World.{World}
 use Rattle.mps_model.specs.Log.{records_of, records_of_accepted, records_of_answered, records_of_command, records_of_label, labelled_log_from, records_with_label, pools_of_accepted, pools_made_by}
 use Rattle.mps_model.specs.Text.{line_of_answer}
-use Rattle.mps_commands.specs.Built.{Built}
-use Rattle.mps_commands.specs.RightAnswer.{step_in, IsLegalIn, StandsAfter, IsUnsupportedExactly}
+use Rattle.mps_commands.specs.RightAnswer.{step_in, IsLegalIn, StandsAfter}
 use Rattle.mps_script.specs.Line.{call_of_line}
 use Rattle.mps_script.specs.Script.{in_turn, has_arena_after}
 use Rattle.mps_script.proofs.Scripts.{turn_taken}
@@ -50,24 +49,14 @@ label_alike words (reply.Words at count) c line = none c
     none _ = refl
 label_alike words given c line = refl
 
--- and `unsupported` alike
-unsupported_alike : (words : List ℕ) (given : Reply) → answer_of words given ≡ Replied reply.Unsupported → given ≡ reply.Unsupported
-unsupported_alike words (reply.Words at count) e = cc
-unsupported_alike words given e = let same : Replied given ≡ Replied reply.Unsupported = e in cc
-
-unsupported_answer : (words : List ℕ) (given : Reply) (b : Bool) → (given ≡ reply.Unsupported) ↔ IsTrue b
-    → (answer_of words given ≡ Replied reply.Unsupported) ↔ IsTrue b
-unsupported_answer words given b h = (λ e. h.0 (unsupported_alike words given e), λ t. ap (answer_of words) (h.1 t))
-
 -- what a machine promises of a call that it answered
-pub record IsRightAnswer (built : Built) (stood stands_now : World → Type 0) (call : Call) (moves : List Move) (words : List ℕ)
+pub record IsRightAnswer (stood stands_now : World → Type 0) (call : Call) (moves : List Move) (words : List ℕ)
     (given : Reply) : Type 0 where
   pub legal : IsLegalIn stood call moves (answer_of words given)
   pub stands : StandsAfter stood stands_now call moves (answer_of words given)
-  pub unsupported : IsUnsupportedExactly built stood call given
 
-module _ (built : Built) (stood stands_now : World → Type 0) (line : ℕ) (call : Call) (moves : List Move) (words : List ℕ) (given : Reply)
-    (is : IsRightAnswer built stood stands_now call moves words given) where
+module _ (stood stands_now : World → Type 0) (line : ℕ) (call : Call) (moves : List Move) (words : List ℕ) (given : Reply)
+    (is : IsRightAnswer stood stands_now call moves words given) where
   abbrev the_step : Step
   the_step = step_in line call moves (answer_of words given)
 
@@ -88,17 +77,16 @@ module _ (built : Built) (stood stands_now : World → Type 0) (line : ℕ) (cal
   same_pools : pools_made_by call (Replied given) ≡ pools_made_by call (answer_of words given)
   same_pools = ap (λ (b : Bool). if b then pools_of_accepted call else 0) (sym (accepted_alike words given))
 
-  begun : IsBegun built stood (record { line = line; call = call } ∷ []) the_step
+  begun : IsBegun stood (record { line = line; call = call } ∷ []) the_step
   begun = record {
     answers = refl;
     legal = λ w s. (is.legal w line s, tt);
-    unsupported = λ w s few. (unsupported_answer words given (built.is_unsupported w call) (is.unsupported w s few), tt);
   }
 
   module _ (pools pools_after : ℕ) (old new : Outside) where
     pub steps_logged : pools_after ≡ pools + pools_made_by call (Replied given) → pools_made_by call (Replied given) ≤ 1
         → new.logged ≡ appended old.logged (records_bytes (the_records pools)) → All (IsRecord Two) (the_records pools)
-        → StepsLogged built stood stands_now (record { line = line; call = call } ∷ []) (answer_of words given ∷ []) pools pools_after
+        → StepsLogged stood stands_now (record { line = line; call = call } ∷ []) (answer_of words given ∷ []) pools pools_after
         old new
     unfolding begun
     steps_logged made at_most logged recorded = record {
@@ -106,7 +94,6 @@ module _ (built : Built) (stood stands_now : World → Type 0) (line : ℕ) (cal
       answered = record {
         answers = refl;
         legal = begun.legal;
-        unsupported = begun.unsupported;
         stands = λ w s. is.stands w line s;
       };
       told = refl;
@@ -118,10 +105,11 @@ module _ (built : Built) (stood stands_now : World → Type 0) (line : ℕ) (cal
     }
 
     -- a prefix of the records was logged
-    pub some_records : (count : ℕ) → new.logged ≡ appended old.logged (take count (records_bytes (the_records pools)))
-        → new.printed ≡ old.printed → CommandStops built stop.LogFailed stood line call pools old new
+    pub some_records : (takes_memory : Call → Bool) (count : ℕ)
+        → new.logged ≡ appended old.logged (take count (records_bytes (the_records pools)))
+        → new.printed ≡ old.printed → CommandStops takes_memory stop.LogFailed stood line call pools old new
     unfolding begun
-    some_records count logged printed = record {
+    some_records takes_memory count logged printed = record {
       reason = tt;
       within = record {
         part = SomeRecords the_step count;
@@ -134,10 +122,10 @@ module _ (built : Built) (stood stands_now : World → Type 0) (line : ℕ) (cal
 
 -- ---- the line
 
-module _ (built : Built) (stood stands_now : World → Type 0) (p : Progress) (line : Line) (old new : Outside) where
+module _ (stood stands_now : World → Type 0) (p : Progress) (line : Line) (old new : Outside) where
   -- a line without a call
   pub empty_line : in_turn p.has_arena (call_of_line line) ≡ Ok None
-      → LineLogged built stood stood [] p (record p { lines = p.lines + 1 }) line old old
+      → LineLogged stood stood [] p (record p { lines = p.lines + 1 }) line old old
   empty_line turn =
       let e : call_of_line line ≡ Ok None = turn_taken p.has_arena (call_of_line line) None turn in
       record {
@@ -149,7 +137,6 @@ module _ (built : Built) (stood stands_now : World → Type 0) (p : Progress) (l
           answered = record {
             answers = sym (ap (commands_of_call (p.lines + 1)) e);
             legal = λ w s. tt;
-            unsupported = λ w s few. tt;
             stands = λ w s. s;
           };
           told = refl;
@@ -166,36 +153,37 @@ module _ (built : Built) (stood stands_now : World → Type 0) (p : Progress) (l
   command_of call e = sym (ap (commands_of_call (p.lines + 1)) e)
 
   pub line_logged : (call : Call) (answers : List Answer) (pools : ℕ) → in_turn p.has_arena (call_of_line line) ≡ Ok (Some call)
-      → StepsLogged built stood stands_now (record { line = p.lines + 1; call = call } ∷ []) answers p.pools pools old new
-      → LineLogged built stood stands_now answers p (record { lines = p.lines + 1; has_arena = true; pools = pools }) line old new
+      → StepsLogged stood stands_now (record { line = p.lines + 1; call = call } ∷ []) answers p.pools pools old new
+      → LineLogged stood stands_now answers p (record { lines = p.lines + 1; has_arena = true; pools = pools }) line old new
   line_logged call answers pools turn logs =
       let e : call_of_line line ≡ Ok (Some call) = turn_taken p.has_arena (call_of_line line) (Some call) turn in
       record {
         good = ap is_ok turn;
         lines = refl;
         arena = ap (has_arena_after p.has_arena) (sym e);
-        logs = subst (λ cs. StepsLogged built stood stands_now cs answers p.pools pools old new) (command_of call e) logs;
+        logs = subst (λ cs. StepsLogged stood stands_now cs answers p.pools pools old new) (command_of call e) logs;
       }
 
-  reason_of : (call : Call) (why : Stop BadScriptLine) → call_of_line line ≡ Ok (Some call) → IsReasonOfCall built why call
-      → IsReason built why p line
-  reason_of call stop.OutOfMemory e takes =
+  reason_of : (takes_memory : Call → Bool) (call : Call) (why : Stop BadScriptLine) → call_of_line line ≡ Ok (Some call)
+      → IsReasonOfCall takes_memory why call
+      → IsReason takes_memory why p line
+  reason_of takes_memory call stop.OutOfMemory e takes =
       record { command = record { line = p.lines + 1; call = call }; is = sym (command_of call e); takes = takes }
-  reason_of call stop.LogFailed e h = tt
-  reason_of call stop.WriteFailed e h = tt
-  reason_of call stop.ReadFailed e h = absurd h
-  reason_of call stop.TooLong e h = absurd h
-  reason_of call (stop.Bad bad) e h = absurd h
+  reason_of takes_memory call stop.LogFailed e h = tt
+  reason_of takes_memory call stop.WriteFailed e h = tt
+  reason_of takes_memory call stop.ReadFailed e h = absurd h
+  reason_of takes_memory call stop.TooLong e h = absurd h
+  reason_of takes_memory call (stop.Bad bad) e h = absurd h
 
-  pub line_stops : (call : Call) (ends : Ending) → in_turn p.has_arena (call_of_line line) ≡ Ok (Some call)
-      → IfErr ends (λ why. CommandStops built why stood (p.lines + 1) call p.pools old new)
-      → IfErr ends (λ why. LineStops built why stood p line old new)
-  line_stops call (Ok value) turn stops = tt
-  line_stops call (Err why) turn stops =
+  pub line_stops : (takes_memory : Call → Bool) (call : Call) (ends : Ending) → in_turn p.has_arena (call_of_line line) ≡ Ok (Some call)
+      → IfErr ends (λ why. CommandStops takes_memory why stood (p.lines + 1) call p.pools old new)
+      → IfErr ends (λ why. LineStops takes_memory why stood p line old new)
+  line_stops takes_memory call (Ok value) turn stops = tt
+  line_stops takes_memory call (Err why) turn stops =
       let e : call_of_line line ≡ Ok (Some call) = turn_taken p.has_arena (call_of_line line) (Some call) turn in
       record {
-        reason = reason_of call why e stops.reason;
-        within = subst (λ cs. StopsWithin built why stood cs p.pools old new) (command_of call e) stops.within;
+        reason = reason_of takes_memory call why e stops.reason;
+        within = subst (λ cs. StopsWithin why stood cs p.pools old new) (command_of call e) stops.within;
       }
 
 -- ---- the answer
@@ -205,12 +193,12 @@ pub texts_told : (steps : History) → answers_of steps ≡ flat_map line_of_ans
 texts_told [] = refl
 texts_told (s ∷ ss) = ap (λ (rest : List ℕ). line_of_answer s.answer ++ rest) (texts_told ss)
 
-module _ (built : Built) (stood stands_now : World → Type 0) (answers : List Answer) (p q : Progress) (line : Line) (old mid new : Outside)
-    (l : LineLogged built stood stands_now answers p q line old mid) (unprinted : mid.printed ≡ old.printed)
+module _ (stood stands_now : World → Type 0) (answers : List Answer) (p q : Progress) (line : Line) (old mid new : Outside)
+    (l : LineLogged stood stands_now answers p q line old mid) (unprinted : mid.printed ≡ old.printed)
     (unlogged : new.logged ≡ mid.logged) where
   -- what was logged is printed too
   abbrev pub line_ran : new.printed ≡ appended mid.printed (flat_map line_of_answer answers)
-      → LineRan built stood stands_now p q line old new
+      → LineRan stood stands_now p q line old new
   line_ran printed = record {
     good = l.good;
     lines = l.lines;
@@ -229,29 +217,29 @@ module _ (built : Built) (stood stands_now : World → Type 0) (answers : List A
   }
 
 -- a call that was to print failed
-reason_of_print : (built : Built) (why : Stop BadScriptLine) (p : Progress) (line : Line)
-    → (let ends : Ending = Err why in (ends ≡ Err stop.WriteFailed) ⊎ (ends ≡ Err stop.LogFailed)) → IsReason built why p line
-reason_of_print built stop.LogFailed p line blames = tt
-reason_of_print built stop.WriteFailed p line blames = tt
-reason_of_print built stop.OutOfMemory p line (inl is) = absurd cc
-reason_of_print built stop.OutOfMemory p line (inr is) = absurd cc
-reason_of_print built stop.ReadFailed p line (inl is) = absurd cc
-reason_of_print built stop.ReadFailed p line (inr is) = absurd cc
-reason_of_print built stop.TooLong p line (inl is) = absurd cc
-reason_of_print built stop.TooLong p line (inr is) = absurd cc
-reason_of_print built (stop.Bad bad) p line (inl is) = absurd cc
-reason_of_print built (stop.Bad bad) p line (inr is) = absurd cc
+reason_of_print : (takes_memory : Call → Bool) (why : Stop BadScriptLine) (p : Progress) (line : Line)
+    → (let ends : Ending = Err why in (ends ≡ Err stop.WriteFailed) ⊎ (ends ≡ Err stop.LogFailed)) → IsReason takes_memory why p line
+reason_of_print takes_memory stop.LogFailed p line blames = tt
+reason_of_print takes_memory stop.WriteFailed p line blames = tt
+reason_of_print takes_memory stop.OutOfMemory p line (inl is) = absurd cc
+reason_of_print takes_memory stop.OutOfMemory p line (inr is) = absurd cc
+reason_of_print takes_memory stop.ReadFailed p line (inl is) = absurd cc
+reason_of_print takes_memory stop.ReadFailed p line (inr is) = absurd cc
+reason_of_print takes_memory stop.TooLong p line (inl is) = absurd cc
+reason_of_print takes_memory stop.TooLong p line (inr is) = absurd cc
+reason_of_print takes_memory (stop.Bad bad) p line (inl is) = absurd cc
+reason_of_print takes_memory (stop.Bad bad) p line (inr is) = absurd cc
 
-module _ (built : Built) (stood stands_now : World → Type 0) (answer : Answer) (p q : Progress) (line : Line) (old mid new : Outside)
-    (l : LineLogged built stood stands_now (answer ∷ []) p q line old mid) (unprinted : mid.printed ≡ old.printed)
+module _ (stood stands_now : World → Type 0) (answer : Answer) (p q : Progress) (line : Line) (old mid new : Outside)
+    (l : LineLogged stood stands_now (answer ∷ []) p q line old mid) (unprinted : mid.printed ≡ old.printed)
     (no_fault : mid.out_faults ≡ old.out_faults) (unlogged : new.logged ≡ mid.logged) (why : Stop BadScriptLine)
     (some : PrintsSomeAnswer (line_of_answer answer) why mid new) where
   abbrev its_commands : List ScriptCommand
   its_commands = commands_of_call (p.lines + 1) (call_of_line line)
 
-  cut_answer : (steps : History) → HasAnswered built stood stands_now its_commands steps → map answer_of_step steps ≡ answer ∷ []
+  cut_answer : (steps : History) → HasAnswered stood stands_now its_commands steps → map answer_of_step steps ≡ answer ∷ []
       → mid.logged ≡ appended old.logged (records_bytes (labelled_log_from p.pools steps))
-      → StopsWithin built why stood its_commands p.pools old new
+      → StopsWithin why stood its_commands p.pools old new
   cut_answer [] answered told logged = absurd (let none : List Answer = [] in let wrong : none ≡ answer ∷ [] = told in cc)
   cut_answer (s ∷ []) answered told logged =
       let same : s.answer ∷ [] ≡ answer ∷ [] = told in
@@ -262,7 +250,7 @@ module _ (built : Built) (stood stands_now : World → Type 0) (answer : Answer)
           blames = some.stops.blames;
           fault = subst (λ n. HasRisen n new.out_faults) no_fault some.stops.fault;
         };
-        begun = record { answers = answered.answers; legal = answered.legal; unsupported = answered.unsupported };
+        begun = record { answers = answered.answers; legal = answered.legal };
         printed = some.printed
             ∙ (ap (λ known. appended known (take some.count (line_of_answer answer))) unprinted
             ∙ ap (λ (a : Answer). appended old.printed (take some.count (line_of_answer a))) (sym is));
@@ -273,26 +261,26 @@ module _ (built : Built) (stood stands_now : World → Type 0) (answer : Answer)
       absurd (let wrong : s.answer ∷ t.answer ∷ map answer_of_step ss ≡ answer ∷ [] = told in cc)
 
   -- its answer was printed only in part
-  pub line_cut : LineStops built why stood p line old new
-  line_cut = record {
-    reason = reason_of_print built why p line some.stops.blames;
+  pub line_cut : (takes_memory : Call → Bool) → LineStops takes_memory why stood p line old new
+  line_cut takes_memory = record {
+    reason = reason_of_print takes_memory why p line some.stops.blames;
     within = cut_answer l.logs.steps l.logs.answered l.logs.told l.logs.logged;
   }
 
-module _ (built : Built) (stood stands_now : World → Type 0) (answer : Answer) (p q : Progress) (line : Line) (old mid new : Outside)
-    (l : LineLogged built stood stands_now (answer ∷ []) p q line old mid) (unprinted : mid.printed ≡ old.printed)
+module _ (stood stands_now : World → Type 0) (answer : Answer) (p q : Progress) (line : Line) (old mid new : Outside)
+    (l : LineLogged stood stands_now (answer ∷ []) p q line old mid) (unprinted : mid.printed ≡ old.printed)
     (no_fault : mid.out_faults ≡ old.out_faults) where
   -- it was run where its answer was printed
   pub ran_if_printed : (ends : Ending) → PrintsOrStops (line_of_answer answer) ends mid new
-      → OnOk ends (LineRan built stood stands_now p q line old new)
+      → OnOk ends (LineRan stood stands_now p q line old new)
   ran_if_printed (Ok done) prints =
-      line_ran built stood stands_now (answer ∷ []) p q line old mid new l unprinted prints.1
+      line_ran stood stands_now (answer ∷ []) p q line old mid new l unprinted prints.1
       (prints.0 ∙ ap (appended mid.printed) (sym (append-nil (line_of_answer answer))))
   ran_if_printed (Err why) prints = tt
 
   -- and stopped the run where it wasn't
-  pub cut_if_not : (ends : Ending) → PrintsOrStops (line_of_answer answer) ends mid new
-      → IfErr ends (λ why. LineStops built why stood p line old new)
-  cut_if_not (Ok done) prints = tt
-  cut_if_not (Err why) prints =
-      line_cut built stood stands_now answer p q line old mid new l unprinted no_fault prints.1 why prints.0
+  pub cut_if_not : (takes_memory : Call → Bool) (ends : Ending) → PrintsOrStops (line_of_answer answer) ends mid new
+      → IfErr ends (λ why. LineStops takes_memory why stood p line old new)
+  cut_if_not takes_memory (Ok done) prints = tt
+  cut_if_not takes_memory (Err why) prints =
+      line_cut stood stands_now answer p q line old mid new l unprinted no_fault prints.1 why prints.0 takes_memory

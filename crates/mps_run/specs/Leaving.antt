@@ -1,7 +1,8 @@
 -- What a run leaves printed and logged, however it ends.
-use Rattle.std.specs.Prelude.{ℕ, ◌≡◌, ◌+◌, ◌<◌, ◌≤◌, ◌⊎◌, false, IsTrue, Option, Some, Ok, Err, List, [], ◌∷◌, ◌++◌, length, take, codes, refl}
+use Rattle.std.specs.Prelude.{ℕ, ◌≡◌, ◌+◌, ◌<◌, ◌≤◌, ◌⊎◌, Bool, false, IsTrue, Option, Some, Ok, Err, List, [], ◌∷◌, ◌++◌, length, take, codes, refl}
 use Rattle.mps_desk.specs.Desk.{Outside, HasRisen, OnlyReports}
 use Rattle.mps_base.specs.Record.{record_bytes, records_bytes, header_bytes, limit_set_code}
+use Rattle.mps_model.specs.declared.call.Call.{Call}
 use Rattle.mps_model.specs.declared.call.Call.TheVariants as call
 use Rattle.mps_model.specs.declared.reply.Reply.TheVariants as reply
 use Rattle.mps_model.specs.Answer.{Replied}
@@ -9,16 +10,14 @@ use Rattle.mps_model.specs.FirstCall.{is_arena}
 use Rattle.mps_model.specs.Step.{Step, History}
 use Rattle.mps_model.specs.Text.{line_of_answer}
 use Rattle.mps_model.specs.Log.{records_with_label, pools_made, written_log, written_version}
-use Rattle.mps_model.specs.World.{empty_world}
 use Rattle.mps_model.specs.History.{IsLegalHistory}
-use Rattle.mps_commands.specs.Built.{Built}
 use Rattle.mps_script.specs.Line.{lines_of}
 use Rattle.mps_script.specs.Script.{is_grammatical}
 use Rattle.mps_lines.specs.Buffer.{after_lines, length_of_line}
 use Rattle.mps_report.specs.Streams.{appended}
 use Rattle.mps_report.specs.declared.stop.Stop.TheVariants as stop
 use Rattle.mps_run.specs.Ending.{Ending, IsUnbegun}
-use Rattle.mps_run.specs.Script.{Line, ScriptCommand, HasRun, AreUnsupportedWhereDue, answers_of, commands_of, commands_from, max_lines}
+use Rattle.mps_run.specs.Script.{Line, ScriptCommand, HasRun, answers_of, commands_of, commands_from, max_lines}
 
 -- ---- the part of the next command
 
@@ -56,26 +55,24 @@ IsPartAt ends Nothing old new = Unit {0}
 IsPartAt ends (SomeRecords step count) old new = ends ≡ Err stop.LogFailed
 IsPartAt ends (SomeAnswer step count) old new = StopsPrinting ends old new
 
--- The command of the next line was begun: this is a step of it that is legal after the history, and `unsupported` exactly where
--- that is due.
-pub record Begins (built : Built) (ran later : List Line) (history : History) (step : Step) : Type 0 where
+-- the command of the next line was begun: this is a step of it that is legal after the history
+pub record Begins (ran later : List Line) (history : History) (step : Step) : Type 0 where
   pub commands : commands_of (history ++ step ∷ []) ≡ commands_from 1 (ran ++ take 1 later)
   pub legal : IsLegalHistory (history ++ step ∷ [])
-  pub unsupported : AreUnsupportedWhereDue built empty_world (history ++ step ∷ [])
 
 -- the part is one of the next command
-abbrev pub IsOfNext : Built → (ran later : List Line) → History → Part → Type 0
-IsOfNext built ran later history Nothing = Unit {0}
-IsOfNext built ran later history (SomeRecords step count) = Begins built ran later history step
-IsOfNext built ran later history (SomeAnswer step count) = Begins built ran later history step
+abbrev pub IsOfNext : (ran later : List Line) → History → Part → Type 0
+IsOfNext ran later history Nothing = Unit {0}
+IsOfNext ran later history (SomeRecords step count) = Begins ran later history step
+IsOfNext ran later history (SomeAnswer step count) = Begins ran later history step
 
 -- ---- where a run ends
 
 -- there is one command here, and it is one that takes memory
-pub record NeedsMemory (built : Built) (commands : List ScriptCommand) : Type 0 where
+pub record NeedsMemory (takes_memory : Call → Bool) (commands : List ScriptCommand) : Type 0 where
   pub command : ScriptCommand
   pub is : commands ≡ command ∷ []
-  pub takes : IsTrue (built.takes_memory command.call)
+  pub takes : IsTrue (takes_memory command.call)
 
 -- A fault of reading after n lines. What is still unread is a suffix of the script, and what had come between the lines that
 -- were run and that suffix has no line feed: no whole line was dropped.
@@ -88,30 +85,32 @@ pub record StopsReading (lines : ℕ) (script : List ℕ) (input : Option (List 
 
 -- where a run ends, of which these lines were run and those are the others: at their end; before a line with which they are no
 -- script; where they are too many; at a command for which there is no memory; or between two lines, where a read failed
-abbrev pub RunEndsAt : Built → Ending → (ran later : List Line) → (script : List ℕ) → (input : Option (List ℕ)) → Type 0
-RunEndsAt built (Ok done) ran later script input = later ≡ []
-RunEndsAt built (Err (stop.Bad bad)) ran later script input =
+abbrev pub RunEndsAt : (takes_memory : Call → Bool) → Ending → (ran later : List Line) → (script : List ℕ) → (input : Option (List ℕ))
+    → Type 0
+RunEndsAt takes_memory (Ok done) ran later script input = later ≡ []
+RunEndsAt takes_memory (Err (stop.Bad bad)) ran later script input =
     (bad.line ≡ length ran + 1) × (bad.line ≤ max_lines) × (is_grammatical (ran ++ take 1 later) ≡ false)
-RunEndsAt built (Err stop.TooLong) ran later script input = (length ran ≡ max_lines) × (0 < length later)
-RunEndsAt built (Err stop.OutOfMemory) ran later script input = NeedsMemory built (commands_from (length ran + 1) (take 1 later))
-RunEndsAt built (Err stop.ReadFailed) ran later script input = StopsReading (length ran) script input
-RunEndsAt built (Err stop.LogFailed) ran later script input = Unit {0}
-RunEndsAt built (Err stop.WriteFailed) ran later script input = Unit {0}
+RunEndsAt takes_memory (Err stop.TooLong) ran later script input = (length ran ≡ max_lines) × (0 < length later)
+RunEndsAt takes_memory (Err stop.OutOfMemory) ran later script input = NeedsMemory takes_memory
+    (commands_from (length ran + 1) (take 1 later))
+RunEndsAt takes_memory (Err stop.ReadFailed) ran later script input = StopsReading (length ran) script input
+RunEndsAt takes_memory (Err stop.LogFailed) ran later script input = Unit {0}
+RunEndsAt takes_memory (Err stop.WriteFailed) ran later script input = Unit {0}
 
 -- ---- what a run leaves
 
 -- Lines of the script were run, and a history answers their commands. What was printed is the answer line of each of its steps;
 -- what was logged is the header and the records of that history; and after both there may be a part of the next command.
-pub record Leaves (built : Built) (ends : Ending) (header script : List ℕ) (old new : Outside) : Type 0 where
+pub record Leaves (takes_memory : Call → Bool) (ends : Ending) (header script : List ℕ) (old new : Outside) : Type 0 where
   pub ran : List Line
   pub later : List Line
   pub lines : lines_of script ≡ ran ++ later
   pub history : History
-  pub run : HasRun built ran history
+  pub run : HasRun ran history
   pub part : Part
   pub is_part : IsPartAt ends part old new
-  pub begun : IsOfNext built ran later history part
-  pub ends_at : RunEndsAt built ends ran later script new.input
+  pub begun : IsOfNext ran later history part
+  pub ends_at : RunEndsAt takes_memory ends ran later script new.input
   pub printed : new.printed ≡ appended old.printed (answers_of history ++ printed_of part)
   pub logged : new.logged ≡ appended old.logged (header ++ (records_bytes (written_log history) ++ logged_of (pools_made history) part))
 
@@ -134,14 +133,11 @@ EndsBefore (Err stop.LogFailed) old new = LeavesHeader old new
 EndsBefore ends old new = ⊥
 
 -- what a whole run leaves
-abbrev pub LeavesRun : Built → Ending → (script : List ℕ) → (old new : Outside) → Type 0
-LeavesRun built ends script old new = EndsBefore ends old new ⊎ Leaves built ends log_header script old new
+abbrev pub LeavesRun : (takes_memory : Call → Bool) → Ending → (script : List ℕ) → (old new : Outside) → Type 0
+LeavesRun takes_memory ends script old new = EndsBefore ends old new ⊎ Leaves takes_memory ends log_header script old new
 
--- the machine takes memory for nothing but an arena
-abbrev example : Built
-example = record { is_unsupported = λ w c. false; takes_memory = is_arena }
-
-pub an_arena_takes_memory : NeedsMemory example (commands_from 1 (codes "arena 8 8" ∷ []))
+-- where memory is taken for nothing but an arena
+pub an_arena_takes_memory : NeedsMemory is_arena (commands_from 1 (codes "arena 8 8" ∷ []))
 an_arena_takes_memory = record { command = record { line = 1; call = call.Arena 8 8 }; is = refl; takes = refl }
 
 pub a_limit_has_one_record :

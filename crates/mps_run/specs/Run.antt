@@ -1,16 +1,16 @@
 -- What `run` does.
-use Rattle.std.specs.Prelude.{ℕ, ◌≡◌, true, false, Some, List}
+use Rattle.std.specs.Prelude.{ℕ, ◌≡◌, Bool, true, false, Some, List}
 use Rattle.mps_desk.specs.Desk.{Outside, IsSteady, NothingWaits}
 use Rattle.mps_report.specs.Reports.{HasReportedEnding, status_of_ending}
 use Rattle.mps_log_reader.specs.Ending.{IsUnopened, is_input_verdict}
 use Rattle.mps_log_reader.specs.Opening.{OpensNothing}
-use Rattle.mps_commands.specs.Built.{Built}
+use Rattle.mps_model.specs.declared.call.Call.{Call}
 use Rattle.mps_run.specs.Ending.{Ending, AsksInOrder, HasCause, text_of_bad_line}
 use Rattle.mps_run.specs.Leaving.{LeavesRun}
 use Rattle.mps_run.specs.LogFile.{IsInFile, IsUnlogged, LogsInto}
 
--- `run`, on a machine of which this is built
-pub record RunsScript (built : Built) (log script : List ℕ) (status : ℕ) (old new : Outside) : Type 0 where
+-- `run`, on a machine for which these calls take memory
+pub record RunsScript (takes_memory : Call → Bool) (log script : List ℕ) (status : ℕ) (old new : Outside) : Type 0 where
   -- there is one ending, which has this status
   pub ends : Ending
   pub status_is : status ≡ status_of_ending ends
@@ -24,7 +24,7 @@ pub record RunsScript (built : Built) (log script : List ℕ) (status : ℕ) (ol
   pub steady : is_input_verdict status ≡ true → IsSteady old new
   -- Where the desk knows the script, what was printed and logged is that of one history, which answers the commands of the lines
   -- that were run, and a part of the next command where the log or printing failed.
-  pub leaves : (bytes : List ℕ) → old.text script ≡ Some bytes → LeavesRun built ends bytes old new
+  pub leaves : (bytes : List ℕ) → old.text script ≡ Some bytes → LeavesRun takes_memory ends bytes old new
   -- and all that was logged and printed is written
   pub written : is_input_verdict status ≡ true → NothingWaits new
   -- where printing failed, all that was logged is

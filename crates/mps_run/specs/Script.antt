@@ -1,21 +1,18 @@
 -- The commands of a script, each with its line, and the history that answers them.
-use Rattle.std.specs.Prelude.{ℕ, ◌≡◌, ◌↔◌, ◌+◌, ◌≤◌, IsTrue, true, All, Option, Some, None, Result, Ok, Err, List, [], ◌∷◌, ◌++◌, map, length, codes, refl}
+use Rattle.std.specs.Prelude.{ℕ, ◌≡◌, ◌+◌, ◌≤◌, true, All, Option, Some, None, Result, Ok, Err, List, [], ◌∷◌, ◌++◌, map, length, codes, refl}
 use Rattle.std.specs.List.{flat_map}
 use Rattle.mps_base.specs.Address.{last_u32}
 use Rattle.mps_event.specs.declared.version.Version.TheVariants.{Two}
 use Rattle.mps_event.specs.Grammar.{IsRecord}
 use Rattle.mps_model.specs.declared.call.Call.{Call}
 use Rattle.mps_model.specs.declared.call.Call.TheVariants as call
-use Rattle.mps_model.specs.declared.reply.Reply.TheVariants as reply
-use Rattle.mps_model.specs.Answer.{Answer, Replied}
+use Rattle.mps_model.specs.Answer.{Answer}
 use Rattle.mps_model.specs.Step.{Step, History}
 use Rattle.mps_model.specs.Log.{written_log}
-use Rattle.mps_model.specs.World.{World, empty_world}
 use Rattle.mps_model.specs.Replayed as model
-use Rattle.mps_model.specs.History.{IsLegalHistory, world_after, world_after_history}
+use Rattle.mps_model.specs.History.{IsLegalHistory, world_after_history}
 use Rattle.mps_laws.specs.Replay.{replayed_state}
 use Rattle.mps_model.specs.Text.{line_of_answer}
-use Rattle.mps_commands.specs.Built.{Built}
 use Rattle.mps_script.specs.declared.line.BadLine.{BadLine}
 use Rattle.mps_script.specs.Line.{call_of_line}
 use Rattle.mps_script.specs.Script.{is_grammatical}
@@ -55,21 +52,12 @@ answer_of_step s = s.answer
 abbrev pub answers_of : History → List ℕ
 answers_of history = flat_map (λ (s : Step). line_of_answer s.answer) history
 
--- a command is answered `unsupported` exactly where that is said of it, in the world before it
-abbrev pub IsStepUnsupportedWhereDue : Built → World → Step → Type 0
-IsStepUnsupportedWhereDue built w s = (s.answer ≡ Replied reply.Unsupported) ↔ IsTrue (built.is_unsupported w s.call)
-
--- so are all commands of a history, from a world on
-abbrev pub AreUnsupportedWhereDue : Built → World → History → Type 0
-AreUnsupportedWhereDue built w [] = Unit {0}
-AreUnsupportedWhereDue built w (s ∷ ss) = IsStepUnsupportedWhereDue built w s × AreUnsupportedWhereDue built (world_after w s) ss
-
 -- the most lines of a script that a run answers
 abbrev pub max_lines : ℕ
 max_lines = last_u32
 
 -- these lines were run, and a history answers their commands
-pub record HasRun (built : Built) (ran : List Line) (history : History) : Type 0 where
+pub record HasRun (ran : List Line) (history : History) : Type 0 where
   -- there are fewer than 2^32 of them
   pub bounded : length ran ≤ max_lines
   -- they are a script
@@ -78,8 +66,6 @@ pub record HasRun (built : Built) (ran : List Line) (history : History) : Type 0
   pub commands : commands_of history ≡ commands_from 1 ran
   -- it is a legal history of the model
   pub legal : IsLegalHistory history
-  -- a command is answered `unsupported` exactly where it isn't built
-  pub unsupported : AreUnsupportedWhereDue built empty_world history
   -- the blocks that replaying its log gives are those that are live in the world after it, and as many names are interned as it has labels
   pub replayed : model.replayed (written_log history) ≡ Some (replayed_state (world_after_history history))
   -- its records are such as a log may hold

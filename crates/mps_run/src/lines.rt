@@ -32,7 +32,7 @@ pub fn run_all_lines<D: Desk, C: Commands>(
     ensures runs { RunsOn (D.outside desk.old) (D.outside desk.new) }
     ensures log_written { result ≡ Err stop.WriteFailed → (D.outside desk.new).log_waits ≡ false }
     ensures leaves { (script : List ℕ) → rest_of_script lines.old (D.outside desk.old).input ≡ Some script
-        → Leaves C.built result [] script (D.outside desk.old) (D.outside desk.new) }
+        → Leaves C.takes_memory result [] script (D.outside desk.old) (D.outside desk.new) }
 {
     let ending = run_lines(desk, commands, lines);
     if is_fault(&ending) {
@@ -139,7 +139,7 @@ fn run_lines<D: Desk, C: Commands>(
     ensures runs { RunsOn (D.outside desk.old) (D.outside desk.new) }
     ensures log_written { result ≡ Err stop.WriteFailed → (D.outside desk.new).log_waits ≡ false }
     ensures leaves { (script : List ℕ) → rest_of_script lines.old (D.outside desk.old).input ≡ Some script
-        → Leaves C.built result [] script (D.outside desk.old) (D.outside desk.new) }
+        → Leaves C.takes_memory result [] script (D.outside desk.old) (D.outside desk.new) }
 {
     let mut progress = Progress::new();
     // One place for the call of each line, and one for its reply, so that none is copied.

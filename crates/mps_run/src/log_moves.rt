@@ -13,7 +13,7 @@ use mps_desk::{Desk, Failed};
 use mps_event::Event;
 
 /// How many records are gathered before they are handed to the desk.
-const MOVES_IN_A_BATCH: usize = 64;
+const MOVES_IN_A_BATCH: usize = 16;
 
 /// Writes the records of moves, in order. Most commands make one move or none; the many of a collection are gathered.
 #[inline(always)]
@@ -44,7 +44,7 @@ fn log_batches<D: Desk>(desk: &mut D, line: u32, moves: &[Move]) -> Result<(), F
 
 /// Writes the records of a batch of moves, in order, as one piece.
 fn log_batch<D: Desk>(desk: &mut D, line: u32, moves: &[Move]) -> Result<(), Failed>
-    requires at_most { length moves.now ≤ 64 }
+    requires at_most { length moves.now ≤ 16 }
     ensures logged { OnOk result (Logs (D.outside desk.old) (D.outside desk.new) (records_bytes (records_of moves.now line))) }
     ensures failed { OnErr result (LogsPart (D.outside desk.old) (D.outside desk.new) (records_bytes (records_of moves.now line))) }
     ensures recorded { All (IsRecord Two) (records_of moves.now line) }

@@ -31,7 +31,7 @@ pub fn run_script<D: Desk, C: Commands>(
 ) -> u8
     requires { C.stands_for commands empty_world }
     ensures meaning { result ≢ 2 }
-    ensures runs { RunsScript C.built log.now script.now result (D.outside desk.old) (D.outside desk.new) }
+    ensures runs { RunsScript C.takes_memory log.now script.now result (D.outside desk.old) (D.outside desk.new) }
     ensures read_failed { result ≡ 3 → HasRisen (D.outside desk.old).in_faults (D.outside desk.new).in_faults }
     ensures write_failed { result ≡ 4 → HasRisen (D.outside desk.old).out_faults (D.outside desk.new).out_faults }
     ensures log_failed { result ≡ 5 → HasRisen (D.outside desk.old).log_faults (D.outside desk.new).log_faults }
@@ -66,7 +66,7 @@ fn run<D: Desk, C: Commands>(
     ensures runs { RunsOn (D.outside desk.old) (D.outside desk.new) }
     ensures log_written { result ≡ Err stop.WriteFailed → (D.outside desk.new).log_waits ≡ false }
     ensures leaves { (bytes : List ℕ) → (D.outside desk.old).text script.now ≡ Some bytes
-        → LeavesRun C.built result bytes (D.outside desk.old) (D.outside desk.new) }
+        → LeavesRun C.takes_memory result bytes (D.outside desk.old) (D.outside desk.new) }
 {
     let Ok(mut lines) = Lines::new(alloc) else {
         return Err(Stop::OutOfMemory);

@@ -4,12 +4,13 @@ ghost use Rattle.mps_desk.specs.Desk.{HasRisen, IsSteady, OnlyLogs};
 ghost use Rattle.mps_model.specs.Answer.{Replied, answer_of};
 ghost use Rattle.mps_model.specs.Log.{pools_made_by, pools_of_accepted as pools_if_accepted};
 ghost use Rattle.mps_model.specs.Text.{line_of_answer};
+ghost use Rattle.mps_commands.specs.Asked.{IsAsked};
 ghost use Rattle.mps_commands.specs.Range.{IsInRange};
 ghost use Rattle.mps_report.specs.Causes.{CauseOf};
 ghost use Rattle.mps_report.specs.Streams.{LogTakes};
 ghost use Rattle.mps_report.specs.declared.stop.Stop.TheVariants as stop;
 ghost use Rattle.mps_run.specs.Ending.{HasCause, RunsOn, is_verdict};
-ghost use Rattle.mps_run.specs.Running.{LineRan, LineLogged, LineStops, StepsLogged, PrintsOrStops, CommandStops};
+ghost use Rattle.mps_run.specs.Running.{HasComeTo, LineRan, LineLogged, LineStops, StepsLogged, PrintsOrStops, CommandStops};
 
 use crate::bad_script_line::BadScriptLine;
 use crate::log::log_records;
@@ -34,9 +35,10 @@ pub fn run_line<D: Desk, C: Commands>(
 ) -> Result<(), Stop<BadScriptLine>>
     requires bounded { progress.old.lines < 4294967295 }
     requires pools { progress.old.pools ≤ progress.old.lines }
-    ensures ran { OnOk result (LineRan C.built (C.stands_for commands.old) (C.stands_for commands.new) progress.old progress.new bytes.now
+    requires come { HasComeTo (C.stands_for commands.old) progress.old }
+    ensures ran { OnOk result (LineRan (C.stands_for commands.old) (C.stands_for commands.new) progress.old progress.new bytes.now
         (D.outside desk.old) (D.outside desk.new)) }
-    ensures stops { IfErr result (λ why. LineStops C.built why (C.stands_for commands.old) progress.old bytes.now
+    ensures stops { IfErr result (λ why. LineStops C.takes_memory why (C.stands_for commands.old) progress.old bytes.now
         (D.outside desk.old) (D.outside desk.new)) }
     ensures cause { HasCause result (D.outside desk.old) (D.outside desk.new) }
     ensures steady { is_verdict result ≡ true → IsSteady (D.outside desk.old) (D.outside desk.new) }
@@ -65,10 +67,11 @@ pub fn log_line<D: Desk, C: Commands>(
 ) -> Result<bool, Stop<BadScriptLine>>
     requires bounded { progress.old.lines < 4294967295 }
     requires pools { progress.old.pools ≤ progress.old.lines }
-    ensures logged { IfOk result (λ has_call. LineLogged C.built (C.stands_for commands.old) (C.stands_for commands.new)
+    requires come { HasComeTo (C.stands_for commands.old) progress.old }
+    ensures logged { IfOk result (λ has_call. LineLogged (C.stands_for commands.old) (C.stands_for commands.new)
         (if has_call then answer_of (C.words commands.new) reply.new ∷ [] else []) progress.old progress.new bytes.now
         (D.outside desk.old) (D.outside desk.new)) }
-    ensures stops { IfErr result (λ why. LineStops C.built why (C.stands_for commands.old) progress.old bytes.now
+    ensures stops { IfErr result (λ why. LineStops C.takes_memory why (C.stands_for commands.old) progress.old bytes.now
         (D.outside desk.old) (D.outside desk.new)) }
     ensures cause { IfErr result (λ why. CauseOf (D.outside desk.old) (D.outside desk.new) why) }
     ensures steady { IfOk result (λ has_call. IsSteady (D.outside desk.old) (D.outside desk.new)) }
@@ -107,11 +110,12 @@ fn log_call<D: Desk, C: Commands>(
     reply: &mut Reply,
 ) -> Result<(), Stop<BadScriptLine>>
     requires range { IsInRange call.now }
+    requires asked { IsAsked (C.stands_for commands.old) call.now }
     requires fits { pools.old < 4294967295 }
-    ensures logged { OnOk result (StepsLogged C.built (C.stands_for commands.old) (C.stands_for commands.new)
+    ensures logged { OnOk result (StepsLogged (C.stands_for commands.old) (C.stands_for commands.new)
         (record { line = line; call = call.now } ∷ []) (answer_of (C.words commands.new) reply.new ∷ []) pools.old pools.new
         (D.outside desk.old) (D.outside desk.new)) }
-    ensures stops { IfErr result (λ why. CommandStops C.built why (C.stands_for commands.old) line call.now pools.old
+    ensures stops { IfErr result (λ why. CommandStops C.takes_memory why (C.stands_for commands.old) line call.now pools.old
         (D.outside desk.old) (D.outside desk.new)) }
     ensures no_verdict { OnErr result (is_verdict result ≡ false) }
     ensures cause { HasCause result (D.outside desk.old) (D.outside desk.new) }

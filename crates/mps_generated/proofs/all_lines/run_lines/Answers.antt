@@ -5,6 +5,7 @@ use Rattle.mps_report.proofs.Logging.{only_logs_then, takes_self, takes_then}
 use Rattle.mps_model.specs.Answer.{answer_of}
 use Rattle.mps_run.specs.Running.{LineLogged}
 use Rattle.mps_run.specs.declared.progress.Progress.{Progress}
+use Rattle.mps_run.proofs.SoFar.{come_to}
 use Rattle.mps_run.proofs.Turns.{steady_self, steady_then}
 use Rattle.mps_generated.specs.Texts.{AreLineTexts, first_line}
 use Rattle.mps_generated.proofs.LastTwo.{leaves_both}
@@ -36,12 +37,35 @@ loop-desk-init g c =
       counted = omega arith;
       steady = steady_self start;
       takes = takes_self start;
-      so_far = logged_at_start g.C.Commands.built (g.C.Commands.stands_for c.args.commands.now) c.new-progress.result c.args.lines.now start
+      so_far = logged_at_start (g.C.Commands.stands_for c.args.commands.now) c.new-progress.result c.args.lines.now start
           c.new-progress.ensures c.requires.begun;
       texts = c.requires.texts;
       few = omega (arith, c.requires.few, ap (λ (p : Progress). p.lines) c.new-progress.ensures);
       some = c.requires.some;
     }
+
+-- ---- the machine is asked in its turn
+
+pub log_next-requires-clause-come : goal.log_next-requires-clause-come
+log_next-requires-clause-come g c =
+    let so_far = c.loop-desk.invariant.so_far in
+    come_to (g.C.Commands.stands_for c.loop-desk.commands) c.loop-desk.progress so_far.ran so_far.history so_far.come
+
+pub log_next-requires-2-clause-come : goal.log_next-requires-2-clause-come
+log_next-requires-2-clause-come g c =
+    let so_far = c.loop-desk.invariant.so_far in
+    come_to (g.C.Commands.stands_for c.loop-desk.commands) c.loop-desk.progress so_far.ran so_far.history so_far.come
+
+pub log_next-requires-3-clause-come : goal.log_next-requires-3-clause-come
+log_next-requires-3-clause-come g c =
+    let i = c.loop-desk.invariant in
+    let e = c.log_next-2.ensures in
+    let lines = c.in-Ok-log_next.ensures.logged.lines in
+    let more : LoggedSoFar (g.C.Commands.stands_for c.log_next-2.new.commands) c.log_next-2.new.progress
+    c.args.lines.now (drop 1 c.loop-desk.lines) (g.D.Desk.outside c.args.desk.now) (g.D.Desk.outside c.log_next-2.new.desk) =
+    one_logged i.so_far c.in-Ok-log_next.ensures.logged e.quiet.printed i.texts (omega (arith, i.some))
+    (omega (arith, lines, i.few, i.some)) in
+    come_to (g.C.Commands.stands_for c.log_next-2.new.commands) c.log_next-2.new.progress more.ran more.history more.come
 
 pub loop-desk-preserved : goal.loop-desk-preserved
 loop-desk-preserved g c =
@@ -59,7 +83,7 @@ loop-desk-preserved g c =
       counted = omega (arith, i.counted, e.counted);
       steady = steady_then old before after i.steady c.in-Ok.ensures.steady;
       takes = takes_then old before after i.takes e.takes;
-      so_far = subst (λ (ls : List (List ℕ)). LoggedSoFar g.C.Commands.built (g.C.Commands.stands_for c.log_next.new.commands)
+      so_far = subst (λ (ls : List (List ℕ)). LoggedSoFar (g.C.Commands.stands_for c.log_next.new.commands)
           c.log_next.new.progress c.args.lines.now ls old after) (sym e.left)
           (one_logged i.so_far c.in-Ok.ensures.logged e.quiet.printed i.texts (omega (arith, i.some))
           (omega (arith, lines, i.few, i.some)));
@@ -76,7 +100,7 @@ returns-in-Err-clause-takes g c =
 pub returns-in-Err-clause-leaves : goal.returns-in-Err-clause-leaves
 returns-in-Err-clause-leaves g c =
     let i = c.loop-desk.invariant in
-    leaves_at_line g.C.Commands.built (g.C.Commands.stands_for c.loop-desk.commands) c.loop-desk.progress c.args.lines.now
+    leaves_at_line g.C.Commands.takes_memory (g.C.Commands.stands_for c.loop-desk.commands) c.loop-desk.progress c.args.lines.now
     c.loop-desk.lines (g.D.Desk.outside c.args.desk.now) (g.D.Desk.outside c.loop-desk.desk) (g.D.Desk.outside c.log_next.new.desk)
     i.so_far i.texts (omega (arith, i.some)) c.requires.good c.in-Err.stop c.in-Err.ensures.unprinted i.quiet.printed
     c.log_next.ensures.quiet.printed c.in-Err.ensures.stops
@@ -91,7 +115,7 @@ returns-in-Err-log_next-clause-takes g c =
 pub returns-in-Err-log_next-clause-leaves : goal.returns-in-Err-log_next-clause-leaves
 returns-in-Err-log_next-clause-leaves g c =
     let i = c.loop-desk.invariant in
-    leaves_at_line g.C.Commands.built (g.C.Commands.stands_for c.loop-desk.commands) c.loop-desk.progress c.args.lines.now
+    leaves_at_line g.C.Commands.takes_memory (g.C.Commands.stands_for c.loop-desk.commands) c.loop-desk.progress c.args.lines.now
     c.loop-desk.lines (g.D.Desk.outside c.args.desk.now) (g.D.Desk.outside c.loop-desk.desk) (g.D.Desk.outside c.log_next-2.new.desk)
     i.so_far i.texts (omega (arith, i.some)) c.requires.good c.in-Err-log_next.stop c.in-Err-log_next.ensures.unprinted
     i.quiet.printed c.log_next-2.ensures.quiet.printed c.in-Err-log_next.ensures.stops
@@ -114,13 +138,13 @@ returns-in-Err-log_next-2-clause-leaves g c =
     let mid = g.D.Desk.outside c.log_next-2.new.desk in
     let size : length (drop 1 c.loop-desk.lines) ≡ length c.loop-desk.lines - 1 = length-drop 1 c.loop-desk.lines in
     let lines = c.in-Ok-log_next.ensures.logged.lines in
-    let more : LoggedSoFar g.C.Commands.built (g.C.Commands.stands_for c.log_next-2.new.commands) c.log_next-2.new.progress
+    let more : LoggedSoFar (g.C.Commands.stands_for c.log_next-2.new.commands) c.log_next-2.new.progress
     c.args.lines.now (drop 1 c.loop-desk.lines) old mid =
     one_logged i.so_far c.in-Ok-log_next.ensures.logged e.quiet.printed i.texts (omega (arith, i.some))
     (omega (arith, lines, i.few, i.some)) in
-    leaves_at_line g.C.Commands.built (g.C.Commands.stands_for c.log_next-2.new.commands) c.log_next-2.new.progress c.args.lines.now
+    leaves_at_line g.C.Commands.takes_memory (g.C.Commands.stands_for c.log_next-2.new.commands) c.log_next-2.new.progress c.args.lines.now
     c.log_next-2.new.lines old mid (g.D.Desk.outside c.log_next-3.new.desk)
-    (subst (λ (ls : List (List ℕ)). LoggedSoFar g.C.Commands.built (g.C.Commands.stands_for c.log_next-2.new.commands)
+    (subst (λ (ls : List (List ℕ)). LoggedSoFar (g.C.Commands.stands_for c.log_next-2.new.commands)
     c.log_next-2.new.progress c.args.lines.now ls old mid) (sym e.left) more)
     (subst AreLineTexts (sym e.left) (texts_later c.loop-desk.lines i.texts))
     (omega (arith, ap (λ (ls : List (List ℕ)). length ls) e.left, size, i.some)) c.requires.good c.in-Err-log_next-2.stop
@@ -148,13 +172,13 @@ returns-clause-leaves g c =
     let live = c.in-Ok-log_next.ensures.logged in
     let committed = c.in-Ok-log_next-2.ensures.logged in
     let words = g.C.Commands.words c.log_next-3.new.commands in
-    leaves_both g.C.Commands.built (g.C.Commands.stands_for c.loop-desk.commands) (g.C.Commands.stands_for c.log_next-2.new.commands)
+    leaves_both g.C.Commands.takes_memory (g.C.Commands.stands_for c.loop-desk.commands) (g.C.Commands.stands_for c.log_next-2.new.commands)
     (g.C.Commands.stands_for c.log_next-3.new.commands) c.loop-desk.progress c.log_next-2.new.progress c.log_next-3.new.progress
     c.args.lines.now c.loop-desk.lines (g.D.Desk.outside c.args.desk.now) (g.D.Desk.outside c.loop-desk.desk)
     (g.D.Desk.outside c.log_next-2.new.desk) (g.D.Desk.outside c.log_next-3.new.desk)
     (c.are_two_left.ensures.two c.loop-desk-test.false) i.so_far c.in-Ok-log_next.field-0
     c.in-Ok-log_next-2.field-0 (g.C.Commands.words c.log_next-2.new.commands) words c.log_next-2.new.reply c.log_next-3.new.reply live
-    (subst (λ (ls : List (List ℕ)). LineLogged g.C.Commands.built (g.C.Commands.stands_for c.log_next-2.new.commands)
+    (subst (λ (ls : List (List ℕ)). LineLogged (g.C.Commands.stands_for c.log_next-2.new.commands)
     (g.C.Commands.stands_for c.log_next-3.new.commands)
     (if c.in-Ok-log_next-2.field-0 then answer_of words c.log_next-3.new.reply ∷ [] else []) c.log_next-2.new.progress
     c.log_next-3.new.progress (first_line ls) (g.D.Desk.outside c.log_next-2.new.desk) (g.D.Desk.outside c.log_next-3.new.desk)) e.left

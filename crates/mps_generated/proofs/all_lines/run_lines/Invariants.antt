@@ -11,7 +11,7 @@ invariant-loop-desk g l = record {
   counted : (g.D.Desk.outside l.initial.desk).log_faults ≤ (g.D.Desk.outside l.desk).log_faults;
   steady : IsSteady (g.D.Desk.outside l.initial.desk) (g.D.Desk.outside l.desk);
   takes : LogTakes (g.D.Desk.outside l.initial.desk) (g.D.Desk.outside l.desk);
-  so_far : LoggedSoFar g.C.Commands.built (g.C.Commands.stands_for l.commands) l.progress l.initial.lines l.lines
+  so_far : LoggedSoFar (g.C.Commands.stands_for l.commands) l.progress l.initial.lines l.lines
       (g.D.Desk.outside l.initial.desk) (g.D.Desk.outside l.desk);
   texts : AreLineTexts l.lines;
   few : l.progress.lines + length l.lines ≤ max_lines_of_run;

@@ -82,11 +82,11 @@ returns-clause-asked g c =
 pub returns-clause-leaves : goal.returns-clause-leaves
 returns-clause-leaves g c =
     let logs = c.in-Ok-log_header.ensures.logged in
-    inr (after_header g.C.Commands.built c.run_lines.result (script c.args.seed c.args.count) (g.D.Desk.outside c.args.desk.now)
+    inr (after_header g.C.Commands.takes_memory c.run_lines.result (script c.args.seed c.args.count) (g.D.Desk.outside c.args.desk.now)
     (g.D.Desk.outside c.log_header.new.desk) (g.D.Desk.outside c.run_lines.new.desk)
     (logs.others.printed ∙ c.create.ensures.others.printed)
     (logs.logged ∙ ap (λ known. appended known log_header) c.create.ensures.logged)
-    (subst (λ (ls : List (List ℕ)). LeavesGenerated g.C.Commands.built c.run_lines.result [] (text_of ls)
+    (subst (λ (ls : List (List ℕ)). LeavesGenerated g.C.Commands.takes_memory c.run_lines.result [] (text_of ls)
     (g.D.Desk.outside c.log_header.new.desk) (g.D.Desk.outside c.run_lines.new.desk)) c.new-lines.ensures c.run_lines.ensures.leaves))
 
 pub returns-clause-steady : goal.returns-clause-steady

@@ -27,7 +27,7 @@ returns-clause-runs g c =
       asked = asks_then_nothing old mid new (making c.args.log.now ∷ []) run.asked report.others.asked;
       unread = report.others.input ∙ run.unread;
       in_faults = report.others.in_faults ∙ run.in_faults;
-      leaves = then_reported g.C.Commands.built ending (script c.args.seed c.args.count) old mid new report.others run.leaves;
+      leaves = then_reported g.C.Commands.takes_memory ending (script c.args.seed c.args.count) old mid new report.others run.leaves;
       steady = λ zero. steady_then_reported old mid new (went_well ending (sym report.status_is ∙ zero) run.steady) report.others;
       written = λ zero. reports_written mid new report.others (went_well ending (sym report.status_is ∙ zero) run.written);
       log_written = log_written_then_reported ending c.report_ending.result mid new report.others report.status_is run.log_written;
@@ -46,4 +46,4 @@ returns-clause-statuses g c =
     is_reported ending c.report_ending.result mid new c.report_ending.ensures.done c.report_ending.ensures.quiet
     c.report_ending.ensures.status c.report_ending.ensures.reported in
     subst IsStatus (sym report.status_is)
-    (known_status g.C.Commands.built ending (script c.args.seed c.args.count) old mid c.run-ending.ensures.leaves)
+    (known_status g.C.Commands.takes_memory ending (script c.args.seed c.args.count) old mid c.run-ending.ensures.leaves)

@@ -3,7 +3,7 @@ use Rattle.mps_lines.specs.Buffer.{ComesNextOf, rest_of_script}
 use Rattle.mps_report.proofs.Logging.{takes_self, takes_then, takes_nothing, takes_after_reading}
 use Rattle.mps_run.specs.Running.{LineRan, LineStops}
 use Rattle.mps_run.specs.Script.{max_lines}
-use Rattle.mps_run.proofs.SoFar.{ReadSoFar, at_start, read_nothing, one_line_more, read_more}
+use Rattle.mps_run.proofs.SoFar.{ReadSoFar, at_start, come_to, read_nothing, one_line_more, read_more}
 use Rattle.mps_run.proofs.Leaving.{ends_done, ends_too_long, ends_long_line, ends_at_fault, leaves_line}
 use Rattle.mps_run.proofs.Turns.{steady_self, steady_then, runs_on_self, runs_on_line}
 use Rattle.mps_run.proofs.lines.run_lines.Goals as goal
@@ -15,10 +15,15 @@ loop-next-init g c =
       runs = runs_on_self start;
       steady = steady_self start;
       takes = takes_self start;
-      so_far = at_start g.C.Commands.built (g.C.Commands.stands_for c.args.commands.now) c.new-progress.result start c.new-progress.ensures
+      so_far = at_start (g.C.Commands.stands_for c.args.commands.now) c.new-progress.result start c.new-progress.ensures
           c.requires;
       read = read_nothing (rest_of_script c.args.lines.now start.input);
     }
+
+pub run_line-requires-clause-come : goal.run_line-requires-clause-come
+run_line-requires-clause-come g c =
+    let so_far = c.loop-next.invariant.so_far in
+    come_to (g.C.Commands.stands_for c.loop-next.commands) c.loop-next.progress so_far.ran so_far.history so_far.come
 
 pub loop-next-preserved : goal.loop-next-preserved
 loop-next-preserved g c =
@@ -28,7 +33,7 @@ loop-next-preserved g c =
     let ran = g.D.Desk.outside c.run_line.new.desk in
     let i = c.loop-next.invariant in
     let ensured = c.in-Ok.ensures in
-    let line_ran = subst (λ bytes. LineRan g.C.Commands.built (g.C.Commands.stands_for c.loop-next.commands)
+    let line_ran = subst (λ bytes. LineRan (g.C.Commands.stands_for c.loop-next.commands)
     (g.C.Commands.stands_for c.run_line.new.commands) c.loop-next.progress c.run_line.new.progress bytes read ran) c.line.ensures
     c.in-Ok-run_line.ensures.ran in
     let bounded : c.run_line.new.progress.lines ≤ max_lines = omega (arith, line_ran.lines) in
@@ -50,7 +55,8 @@ pub returns-in-End-clause-leaves : goal.returns-in-End-clause-leaves
 returns-in-End-clause-leaves g c script e =
     let i = c.loop-next.invariant in
     let ensured = c.in-Ok.ensures in
-    ends_done g.C.Commands.built (g.C.Commands.stands_for c.loop-next.commands) c.loop-next.progress (g.D.Desk.outside c.args.desk.now)
+    ends_done g.C.Commands.takes_memory (g.C.Commands.stands_for c.loop-next.commands) c.loop-next.progress
+    (g.D.Desk.outside c.args.desk.now)
     (g.D.Desk.outside c.loop-next.desk) (g.D.Desk.outside c.next_line.new.desk) i.so_far ensured.others.printed ensured.others.logged script
     (rest_of_script c.args.lines.now (g.D.Desk.outside c.args.desk.now).input)
     (rest_of_script c.loop-next.lines (g.D.Desk.outside c.loop-next.desk).input)
@@ -62,7 +68,8 @@ pub returns-in-TooLong-2-clause-leaves : goal.returns-in-TooLong-2-clause-leaves
 returns-in-TooLong-2-clause-leaves g c script e =
     let i = c.loop-next.invariant in
     let ensured = c.in-Ok.ensures in
-    ends_too_long g.C.Commands.built (g.C.Commands.stands_for c.loop-next.commands) c.loop-next.progress (g.D.Desk.outside c.args.desk.now)
+    ends_too_long g.C.Commands.takes_memory (g.C.Commands.stands_for c.loop-next.commands) c.loop-next.progress
+    (g.D.Desk.outside c.args.desk.now)
     (g.D.Desk.outside c.loop-next.desk) (g.D.Desk.outside c.next_line.new.desk) i.so_far ensured.others.printed ensured.others.logged script
     (rest_of_script c.args.lines.now (g.D.Desk.outside c.args.desk.now).input)
     (rest_of_script c.loop-next.lines (g.D.Desk.outside c.loop-next.desk).input)
@@ -73,7 +80,8 @@ pub returns-then-progress-clause-leaves : goal.returns-then-progress-clause-leav
 returns-then-progress-clause-leaves g c script e =
     let i = c.loop-next.invariant in
     let ensured = c.in-Ok.ensures in
-    ends_too_long g.C.Commands.built (g.C.Commands.stands_for c.loop-next.commands) c.loop-next.progress (g.D.Desk.outside c.args.desk.now)
+    ends_too_long g.C.Commands.takes_memory (g.C.Commands.stands_for c.loop-next.commands) c.loop-next.progress
+    (g.D.Desk.outside c.args.desk.now)
     (g.D.Desk.outside c.loop-next.desk) (g.D.Desk.outside c.next_line.new.desk) i.so_far ensured.others.printed ensured.others.logged script
     (rest_of_script c.args.lines.now (g.D.Desk.outside c.args.desk.now).input)
     (rest_of_script c.loop-next.lines (g.D.Desk.outside c.loop-next.desk).input)
@@ -84,7 +92,8 @@ pub returns-in-TooLong-clause-leaves : goal.returns-in-TooLong-clause-leaves
 returns-in-TooLong-clause-leaves g c script e =
     let i = c.loop-next.invariant in
     let ensured = c.in-Ok.ensures in
-    ends_long_line g.C.Commands.built (g.C.Commands.stands_for c.loop-next.commands) c.loop-next.progress (g.D.Desk.outside c.args.desk.now)
+    ends_long_line g.C.Commands.takes_memory (g.C.Commands.stands_for c.loop-next.commands) c.loop-next.progress
+    (g.D.Desk.outside c.args.desk.now)
     (g.D.Desk.outside c.loop-next.desk) (g.D.Desk.outside c.next_line.new.desk) i.so_far ensured.others.printed ensured.others.logged script
     (rest_of_script c.args.lines.now (g.D.Desk.outside c.args.desk.now).input)
     (rest_of_script c.loop-next.lines (g.D.Desk.outside c.loop-next.desk).input)
@@ -96,7 +105,8 @@ pub returns-in-Err-clause-leaves : goal.returns-in-Err-clause-leaves
 returns-in-Err-clause-leaves g c script e =
     let i = c.loop-next.invariant in
     let ensured = c.next_line.ensures in
-    ends_at_fault g.C.Commands.built (g.C.Commands.stands_for c.loop-next.commands) c.loop-next.progress (g.D.Desk.outside c.args.desk.now)
+    ends_at_fault g.C.Commands.takes_memory (g.C.Commands.stands_for c.loop-next.commands) c.loop-next.progress
+    (g.D.Desk.outside c.args.desk.now)
     (g.D.Desk.outside c.loop-next.desk) (g.D.Desk.outside c.next_line.new.desk) i.so_far ensured.printed ensured.logged script
     (rest_of_script c.args.lines.now (g.D.Desk.outside c.args.desk.now).input)
     (rest_of_script c.loop-next.lines (g.D.Desk.outside c.loop-next.desk).input)
@@ -108,7 +118,8 @@ pub returns-in-Err-run_line-clause-leaves : goal.returns-in-Err-run_line-clause-
 returns-in-Err-run_line-clause-leaves g c script e =
     let i = c.loop-next.invariant in
     let ensured = c.in-Ok.ensures in
-    leaves_line g.C.Commands.built (g.C.Commands.stands_for c.loop-next.commands) c.loop-next.progress (g.D.Desk.outside c.args.desk.now)
+    leaves_line g.C.Commands.takes_memory (g.C.Commands.stands_for c.loop-next.commands) c.loop-next.progress
+    (g.D.Desk.outside c.args.desk.now)
     (g.D.Desk.outside c.loop-next.desk) (g.D.Desk.outside c.next_line.new.desk) (g.D.Desk.outside c.run_line.new.desk) i.so_far
     ensured.others.printed ensured.others.logged script c.next_line.new.lines.line (omega arith)
     (omega (arith, i.runs.counts.out_faults, ensured.others.out_faults)) c.in-Err-run_line.stop
@@ -117,7 +128,7 @@ returns-in-Err-run_line-clause-leaves g c script e =
     (rest_of_script c.next_line.new.lines (g.D.Desk.outside c.next_line.new.desk).input) e i.read
     (subst (λ n. ComesNextOf n (rest_of_script c.loop-next.lines (g.D.Desk.outside c.loop-next.desk).input) c.next_line.new.lines.line
     (rest_of_script c.next_line.new.lines (g.D.Desk.outside c.next_line.new.desk).input)) c.in-Line.is ensured.next)
-    (subst (λ bytes. LineStops g.C.Commands.built c.in-Err-run_line.stop (g.C.Commands.stands_for c.loop-next.commands)
+    (subst (λ bytes. LineStops g.C.Commands.takes_memory c.in-Err-run_line.stop (g.C.Commands.stands_for c.loop-next.commands)
     c.loop-next.progress bytes (g.D.Desk.outside c.next_line.new.desk) (g.D.Desk.outside c.run_line.new.desk)) c.line.ensures
     c.in-Err-run_line.ensures.stops)
 

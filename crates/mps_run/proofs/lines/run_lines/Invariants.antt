@@ -11,7 +11,7 @@ invariant-loop-next g l = record {
   runs : RunsOn (g.D.Desk.outside l.initial.desk) (g.D.Desk.outside l.desk);
   steady : IsSteady (g.D.Desk.outside l.initial.desk) (g.D.Desk.outside l.desk);
   takes : LogTakes (g.D.Desk.outside l.initial.desk) (g.D.Desk.outside l.desk);
-  so_far : SoFar g.C.Commands.built (g.C.Commands.stands_for l.commands) l.progress (g.D.Desk.outside l.initial.desk)
+  so_far : SoFar (g.C.Commands.stands_for l.commands) l.progress (g.D.Desk.outside l.initial.desk)
       (g.D.Desk.outside l.desk);
   read : ReadSoFar so_far.ran (rest_of_script l.initial.lines (g.D.Desk.outside l.initial.desk).input)
       (rest_of_script l.lines (g.D.Desk.outside l.desk).input);

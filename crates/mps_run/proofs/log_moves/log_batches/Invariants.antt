@@ -14,7 +14,7 @@ abbrev pub invariant-loop-batch : goal.invariant-loop-batch
 invariant-loop-batch g l =
     (goal.iterator-loop-batch g).can_next l.batch-iterator
     × (goal.iterator-loop-batch g).is_finite l.batch-iterator
-    × (chunks_size l.batch-iterator ≡ 64)
+    × (chunks_size l.batch-iterator ≡ 16)
     × ((done : List Move) × (done ++ chunks_rest l.batch-iterator ≡ l.moves)
     × Logs (g.D.Desk.outside l.initial.desk) (g.D.Desk.outside l.desk) (records_bytes (records_of done l.line))
     × All (IsRecord Two) (records_of done l.line))

@@ -43,7 +43,7 @@ returns-clause-leaves g c bytes e =
     c.in-Ok-log_header.ensures.logged.others.input ∙ (c.in-Ok-open_files.ensures.input ∙ e) in
     let left : rest_of_script c.in-Ok.lines (g.D.Desk.outside c.log_header.new.desk).input ≡ Some bytes =
     ap (rest_of_script c.in-Ok.lines) input ∙ ap (λ (w : LineBuffer). rest_of_script w (Some bytes)) c.in-Ok.ensures in
-    leaves_after_header g.C.Commands.built c.run_all_lines.result bytes (g.D.Desk.outside c.args.desk.now)
+    leaves_after_header g.C.Commands.takes_memory c.run_all_lines.result bytes (g.D.Desk.outside c.args.desk.now)
     (g.D.Desk.outside c.log_header.new.desk)
     (g.D.Desk.outside c.run_all_lines.new.desk)
     (omega (arith, c.open_files.ensures.runs.counts.out_faults, c.in-Ok-log_header.ensures.logged.others.out_faults))
@@ -53,7 +53,7 @@ returns-clause-leaves g c bytes e =
 
 pub returns-in-Err-clause-leaves : goal.returns-in-Err-clause-leaves
 returns-in-Err-clause-leaves g c bytes e =
-    leaves_unbegun g.C.Commands.built c.in-Err.stop bytes (g.D.Desk.outside c.args.desk.now) (g.D.Desk.outside c.open_files.new.desk)
+    leaves_unbegun g.C.Commands.takes_memory c.in-Err.stop bytes (g.D.Desk.outside c.args.desk.now) (g.D.Desk.outside c.open_files.new.desk)
     c.in-Err.ensures.failed c.open_files.ensures.unbegun
 
 pub returns-clause-asked : goal.returns-clause-asked

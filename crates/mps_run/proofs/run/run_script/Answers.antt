@@ -24,7 +24,7 @@ returns-clause-runs g c =
       asked = asks_then_reported c.args.log.now c.args.script.now old mid new report.others ending run.asked;
       steady = λ whole.
           steady_then_reported old mid new (run.steady (subst (λ n. is_input_verdict n ≡ true) report.status_is whole)) report.others;
-      leaves = λ bytes e. leaves_then_reported g.C.Commands.built bytes old mid new report.others ending (run.leaves bytes e);
+      leaves = λ bytes e. leaves_then_reported g.C.Commands.takes_memory bytes old mid new report.others ending (run.leaves bytes e);
       written = λ whole.
           reports_written mid new report.others (run.written (subst (λ n. is_input_verdict n ≡ true) report.status_is whole));
       log_written = log_written_then_reported ending c.report_ending.result mid new report.others report.status_is run.log_written;

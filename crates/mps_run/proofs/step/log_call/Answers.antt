@@ -14,11 +14,11 @@ returns-in_default-log_records-clause-stops g c =
     let stood = g.C.Commands.stands_for c.args.commands.now in
     let stands = g.C.Commands.stands_for c.answer.new.self in
     let words = g.C.Commands.words c.answer.new.self in
-    some_records g.C.Commands.built stood stands c.args.line c.args.call.now c.moves.result.now words c.answer.new.reply
-    (subst (λ (moves : List Move). IsRightAnswer g.C.Commands.built stood stands c.args.call.now moves words c.answer.new.reply)
-    (sym c.moves.ensures) (record { legal = e.legal; stands = e.stands; unsupported = e.unsupported }))
+    some_records stood stands c.args.line c.args.call.now c.moves.result.now words c.answer.new.reply
+    (subst (λ (moves : List Move). IsRightAnswer stood stands c.args.call.now moves words c.answer.new.reply)
+    (sym c.moves.ensures) (record { legal = e.legal; stands = e.stands }))
     c.args.pools.now (c.args.pools.now + c.pools_made.result) (g.D.Desk.outside c.args.desk.now)
-    (g.D.Desk.outside c.log_records.new.desk) failed.count failed.logged failed.others.printed
+    (g.D.Desk.outside c.log_records.new.desk) g.C.Commands.takes_memory failed.count failed.logged failed.others.printed
 
 pub returns-clause-logged : goal.returns-clause-logged
 returns-clause-logged g c =
@@ -27,9 +27,9 @@ returns-clause-logged g c =
     let stood = g.C.Commands.stands_for c.args.commands.now in
     let stands = g.C.Commands.stands_for c.answer.new.self in
     let words = g.C.Commands.words c.answer.new.self in
-    steps_logged g.C.Commands.built stood stands c.args.line c.args.call.now c.moves.result.now words c.answer.new.reply
-    (subst (λ (moves : List Move). IsRightAnswer g.C.Commands.built stood stands c.args.call.now moves words c.answer.new.reply)
-    (sym c.moves.ensures) (record { legal = e.legal; stands = e.stands; unsupported = e.unsupported }))
+    steps_logged stood stands c.args.line c.args.call.now c.moves.result.now words c.answer.new.reply
+    (subst (λ (moves : List Move). IsRightAnswer stood stands c.args.call.now moves words c.answer.new.reply)
+    (sym c.moves.ensures) (record { legal = e.legal; stands = e.stands }))
     c.args.pools.now (c.args.pools.now + c.pools_made.result) (g.D.Desk.outside c.args.desk.now)
     (g.D.Desk.outside c.log_records.new.desk) (ap (λ n. c.args.pools.now + n) c.pools_made.ensures.count)
     (omega (arith, c.pools_made.ensures.count, c.pools_made.ensures.at_most)) logs.logged.logged logs.recorded

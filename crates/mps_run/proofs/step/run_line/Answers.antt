@@ -13,9 +13,9 @@ returns-in-Ok-true-clause-ran g c =
     let old = g.D.Desk.outside c.args.desk.now in
     let mid = g.D.Desk.outside c.log_line.new.desk in
     let answer = answer_of (g.C.Commands.words c.log_line.new.commands) c.log_line.new.reply in
-    ran_if_printed g.C.Commands.built stood stands answer c.args.progress.now c.log_line.new.progress c.args.bytes.now old mid
+    ran_if_printed stood stands answer c.args.progress.now c.log_line.new.progress c.args.bytes.now old mid
     (g.D.Desk.outside c.print_answer.new.desk)
-    (subst (λ has_call. LineLogged g.C.Commands.built stood stands (if has_call then answer ∷ [] else []) c.args.progress.now
+    (subst (λ has_call. LineLogged stood stands (if has_call then answer ∷ [] else []) c.args.progress.now
     c.log_line.new.progress c.args.bytes.now old mid) c.in-Ok-true.field-0-test c.in-Ok-true.ensures.logged)
     c.log_line.ensures.quiet.printed c.log_line.ensures.quiet.out_faults c.print_answer.result c.print_answer.ensures.does
 
@@ -26,11 +26,12 @@ returns-in-Ok-true-clause-stops g c =
     let old = g.D.Desk.outside c.args.desk.now in
     let mid = g.D.Desk.outside c.log_line.new.desk in
     let answer = answer_of (g.C.Commands.words c.log_line.new.commands) c.log_line.new.reply in
-    cut_if_not g.C.Commands.built stood stands answer c.args.progress.now c.log_line.new.progress c.args.bytes.now old mid
+    cut_if_not stood stands answer c.args.progress.now c.log_line.new.progress c.args.bytes.now old mid
     (g.D.Desk.outside c.print_answer.new.desk)
-    (subst (λ has_call. LineLogged g.C.Commands.built stood stands (if has_call then answer ∷ [] else []) c.args.progress.now
+    (subst (λ has_call. LineLogged stood stands (if has_call then answer ∷ [] else []) c.args.progress.now
     c.log_line.new.progress c.args.bytes.now old mid) c.in-Ok-true.field-0-test c.in-Ok-true.ensures.logged)
-    c.log_line.ensures.quiet.printed c.log_line.ensures.quiet.out_faults c.print_answer.result c.print_answer.ensures.does
+    c.log_line.ensures.quiet.printed c.log_line.ensures.quiet.out_faults g.C.Commands.takes_memory c.print_answer.result
+    c.print_answer.ensures.does
 
 pub returns-in-Ok-true-clause-takes : goal.returns-in-Ok-true-clause-takes
 returns-in-Ok-true-clause-takes g c =
@@ -44,7 +45,7 @@ returns-in-Ok-false-clause-ran g c =
     let old = g.D.Desk.outside c.args.desk.now in
     let mid = g.D.Desk.outside c.log_line.new.desk in
     let answer = answer_of (g.C.Commands.words c.log_line.new.commands) c.log_line.new.reply in
-    line_ran g.C.Commands.built stood stands [] c.args.progress.now c.log_line.new.progress c.args.bytes.now old mid mid
-    (subst (λ has_call. LineLogged g.C.Commands.built stood stands (if has_call then answer ∷ [] else []) c.args.progress.now
+    line_ran stood stands [] c.args.progress.now c.log_line.new.progress c.args.bytes.now old mid mid
+    (subst (λ has_call. LineLogged stood stands (if has_call then answer ∷ [] else []) c.args.progress.now
     c.log_line.new.progress c.args.bytes.now old mid) c.in-Ok-false.field-0-test c.in-Ok-false.ensures.logged)
     c.log_line.ensures.quiet.printed refl (appended_empty mid.printed)
