@@ -22,12 +22,11 @@ use Rattle.mps_cnv.proofs.AllKinds.{text_of_all}
 use Rattle.mps_txt.specs.Labels.{no_names}
 use Rattle.mps_txt.proofs.OwnText.{reads_its_own}
 use Rattle.mps_program.specs.Asked.{ConvertsLog, ListsBlocks, ReadsText}
-use Rattle.mps_session.specs.Built.{session_built}
 use Rattle.mps_program.specs.ReadBack.{ListsLiveBlocks, ConvertsRecords, ReadsRecords, IsReadBack}
 use Rattle.mps_program.proofs.GoodInput.{verdict}
 use Rattle.mps_program.proofs.Meanings.{meaning_of}
 
-module _ (ran : List Line) (history : History) (runs : HasRun session_built ran history)
+module _ (ran : List Line) (history : History) (runs : HasRun ran history)
     (few : length (written_log history) ≤ max_records) where
   -- the whole log is records
   all_of_it : LogPrefix (log_bytes history)
@@ -75,7 +74,7 @@ module _ (ran : List Line) (history : History) (runs : HasRun session_built ran 
         (reads_its_own Two records meaning.named runs.recorded meaning.is fewer) in
         record { status_is = ends.status_is; printed = ends.printed }
 
-pub read_back : (ran : List Line) (history : History) → HasRun session_built ran history → IsReadBack history
+pub read_back : (ran : List Line) (history : History) → HasRun ran history → IsReadBack history
 read_back ran history runs = record {
   listed = λ few log status old new known none memory does. listed ran history runs few status old new none memory log known does;
   converted = λ few log kinds status old new known none memory does.

@@ -18,7 +18,7 @@ use Rattle.mps_tools.specs.Ending.{FailsWithin}
 use Rattle.mps_tools.specs.Script.{script as generated_script}
 use Rattle.mps_args.specs.Meaning.{Meaning, Runs, Converts, Reads, Lists, Generates, RunsGenerated}
 use Rattle.mps_args.specs.Words.{meaning}
-use Rattle.mps_session.specs.Built.{session_built}
+use Rattle.mps_session.specs.Memory.{call_takes_memory}
 use Rattle.mps_run.specs.Leaving.{LeavesRun, log_header}
 use Rattle.mps_run.specs.LogFile.{IsInFile}
 use Rattle.mps_run.specs.Run.{RunsScript}
@@ -108,12 +108,12 @@ pub record GeneratesScript (seed count : ℕ) (status : ℕ) (old new : Outside)
 -- what is done with a status, by what the words ask for
 abbrev pub DoesAsAsked : Option Meaning → (status : ℕ) → (old new : Outside) → Type 0
 DoesAsAsked None status old new = ReportsUsage status old new
-DoesAsAsked (Some (Runs log script)) status old new = RunsScript session_built log script status old new
+DoesAsAsked (Some (Runs log script)) status old new = RunsScript call_takes_memory log script status old new
 DoesAsAsked (Some (Converts log kinds)) status old new = ConvertsLog log kinds status old new
 DoesAsAsked (Some (Reads text)) status old new = ReadsText text status old new
 DoesAsAsked (Some (Lists log)) status old new = ListsBlocks log status old new
 DoesAsAsked (Some (Generates seed count)) status old new = GeneratesScript seed count status old new
-DoesAsAsked (Some (RunsGenerated log seed count)) status old new = RunsGeneratedScript session_built log seed count status old new
+DoesAsAsked (Some (RunsGenerated log seed count)) status old new = RunsGeneratedScript call_takes_memory log seed count status old new
 
 pub help_prints_nothing : (status : ℕ) (old new : Outside) → DoesAsAsked (meaning (codes "run" ∷ codes "--help" ∷ [])) status old new
     → new.printed ≡ old.printed
@@ -128,7 +128,7 @@ a_log_by_its_name old new does = does.in_file refl
 
 pub a_script_by_its_name : (old new : Outside) (bytes : List ℕ)
     → (does : DoesAsAsked (meaning (codes "run" ∷ codes "-o" ∷ codes "a" ∷ codes "s" ∷ [])) 0 old new)
-    → old.text (codes "s") ≡ Some bytes → LeavesRun session_built does.ends bytes old new
+    → old.text (codes "s") ≡ Some bytes → LeavesRun call_takes_memory does.ends bytes old new
 a_script_by_its_name old new bytes does is_known = does.leaves bytes is_known
 
 pub a_log_is_converted_whole : (old new : Outside) (bytes : List ℕ)
@@ -151,5 +151,5 @@ a_script_is_generated old new does = does.whole refl
 
 pub a_generated_script_is_run : (old new : Outside)
     → (does : DoesAsAsked (meaning (codes "gen" ∷ codes "-r" ∷ codes "7" ∷ codes "0" ∷ [])) 0 old new)
-    → EndsBeforeLog does.ends old new ⊎ LeavesGenerated session_built does.ends log_header (generated_script 7 0) old new
+    → EndsBeforeLog does.ends old new ⊎ LeavesGenerated call_takes_memory does.ends log_header (generated_script 7 0) old new
 a_generated_script_is_run old new does = does.leaves

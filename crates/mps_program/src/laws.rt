@@ -7,7 +7,7 @@ ghost use Rattle.mps_tools.specs.Listed.{Lists as ListsAll};
 ghost use Rattle.mps_event.specs.declared.version.Version.{Version};
 ghost use Rattle.mps_run.specs.LogPrefix.{LogPrefix, LogEnds};
 ghost use Rattle.mps_tools.specs.Text.{TextEndsWith};
-ghost use Rattle.mps_session.specs.Built.{session_built};
+ghost use Rattle.mps_session.specs.Memory.{call_takes_memory};
 ghost use Rattle.mps_run.specs.LogReaderEnding.{is_input_verdict};
 ghost use Rattle.mps_run.specs.Ending.{NoFaultRose};
 ghost use Rattle.mps_run.specs.Line.{lines_of};
@@ -24,16 +24,16 @@ ghost use Rattle.mps_program.specs.ReadBack.{IsReadBack};
 pub fn a_run_by_its_words()
     ensures answered { (log script : List ℕ) (status : ℕ) (old new : Outside) → DoesAsAsked (Some (Runs log script)) status old new
         → status ≢ 4 → (status ≡ 5 → ¬ HasRisen old.out_faults new.out_faults) → (bytes : List ℕ) → old.text script ≡ Some bytes
-        → Answered session_built bytes old new }
+        → Answered bytes old new }
     ensures good { (log script : List ℕ) (status : ℕ) (old new : Outside) → DoesAsAsked (Some (Runs log script)) status old new
         → (bytes : List ℕ) → old.text script ≡ Some bytes → is_grammatical (lines_of bytes) ≡ true
         → length (lines_of bytes) ≤ max_lines → NoFaultRose old new → status ≢ 8 → status ≡ 0 }
     ensures ran { (log script : List ℕ) (status : ℕ) (old new : Outside) → (does : DoesAsAsked (Some (Runs log script)) status old new)
         → is_input_verdict status ≡ true → (bytes : List ℕ) → old.text script ≡ Some bytes
-        → RanWhole session_built does.ends bytes old new }
+        → RanWhole call_takes_memory does.ends bytes old new }
     ensures file { (log script : List ℕ) (status : ℕ) (old new : Outside) → DoesAsAsked (Some (Runs log script)) status old new
         → is_input_verdict status ≡ true → (files : Files) → old.files ≡ Some files → (before : List ℕ) → old.logged ≡ Some before
-        → (bytes : List ℕ) → old.text script ≡ Some bytes → HoldsLog session_built log bytes files new }
+        → (bytes : List ℕ) → old.text script ≡ Some bytes → HoldsLog log bytes files new }
 {}
 
 /// What follows where the words ask for a reader of an input that is good to its end: without a fault and with memory the status
@@ -58,6 +58,6 @@ pub fn a_runs_log_can_be_read()
     ensures run { (log script : List ℕ) (status : ℕ) (old new : Outside) → DoesAsAsked (Some (Runs log script)) status old new
         → is_input_verdict status ≡ true → (files : Files) → old.files ≡ Some files → (before : List ℕ) → old.logged ≡ Some before
         → (bytes : List ℕ) → old.text script ≡ Some bytes
-        → (holds : HoldsLog session_built log bytes files new) × IsReadBack holds.history }
-    ensures history { (ran : List Line) (history : History) → HasRun session_built ran history → IsReadBack history }
+        → (holds : HoldsLog log bytes files new) × IsReadBack holds.history }
+    ensures history { (ran : List Line) (history : History) → HasRun ran history → IsReadBack history }
 {}

@@ -1,5 +1,5 @@
 -- From what a method of the heap guarantees to what its answer does.
-use Rattle.std.proofs.Common.{◌≡◌, ◌≢◌, ◌∙◌, ℕ, Bool, true, refl, sym, ap, subst, List, [], ◌++◌, Result, Ok, Err}
+use Rattle.std.proofs.Common.{◌≡◌, ◌≢◌, ◌∙◌, ℕ, refl, sym, ap, subst, List, [], ◌++◌, Result, Ok, Err}
 use Rattle.std.proofs.lemmas.List.{length-take-le, take-map}
 use Rattle.std.specs.Prelude.{◌≤◌, IfOk, IsTrue, OnErr, length, map, take}
 use Rattle.mps_base.specs.declared.names.Name.{Name}
@@ -25,26 +25,23 @@ use Rattle.mps_heap.specs.Answers.{says_words}
 use Rattle.mps_refinement.specs.Answering.{answer_to}
 use Rattle.mps_refinement.specs.Making.{IsRightMaking, IsRightMakingIn, MeansLayout, answer_of_making}
 use Rattle.mps_refinement.specs.RightMoving.{IsRightMoving}
-use Rattle.mps_refinement.specs.RightStep.{IsRight, IsRightIn, step_of}
-use Rattle.mps_session.specs.Built.{is_answered}
-use Rattle.mps_session.specs.Groups.{makes_thing}
-use Rattle.mps_session.specs.Standing.{AnswersRightly, Answered, IsAnswered, HasScriptFormats, HeapStandsStill}
+use Rattle.mps_refinement.specs.RightStep.{IsRight, IsRightFrom, step_of}
+use Rattle.mps_session.specs.Standing.{IsAnswered, HasScriptFormats, HeapStandsStill}
 use Rattle.mps_session.specs.Told.{Tells}
 
 -- in a world, where the reply tells the answer
-told_right : {after : HeapState AnyFormat} {c d : Call} {moves : List Move} {given : Reply} {answer : Answer} (w : World) (line : ℕ)
-    → c ≡ d → Tells given answer → IsRightIn any_layout w (step_of line d moves answer) after
-    → IsRightIn any_layout w (step_of line c moves (answer_of after.segs.words given)) after
-told_right {after} {c} {d} {moves} {given} {answer} w line is tells right =
-    subst (λ (k : Call). IsRightIn any_layout w (step_of line k moves (answer_of after.segs.words given)) after) (sym is)
-    (subst (λ (a : Answer). IsRightIn any_layout w (step_of line d moves a) after) (sym (tells.told after.segs.words)) right)
+told_right : {h after : HeapState AnyFormat} {c d : Call} {moves : List Move} {given : Reply} {answer : Answer} (w : World) (line : ℕ)
+    → c ≡ d → Tells given answer → IsRightFrom any_layout h w (step_of line d moves answer) after
+    → IsRightFrom any_layout h w (step_of line c moves (answer_of after.segs.words given)) after
+told_right {h} {after} {c} {d} {moves} {given} {answer} w line is tells right =
+    subst (λ (k : Call). IsRightFrom any_layout h w (step_of line k moves (answer_of after.segs.words given)) after) (sym is)
+    (subst (λ (a : Answer). IsRightFrom any_layout h w (step_of line d moves a) after) (sym (tells.told after.segs.words)) right)
 
 module _ {h after : HeapState AnyFormat} {c d : Call} (is : c ≡ d) where
   pub answered : {moves : List Move} {given : Reply} {answer : Answer} → Tells given answer → IsRight any_layout h d moves answer after
       → IsAnswered h c moves given after
   answered tells right = record {
     right = λ w line formats stands. told_right w line is tells (right w line stands);
-    supported = tells.supported;
   }
 
   -- a call that appended its moves to an empty trail
@@ -55,12 +52,11 @@ module _ {h after : HeapState AnyFormat} {c d : Call} (is : c ≡ d) where
       answered tells (subst (λ (ms : List Move). IsRight any_layout h d ms answer after) (sym moved) r.right)
 
   -- a call that made a thing, unless it was out of memory
-  pub answered_making : {A : Type 0} (came : Result A Refusal) {E : Type 0} (told : Result Reply E) → makes_thing d ≡ true
+  pub answered_making : {A : Type 0} (came : Result A Refusal) {E : Type 0} (told : Result Reply E)
       → IfOk told (λ reply. Tells reply (answer_of_making came)) → IfOk told (λ reply. came ≢ Err refusal.OutOfMemory)
-      → IsRightMaking any_layout h d came after → IfOk told (λ reply. AnswersRightly (makes_thing c) h c [] reply after)
-  answered_making came (Ok given) makes tells other right =
-      Answered (ap makes_thing is ∙ makes) (answered tells (right.answered other))
-  answered_making came (Err e) makes tells other right = tt
+      → IsRightMaking any_layout h d came after → IfOk told (λ reply. IsAnswered h c [] reply after)
+  answered_making came (Ok given) tells other right = answered tells (right.answered other)
+  answered_making came (Err e) tells other right = tt
 
 -- a chain is made of the first of these numbers
 pub of_capacities : {h after : HeapState AnyFormat} (name : Name) (count : ℕ) (numbers given : List ℕ) {A : Type 0}
@@ -89,42 +85,15 @@ of_classes {h} {after} {answer} cache pool count sizes limits classes given of_s
     first of ns are long =
         ap (λ n. take n ns) long ∙ ap (λ (ms : List ℕ). take count ms) (sym are) ∙ take-map of count classes ∙ ap (map of) (sym is)
 
--- calls of a heap that may flip, or have a collection in progress go on or end
-module _ {h after : HeapState AnyFormat} {c : Call} {moves : List Move} {given : Reply} (collects : Bool) where
-  -- a call that is answered if one flip more can be counted
-  pub answered_flip : {d : Call} → is_answered collects d ≡ collects → c ≡ d → AnswersRightly collects h d moves given after
-      → AnswersRightly (is_answered collects c) h c moves given after
-  answered_flip {d} same is right =
-      subst (λ (k : Call). AnswersRightly (is_answered collects k) h k moves given after) (sym is)
-      (subst (λ (b : Bool). AnswersRightly b h d moves given after) (sym same) right)
-
-  -- a call that is always answered
-  pub answered_always : {d : Call} → is_answered collects d ≡ true → c ≡ d → IsAnswered h c moves given after
-      → AnswersRightly (is_answered collects c) h c moves given after
-  answered_always same is right = Answered (ap (is_answered collects) is ∙ same) right
-
-  pub answered_park : c ≡ call.Park → IsAnswered h call.Park moves given after
-      → AnswersRightly (is_answered collects c) h c moves given after
-  answered_park is right =
-      subst (λ (k : Call). AnswersRightly (is_answered collects k) h k moves given after) (sym is) (Answered refl right)
-
-  pub answered_step : (units : ℕ) → c ≡ call.Step units → IsAnswered h (call.Step units) moves given after
-      → AnswersRightly (is_answered collects c) h c moves given after
-  answered_step units is right =
-      subst (λ (k : Call). AnswersRightly (is_answered collects k) h k moves given after) (sym is) (Answered refl right)
-
 -- a pool of objects of the format that a number means
 pub answered_pool : {h after : HeapState AnyFormat} {c d : Call} (is : c ≡ d) {A : Type 0} (came : Result A Refusal) {E : Type 0}
-    (told : Result Reply E) (number : ℕ) (format : AnyFormat) → number_of format ≡ number → makes_thing d ≡ true
+    (told : Result Reply E) (number : ℕ) (format : AnyFormat) → number_of format ≡ number
     → IfOk told (λ reply. Tells reply (answer_of_making came)) → IfOk told (λ reply. came ≢ Err refusal.OutOfMemory)
     → IsRightMakingIn any_layout (MeansLayout number (any_layout format)) h d came after
-    → IfOk told (λ reply. AnswersRightly (makes_thing c) h c [] reply after)
-answered_pool is came (Err e) number format numbered makes tells other right = tt
-answered_pool {h} {after} {c} {d} is came (Ok given) number format numbered makes tells other right =
-    Answered (ap makes_thing is ∙ makes) (record {
-      right = λ w line formats stands. told_right w line is tells (right.answered other w line (means w formats) stands);
-      supported = tells.supported;
-    })
+    → IfOk told (λ reply. IsAnswered h c [] reply after)
+answered_pool is came (Err e) number format numbered tells other right = tt
+answered_pool {h} {after} {c} {d} is came (Ok given) number format numbered tells other right =
+    record { right = λ w line formats stands. told_right w line is tells (right.answered other w line (means w formats) stands) }
   where
     means : (w : World) → HasScriptFormats w → MeansLayout number (any_layout format) w
     means w formats =
@@ -149,9 +118,8 @@ module _ (h : HeapState AnyFormat) (at : Addr) (came : Result ℕ Refusal) where
       → IsAnswered h (call.Dump at.0) [] (reply.Words at words) h
   answered_dump words is right = record {
     right = λ w line formats stands.
-        subst (λ (r : Result ℕ Refusal). IsRightIn any_layout w
+        subst (λ (r : Result ℕ Refusal). IsRightFrom any_layout h w
         (step_of line (call.Dump at.0) [] (answer_to (says_words h.segs.words at) r)) h) is (right w line stands);
-    supported = λ e. absurd cc;
   }
 
   pub refused_dump : (why : Refusal) → came ≡ Err why
@@ -159,19 +127,17 @@ module _ (h : HeapState AnyFormat) (at : Addr) (came : Result ℕ Refusal) where
       → IsAnswered h (call.Dump at.0) [] (reply.Refused why) h
   refused_dump why is right = record {
     right = λ w line formats stands.
-        subst (λ (r : Result ℕ Refusal). IsRightIn any_layout w
+        subst (λ (r : Result ℕ Refusal). IsRightFrom any_layout h w
         (step_of line (call.Dump at.0) [] (answer_to (says_words h.segs.words at) r)) h) is (right w line stands);
-    supported = λ e. absurd cc;
   }
 
 -- a call of no other group, of a heap that those groups left as it was
 module _ (old h after : HeapState AnyFormat) (c : Call) where
-  pub answered_last : (given : Reply) (moves : List Move) (collects : Bool) → h ≡ old → is_answered collects c ≡ makes_thing c → moves ≡ []
-      → AnswersRightly (makes_thing c) h c [] given after → AnswersRightly (is_answered collects c) old c moves given after
-  answered_last given moves collects same one none answers =
-      subst (λ (b : Bool). AnswersRightly b old c moves given after) (sym one)
-      (subst (λ (ms : List Move). AnswersRightly (makes_thing c) old c ms given after) (sym none)
-      (subst (λ (x : HeapState AnyFormat). AnswersRightly (makes_thing c) x c [] given after) same answers))
+  pub answered_last : (given : Reply) (moves : List Move) → h ≡ old → moves ≡ [] → IsAnswered h c [] given after
+      → IsAnswered old c moves given after
+  answered_last given moves same none answers =
+      subst (λ (ms : List Move). IsAnswered old c ms given after) (sym none)
+      (subst (λ (x : HeapState AnyFormat). IsAnswered x c [] given after) same answers)
 
   pub still_last : h ≡ old → HeapStandsStill h after → HeapStandsStill old after
   still_last same still = subst (λ (x : HeapState AnyFormat). HeapStandsStill x after) same still

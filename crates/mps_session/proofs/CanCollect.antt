@@ -1,7 +1,7 @@
 -- A heap can collect everything where it stands for a world to which few flips came.
 use Rattle.std.proofs.Common.{◌≡◌, ◌<◌, ◌^◌, true, length, arith}
 use Rattle.std.proofs.lemmas.Bool.{lt-ltb}
-use Rattle.mps_commands.specs.RightAnswer.{HasFewFlips}
+use Rattle.mps_commands.specs.Asked.{HasFewFlips}
 use Rattle.mps_format.specs.Layout.{Layout}
 use Rattle.mps_model.specs.World.{World}
 use Rattle.mps_refinement.specs.Collecting.{can_collect, most_flips}

@@ -1,9 +1,10 @@
 -- What the answers of a session guarantee of worlds: before the arena is made, and afterwards.
-use Rattle.std.proofs.Common.{◌≡◌, ◌∙◌, ◌<◌, ℕ, Bool, true, false, refl, sym, ap, subst, List, [], Option, Some, None, Result, Ok, Err}
-use Rattle.std.proofs.lemmas.Bool.{and_parts, false≢true, lt-ltb}
-use Rattle.std.specs.Prelude.{◌↔◌, OnOk, if◌then◌else◌, nat_eq, not}
+use Rattle.std.proofs.Common.{◌≡◌, ◌∙◌, ◌<◌, ℕ, Bool, true, false, refl, sym, ap, subst, List, Option, Some, None, Result, Ok, Err}
+use Rattle.std.proofs.lemmas.Bool.{lt-ltb}
+use Rattle.std.specs.Prelude.{OnOk, if◌then◌else◌, nat_eq, not}
 use Rattle.mps_base.specs.declared.moves.Move.{Move}
-use Rattle.mps_commands.specs.RightAnswer.{step_in, HasFewFlips}
+use Rattle.mps_commands.specs.Asked.{IsAsked, has_arena}
+use Rattle.mps_commands.specs.RightAnswer.{step_in}
 use Rattle.mps_format.specs.AnyFormat.{any_layout}
 use Rattle.mps_format.specs.Any.{front_number, mapped_number, numbered_layout}
 use Rattle.mps_format.specs.Front.{front_layout}
@@ -22,17 +23,11 @@ use Rattle.mps_model.specs.World.{World, empty_world}
 use Rattle.mps_model.specs.declared.call.Call.{Call}
 use Rattle.mps_model.specs.declared.call.Call.TheVariants as call
 use Rattle.mps_model.specs.declared.reply.Reply.{Reply}
-use Rattle.mps_model.specs.declared.reply.Reply.TheVariants as reply
 use Rattle.mps_refinement.specs.Collecting.{can_collect}
 use Rattle.mps_refinement.specs.State.{HeapState}
-use Rattle.mps_session.specs.Built.{is_answered, is_built, is_unsupported_call}
 use Rattle.mps_session.specs.Session.{MadeState, last_moves, arena_words}
-use Rattle.mps_session.specs.Standing.{AnswersRightly, Answered, BeginsRightly, Begun, HeapStands, NotBegun, NotSupported, SessionStands}
+use Rattle.mps_session.specs.Standing.{BeginsRightly, HeapStands, IsAnswered, SessionStands}
 use Rattle.mps_session.proofs.CanCollect.{collects_there}
-
--- a reply is `unsupported` exactly where a call is
-abbrev pub IsExact : World → Call → Reply → Type 0
-IsExact w c given = (given ≡ reply.Unsupported) ↔ (is_unsupported_call w c ≡ true)
 
 -- ---- formats
 
@@ -69,77 +64,49 @@ module _ (c : Call) (given : Reply) where
     where
       of_empty : (after : Option MadeState) → BeginsRightly c given after
           → StepsTo (SessionStands after) empty_world (step_in line c (last_moves after) (answer_of (arena_words after) given))
-      of_empty None (NotBegun other is) =
-          subst (StepsTo (SessionStands None) empty_world) (sym (step_same line refl refl (ap (answer_of []) is)))
-          (record { legal = refl; stands = refl })
-      of_empty (Some made) (Begun grains limit _ is some told new none) =
-          let r = new numbered_layout numbers_are_lawful line in
-          subst (StepsTo (HeapStands made.heap) empty_world) (sym (step_same line is none (ap (answer_of made.heap.segs.words) told)))
-          (record { legal = r.legal; stands = record { heap = r.stands; formats = r.formats; arena = some } })
-
-  pub begins_exactly : (after : Option MadeState) → BeginsRightly c given after → (w : World) → w ≡ empty_world → IsExact w c given
-  begins_exactly after begins w empty = subst (λ (v : World). IsExact v c given) (sym empty) (of_empty after begins)
-    where
-      of_empty : (after : Option MadeState) → BeginsRightly c given after → IsExact empty_world c given
-      of_empty None (NotBegun other is) = (λ _. ap not other, λ _. is)
-      of_empty (Some made) (Begun grains limit _ is some told new none) = (
-        λ e. absurd (let f = sym told ∙ e in absurd cc),
-        λ t. absurd (false≢true (sym (ap (λ (k : Call). not (is_arena k)) is) ∙ t)),
-      )
-
-pub not_arena : (c : Call) → ((grains limit : ℕ) → c ≡ call.Arena grains limit → ⊥) → is_arena c ≡ false
-not_arena (call.Arena grains limit) other = absurd (other grains limit refl)
-not_arena _ other = refl
+      of_empty None begins = absurd begins
+      of_empty (Some made) b =
+          let r = b.new numbered_layout numbers_are_lawful line in
+          subst (StepsTo (HeapStands made.heap) empty_world)
+          (sym (step_same line b.is b.unmoved (ap (answer_of made.heap.segs.words) b.told)))
+          (record { legal = r.legal; stands = record { heap = r.stands; formats = r.formats; arena = b.some } })
 
 -- ---- afterwards
 
-made_once : (c : Call) → makes_arena c ≡ is_arena c
+pub made_once : (c : Call) → makes_arena c ≡ is_arena c
 made_once (call.Arena grains limit) = refl
 made_once _ = refl
-
-of_not : (b : Bool) → not b ≡ true → b ≡ false
-of_not true e = absurd (false≢true e)
-of_not false e = refl
 
 module _ (h after : HeapState AnyFormat) (c : Call) (moves : List Move) (given : Reply) where
   abbrev pub answer : Answer
   answer = answer_of after.segs.words given
 
-  pub makes_none : (collects : Bool) → is_answered collects c ≡ true → makes_arena c ≡ false
-  makes_none collects one = made_once c ∙ of_not (is_arena c) (and_parts (is_built collects c) (not (is_arena c)) one).1
-
-  pub answers_in : (collects : Bool) → AnswersRightly (is_answered collects c) h c moves given after → (w : World) (line : ℕ)
-      → HeapStands h w → StepsTo (HeapStands after) w (step_in line c moves answer)
-  answers_in collects (Answered one a) w line st =
+  pub answers_in : is_arena c ≡ false → IsAnswered h c moves given after → (w : World) (line : ℕ) → HeapStands h w
+      → StepsTo (HeapStands after) w (step_in line c moves answer)
+  answers_in other a w line st =
       let r = a.right w line st.formats st.heap in
-      let other = makes_none collects one in
       record {
         legal = r.legal;
         stands = record {
           heap = r.stands;
           formats = r.formats ∙ st.formats;
-          arena = subst (λ (n : ℕ). 0 < n) (sym (step_grains line w c moves answer other)) st.arena;
+          arena = subst (λ (n : ℕ). 0 < n) (sym (step_grains line w c moves answer (made_once c ∙ other))) st.arena;
         };
       }
-  answers_in collects (NotSupported other is none same) w line st =
-      subst (StepsTo (HeapStands after) w) (sym (step_same line refl none (ap (answer_of after.segs.words) is)))
-      (record { legal = refl; stands = subst (λ k. HeapStands k w) (sym same) st })
 
-  pub answers_exactly : AnswersRightly (is_answered (can_collect h) c) h c moves given after → (w : World) → HeapStands h w
-      → HasFewFlips w → IsExact w c given
-  answers_exactly answers w st few = of_answer answers
-    where
-      one_of : Bool
-      one_of = is_answered (can_collect h) c
+-- ---- what a machine is asked
 
-      made : is_unsupported_call w c ≡ not one_of
-      made =
-          ap (λ b. if b then not (is_answered true c) else not (is_arena c)) (lt-ltb 0 w.grains st.arena)
-          ∙ ap (λ collects. not (is_answered collects c)) (sym (collects_there any_layout h w st.heap few))
+-- after the arena it is asked for no `arena`, and can count another flip
+module _ (h : HeapState AnyFormat) (c : Call) (asked : IsAsked (HeapStands h) c) where
+  pub asked_other : is_arena c ≡ false
+  asked_other = asked.turn ∙ ap not (lt-ltb 0 asked.world.grains asked.stands.arena)
 
-      of_answer : AnswersRightly one_of h c moves given after → IsExact w c given
-      of_answer (Answered one a) = (λ e. absurd (a.supported e), λ t. absurd (false≢true (sym (ap not one) ∙ sym made ∙ t)))
-      of_answer (NotSupported other is none same) = (λ _. made ∙ ap not other, λ _. is)
+  pub asked_few : can_collect h ≡ true
+  asked_few = collects_there any_layout h asked.world asked.stands.heap asked.few
+
+-- before it `arena` is asked for
+pub asked_first : (c : Call) → IsAsked (λ w. w ≡ empty_world) c → is_arena c ≡ true
+asked_first c asked = asked.turn ∙ ap (λ (w : World). not (has_arena w)) asked.stands
 
 -- ---- results
 

@@ -1,5 +1,5 @@
 pub mod Told
-pub mod Built
+pub mod Memory
 pub mod Groups
 pub mod Session
 pub mod Standing

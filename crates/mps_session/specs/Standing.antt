@@ -1,5 +1,5 @@
 -- When a session represents a world, and what an answer of its heap guarantees.
-use Rattle.std.specs.Prelude.{◌≡◌, ◌≢◌, ◌<◌, ℕ, Bool, true, false, List, [], Option, Some, None}
+use Rattle.std.specs.Prelude.{◌≡◌, ◌<◌, ℕ, List, [], Option, Some, None}
 use Rattle.mps_base.specs.Trail.{Moves}
 use Rattle.mps_base.specs.declared.moves.Move.{Move}
 use Rattle.mps_format.specs.Any.{numbered_layout}
@@ -8,13 +8,12 @@ use Rattle.mps_format.specs.declared.any.AnyFormat.{AnyFormat}
 use Rattle.mps_heap.specs.Right.{IsNewHeap}
 use Rattle.mps_model.specs.Answer.{answer_of}
 use Rattle.mps_model.specs.World.{World, empty_world}
-use Rattle.mps_model.specs.FirstCall.{is_arena}
 use Rattle.mps_model.specs.declared.call.Call.{Call}
 use Rattle.mps_model.specs.declared.call.Call.TheVariants as call
 use Rattle.mps_model.specs.declared.reply.Reply.{Reply}
 use Rattle.mps_model.specs.declared.reply.Reply.TheVariants as reply
 use Rattle.mps_refinement.specs.State.{HeapState}
-use Rattle.mps_refinement.specs.RightStep.{IsRightIn, step_of}
+use Rattle.mps_refinement.specs.RightStep.{IsRightFrom, step_of}
 use Rattle.mps_refinement.specs.StandsFor.{StandsFor}
 use Rattle.mps_session.specs.Session.{HasRoomForMoves, MadeState}
 
@@ -43,20 +42,21 @@ SessionStands (Some made) w = HeapStands made.heap w
 pub record IsAnswered (before : HeapState AnyFormat) (c : Call) (moves : List Move) (given : Reply) (after : HeapState AnyFormat) : Type 0
   where
     pub right : (w : World) (line : ℕ) → HasScriptFormats w → StandsFor any_layout before w
-        → IsRightIn any_layout w (step_of line c moves (answer_of after.segs.words given)) after
-    pub supported : given ≢ reply.Unsupported
+        → IsRightFrom any_layout before w (step_of line c moves (answer_of after.segs.words given)) after
 
--- a call was answered; or it isn't one of those that are answered here: then the reply says so, and nothing was done
-pub data AnswersRightly (is_one : Bool) (before : HeapState AnyFormat) (c : Call) (moves : List Move) (given : Reply)
-    (after : HeapState AnyFormat) : Type 0 where
-  Answered : is_one ≡ true → IsAnswered before c moves given after → AnswersRightly is_one before c moves given after
-  NotSupported : is_one ≡ false → given ≡ reply.Unsupported → moves ≡ [] → after ≡ before → AnswersRightly is_one before c moves given after
+-- the arena was made: this call made it, and the heap is new
+pub record IsBegun (c : Call) (given : Reply) (made : MadeState) : Type 0 where
+  pub grains : ℕ
+  pub limit : ℕ
+  pub is : c ≡ call.Arena grains limit
+  pub some : 0 < grains
+  pub told : given ≡ reply.Ok
+  pub new : IsNewHeap any_layout grains limit made.heap
+  pub unmoved : made.trail.moves ≡ []
 
--- before the arena is made: a call makes it, or isn't supported
-pub data BeginsRightly (c : Call) (given : Reply) : Option MadeState → Type 0 where
-  Begun : (grains limit : ℕ) (made : MadeState) → c ≡ call.Arena grains limit → 0 < grains → given ≡ reply.Ok
-      → IsNewHeap any_layout grains limit made.heap → made.trail.moves ≡ [] → BeginsRightly c given (Some made)
-  NotBegun : is_arena c ≡ false → given ≡ reply.Unsupported → BeginsRightly c given None
+abbrev pub BeginsRightly : Call → Reply → Option MadeState → Type 0
+BeginsRightly c given None = ⊥
+BeginsRightly c given (Some made) = IsBegun c given made
 
 -- it represents what it represented before
 abbrev pub HeapStandsStill : (before after : HeapState AnyFormat) → Type 0

@@ -1,11 +1,12 @@
 // Answers the calls on the heap of an arena.
 ghost use Rattle.std.specs.Prelude.{◌≡◌, ◌*◌, ◌<◌, ◌≤◌, OnErr, OnOk, IsTrue, false, []};
 ghost use Rattle.mps_commands.specs.Range.{IsInRange};
+ghost use Rattle.mps_model.specs.FirstCall.{is_arena};
 ghost use Rattle.mps_refinement.specs.Collecting.{can_collect};
 ghost use Rattle.mps_refinement.specs.RightMoving.{KeepsRoom};
-ghost use Rattle.mps_session.specs.Built.{is_answered, call_takes_memory};
+ghost use Rattle.mps_session.specs.Memory.{call_takes_memory};
 ghost use Rattle.mps_session.specs.Groups.{is_frequent};
-ghost use Rattle.mps_session.specs.Standing.{AnswersRightly, HeapStandsStill};
+ghost use Rattle.mps_session.specs.Standing.{HeapStandsStill, IsAnswered};
 ghost use Rattle.mps_refinement.specs.TraceCollect.{most_moves};
 
 use crate::{areas, arena, caching, collecting, making, moving, reading, writing};
@@ -24,11 +25,12 @@ pub fn answer(
     reply: &mut Reply,
 ) -> Result<(), AllocError>
     requires range { IsInRange call.now }
+    requires other { is_arena call.now ≡ false }
+    requires few_flips { IsTrue (can_collect heap.old) }
     requires empty { trail.old.moves ≡ [] }
     requires grains { 0 < heap.old.segs.grains }
     requires fits { 2 * most_moves heap.old.segs.grains ≤ trail.old.spare }
-    ensures right { OnOk result
-        (AnswersRightly (is_answered (can_collect heap.old) call.now) heap.old call.now trail.new.moves reply.new heap.new) }
+    ensures right { OnOk result (IsAnswered heap.old call.now trail.new.moves reply.new heap.new) }
     ensures unchanged { OnErr result (HeapStandsStill heap.old heap.new) }
     ensures memory { OnErr result (IsTrue (call_takes_memory call.now)) }
     ensures room { KeepsRoom trail.old trail.new }
@@ -58,11 +60,12 @@ fn answer_seldom(
     reply: &mut Reply,
 ) -> Result<(), AllocError>
     requires range { IsInRange call.now }
+    requires other { is_arena call.now ≡ false }
     requires seldom { is_frequent call.now ≡ false }
+    requires few_flips { IsTrue (can_collect heap.old) }
     requires empty { trail.old.moves ≡ [] }
     requires fits { 2 * most_moves heap.old.segs.grains ≤ trail.old.spare }
-    ensures right { OnOk result
-        (AnswersRightly (is_answered (can_collect heap.old) call.now) heap.old call.now trail.new.moves reply.new heap.new) }
+    ensures right { OnOk result (IsAnswered heap.old call.now trail.new.moves reply.new heap.new) }
     ensures unchanged { OnErr result (HeapStandsStill heap.old heap.new) }
     ensures memory { OnErr result (IsTrue (call_takes_memory call.now)) }
     ensures room { KeepsRoom trail.old trail.new }

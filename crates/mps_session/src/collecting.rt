@@ -1,15 +1,14 @@
 // Answers the calls that begin a collection, or have one in progress go on or end.
-ghost use Rattle.std.specs.Prelude.{◌≡◌, ◌*◌, ◌≤◌, ◌<◌, IfNone, IfSome, is_some, []};
+ghost use Rattle.std.specs.Prelude.{◌≡◌, ◌*◌, ◌≤◌, ◌<◌, IfNone, IfSome, IsTrue, is_some, []};
 ghost use Rattle.mps_model.specs.declared.call.Call.TheVariants as call;
 ghost use Rattle.mps_refinement.specs.Collecting.{can_collect};
 ghost use Rattle.mps_refinement.specs.RightMoving.{KeepsRoom};
-ghost use Rattle.mps_session.specs.Built.{is_answered};
 ghost use Rattle.mps_session.specs.Groups.{is_collection};
-ghost use Rattle.mps_session.specs.Standing.{AnswersRightly, IsAnswered};
+ghost use Rattle.mps_session.specs.Standing.{IsAnswered};
 ghost use Rattle.mps_refinement.specs.TraceCollect.{most_moves};
 
 use crate::replies::{done, progress};
-use mps_base::{Name, Trail};
+use mps_base::Trail;
 use mps_format::AnyFormat;
 use mps_heap::{Heap, Steps};
 use mps_model::{Call, Reply};
@@ -19,18 +18,20 @@ use std::sync::ledger::{Blank, Ledger};
 /// Answers a call that begins a collection, or has one in progress go on or end, and appends its moves to the empty trail; `None` if it
 /// is another.
 pub fn answer(heap: &mut Heap<AnyFormat>, trail: &mut Trail, call: &Call) -> Option<Reply>
+    requires few_flips { IsTrue (can_collect heap.old) }
     requires empty { trail.old.moves ≡ [] }
     requires fits { 2 * most_moves heap.old.segs.grains ≤ trail.old.spare }
-    ensures right { IfSome result
-        (λ reply. AnswersRightly (is_answered (can_collect heap.old) call.now) heap.old call.now trail.new.moves reply heap.new) }
+    ensures right { IfSome result (λ reply. IsAnswered heap.old call.now trail.new.moves reply heap.new) }
     ensures which { is_some result ≡ is_collection call.now }
     ensures unchanged { IfNone result (heap.new ≡ heap.old) }
     ensures unmoved { IfNone result (trail.new ≡ trail.old) }
     ensures room { KeepsRoom trail.old trail.new }
 {
     match *call {
-        Call::Start => Some(start(heap, trail)),
-        Call::StartChain { chain, generation } => Some(start_chain(heap, trail, chain, generation)),
+        Call::Start => Some(done(heap.start(trail))),
+        Call::StartChain { chain, generation } => {
+            Some(done(heap.start_chain(trail, chain, generation)))
+        }
         Call::Collect => Some(collect(heap, trail)),
         Call::Park => Some(park(heap, trail)),
         Call::Step { units } => Some(step(heap, trail, units)),
@@ -38,42 +39,14 @@ pub fn answer(heap: &mut Heap<AnyFormat>, trail: &mut Trail, call: &Call) -> Opt
     }
 }
 
-/// Begins a full collection if that can be done.
-fn start(heap: &mut Heap<AnyFormat>, trail: &mut Trail) -> Reply
-    requires empty { trail.old.moves ≡ [] }
-    requires fits { most_moves heap.old.segs.grains ≤ trail.old.spare }
-    ensures right { AnswersRightly (can_collect heap.old) heap.old call.Start trail.new.moves result heap.new }
-    ensures room { KeepsRoom trail.old trail.new }
-{
-    if !heap.can_collect() {
-        return Reply::Unsupported;
-    }
-    done(heap.start(trail))
-}
-
-/// Begins a collection of the generations of a chain up to one if that can be done.
-fn start_chain(heap: &mut Heap<AnyFormat>, trail: &mut Trail, chain: Name, generation: u64) -> Reply
-    requires empty { trail.old.moves ≡ [] }
-    requires fits { most_moves heap.old.segs.grains ≤ trail.old.spare }
-    ensures right { AnswersRightly (can_collect heap.old) heap.old (call.StartChain chain generation) trail.new.moves result heap.new }
-    ensures room { KeepsRoom trail.old trail.new }
-{
-    if !heap.can_collect() {
-        return Reply::Unsupported;
-    }
-    done(heap.start_chain(trail, chain, generation))
-}
-
-/// Does a full collection if that can be done.
+/// Does a full collection.
 fn collect(heap: &mut Heap<AnyFormat>, trail: &mut Trail) -> Reply
+    requires few_flips { IsTrue (can_collect heap.old) }
     requires empty { trail.old.moves ≡ [] }
     requires fits { 2 * most_moves heap.old.segs.grains ≤ trail.old.spare }
-    ensures right { AnswersRightly (can_collect heap.old) heap.old call.Collect trail.new.moves result heap.new }
+    ensures right { IsAnswered heap.old call.Collect trail.new.moves result heap.new }
     ensures room { KeepsRoom trail.old trail.new }
 {
-    if !heap.can_collect() {
-        return Reply::Unsupported;
-    }
     heap.collect(trail);
     Reply::Ok
 }

@@ -2,7 +2,7 @@
 ghost use Rattle.std.specs.Prelude.{◌≡◌, None, OnErr, OnOk, true};
 ghost use Rattle.mps_commands.specs.Range.{IsInRange};
 ghost use Rattle.mps_model.specs.FirstCall.{is_arena};
-ghost use Rattle.mps_session.specs.Built.{session_built};
+ghost use Rattle.mps_session.specs.Memory.{call_takes_memory};
 ghost use Rattle.mps_session.specs.Session.{last_moves, arena_words};
 ghost use Rattle.mps_session.specs.Standing.{BeginsRightly, SessionStands};
 
@@ -27,19 +27,18 @@ impl Session {
         Session { alloc, made: None }
     }
 
-    /// Answers a call before the arena is made, and writes the reply: `arena` makes it, and no other is supported.
+    /// Answers the call that makes the arena, and writes the reply.
     #[cold]
     #[inline(never)]
     fn begin(&mut self, call: &Call, reply: &mut Reply) -> Result<(), AllocError>
         requires none { self.old.made ≡ None }
+        requires which { is_arena call.now ≡ true }
         requires range { IsInRange call.now }
         ensures right { OnOk result (BeginsRightly call.now reply.new self.new.made) }
         ensures unchanged { OnErr result (self.new.made ≡ None) }
-        ensures memory { OnErr result (is_arena call.now ≡ true) }
     {
         let Call::Arena { grains, limit } = *call else {
-            *reply = Reply::Unsupported;
-            return Ok(());
+            unreachable!()
         };
         let made = Made::new(self.alloc, grains as u32, limit as u32)?;
         if let Some(before) = replace(&mut self.made, Some(made)) {
@@ -57,7 +56,7 @@ impl Commands for Session {
 
     ghost words = { λ s. arena_words s.made };
 
-    ghost built = { session_built };
+    ghost takes_memory = { call_takes_memory };
 
     #[inline(always)]
     fn answer(&mut self, call: &Call, reply: &mut Reply) -> Result<(), AllocError> {

@@ -1,12 +1,12 @@
 // A heap with the moves of its last call.
 ghost use Rattle.std.specs.Prelude.{◌≡◌, ◌<◌, ◌≤◌, slice_get, IfOk, OnErr, OnOk, IsTrue, []};
 ghost use Rattle.mps_base.specs.Address.{max_grains};
+ghost use Rattle.mps_commands.specs.Asked.{IsAsked};
 ghost use Rattle.mps_commands.specs.Range.{IsInRange};
 ghost use Rattle.mps_format.specs.AnyFormat.{any_layout};
 ghost use Rattle.mps_heap.specs.Right.{IsNewHeap};
-ghost use Rattle.mps_refinement.specs.Collecting.{can_collect};
-ghost use Rattle.mps_session.specs.Built.{is_answered, call_takes_memory};
-ghost use Rattle.mps_session.specs.Standing.{AnswersRightly, HeapStandsStill};
+ghost use Rattle.mps_session.specs.Memory.{call_takes_memory};
+ghost use Rattle.mps_session.specs.Standing.{HeapStands, HeapStandsStill, IsAnswered};
 
 use crate::calls;
 use mps_base::{Move, Trail};
@@ -57,8 +57,8 @@ impl Made {
     #[inline(always)]
     pub fn answer(&mut self, call: &Call, reply: &mut Reply) -> Result<(), AllocError>
         requires range { IsInRange call.now }
-        ensures right { OnOk result (AnswersRightly (is_answered (can_collect self.old.heap) call.now) self.old.heap call.now
-            self.new.trail.moves reply.new self.new.heap) }
+        requires asked { IsAsked (HeapStands self.old.heap) call.now }
+        ensures right { OnOk result (IsAnswered self.old.heap call.now self.new.trail.moves reply.new self.new.heap) }
         ensures unchanged { OnErr result (HeapStandsStill self.old.heap self.new.heap) }
         ensures memory { OnErr result (IsTrue (call_takes_memory call.now)) }
     {

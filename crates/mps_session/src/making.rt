@@ -1,12 +1,12 @@
 // Answers the calls that make things.
-ghost use Rattle.std.specs.Prelude.{◌≡◌, ◌≤◌, IfOk, IsTrue, OnErr, []};
+ghost use Rattle.std.specs.Prelude.{◌≡◌, ◌≤◌, IfOk, IsTrue, OnErr, [], true};
 ghost use Rattle.std.specs.List.{list_all};
 ghost use Rattle.mps_commands.specs.Range.{IsInRange, are_grains};
 ghost use Rattle.mps_format.specs.AnyFormat.{any_layout};
 ghost use Rattle.mps_model.specs.declared.call.Call.TheVariants as call;
 ghost use Rattle.mps_refinement.specs.Making.{IsRightMaking};
 ghost use Rattle.mps_session.specs.Groups.{makes_thing};
-ghost use Rattle.mps_session.specs.Standing.{AnswersRightly, HeapStandsStill};
+ghost use Rattle.mps_session.specs.Standing.{HeapStandsStill, IsAnswered};
 
 use crate::replies::made;
 use mps_base::{Name, Refusal};
@@ -15,12 +15,12 @@ use mps_heap::Heap;
 use mps_model::{Call, Reply};
 use std::alloc::AllocError;
 
-/// Answers a call that makes a thing; any other is not supported here. An `Err` says that memory is out.
+/// Answers a call that makes a thing. An `Err` says that memory is out.
 pub fn answer(heap: &mut Heap<AnyFormat>, call: &Call) -> Result<Reply, AllocError>
+    requires which { makes_thing call.now ≡ true }
     requires range { IsInRange call.now }
-    ensures right { IfOk result (λ reply. AnswersRightly (makes_thing call.now) heap.old call.now [] reply heap.new) }
+    ensures right { IfOk result (λ reply. IsAnswered heap.old call.now [] reply heap.new) }
     ensures unchanged { OnErr result (HeapStandsStill heap.old heap.new) }
-    ensures memory { OnErr result (IsTrue (makes_thing call.now)) }
 {
     match *call {
         Call::Pool { pool, kind, format } => made(heap.pool(
@@ -47,7 +47,7 @@ pub fn answer(heap: &mut Heap<AnyFormat>, call: &Call) -> Result<Reply, AllocErr
             count,
             capacities,
         } => made(make_chain(heap, chain, count, capacities)),
-        _ => Ok(Reply::Unsupported),
+        _ => unreachable!(),
     }
 }
 

@@ -1,15 +1,13 @@
 // Answers the calls that may make moves.
-ghost use Rattle.std.specs.Prelude.{◌≡◌, ◌*◌, ◌<◌, ◌≤◌, [], true};
-ghost use Rattle.mps_model.specs.declared.call.Call.TheVariants as call;
+ghost use Rattle.std.specs.Prelude.{◌≡◌, ◌*◌, ◌<◌, ◌≤◌, IsTrue, [], true};
 ghost use Rattle.mps_refinement.specs.Collecting.{can_collect};
 ghost use Rattle.mps_refinement.specs.RightMoving.{KeepsRoom};
-ghost use Rattle.mps_session.specs.Built.{is_answered};
 ghost use Rattle.mps_session.specs.Groups.{may_move};
-ghost use Rattle.mps_session.specs.Standing.{AnswersRightly};
+ghost use Rattle.mps_session.specs.Standing.{IsAnswered};
 ghost use Rattle.mps_refinement.specs.TraceCollect.{most_moves};
 
 use crate::replies::{committed, done};
-use mps_base::{Name, Trail};
+use mps_base::Trail;
 use mps_format::AnyFormat;
 use mps_heap::Heap;
 use mps_model::{Call, Reply};
@@ -34,32 +32,19 @@ pub fn may_move(call: &Call) -> bool
     )
 }
 
-/// Reserves a block if one flip more can be counted, since a poll may flip.
-#[inline(always)]
-fn reserve(heap: &mut Heap<AnyFormat>, trail: &mut Trail, point: Name, head: u64) -> Reply
-    requires empty { trail.old.moves ≡ [] }
-    requires fits { most_moves heap.old.segs.grains < trail.old.spare }
-    ensures right { AnswersRightly (can_collect heap.old) heap.old (call.Reserve point head) trail.new.moves result heap.new }
-    ensures room { KeepsRoom trail.old trail.new }
-{
-    if !heap.can_collect() {
-        return Reply::Unsupported;
-    }
-    done(heap.reserve(trail, point, head))
-}
-
 /// Answers a call that may make moves, which it appends to the empty trail, and writes the reply.
 #[inline(never)]
 pub fn answer(heap: &mut Heap<AnyFormat>, trail: &mut Trail, call: &Call, reply: &mut Reply)
     requires which { may_move call.now ≡ true }
+    requires few_flips { IsTrue (can_collect heap.old) }
     requires empty { trail.old.moves ≡ [] }
     requires grains { 0 < heap.old.segs.grains }
     requires fits { 2 * most_moves heap.old.segs.grains ≤ trail.old.spare }
-    ensures right { AnswersRightly (is_answered (can_collect heap.old) call.now) heap.old call.now trail.new.moves reply.new heap.new }
+    ensures right { IsAnswered heap.old call.now trail.new.moves reply.new heap.new }
     ensures room { KeepsRoom trail.old trail.new }
 {
     *reply = match *call {
-        Call::Reserve { point, head } => reserve(heap, trail, point, head),
+        Call::Reserve { point, head } => done(heap.reserve(trail, point, head)),
         Call::Commit { point, target } => committed(heap.commit(trail, point, target)),
         Call::Alloc { pool, words, place } => done(heap.alloc(trail, pool, words, place)),
         Call::Free { place } => done(heap.free(trail, place)),

@@ -9,7 +9,7 @@ returns-in-Limit-clause-right c = answered c.in-Limit.is c.done.ensures c.limit.
 
 pub returns-in-Committed-clause-right : goal.returns-in-Committed-clause-right
 returns-in-Committed-clause-right c =
-    answered c.in-Committed.is (record { told = λ arena. ap (λ n. Replied (reply.Number n)) c.from.ensures; supported = λ e. absurd cc })
+    answered c.in-Committed.is (record { told = λ arena. ap (λ n. Replied (reply.Number n)) c.from.ensures })
     c.committed.ensures.right
 
 pub returns-in-DropRoot-clause-right : goal.returns-in-DropRoot-clause-right

@@ -3,4 +3,4 @@ use Rattle.mps_session.proofs.Answering.{answered}
 use Rattle.mps_session.proofs.arena.live.Goals as goal
 
 pub returns : goal.returns
-returns c = answered refl (record { told = λ arena. refl; supported = λ e. absurd cc }) c.live-blocks.ensures.right
+returns c = answered refl (record { told = λ arena. refl }) c.live-blocks.ensures.right
