@@ -2,12 +2,8 @@
 //
 // The check goes over each test as over any function, so their form is one that costs little: tables are constants, a case
 // has a function of its own, and the function that owns a desk does nothing but hand it on.
-mod desk;
-mod gathered;
-mod host;
 mod long_lines;
 mod memory;
-mod played;
 mod scripts;
 mod words;
 

@@ -1,5 +1,4 @@
-//! Tests of the session of a script: calls on a new session, with what each answers and moves; scripts that run on a session, with
-//! what they print; and such scripts whose lines loops make, up to the limits and in arenas that are full.
+//! Tests of the session of a script: scripts that run on it, with what they print, and some of them with what they log.
 #![tactic(auto)]
 
 #[cfg(test)]

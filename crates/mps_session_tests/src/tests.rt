@@ -2,12 +2,11 @@
 // goes through a table, and the function that owns a desk does nothing but hand it on.
 mod between_units;
 mod caches;
-mod calls;
 mod collected;
 mod dependents;
 mod frames;
 mod generations;
-mod limits;
+mod logged;
 mod promoted;
 mod stepped;
 mod transforms;

@@ -61,7 +61,7 @@ fn compare(rt: &impl Abort, desk: &MemDesk, status: u8, printed: &[u8]) {
 }
 
 /// Compares bytes. A call of its own, as each comparison of bytes is dear to check.
-fn compare_bytes(rt: &impl Abort, got: &[u8], wanted: &[u8]) {
+pub(super) fn compare_bytes(rt: &impl Abort, got: &[u8], wanted: &[u8]) {
     assert_eq!(rt; got, wanted);
 }
 

@@ -2,8 +2,9 @@
 mod full;
 mod numbers;
 
-use super::collected::run;
 use mps_desk::MemDesk;
+use mps_run::run_script;
+use mps_session::Session;
 use std::alloc::{AllocError, Global};
 use std::process::Abort;
 use std::test::Fail;
@@ -58,7 +59,7 @@ fn check_on(
     answers: &[u8],
 ) -> Result<(), Fail> {
     desk.add_file("-", script)?;
-    let status = run(alloc, desk);
+    let status = run_script(alloc, Session::new(alloc), "mpsio.log", "-", desk);
     assert_eq!(rt; status, 0, "{name}");
     assert!(rt; desk.printed() == answers, "{name}");
     Ok(())

@@ -1,10 +1,19 @@
 // The program over a desk that takes parts of pieces and fails, with the buffers between the two.
 use super::played::{Call, Played, PlayedDesk};
-use super::{FIRST, FIRST_ANSWERS, FIRST_LOG, compare_bytes, words_of};
+use super::{compare_bytes, words_of};
 use mps_program::start_over;
 use std::alloc::{AllocError, Global};
 use std::process::Abort;
 use std::test::Fail;
+
+/// It commits one block and prints its number.
+const SCRIPT: &[u8] =
+    b"arena 8 8\ntable t 4\npool p amc front\nap x p exact\nreserve x f:3:1\ninit x 2 7\ncommit x t.0\nnum t.0 2\n";
+
+const ANSWERS: &[u8] = b"ok\nok\nok\nok\nok\nok\nok\n7\n";
+
+/// The length of a log with the header, and the records ArenaCreate, PoolCreate, SegAlloc and Commit.
+const LOG_BYTES: usize = 136;
 
 /// The results of some calls, and how a run of a script ends with them.
 #[derive(Clone, Copy)]
@@ -57,15 +66,15 @@ const READ_FAILED: &[u8] = b"mps: read failed\n";
 /// The header of the log is handed on before the first read, and all records and answers before the second.
 const PLAYED: [PlayedCase; 16] = [
     PlayedCase {
-        script: FIRST,
+        script: SCRIPT,
         played: &[],
         status: 0,
-        printed: FIRST_ANSWERS,
-        log_bytes: FIRST_LOG.len(),
+        printed: ANSWERS,
+        log_bytes: LOG_BYTES,
         reported: b"",
     },
     PlayedCase {
-        script: FIRST,
+        script: SCRIPT,
         played: &[
             (Call::Log, Played::Takes(1)),
             (Call::Log, Played::Takes(3)),
@@ -75,12 +84,12 @@ const PLAYED: [PlayedCase; 16] = [
             (Call::Read, Played::Takes(30)),
         ],
         status: 0,
-        printed: FIRST_ANSWERS,
-        log_bytes: FIRST_LOG.len(),
+        printed: ANSWERS,
+        log_bytes: LOG_BYTES,
         reported: b"",
     },
     PlayedCase {
-        script: FIRST,
+        script: SCRIPT,
         played: &[(Call::Log, Played::Fails)],
         status: 5,
         printed: b"",
@@ -88,7 +97,7 @@ const PLAYED: [PlayedCase; 16] = [
         reported: LOG_FAILED,
     },
     PlayedCase {
-        script: FIRST,
+        script: SCRIPT,
         played: &[(Call::Log, Played::Takes(3)), (Call::Log, Played::Fails)],
         status: 5,
         printed: b"",
@@ -96,7 +105,7 @@ const PLAYED: [PlayedCase; 16] = [
         reported: LOG_FAILED,
     },
     PlayedCase {
-        script: FIRST,
+        script: SCRIPT,
         played: &[
             (Call::Log, Played::Takes(8)),
             (Call::Log, Played::Takes(20)),
@@ -108,7 +117,7 @@ const PLAYED: [PlayedCase; 16] = [
         reported: LOG_FAILED,
     },
     PlayedCase {
-        script: FIRST,
+        script: SCRIPT,
         played: &[(Call::SettleLog, Played::Fails)],
         status: 5,
         printed: b"",
@@ -116,26 +125,26 @@ const PLAYED: [PlayedCase; 16] = [
         reported: LOG_FAILED,
     },
     PlayedCase {
-        script: FIRST,
+        script: SCRIPT,
         played: &[
             (Call::SettleLog, Played::Takes(1)),
             (Call::SettleLog, Played::Fails),
         ],
         status: 5,
         printed: b"",
-        log_bytes: FIRST_LOG.len(),
+        log_bytes: LOG_BYTES,
         reported: LOG_FAILED,
     },
     PlayedCase {
-        script: FIRST,
+        script: SCRIPT,
         played: &[(Call::Out, Played::Takes(4)), (Call::Out, Played::Fails)],
         status: 4,
         printed: b"ok\no",
-        log_bytes: FIRST_LOG.len(),
+        log_bytes: LOG_BYTES,
         reported: WRITE_FAILED,
     },
     PlayedCase {
-        script: FIRST,
+        script: SCRIPT,
         played: &[(Call::SettleOut, Played::Fails)],
         status: 4,
         printed: b"",
@@ -143,14 +152,14 @@ const PLAYED: [PlayedCase; 16] = [
         reported: WRITE_FAILED,
     },
     PlayedCase {
-        script: FIRST,
+        script: SCRIPT,
         played: &[
             (Call::SettleOut, Played::Takes(1)),
             (Call::SettleOut, Played::Fails),
         ],
         status: 4,
-        printed: FIRST_ANSWERS,
-        log_bytes: FIRST_LOG.len(),
+        printed: ANSWERS,
+        log_bytes: LOG_BYTES,
         reported: WRITE_FAILED,
     },
     PlayedCase {
@@ -186,7 +195,7 @@ const PLAYED: [PlayedCase; 16] = [
         reported: b"mps: ",
     },
     PlayedCase {
-        script: FIRST,
+        script: SCRIPT,
         played: &[(Call::Open, Played::Fails)],
         status: 3,
         printed: b"",
@@ -194,7 +203,7 @@ const PLAYED: [PlayedCase; 16] = [
         reported: READ_FAILED,
     },
     PlayedCase {
-        script: FIRST,
+        script: SCRIPT,
         played: &[(Call::Create, Played::Fails)],
         status: 5,
         printed: b"",
@@ -230,7 +239,7 @@ const LONG_ANSWERS: [PlayedCase; 2] = [
         played: &[(Call::Out, Played::Takes(4)), (Call::Out, Played::Fails)],
         status: 4,
         printed: b"ok\no",
-        log_bytes: FIRST_LOG.len(),
+        log_bytes: LOG_BYTES,
         reported: WRITE_FAILED,
     },
 ];

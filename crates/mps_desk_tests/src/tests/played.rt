@@ -1,5 +1,5 @@
 // A desk that plays back results: pieces of any sizes, and faults at any calls.
-ghost use Rattle.std.specs.Prelude.{◌≡◌, ◌<◌, ◌≤◌, IfOk, IfSome, length};
+ghost use Rattle.std.specs.Prelude.{◌≡◌, ◌<◌, ◌≤◌, IfSome, length};
 
 use mps_desk::{Desk, Failed};
 use std::alloc::{AllocError, Global};
