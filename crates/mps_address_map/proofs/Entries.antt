@@ -1,6 +1,8 @@
 -- The entries of two maps, one after the other, of which each address is in one at most.
 use Rattle.std.proofs.Common.{◌≡◌, ℕ, Bool, true, false, cond, eqb, List, [], ◌∷◌, ◌++◌, Option, Some, None, refl, sym, ap, ◌∙◌}
 use Rattle.std.specs.Prelude.{is_some}
+use Rattle.std.specs.List.{AllByRecursion}
+use Rattle.std.specs.Map.{keys_of}
 use Rattle.std.proofs.lemmas.Bool.{eqb-true}
 use Rattle.mps_address_map.specs.AddressMap.{found_at, Changes}
 
@@ -75,5 +77,17 @@ module _ {X : Type 0} where
   absent_case true b h = refl
   absent_case false b h = h
 
-  pub apart_after_removal : (xs ys new : List (ℕ × X)) (at : ℕ) → ApartEntries xs ys → Changes ys new at None → ApartEntries xs new
-  apart_after_removal xs ys new at apart change q there = change q ∙ absent_case (eqb at q) (found_at ys q) (apart q there)
+  -- what isn't there isn't there after a removal
+  pub absent_after_removal : (old new : List (ℕ × X)) (at q : ℕ) → Changes old new at None → found_at old q ≡ None → found_at new q ≡ None
+  absent_after_removal old new at q change none = change q ∙ absent_case (eqb at q) (found_at old q) none
+
+  -- an address that no entry has
+  pub none_from_each : (es : List (ℕ × X)) (q : ℕ) → found_at es q ≡ None → AllByRecursion (λ (y : ℕ). eqb q y ≡ false) (keys_of es)
+  none_from_each [] q h = tt
+  none_from_each (e ∷ es) q h = by (eqb q e.0) refl h (none_from_each es q)
+    where
+      by : (c : Bool) → eqb q e.0 ≡ c → cond c (Some e.1) (found_at es q) ≡ None
+          → (found_at es q ≡ None → AllByRecursion (λ (y : ℕ). eqb q y ≡ false) (keys_of es))
+          → AllByRecursion (λ (y : ℕ). eqb q y ≡ false) (keys_of (e ∷ es))
+      by true t k rest = absurd cc
+      by false t k rest = (t, rest k)

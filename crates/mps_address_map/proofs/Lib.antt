@@ -1,3 +1,4 @@
 pub mod Entries
 pub mod Ordered
 pub mod Sorted
+pub mod WordEntries
