@@ -23,9 +23,7 @@ module _ {X : Type 0} where
       ap (λ (o : Option X). cond (eqb at e.0) (Some e.1) o) (found_in_both xs ys at)
       ∙ there_or_later (eqb at e.0) e.1 (found_at xs at) (found_at ys at)
 
-  pub found_first : (xs ys : List (ℕ × X)) (at : ℕ) (x : X) → found_at xs at ≡ Some x → found_at (xs ++ ys) at ≡ Some x
-  found_first xs ys at x there = found_in_both xs ys at ∙ ap (λ (o : Option X). first_there o (found_at ys at)) there
-
+  -- an address that the first hasn't
   pub found_second : (xs ys : List (ℕ × X)) (at : ℕ) → found_at xs at ≡ None → found_at (xs ++ ys) at ≡ found_at ys at
   found_second xs ys at none = found_in_both xs ys at ∙ ap (λ (o : Option X). first_there o (found_at ys at)) none
 

@@ -9,9 +9,9 @@ use Rattle.mps_address_map.specs.AddressMap.{found_at, Changes}
 use Rattle.mps_address_map.specs.Words.{with_word, words_from, words_of, at_word, ChangesWord}
 use Rattle.mps_address_map.proofs.Entries.{ApartEntries, none_from_each, found_second, found_first_alone, first_changed, second_changed}
 
--- an address is that of a word only if the word lies behind the places
-abbrev pub IsBehind : {X : Type 0} → (word : ℕ) → List (Option X) → (q : ℕ) → Type 0
-IsBehind word places q = (i : ℕ) → q ≡ 8 * (word + i) → length places ≤ i
+-- an address is that of a word only if the word lies after the places
+abbrev pub IsPast : {X : Type 0} → (word : ℕ) → List (Option X) → (q : ℕ) → Type 0
+IsPast word places q = (i : ℕ) → q ≡ 8 * (word + i) → length places ≤ i
 
 not_first : (q word n : ℕ) (c : Bool) → eqb q (8 * word) ≡ c → (q ≡ 8 * (word + 0) → suc n ≤ 0) → c ≡ false
 not_first q word n true is none = absurd (omega (arith, none (omega (arith, eqb-true q (8 * word) is))))
@@ -89,9 +89,9 @@ same_test word w q is = by (eqb word w) (eqb (8 * word) q) refl refl
         absurd (true≢false (sym (eq-eqb word w (omega (arith, is, eqb-true (8 * word) q f))) ∙ e))
 
 module _ {X : Type 0} where
-  behind_rest : (word : ℕ) (place : Option X) (places : List (Option X)) (q : ℕ) → IsBehind word (place ∷ places) q
-      → IsBehind (word + 1) places q
-  behind_rest word place places q behind i is = omega (arith, behind (suc i) (omega (arith, is)))
+  past_rest : (word : ℕ) (place : Option X) (places : List (Option X)) (q : ℕ) → IsPast word (place ∷ places) q
+      → IsPast (word + 1) places q
+  past_rest word place places q past i is = omega (arith, past (suc i) (omega (arith, is)))
 
   found_with : (at q : ℕ) (place : Option X) (entries : List (ℕ × X)) → eqb q at ≡ false
       → found_at (with_word at place entries) q ≡ found_at entries q
@@ -99,15 +99,15 @@ module _ {X : Type 0} where
   found_with at q (Some x) entries other = ap (λ (c : Bool). cond c (Some x) (found_at entries q)) other
 
   -- an address that is none of the places'
-  pub none_behind : (word : ℕ) (places : List (Option X)) (q : ℕ) → IsBehind word places q → found_at (words_from word places) q ≡ None
-  none_behind word [] q behind = refl
-  none_behind word (place ∷ places) q behind =
+  pub none_past : (word : ℕ) (places : List (Option X)) (q : ℕ) → IsPast word places q → found_at (words_from word places) q ≡ None
+  none_past word [] q past = refl
+  none_past word (place ∷ places) q past =
       found_with (8 * word) q place (words_from (word + 1) places)
-      (not_first q word (length places) (eqb q (8 * word)) refl (behind 0))
-      ∙ none_behind (word + 1) places q (behind_rest word place places q behind)
+      (not_first q word (length places) (eqb q (8 * word)) refl (past 0))
+      ∙ none_past (word + 1) places q (past_rest word place places q past)
 
-  before_is_behind : (word : ℕ) (places : List (Option X)) (q : ℕ) → q < 8 * word → IsBehind word places q
-  before_is_behind word places q before i is = absurd (omega (arith, before, is))
+  before_is_past : (word : ℕ) (places : List (Option X)) (q : ℕ) → q < 8 * word → IsPast word places q
+  before_is_past word places q before i is = absurd (omega (arith, before, is))
 
   found_first_word : (at : ℕ) (place : Option X) (entries : List (ℕ × X)) → found_at entries at ≡ None
       → found_at (with_word at place entries) at ≡ place
@@ -119,7 +119,7 @@ module _ {X : Type 0} where
   found_from word (place ∷ places) zero =
       ap (found_at (words_from word (place ∷ places))) (first_place word)
       ∙ found_first_word (8 * word) place (words_from (word + 1) places)
-      (none_behind (word + 1) places (8 * word) (before_is_behind (word + 1) places (8 * word) (omega arith)))
+      (none_past (word + 1) places (8 * word) (before_is_past (word + 1) places (8 * word) (omega arith)))
     where
       first_place : (w : ℕ) → 8 * (w + 0) ≡ 8 * w
       first_place w = omega arith
@@ -142,7 +142,7 @@ module _ {X : Type 0} where
   pub none_elsewhere : (places : List (Option X)) (most at : ℕ) → length places ≤ most → IsOther most at
       → found_at (words_of places) at ≡ None
   none_elsewhere places most at short other =
-      none_behind 0 places at (λ i is. beyond (length places) most at i (ltb i most) refl short other is)
+      none_past 0 places at (λ i is. beyond (length places) most at i (ltb i most) refl short other is)
 
   absent_word : (entries : List (ℕ × X)) (places : List (Option X)) (most at : ℕ) → length places ≤ most
       → ((word : ℕ) → word < most → found_at entries (8 * word) ≡ None) → IsInTable most at ⊎ IsOther most at
@@ -156,8 +156,8 @@ module _ {X : Type 0} where
       → ((word : ℕ) → word < most → found_at entries (8 * word) ≡ None) → ApartEntries (words_of places) entries
   apart_from_words entries places most short absent at there = absent_word entries places most at short absent (table_or_not most at) there
 
-  no_word_is_behind : (places : List (Option X)) (q : ℕ) → IsNoWord q → IsBehind 0 places q
-  no_word_is_behind places q none i is = absurd (none i (from_zero i is))
+  no_word_is_past : (places : List (Option X)) (q : ℕ) → IsNoWord q → IsPast 0 places q
+  no_word_is_past places q none i is = absurd (none i (from_zero i is))
     where
       from_zero : (w : ℕ) → q ≡ 8 * (0 + w) → q ≡ 8 * w
       from_zero w h = omega (arith, h)
@@ -171,8 +171,8 @@ module _ {X : Type 0} where
       ∙ ap (λ (c : Bool). cond c x (at_word old w.0)) (same_test word w.0 q w.1)
       ∙ ap (λ (o : Option X). cond (eqb (8 * word) q) x o) (sym (found_at_word old w.0 q w.1))
   changed_at old new word x change q (inr none) =
-      none_behind 0 new q (no_word_is_behind new q none)
-      ∙ sym (none_behind 0 old q (no_word_is_behind old q none))
+      none_past 0 new q (no_word_is_past new q none)
+      ∙ sym (none_past 0 old q (no_word_is_past old q none))
       ∙ ap (λ (c : Bool). cond c x (found_at (words_of old) q)) (sym (no_word_differs word q _ refl none))
 
   -- a change of a table at a word is a change of its entries at the word's address
@@ -215,5 +215,5 @@ module _ {X : Type 0} where
   distinct_words word (Some x ∷ places) =
       IsDistinct-cons eqb (8 * word) (keys_of (words_from (word + 1) places))
       (none_from_each (words_from (word + 1) places) (8 * word)
-      (none_behind (word + 1) places (8 * word) (before_is_behind (word + 1) places (8 * word) (omega arith))))
+      (none_past (word + 1) places (8 * word) (before_is_past (word + 1) places (8 * word) (omega arith))))
       (distinct_words (word + 1) places)
