@@ -1,12 +1,10 @@
 #!/usr/bin/env python3
-"""Times the readers over logs and texts whose addresses are chosen: python3 bench/hostile.py PATH-OF-MPS [BLOCKS]
+"""Times the readers over a log and a text whose addresses are chosen to collide: python3 bench/hostile.py PATH-OF-MPS [BLOCKS]
 
-Each kind of addresses is compared with random ones of 64 bits: sums of STEPS, which few places of a hash table take if it
-takes the low bits of the xor of the 32-bit limbs of a product, addresses that ascend or descend word by word from 4 GiB on,
-and those by which a table of the words below 16 MiB grows at once to its greatest length, with all others outside it. Words
-below 16 MiB, in no order, are timed too. Prints for `blocks` and `txt` the least seconds of five runs over each kind, in turn,
-and their ratio to those over random ones. The status is 1 if one is above 1.5. Random ones are themselves among the slowest,
-so a ratio below that says that no choice is worse than they are, and not that they are fast.
+The hash of an address is no secret. It is the xor of the four 32-bit limbs of (ADDRESS xor SEED) times FACTOR; a table takes
+its low bits. The low 12 bits of each limb are 0 for the numbers of STEPS, so sums of them have few values there. Prints for
+`blocks` and `txt` the least seconds of five runs over such addresses and over random ones, in turn, and their ratio. The
+status is 1 if one is above 1.5.
 """
 import os
 import random
@@ -34,21 +32,9 @@ def colliding(count):
     return [SEED ^ total for total in list(sums)[:count]]
 
 
-def kinds(count):
-    """The addresses of each kind; the first are the ones that the others are compared with."""
+def harmless(count):
     random_bits = random.Random(3)
-    others = list({random_bits.getrandbits(64): None for _ in range(count)})
-    ascending = [(1 << 32) + 8 * number for number in range(count)]
-    words = list(range(0x1000, 1 << 24, 8))
-    random_bits.shuffle(words)
-    return {
-        'random': others,
-        'colliding': colliding(count),
-        'ascending': ascending,
-        'descending': ascending[::-1],
-        'last word': [(1 << 24) - 8] + others[1:],
-        'low words': words[:count],
-    }
+    return list({random_bits.getrandbits(64): None for _ in range(count)})
 
 
 def make_log(path, addresses):
@@ -72,13 +58,12 @@ def seconds(words):
         return time.perf_counter() - began
 
 
-def compare(words, names, paths):
-    best = [float('inf')] * len(paths)
+def compare(name, words, chosen, others):
+    best = [float('inf'), float('inf')]
     for _ in range(REPEATS):
-        best = [min(least, seconds(words + [path])) for least, path in zip(best, paths)]
-    for name, least in zip(names, best):
-        print('%-8s %-11s %7.3f %6.2f' % (words[1], name, least, least / best[0]), flush=True)
-    return max(best) <= 1.5 * best[0]
+        best = [min(least, seconds(words + [path])) for least, path in zip(best, (chosen, others))]
+    print('%-8s %7.3f %7.3f %6.2f' % (name, best[0], best[1], best[0] / best[1]), flush=True)
+    return best[0] <= 1.5 * best[1]
 
 
 def main():
@@ -86,14 +71,12 @@ def main():
     count = int(sys.argv[2]) if len(sys.argv) > 2 else 1_000_000
     with tempfile.TemporaryDirectory() as folder:
         os.chdir(folder)
-        names = []
-        for name, addresses in kinds(count).items():
-            make_log(name + '.log', addresses)
-            make_text(name + '.txt', addresses)
-            names.append(name)
-        print('%-8s %-11s %7s %6s' % ('', '', 'seconds', 'ratio'))
-        good = [compare([mps, 'blocks', '-f'], names, [name + '.log' for name in names]),
-                compare([mps, 'txt', '-l'], names, [name + '.txt' for name in names])]
+        for kind, addresses in (('chosen', colliding(count)), ('others', harmless(count))):
+            make_log(kind + '.log', addresses)
+            make_text(kind + '.txt', addresses)
+        print('%-8s %7s %7s %6s' % ('', 'chosen', 'others', 'ratio'))
+        good = [compare('blocks', [mps, 'blocks', '-f'], 'chosen.log', 'others.log'),
+                compare('txt', [mps, 'txt', '-l'], 'chosen.txt', 'others.txt')]
     sys.exit(0 if all(good) else 1)
 
 

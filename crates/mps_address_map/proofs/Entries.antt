@@ -1,8 +1,6 @@
 -- The entries of two maps, one after the other, of which each address is in one at most.
 use Rattle.std.proofs.Common.{◌≡◌, ℕ, Bool, true, false, cond, eqb, List, [], ◌∷◌, ◌++◌, Option, Some, None, refl, sym, ap, ◌∙◌}
 use Rattle.std.specs.Prelude.{is_some}
-use Rattle.std.specs.List.{AllByRecursion}
-use Rattle.std.specs.Map.{keys_of}
 use Rattle.std.proofs.lemmas.Bool.{eqb-true}
 use Rattle.mps_address_map.specs.AddressMap.{found_at, Changes}
 
@@ -23,7 +21,9 @@ module _ {X : Type 0} where
       ap (λ (o : Option X). cond (eqb at e.0) (Some e.1) o) (found_in_both xs ys at)
       ∙ there_or_later (eqb at e.0) e.1 (found_at xs at) (found_at ys at)
 
-  -- an address that the first hasn't
+  pub found_first : (xs ys : List (ℕ × X)) (at : ℕ) (x : X) → found_at xs at ≡ Some x → found_at (xs ++ ys) at ≡ Some x
+  found_first xs ys at x there = found_in_both xs ys at ∙ ap (λ (o : Option X). first_there o (found_at ys at)) there
+
   pub found_second : (xs ys : List (ℕ × X)) (at : ℕ) → found_at xs at ≡ None → found_at (xs ++ ys) at ≡ found_at ys at
   found_second xs ys at none = found_in_both xs ys at ∙ ap (λ (o : Option X). first_there o (found_at ys at)) none
 
@@ -75,17 +75,5 @@ module _ {X : Type 0} where
   absent_case true b h = refl
   absent_case false b h = h
 
-  -- what isn't there isn't there after a removal
-  pub absent_after_removal : (old new : List (ℕ × X)) (at q : ℕ) → Changes old new at None → found_at old q ≡ None → found_at new q ≡ None
-  absent_after_removal old new at q change none = change q ∙ absent_case (eqb at q) (found_at old q) none
-
-  -- an address that no entry has
-  pub none_from_each : (es : List (ℕ × X)) (q : ℕ) → found_at es q ≡ None → AllByRecursion (λ (y : ℕ). eqb q y ≡ false) (keys_of es)
-  none_from_each [] q h = tt
-  none_from_each (e ∷ es) q h = by (eqb q e.0) refl h (none_from_each es q)
-    where
-      by : (c : Bool) → eqb q e.0 ≡ c → cond c (Some e.1) (found_at es q) ≡ None
-          → (found_at es q ≡ None → AllByRecursion (λ (y : ℕ). eqb q y ≡ false) (keys_of es))
-          → AllByRecursion (λ (y : ℕ). eqb q y ≡ false) (keys_of (e ∷ es))
-      by true t k rest = absurd cc
-      by false t k rest = (t, rest k)
+  pub apart_after_removal : (xs ys new : List (ℕ × X)) (at : ℕ) → ApartEntries xs ys → Changes ys new at None → ApartEntries xs new
+  apart_after_removal xs ys new at apart change q there = change q ∙ absent_case (eqb at q) (found_at ys q) (apart q there)

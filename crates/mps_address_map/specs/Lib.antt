@@ -1,2 +1,1 @@
 pub mod AddressMap
-pub mod Words

@@ -1,8 +1,8 @@
 //! A map by addresses that no choice of addresses makes slow.
 #![tactic(auto)]
 
+mod crowd;
 mod map;
-mod words;
 
 pub use map::AddressMap;
 

@@ -1,24 +1,20 @@
-use Rattle.std.proofs.Common.{ap, ◌∙◌, ℕ, List, Option}
+use Rattle.std.proofs.Common.{sym, ap, ◌∙◌, ℕ, List}
 use Rattle.mps_address_map.specs.AddressMap.{found_at}
-use Rattle.mps_address_map.specs.Words.{at_word}
+use Rattle.mps_address_map.proofs.Entries.{found_first, found_second}
 use Rattle.mps_address_map.proofs.Ordered.{found_by_order}
-use Rattle.mps_address_map.proofs.WordEntries.{found_in_table, found_in_entries}
 use Rattle.mps_address_map.proofs.map.AddressMap.get.Goals as goal
 
 pub returns-in-Some : goal.returns-in-Some
 returns-in-Some g c =
     let s = c.self.inside in
-    let word = c.in-Some.ensures.word in
-    c.value_at.ensures
-    ∙ ap (λ (places : List (Option g.row.V.Denot)). at_word places c.in-Some.word) c.deref.ensures.value
-    ∙ found_in_table s.words.items s.ordered.entries c.in-Some.word c.args.at word.1 (c.self.invariant.1 c.in-Some.word word.0)
+    sym (found_first s.hashed.entries s.ordered.entries c.args.at c.in-Some.value.now (sym c.in-Some.ensures.value))
     ∙ ap (λ (es : List (ℕ × g.row.V.Denot)). found_at es c.args.at) c.self.view_is
 
 pub returns-in-None : goal.returns-in-None
 returns-in-None g c =
     let s = c.self.inside in
     c.copied.ensures
-    ∙ c.get.ensures.value
+    ∙ c.get-in-None.ensures.value
     ∙ found_by_order s.ordered.entries c.args.at
-    ∙ found_in_entries s.words.items s.ordered.entries 2097152 c.args.at c.self.invariant.0 c.in-None.ensures.other
+    ∙ sym (found_second s.hashed.entries s.ordered.entries c.args.at (sym c.in-None.ensures.value))
     ∙ ap (λ (es : List (ℕ × g.row.V.Denot)). found_at es c.args.at) c.self.view_is

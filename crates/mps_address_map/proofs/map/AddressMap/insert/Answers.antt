@@ -1,47 +1,45 @@
-use Rattle.std.proofs.Common.{◌≡◌, ap, ◌∙◌, ◌++◌, ℕ, List, Some, subst}
+use Rattle.std.proofs.Common.{◌≡◌, sym, ap, ◌∙◌, ◌++◌, ℕ, List, Some, subst}
 use Rattle.std.proofs.lemmas.Result.{on_ok_weaker, IfOk-weaker}
 use Rattle.mps_address_map.specs.AddressMap.{found_at, Changes}
-use Rattle.mps_address_map.specs.Words.{at_word, words_of}
-use Rattle.mps_address_map.proofs.WordEntries.{found_in_table, found_in_entries, table_changes, entries_change}
+use Rattle.mps_address_map.proofs.Entries.{found_second, found_first_alone, first_changed, second_changed}
 use Rattle.mps_address_map.proofs.map.AddressMap.insert.Goals as goal
 
-pub returns-in-Some-clause-old : goal.returns-in-Some-clause-old
-returns-in-Some-clause-old g c =
+pub returns-then-is_kept_in_order-clause-old : goal.returns-then-is_kept_in_order-clause-old
+returns-then-is_kept_in_order-clause-old g c =
     let s = c.self.inside in
-    let word = c.in-Some.ensures.word in
-    let same =
-    found_in_table s.words.items s.ordered.entries c.in-Some.word c.args.at word.1 (c.self.invariant.1 c.in-Some.word word.0)
-    ∙ ap (λ (es : List (ℕ × g.row.V.Denot)). found_at es c.args.at) c.self.view_is in
-    IfOk-weaker c.insert_word.result (λ old. old ≡ at_word s.words.items c.in-Some.word) _ (λ old is. is ∙ same) c.insert_word.ensures.old
-
-pub returns-in-Some-clause-changes : goal.returns-in-Some-clause-changes
-returns-in-Some-clause-changes g c =
-    let s = c.self.inside in
-    let word = c.in-Some.ensures.word in
-    on_ok_weaker c.insert_word.result
-    (λ change.
-    subst (λ (es : List (ℕ × g.row.V.Denot)). Changes es (words_of c.insert_word.new.words.items ++ s.ordered.entries) c.args.at
-    (Some c.args.value)) c.self.view_is
-    (table_changes s.words.items c.insert_word.new.words.items s.ordered.entries c.in-Some.word c.args.at (Some c.args.value) word.1
-    (c.self.invariant.1 c.in-Some.word word.0) change))
-    c.insert_word.ensures.changes
-
-pub returns-in-None-clause-old : goal.returns-in-None-clause-old
-returns-in-None-clause-old g c =
-    let s = c.self.inside in
-    let same =
-    found_in_entries s.words.items s.ordered.entries 2097152 c.args.at c.self.invariant.0 c.in-None.ensures.other
+    let none = c.is_kept_in_order.ensures.ordered c.if-is_kept_in_order.true in
+    let same = sym (found_second s.hashed.entries s.ordered.entries c.args.at none)
     ∙ ap (λ (es : List (ℕ × g.row.V.Denot)). found_at es c.args.at) c.self.view_is in
     IfOk-weaker c.insert_ordered.result (λ old. old ≡ found_at s.ordered.entries c.args.at) _ (λ old is. is ∙ same)
     c.insert_ordered.ensures.old
 
-pub returns-in-None-clause-changes : goal.returns-in-None-clause-changes
-returns-in-None-clause-changes g c =
+pub returns-then-is_kept_in_order-clause-changes : goal.returns-then-is_kept_in_order-clause-changes
+returns-then-is_kept_in_order-clause-changes g c =
     let s = c.self.inside in
     on_ok_weaker c.insert_ordered.result
     (λ change.
-    subst (λ (es : List (ℕ × g.row.V.Denot)). Changes es (words_of s.words.items ++ c.insert_ordered.new.ordered.entries) c.args.at
+    subst (λ (es : List (ℕ × g.row.V.Denot)). Changes es (s.hashed.entries ++ c.insert_ordered.new.ordered.entries) c.args.at
     (Some c.args.value)) c.self.view_is
-    (entries_change s.words.items s.ordered.entries c.insert_ordered.new.ordered.entries 2097152 c.args.at (Some c.args.value)
-    c.self.invariant.0 c.in-None.ensures.other change))
+    (second_changed s.hashed.entries s.ordered.entries c.insert_ordered.new.ordered.entries c.args.at (Some c.args.value) change
+    (c.is_kept_in_order.ensures.ordered c.if-is_kept_in_order.true)))
     c.insert_ordered.ensures.changes
+
+pub returns-else-is_kept_in_order-clause-old : goal.returns-else-is_kept_in_order-clause-old
+returns-else-is_kept_in_order-clause-old g c =
+    let s = c.self.inside in
+    let none = c.is_kept_in_order.ensures.hashed c.if-is_kept_in_order.false in
+    let same = found_first_alone s.hashed.entries s.ordered.entries c.args.at none
+    ∙ ap (λ (es : List (ℕ × g.row.V.Denot)). found_at es c.args.at) c.self.view_is in
+    IfOk-weaker c.insert_hashed.result (λ old. old ≡ found_at s.hashed.entries c.args.at) _ (λ old is. is ∙ same)
+    c.insert_hashed.ensures.old
+
+pub returns-else-is_kept_in_order-clause-changes : goal.returns-else-is_kept_in_order-clause-changes
+returns-else-is_kept_in_order-clause-changes g c =
+    let s = c.self.inside in
+    on_ok_weaker c.insert_hashed.result
+    (λ change.
+    subst (λ (es : List (ℕ × g.row.V.Denot)). Changes es (c.insert_hashed.new.hashed.entries ++ s.ordered.entries) c.args.at
+    (Some c.args.value)) c.self.view_is
+    (first_changed s.hashed.entries c.insert_hashed.new.hashed.entries s.ordered.entries c.args.at (Some c.args.value) change
+    (c.is_kept_in_order.ensures.hashed c.if-is_kept_in_order.false)))
+    c.insert_hashed.ensures.changes
