@@ -1,8 +1,8 @@
 #!/bin/sh
 # Measures how long calls of the library's heap take, by a runtime that holds the heap itself, with no script and no log: `put`, `get` and
 # `num` on objects of 8 words; objects of 8 words reserved and committed until the arena is full; manual blocks of 17 words allocated
-# until it is full, and freed; 50,000 of them made in a frame of a pool, which is closed; a block allocated and freed again and again; and
-# a word of a block loaded, beside a loan of the block.
+# until it is full, and freed; 1,000 and 50,000 of them made in a frame of a pool, which is closed; a block allocated and freed again and
+# again, and taken from a cache and put back; and a word of a block loaded, beside a loan of the block.
 # It makes a program over a copy of the crates, proves it, and runs it.
 home=$(cd "$(dirname "$0")/.." && pwd)
 folder=$(mktemp -d)
@@ -29,7 +29,7 @@ for crate in $crates; do
     done
     grep "^$crate:" "$home/crates.txt" >> crates.txt
 done
-echo 'heap_times: mps_base mps_format mps_heap' >> crates.txt
+echo 'heap_times: mps_base mps_format mps_sac mps_heap' >> crates.txt
 program=crates/heap_times
 mkdir -p $program/src
 cat > $program/src/main.rt <<'P'
@@ -39,6 +39,7 @@ cat > $program/src/main.rt <<'P'
 use mps_base::{Kind, Name, Rank, Refusal, Slot, Trail};
 use mps_format::Front;
 use mps_heap::Heap;
+use mps_sac::ClassSize;
 use std::alloc::{AllocError, Global};
 use std::io;
 use std::marker::Model;
@@ -117,9 +118,20 @@ impl Moves {
 
     fn pop(&mut self, heap: &mut Heap<Front>) -> Result<(), Refusal> {
         self.trail.clear();
-        let _ = heap.moves_of_pop(named(b's'), 0); // at most `most_moves`
+        let pool = named(b's');
+        let _ = heap.moves_of_pop(pool, 0); // at most `most_moves`
         let _ = heap.most_moves(); // at most 2^21
-        heap.pop(&mut self.trail, named(b's'), 0)
+        heap.pop(&mut self.trail, pool, 0)
+    }
+
+    fn calloc(&mut self, heap: &mut Heap<Front>, into: Slot) -> Result<(), Refusal> {
+        self.trail.clear();
+        heap.calloc(&mut self.trail, named(b'q'), WORDS, into)
+    }
+
+    fn cfree(&mut self, heap: &mut Heap<Front>, from: Slot) -> Result<(), Refusal> {
+        self.trail.clear();
+        heap.cfree(&mut self.trail, named(b'q'), from)
     }
 
     fn free(&mut self, heap: &mut Heap<Front>, from: Slot) -> Result<(), Refusal> {
@@ -132,6 +144,7 @@ fn make(heap: &mut Heap<Front>) -> Result<(), Refusal> {
     heap.pool(named(b'p'), Kind::Amc, Front)?;
     heap.pool_mvff(named(b'v'))?;
     heap.pool_snc(named(b's'))?;
+    heap.cache(named(b'q'), named(b'v'), &[ClassSize { words: 17, limit: 8 }])?;
     heap.table(named(b't'), 16)?;
     heap.blocks(named(b'b'), PLACES)?;
     heap.point(named(b'x'), named(b'p'), Rank::Exact)
@@ -242,6 +255,15 @@ fn come_and_go(heap: &mut Heap<Front>, moves: &mut Moves, times: u64) -> u64 {
     times
 }
 
+fn keep_and_take(heap: &mut Heap<Front>, moves: &mut Moves, times: u64) -> u64 {
+    for i in 0..times {
+        if moves.calloc(heap, place(1)).is_err() || moves.cfree(heap, place(1)).is_err() {
+            return i;
+        }
+    }
+    times
+}
+
 fn show(rt: &HostRuntime, what: &str, count: u64, began: &Instant) -> io::Result<()> {
     let took = began.elapsed(rt)?.as_nanos();
     let count = u128::from(count.max(1));
@@ -276,12 +298,12 @@ fn time_blocks(rt: &HostRuntime, heap: &mut Heap<Front>, moves: &mut Moves) -> i
     show(rt, "free, in ascending order", free_blocks(heap, moves, made), &began)
 }
 
-fn time_frame(rt: &HostRuntime, heap: &mut Heap<Front>, moves: &mut Moves) -> io::Result<()> {
+fn time_frame(rt: &HostRuntime, heap: &mut Heap<Front>, moves: &mut Moves, blocks: u64) -> io::Result<()> {
     if heap.push(named(b's')).is_err() {
         return println!(rt; "refused");
     }
     let began = Instant::now(rt)?;
-    let made = fill_blocks(heap, moves, b's', 50_000);
+    let made = fill_blocks(heap, moves, b's', blocks);
     show(rt, "alloc in a frame", made, &began)?;
     let began = Instant::now(rt)?;
     if moves.pop(heap).is_err() {
@@ -297,13 +319,16 @@ fn time_all(rt: &HostRuntime, heap: &mut Heap<Front>) -> io::Result<()> {
     }
     time_accesses(rt, heap, &mut moves, 1_000_000)?;
     time_blocks(rt, heap, &mut moves)?;
-    time_frame(rt, heap, &mut moves)?;
+    time_frame(rt, heap, &mut moves, 1_000)?;
+    time_frame(rt, heap, &mut moves, 50_000)?;
     if moves.alloc(heap, b'v', place(0)).is_err() {
         return println!(rt; "refused");
     }
     time_words(rt, heap, 1_000_000)?;
     let began = Instant::now(rt)?;
     show(rt, "alloc and free", come_and_go(heap, &mut moves, 1_000_000), &began)?;
+    let began = Instant::now(rt)?;
+    show(rt, "calloc and cfree", keep_and_take(heap, &mut moves, 1_000_000), &began)?;
     let began = Instant::now(rt)?;
     show(rt, "reserve and commit until the arena is full", fill_objects(heap, &mut moves, 1_000_000), &began)
 }
