@@ -275,7 +275,8 @@ module _ {F : Type 0} (layout : F → Layout) where
       → HasParts st.past.time after (world_from w x) → IsRightFrom layout h w (step_of line c [] answer) after
   plain_is_right w line c answer x h after still plain st same comes answers formats has =
       answered_is_right w line c answer still h st x after
-      (none_taken w c (takes_none w c plain) (collector_of h) (collector_of after) same) (marks_do_not_matter w (is_block answer) c plain still ∙ comes) answers
+      (none_taken w c (takes_none w c plain) (collector_of h) (collector_of after) same)
+      (marks_do_not_matter w (is_block answer) c plain still ∙ comes) answers
       (λ y of condemned colours. none_kept y c answer plain) formats
       (untimed st.past.time w c (takes_none w c plain) after (world_from w x) has)
 
