@@ -26,7 +26,6 @@ fn searches_at_the_edges_of_a_word(rt: HostRuntime) -> Result<(), AllocError> {
     assert_eq!(rt; bits.len(), 200);
     assert!(rt; bits.next_set(0).is_none());
     assert!(rt; bits.previous_set(199).is_none());
-    assert_eq!(rt; bits.lowest_clear_run(0, 200, 200), Some(0));
     bits.set(63);
     bits.set_range(128, 192);
     for (from, want) in [
@@ -47,6 +46,23 @@ fn searches_at_the_edges_of_a_word(rt: HostRuntime) -> Result<(), AllocError> {
     ] {
         assert_eq!(rt; previous(&bits, at), want, "previous at {at}");
     }
+    assert!(rt; bits.next_set_below(64, 128).is_none());
+    assert_eq!(rt; bits.count_set(0, 200), 65);
+    assert_eq!(rt; bits.count_set(63, 130), 3);
+    bits.clear(63);
+    bits.clear_range(129, 192);
+    assert!(rt; !bits.test(63));
+    assert!(rt; bits.test(128));
+    assert_eq!(rt; bits.count_set(0, 200), 1);
+    Ok(())
+}
+
+#[test]
+fn runs_at_the_edges_of_a_word(rt: HostRuntime) -> Result<(), AllocError> {
+    let mut bits = Bits::new(rt.alloc(), 200)?;
+    assert_eq!(rt; bits.lowest_clear_run(0, 200, 200), Some(0));
+    bits.set(63);
+    bits.set_range(128, 192);
     for (from, to, count, want) in [
         (0, 200, 64, Some(64)),
         (0, 200, 65, None),
@@ -56,19 +72,8 @@ fn searches_at_the_edges_of_a_word(rt: HostRuntime) -> Result<(), AllocError> {
         (192, 200, 8, Some(192)),
         (192, 199, 8, None),
     ] {
-        assert_eq!(rt;
-            bits.lowest_clear_run(from, to, count),
-            want,
-            "{count} from {from} to {to}"
-        );
+        let found = run(&bits, from, to, count);
+        assert_eq!(rt; found, want, "{count} from {from} to {to}");
     }
-    assert!(rt; bits.next_set_below(64, 128).is_none());
-    assert_eq!(rt; bits.count_set(0, 200), 65);
-    assert_eq!(rt; bits.count_set(63, 130), 3);
-    bits.clear(63);
-    bits.clear_range(129, 192);
-    assert!(rt; !bits.test(63));
-    assert!(rt; bits.test(128));
-    assert_eq!(rt; bits.count_set(0, 200), 1);
     Ok(())
 }
