@@ -16,6 +16,8 @@ pub struct GapBounds {
     words: Vec<u32>,
     // For each group of indexes a number that none of theirs is above.
     bounds: Vec<u32>,
+    // From this index on each number is 0.
+    end: usize,
 }
 
 impl Model for GapBounds {
@@ -26,7 +28,7 @@ impl Model for GapBounds {
 
     ghost view = { λ f. f.words.items };
 
-    ghost invariant = { λ f. IsBounded f.words.items f.bounds.items };
+    ghost invariant = { λ f. IsBounded f.words.items f.bounds.items f.end };
 }
 
 impl GapBounds {
@@ -37,6 +39,7 @@ impl GapBounds {
         Ok(GapBounds {
             words: vec![in alloc; 0u32; n]?,
             bounds: vec![in alloc; 0u32; n.div_ceil(INDEXES_OF_GROUP)]?,
+            end: 0,
         })
     }
 
@@ -58,6 +61,9 @@ impl GapBounds {
     {
         let before = self.words[index];
         self.words[index] = words;
+        if words > 0 {
+            self.end = self.end.max(index + 1);
+        }
         let group = index / INDEXES_OF_GROUP;
         let bound = self.bounds[group];
         if words > bound {
@@ -68,21 +74,27 @@ impl GapBounds {
     }
 
     /// The lowest index from `from` on whose bound is at least `words`. If no index of a group has enough, the whole group
-    /// is one step.
+    /// is one step. No step goes past the last index whose bound isn't 0, unless `words` is 0.
     pub fn lowest_with(&self, words: u32, from: usize) -> Option<usize>
         ensures sound { IfSome result (λ index. IsLowestWith words from index self.now) }
         ensures complete { IfNone result (HasNone words from (length self.now) self.now) }
     {
-        let mut index = from;
-        while index < self.words.len() {
-            let group = index / INDEXES_OF_GROUP;
+        let end = if words == 0 {
+            self.words.len()
+        } else {
+            self.end
+        };
+        if from >= end {
+            return None;
+        }
+        for group in from / INDEXES_OF_GROUP..end.div_ceil(INDEXES_OF_GROUP) {
             if self.bounds[group] >= words {
-                let found = lowest_of_group(&self.words, words, index);
+                let start = from.max(INDEXES_OF_GROUP * group);
+                let found = lowest_of_group(&self.words, words, start);
                 if found.is_some() {
                     return found;
                 }
             }
-            index = INDEXES_OF_GROUP * (group + 1);
         }
         None
     }
