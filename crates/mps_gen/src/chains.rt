@@ -167,17 +167,13 @@ fn greatest_over(generation: u32, capacities: &[u32], held: &[u32]) -> Option<u3
     requires { generation + length capacities.now < 2 ^ 32 }
     ensures { result ≡ spec.greatest_over generation capacities.now held.now }
 {
-    let [capacity, capacities @ ..] = capacities else {
-        return None;
-    };
-    let [grains, held @ ..] = held else {
-        return None;
-    };
-    match greatest_over(generation + 1, capacities, held) {
-        Some(later) => Some(later),
-        None if grains > capacity => Some(generation),
-        None => None,
+    let mut greatest = None;
+    for index in 0..capacities.len().min(held.len()) {
+        if held[index] > capacities[index] {
+            greatest = Some(generation + index as u32);
+        }
     }
+    greatest
 }
 
 // Which generation is due, of the chains from this number on.
@@ -189,17 +185,13 @@ fn due_from(
     requires { number + length chains.now < 2 ^ 32 }
     ensures { result ≡ option_map in_numbers (spec.due_from number (loads (map (λ capacities. capacities.items) chains.now) held.now)) }
 {
-    let [chain, chains @ ..] = chains else {
-        return None;
-    };
-    let [grains, held @ ..] = held else {
-        return None;
-    };
-    match greatest_over(0, chain, grains) {
-        Some(generation) => Some(DueGeneration {
-            chain: number,
-            generation,
-        }),
-        None => due_from(number + 1, chains, held),
+    for index in 0..chains.len().min(held.len()) {
+        if let Some(generation) = greatest_over(0, &chains[index], &held[index]) {
+            return Some(DueGeneration {
+                chain: number + index as u32,
+                generation,
+            });
+        }
     }
+    None
 }
