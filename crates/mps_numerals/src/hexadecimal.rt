@@ -7,30 +7,23 @@ ghost use Rattle.mps_numerals.specs.Reading.{number_in as number_of};
 
 use crate::reading::number_in;
 
+/// The digits, by their numbers.
+static GLYPHS: [u8; 16] = *b"0123456789abcdef";
+
 /// The digit of a number below 16.
 fn glyph(digit: u64) -> u8
     requires { digit < 16 }
     ensures { result ≡ digit_glyph false digit }
 {
-    if digit < 10 {
-        b'0' + digit as u8
-    } else {
-        b'a' + (digit as u8 - 10)
-    }
+    GLYPHS[digit as usize]
 }
 
-/// How many digits a number has.
+/// How many digits a number has: one for each four bits from its highest set bit down.
 fn digit_count(number: u64) -> usize
     ensures value { result ≡ length (hexadecimal number) }
     ensures at_most { result ≤ 16 }
 {
-    let mut count = 1;
-    let mut left = number;
-    while left >= 16 {
-        left /= 16;
-        count += 1;
-    }
-    count
+    (67 - number.max(1).leading_zeros() as usize) / 4
 }
 
 /// Writes a digit at the index `at`.

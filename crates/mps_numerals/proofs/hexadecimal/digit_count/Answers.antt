@@ -1,17 +1,13 @@
-use Rattle.std.proofs.Common.{◌≡◌, ◌+◌, ◌-◌, ◌/◌, ◌^◌, ◌<◌, subst, arith}
-use Rattle.mps_numerals.proofs.Digits.{one_long, one_longer, fewer_left}
+use Rattle.std.proofs.Common.{◌∙◌, inl, inr, length, ap, arith}
+use Rattle.std.proofs.lemmas.Bool.{cases_eq}
+use Rattle.mps_numerals.specs.Hexadecimal.{hexadecimal}
+use Rattle.mps_numerals.proofs.Digits.{one_long, digits_by_bits}
 use Rattle.mps_numerals.proofs.hexadecimal.digit_count.Goals as goal
 
-pub loop-left-preserved : goal.loop-left-preserved
-loop-left-preserved c =
-    let l = c.loop-left in
-    let fewer = fewer_left l.left (17 - l.count) l.invariant.fits c.loop-left-test.true in
-    let next : 17 - l.count - 1 ≡ 17 - (l.count + 1) = omega arith in
-    record {
-      count = omega (arith, one_longer l.left c.loop-left-test.true (omega arith), l.invariant.count);
-      fits = subst (λ k. l.left / 16 < 16 ^ k) next fewer.1;
-      at_most = omega (arith, fewer.0);
-    }
-
 pub returns-clause-value : goal.returns-clause-value
-returns-clause-value c = omega (arith, one_long c.loop-left.left (omega arith), c.loop-left.invariant.count)
+returns-clause-value c =
+    let bits = digits_by_bits c.max.result (omega (arith, c.max.ensures)) (omega (arith, c.max.ensures)) in
+    elim (cases_eq c.args.number 0) [
+      | inl none ↦ omega (arith, bits, one_long c.args.number (omega arith), one_long c.max.result (omega (arith, c.max.ensures)))
+      | inr some ↦ bits ∙ ap (λ n. length (hexadecimal n)) (omega (arith, c.max.ensures, some))
+    ]
