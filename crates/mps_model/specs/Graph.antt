@@ -104,7 +104,6 @@ pub record Graph : Type 0 where
   pub messages : List Id
   -- what each live name represents
   pub names : List NamedThing
-  -- No command that is built uses what follows.
   -- the labels of the log, in the order of making
   pub labels : List Name
   -- weak objects, each with the object whose references go with its own
@@ -113,6 +112,7 @@ pub record Graph : Type 0 where
   pub transforms : List Bool
   -- allocation caches by their numbers
   pub caches : List Cache
+  -- the frames of each pool that has some
   pub frames : List PoolFrames
 
 -- the frames of a pool, changed: of the first that there are for it
