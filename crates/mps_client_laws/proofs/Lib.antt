@@ -43,3 +43,7 @@ pub mod Dependents
 pub mod Popping
 pub mod CachedBlocks
 pub mod Places
+pub mod ManualBlocks
+pub mod WordsKept
+pub mod WordsOfCalls
+pub mod Numbers

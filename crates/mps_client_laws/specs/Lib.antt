@@ -12,3 +12,4 @@ pub mod Substituting
 pub mod Dependents
 pub mod Popping
 pub mod Places
+pub mod Numbers

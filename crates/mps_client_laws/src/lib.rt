@@ -3,12 +3,13 @@
 #![tactic(auto)]
 
 ghost use Rattle.mps_client_laws.specs.Objects.{ObjectsKeepTheirIdentity, CellsStay, WordsStay};
-ghost use Rattle.mps_client_laws.specs.Addresses.{ObjectsLiveOn, AddressesStay, NoTwoHaveOneAddress};
+ghost use Rattle.mps_client_laws.specs.Addresses.{ObjectsLiveOn, AddressesStay, NoTwoHaveOneAddress, ManualBlocksStay};
 ghost use Rattle.mps_client_laws.specs.Collecting.{CollectLeavesWhatIsReached, WhatDependentsReachStays, WhatIsNotReachedIsGone};
 ghost use Rattle.mps_client_laws.specs.Complete.{LiveObjectsAreReached, OthersWereKeptByMoves, PinnedObjectsStay, ReachedObjectsAreLive, RegisteredObjectsAreLive, SegmentsHaveLiveBlocks, StillReachedObjectsAreLive, TargetsAreLive};
 ghost use Rattle.mps_client_laws.specs.Committing.{CommitMakesTheObject, FlippedMakesNone};
 ghost use Rattle.mps_client_laws.specs.Dependents.{ValuesGoWithTheirKeys};
 ghost use Rattle.mps_client_laws.specs.Initialising.{InitWritesTheNumber, InitWritesTheReference};
+ghost use Rattle.mps_client_laws.specs.Numbers.{NumbersStayWords, ReachedNumbersAreWords};
 ghost use Rattle.mps_client_laws.specs.Places.{AllocShowsZeros, AllocsShowAlike, CacheAllocShowsZeros, CacheFreeShowsNothing, FreeShowsNothing, FreesShowAlike};
 ghost use Rattle.mps_client_laws.specs.Popping.{PopFreesWhatWasMadeSince};
 ghost use Rattle.mps_client_laws.specs.ReadingBack.{GetGivesWhatWasPut, NumAnswersWhatWasSet, LoadAnswersWhatWasStored};
@@ -27,11 +28,13 @@ pub fn no_object_is_lost()
 {}
 
 /// An object lives on unless a move frees it, and stays at its address unless a move moves it: both name its address, so
-/// no move of another object counts. No two live objects have one address.
+/// no move of another object counts. No two live objects have one address. In a legal history a manual block lives on and stays at its
+/// address over any steps whose calls aren't `free`, `cfree`, `cflush` or `pop`.
 pub fn addresses_change_by_moves()
     ensures live { ObjectsLiveOn }
     ensures address { AddressesStay }
     ensures different { NoTwoHaveOneAddress }
+    ensures manual { ManualBlocksStay }
 {}
 
 /// A read gives what was written: `get` after `put`, `num` after `setnum`, `load` after `store`. Any steps may come between them
@@ -161,4 +164,12 @@ pub fn places_change_alike()
     ensures cfree { CacheFreeShowsNothing }
     ensures allocs { AllocsShowAlike }
     ensures frees { FreesShowAlike }
+{}
+
+/// Numbers stay words. If each number that the calls of some steps write is below 2^64, as a number of 64 bits is, so is after them
+/// each head and number of an object or a reservation, each word of a manual block and each number in an area that was so before: from
+/// any world on, and so in each world that such calls reach. The premise is needed, since the definitions of calls take any number.
+pub fn numbers_stay_words()
+    ensures steps { NumbersStayWords }
+    ensures reached { ReachedNumbersAreWords }
 {}
