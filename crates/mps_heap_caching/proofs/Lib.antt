@@ -1,2 +1,3 @@
 mod Flushing
 mod Outcomes
+mod Standing

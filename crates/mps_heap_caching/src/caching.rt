@@ -1,16 +1,14 @@
 // The calls on allocation caches.
-ghost use Rattle.std.specs.Prelude.{◌≡◌, ◌*◌, ◌<◌, ◌≤◌, ℕ, None, Some, IfOk, OnOk, Contains, length, slice_index};
+ghost use Rattle.std.specs.Prelude.{◌≡◌, ◌*◌, ◌<◌, ◌≤◌, None, Some, IfOk, OnOk, Contains, length, slice_index};
 ghost use Rattle.std.specs.List.{All};
-ghost use Rattle.mps_base.specs.Address.{Address, word_of};
+ghost use Rattle.mps_base.specs.Address.{word_of};
 ghost use Rattle.mps_names.specs.State.{thing_named};
 ghost use Rattle.mps_root.specs.State.{HasPlace};
 ghost use Rattle.mps_sac.specs.State.{blocks_of_size, classes_of, count_in, last_of, max_caches, max_cached, max_cached_in_all, max_classes, next_blocks, without_last_of_size, without_next};
 ghost use Rattle.std.specs.Option.{MatchOption};
-ghost use Rattle.mps_heap_spec.specs.Caching.{IsCacheFree, IsCacheMaking, are_class_sizes, block_from_cache, block_to_cache, cache_flushed, cache_named, check_cache, kept_from, may_have_cache, moves_of_flush, taken_into, with_cached, words_cleared};
+ghost use Rattle.mps_heap_spec.specs.Caching.{IsCacheFree, IsCacheMaking, are_class_sizes, block_from_cache, cache_flushed, cache_named, check_cache, kept_from, may_have_cache, moves_of_flush, taken_into, with_cached, words_cleared};
 ghost use Rattle.mps_heap_spec.specs.Coming.{ComesMoving};
-ghost use Rattle.mps_heap_spec.specs.Finding.{block_place_in, with_words};
-ghost use Rattle.mps_heap_spec.specs.Manual.{block_in};
-ghost use Rattle.mps_heap_spec.specs.declared.found.Entry.{Entry};
+ghost use Rattle.mps_heap_spec.specs.Finding.{with_words};
 ghost use Rattle.mps_heap_caching.specs.Flushed.{flushed_from};
 
 use mps_base::{Addr, Name, Refusal, Slot, Trail};
@@ -98,7 +96,7 @@ fn cache_named<F: Format>(state: &State<F>, name: Name) -> Result<Kept<u32>, Ref
     ensures value { result ≡ cache_named state.now name }
     ensures there { IfOk result (λ q. q.key < length state.now.beside.caches) }
 {
-    let Some(Thing::Cache(key)) = state.names.get(name) else {
+    let Some(key) = state.names.cache(name) else {
         return Err(Refusal::BadName);
     };
     if key >= state.beside.caches.count() {
@@ -196,40 +194,10 @@ pub fn cfree<F: Format>(
     requires { 1 < trail.old.spare }
     ensures outcome { IsCacheFree state.old trail.old cache place result state.new trail.new }
 {
-    let words = words_in_place(state, place);
-    cfree_of(state, trail, cache, place, words)
-}
-
-/// How many words the block in a place has; 0 if there is no such block.
-fn words_in_place<F: Format>(state: &State<F>, place: Slot) -> u32
-    ensures { (from : Entry Address) → (at : Address) → block_place_in state.now place ≡ Ok from → block_in state.now from ≡ Ok at
-        → Contains state.now.segs.blocks (record { from = word_of at; count = result }) }
-{
-    let Ok(from) = state.block_place_in(place) else {
-        return 0;
-    };
-    let Ok(at) = block_in(state, from) else {
-        return 0;
-    };
-    state.segs.block_words(Addr(at))
-}
-
-/// The same, where the block in the place has n words.
-fn cfree_of<F: Format>(
-    state: &mut State<F>,
-    trail: &mut Trail,
-    cache: Name,
-    place: Slot,
-    words: u32,
-) -> Result<(), Refusal>
-    requires block { (from : Entry Address) → (at : Address) → block_place_in state.old place ≡ Ok from → block_in state.old from ≡ Ok at
-        → Contains state.old.segs.blocks (record { from = word_of at; count = words }) }
-    requires fits { 1 < trail.old.spare }
-    ensures { ComesMoving state.old trail.old (block_to_cache state.old trail.old cache place words) result state.new trail.new }
-{
     let into = cache_named(state, cache)?;
     let from = state.block_place_in(place)?;
     let at = block_in(state, from)?;
+    let words = state.segs.block_words(Addr(at));
     keep_from(state, trail, into, words, from, at)
 }
 

@@ -13,7 +13,7 @@ use Rattle.mps_manual.specs.Manual.{has_blocks_of, answer_of_alloc, segs_after_a
 use Rattle.mps_model.specs.Checked.{Checked, ◌>>=◌, ◌>>◌, required, refuse_when}
 use Rattle.mps_model.specs.Graph.{from_last}
 use Rattle.mps_model.specs.Making.{is_block_size, most_caches}
-use Rattle.mps_names.specs.State.{Updates, own_room}
+use Rattle.mps_names.specs.State.{Updates, as_cache, own_room}
 use Rattle.mps_names.specs.declared.names.Thing.TheVariants as thing
 use Rattle.mps_sac.specs.State.{CacheState, ClassState, blocks_of_size, classes_of, count_in, keeps_size, last_of, new_cache, with_classes, with_last_of_size, without_last_of_size}
 use Rattle.mps_sac.specs.declared.class.ClassSize.{ClassSize}
@@ -22,7 +22,7 @@ use Rattle.mps_format.specs.declared.pool.Pool.{Pool}
 use Rattle.mps_format.specs.declared.pool.Pool.TheVariants as pool
 use Rattle.mps_heap_spec.specs.State.{HeapState}
 use Rattle.mps_heap_spec.specs.Coming.{ComesMoving, Moved}
-use Rattle.mps_heap_spec.specs.Finding.{as_cache, block_place_in, key_named, pool_named, under, with_words}
+use Rattle.mps_heap_spec.specs.Finding.{block_place_in, key_named, pool_named, under, with_words}
 use Rattle.mps_heap_spec.specs.Framing.{has_frames}
 use Rattle.mps_heap_spec.specs.Making.{refuse_taken}
 use Rattle.mps_heap_spec.specs.Manual.{Freeing, block_in, row_freed, with_block_place}

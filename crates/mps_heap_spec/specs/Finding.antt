@@ -51,10 +51,6 @@ abbrev pub as_dependency : Thing → Option ℕ
 as_dependency (thing.Dependency number) = Some number
 as_dependency _ = None
 
-abbrev pub as_cache : Thing → Option ℕ
-as_cache (thing.Cache number) = Some number
-as_cache _ = None
-
 abbrev pub as_transform : Thing → Option ℕ
 as_transform (thing.Transform number) = Some number
 as_transform _ = None

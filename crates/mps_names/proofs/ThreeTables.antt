@@ -4,7 +4,7 @@ use Rattle.std.proofs.lemmas.Map.Made.{lookup-map_values}
 use Rattle.std.specs.Prelude.{option_map, option_and_then}
 use Rattle.mps_base.specs.declared.names.Name.{Name}
 use Rattle.mps_base.specs.Name.{same_name}
-use Rattle.mps_names.specs.State.{as_label}
+use Rattle.mps_names.specs.State.{as_cache, as_label}
 use Rattle.mps_names.specs.declared.names.Thing.{Thing}
 use Rattle.mps_names.specs.Inside.{AreTables, ChangesAt, NumbersState, cache, found_in, label, of_kind, state_of_tables, transform}
 use Rattle.mps_names.proofs.Joined.{first_apart, first_changed, found_first, found_second, free_in_first, free_in_second, second_apart, second_changed}
@@ -90,6 +90,20 @@ module _ (l c t : NumbersState) (are : AreTables l c t) (name : Name) where
       by None (Some n) q none is other = ap (option_and_then as_label) (cache_found none n is) ∙ sym none
       by None None None none no_cache is = ap (option_and_then as_label) (else_found none None no_cache is) ∙ sym none
       by None None (Some n) none no_cache is = ap (option_and_then as_label) (else_found none (Some n) no_cache is) ∙ sym none
+
+  -- the cache that has a name is found among the caches alone
+  pub cache_is : option_and_then as_cache (found_in all name) ≡ found_in c.entries name
+  cache_is = by (found_in l.entries name) (found_in c.entries name) (found_in t.entries name) refl refl refl
+    where
+      by : (o p q : Option ℕ) → found_in l.entries name ≡ o → found_in c.entries name ≡ p → found_in t.entries name ≡ q
+          → option_and_then as_cache (found_in all name) ≡ found_in c.entries name
+      by (Some n) p q is other last =
+          let past = are.labels_apart name (ap is_some (kind_found label l.entries name (Some n) is)) in
+          ap (option_and_then as_cache) (label_found n is)
+          ∙ sym (kind_free cache c.entries name (free_in_first cached transformed name past))
+      by None (Some n) q none is last = ap (option_and_then as_cache) (cache_found none n is) ∙ sym is
+      by None None None none no_cache is = ap (option_and_then as_cache) (else_found none None no_cache is) ∙ sym no_cache
+      by None None (Some n) none no_cache is = ap (option_and_then as_cache) (else_found none (Some n) no_cache is) ∙ sym no_cache
 
   -- ---- a free name is free in each
 

@@ -32,6 +32,11 @@ abbrev pub as_label : Thing → Option ℕ
 as_label (thing.Label number) = Some number
 as_label _ = None
 
+-- the number of a cache
+abbrev pub as_cache : Thing → Option ℕ
+as_cache (thing.Cache number) = Some number
+as_cache _ = None
+
 -- the same names represent the same things
 abbrev pub IsSameMap : NamesState → NamesState → Type 0
 IsSameMap old new = (name : Name) → thing_named new name ≡ thing_named old name

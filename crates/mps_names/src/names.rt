@@ -2,7 +2,7 @@
 #![tactic(auto)]
 
 ghost use Rattle.std.specs.Prelude.{◌≡◌, ◌<◌, nat_lt, [], None, Some, option_and_then, IfErr, IfOk, OnOk, IsSome};
-ghost use Rattle.mps_names.specs.State.{NamesState, thing_named, as_label, IsSameMap, Updates, no_counts, has_own_room, own_room, room_for};
+ghost use Rattle.mps_names.specs.State.{NamesState, thing_named, as_cache, as_label, IsSameMap, Updates, no_counts, has_own_room, own_room, room_for};
 
 use crate::key::Key;
 use crate::tables::Tables;
@@ -100,6 +100,14 @@ impl Names {
         ensures { result ≡ option_and_then as_label (thing_named self.now name) }
     {
         self.tables.label(name)
+    }
+
+    /// The number of the cache that has a name. Other things aren't searched.
+    #[inline(always)]
+    pub fn cache(&self, name: Name) -> Option<u32>
+        ensures { result ≡ option_and_then as_cache (thing_named self.now name) }
+    {
+        self.tables.cache(name)
     }
 
     /// Refuses `NameTaken` if a name represents something.

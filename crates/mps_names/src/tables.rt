@@ -2,7 +2,7 @@
 #![tactic(auto)]
 
 ghost use Rattle.std.specs.Prelude.{◌≡◌, ◌<◌, nat_lt, [], None, Some, true, option_and_then, IfOk};
-ghost use Rattle.mps_names.specs.State.{thing_in, as_label, no_counts, has_own_room, own_room, counts_with, counts_without};
+ghost use Rattle.mps_names.specs.State.{thing_in, as_cache, as_label, no_counts, has_own_room, own_room, counts_with, counts_without};
 ghost use Rattle.mps_names.specs.Inside.{TablesState, ChangesAt};
 
 use crate::names::Thing;
@@ -70,6 +70,14 @@ impl Tables {
         ensures { result ≡ option_and_then as_label (thing_in self.now.entries name) }
     {
         self.labels.get(name)
+    }
+
+    /// The number of the cache that has a name.
+    #[inline(always)]
+    pub(crate) fn cache(&self, name: Name) -> Option<u32>
+        ensures { result ≡ option_and_then as_cache (thing_in self.now.entries name) }
+    {
+        self.caches.get(name)
     }
 
     /// How many labels have names.

@@ -13,11 +13,11 @@ use Rattle.mps_model.specs.Checked as model
 use Rattle.mps_model.specs.Checked.{Numbered}
 use Rattle.mps_model.specs.Graph.{Cache, CacheClass, with_last}
 use Rattle.mps_model.specs.World.{World}
+use Rattle.mps_names.specs.State.{as_cache}
 use Rattle.mps_names.specs.declared.names.Thing.{Thing}
 use Rattle.mps_names.specs.declared.names.Thing.TheVariants as thing
 use Rattle.mps_neighbours.specs.Caches.{CacheState, ClassState, blocks_of_size, blocks_where, classes_of, is_of_size, keeps_size, keeps_where, last_of, no_cache, with_blocks_where, with_classes, with_last_of_size, without_last, without_last_of_size}
 use Rattle.mps_heap_spec.specs.Caching.{cache_named}
-use Rattle.mps_heap_spec.specs.Finding.{as_cache}
 use Rattle.mps_heap_spec.specs.State.{HeapState}
 use Rattle.mps_heap_spec.specs.declared.found.Kept.{Kept}
 use Rattle.mps_refinement.specs.Beside.{kept_cache, kept_class}
