@@ -1,12 +1,13 @@
 -- The references of a block lead to their replacements, one after the other.
-use Rattle.std.proofs.Common.{ℕ, suc, ◌+◌, ◌-◌, ◌<◌, ◌≤◌, ◌≡◌, false, IsTrue, Option, sym, ap, ◌∙◌, arith}
+use Rattle.std.proofs.Common.{ℕ, suc, ◌+◌, ◌-◌, ◌<◌, ◌≤◌, ◌≡◌, false, IsTrue, Option, sym, ap, ◌∙◌, inl, inr, arith}
+use Rattle.std.proofs.lemmas.Bool.{cases_Bool}
 use Rattle.std.specs.Prelude.{slice_index}
 use Rattle.std.specs.Option.{option_map_or}
 use Rattle.mps_base.specs.Address.{Address, Word}
 use Rattle.mps_format.specs.Layout.{Layout}
 use Rattle.mps_seg.specs.Segs.{SegsState}
 use Rattle.mps_xform.specs.Applying.{replacement, after_replace, after_apply_below, is_reference_word}
-use Rattle.mps_xform.specs.Passing.{IsBlockOf}
+use Rattle.mps_xform.specs.Passing.{IsBlockOf, LeadsToNone}
 use Rattle.mps_xform.proofs.Applied.{passed_to, words_above, none_of_numbers, of_reference}
 
 module _ (f : Layout) (to : Address → Option Address) (s : SegsState) (pool : ℕ) (at : Word) (head : ℕ) (block : IsBlockOf f s pool at head)
@@ -51,3 +52,23 @@ module _ (f : Layout) (to : Address → Option Address) (s : SegsState) (pool : 
         ∙ ap (λ (o : Option Address). after_replace f word (slice_index s.words word) o t) (sym leads)
         ∙ ap (λ (u : SegsState). after_replace f word (slice_index s.words word) (replacement f to s pool word) u) so_far
         ∙ ap (λ (n : ℕ). after_apply_below f to s pool n) (let e : suc word ≡ at + (cell + 1) = omega arith in e)
+
+    -- a block whose references lead to no old address stays as it is
+    pub block_passed : (t : SegsState) → t ≡ after_apply_below f to s pool at → LeadsToNone f to t at head (f.size head)
+        → t ≡ after_apply_below f to s pool (at + f.size head)
+    block_passed t so_far none =
+        so_far
+        ∙ sym (passed_to f to s pool at (at + f.size head) (omega arith) (λ i over below.
+        let k : ℕ = i - at in
+        let is : at + k ≡ i = omega (arith, over) in
+        let within : k < f.size head = omega (arith, below, is) in
+        ap (λ (w : ℕ). replacement f to s pool w) (sym is)
+        ∙ elim (cases_Bool (f.is_reference head k)) [
+          | inl reference ↦
+              of_reference f to s pool (at + k) (block.in_pool (at + k) (omega arith) (omega (arith, within)))
+              (reference_is k within ∙ reference)
+              ∙ ap (λ (v : ℕ). to (f.target v))
+              (sym (ap (λ (u : SegsState). slice_index u.words (at + k)) so_far ∙ words_above f to s pool at (at + k) (omega arith)))
+              ∙ none k within reference
+          | inr number ↦ none_of_numbers f to s pool (at + k) (reference_is k within ∙ number)
+        ]))

@@ -5,7 +5,7 @@ use Rattle.std.specs.Option.{option_map_or}
 use Rattle.std.proofs.lemmas.Bool.{cases_Bool, cases_lt, cond-true, cond-false, eq-eqb}
 use Rattle.mps_base.specs.Address.{Address, Word, word_of, address_of_word, bytes_of_word}
 use Rattle.mps_base.specs.Run.{Run, end_of}
-use Rattle.mps_base.specs.Segment.{Segment, end_of_segment}
+use Rattle.mps_base.specs.Segment.{Segment, segment_over, end_of_segment}
 use Rattle.mps_base.specs.declared.address.Addr.{Addr}
 use Rattle.mps_base.proofs.Runs.{contains_cases, contains_first, contains_later, contained_bounds}
 use Rattle.mps_extents.proofs.ApartRuns.{apart_each, has_word-parts}
@@ -59,17 +59,20 @@ whole_in low high (s ∷ rs) r whole there =
       | inr later ↦ whole_in low high rs r whole.1 later
     ]
 
--- a pass has come to an address of a segment: the blocks before it are done, and none lies across it
+-- A pass has come to an address of a segment: the blocks that begin before it are done, up to the word at which the last of them ends. No
+-- block lies across that word, and none begins between the address and it.
 pub record IsWalked (f : Layout) (to : Address → Option Address) (initial now : SegsState) (base end from : Address) : Type 0 where
-  pub aligned : from % bytes_of_word ≡ 0
+  pub done : Word
   pub above : word_of base ≤ word_of from
-  pub within : word_of from ≤ word_of end
+  pub up_to : word_of from ≤ done
+  pub within : done ≤ word_of end
   pub segments : now.segments ≡ initial.segments
   pub blocks : now.blocks ≡ initial.blocks
   pub size : length now.words ≡ length initial.words
-  pub bounded : (r : Run) → Contains initial.blocks r → r.from < word_of from → end_of r ≤ word_of from
+  pub bounded : (r : Run) → Contains initial.blocks r → r.from < done → end_of r ≤ done
+  pub none_between : (r : Run) → Contains initial.blocks r → word_of from ≤ r.from → done ≤ r.from
   pub applied : (s : SegsState) (pool : ℕ) → IsAppliedBelow f to pool s initial (word_of base) → IsSpanOf initial.segments pool base end
-      → now ≡ after_apply_below f to s pool (word_of from)
+      → now ≡ after_apply_below f to s pool done
 
 -- a word over which no block lies is no reference
 pub no_reference : (f : Layout) (s : SegsState) (i : Word) → ((at : ℕ) → run_over s.blocks i ≡ Some at → ⊥)
@@ -123,8 +126,9 @@ module _ (f : Layout) (to : Address → Option Address) (s : SegsState) (pool : 
     -- at the first address of the segment
     pub at_first : IsWalked f to initial initial base end base
     at_first = record {
-      aligned = is_aligned;
+      done = word_of base;
       above = omega arith;
+      up_to = omega arith;
       within = omega (arith, is_long);
       segments = refl;
       blocks = refl;
@@ -133,24 +137,25 @@ module _ (f : Layout) (to : Address → Option Address) (s : SegsState) (pool : 
           let w = (whole_in (word_of span.segment.base) (word_of (end_of_segment span.segment)) s.blocks r
           (begun.can.whole span.segment there) (listed r is)).1 in
           omega (arith, w (omega (arith, below, low_is)), low_is);
+      none_between = λ r is past. past;
       applied = λ s' pool' begun' span'. begun'.state;
     }
 
     module _ (now : SegsState) (from : Address) (walked : IsWalked f to initial now base end from) where
+      was_listed : (r : Run) → Contains s.blocks r → Contains initial.blocks r
+      was_listed r is = let P : List Run → Type 0 = λ rs. Contains rs r in subst P (sym same.blocks) is
+
       -- the words of the segment from here on without a block before `high` are passed over
-      gap_passed : (high : Word) → word_of from ≤ high → high ≤ word_of end
+      gap_passed : (high : Word) → walked.done ≤ high → high ≤ word_of end
           → ((r : Run) → Contains s.blocks r → word_of from ≤ r.from → r.from < high → ⊥)
-          → after_apply_below f to s pool high ≡ after_apply_below f to s pool (word_of from)
+          → after_apply_below f to s pool high ≡ after_apply_below f to s pool walked.done
       gap_passed high above within none =
-          passed_to f to s pool (word_of from) high above (λ i over below.
+          passed_to f to s pool walked.done high above (λ i over below.
           none_of_numbers f to s pool i (no_reference f s i (λ at is.
           let b = block_over s.blocks i at is in
-          elim (cases_lt b.run.from (word_of from)) [
-            | inl before ↦
-                let there' : Contains initial.blocks b.run =
-                (let P : List Run → Type 0 = λ rs. Contains rs b.run in subst P (sym same.blocks) b.there) in
-                omega (arith, walked.bounded b.run there' before, b.below, over)
-            | inr past ↦ none b.run b.there past (omega (arith, b.begins, b.above, below))
+          elim (cases_lt b.run.from walked.done) [
+            | inl before ↦ omega (arith, walked.bounded b.run (was_listed b.run b.there) before, b.below, over)
+            | inr past ↦ none b.run b.there (omega (arith, walked.up_to, past)) (omega (arith, b.begins, b.above, below))
           ])))
 
       -- where no block is left, the rest of the segment is passed over
@@ -168,10 +173,18 @@ module _ (f : Layout) (to : Address → Option Address) (s : SegsState) (pool : 
             lowest_run 0 (length s.words) (word_of from) (word_of end) s.blocks (word_of at.0) begun.can.blocks
             (ap (λ (rs : List Run). first_run (word_of from) (word_of end) rs) (sym (walked.blocks ∙ same.blocks)) ∙ is)
 
+        pub past : walked.done ≤ word_of at.0
+        past =
+            omega (
+              arith,
+              walked.none_between found.run (was_listed found.run found.there) (omega (arith, found.above, found.begins)),
+              found.begins,
+            )
+
         pub head_is : slice_index now.words (word_of at.0) ≡ slice_index s.words (word_of at.0)
         head_is =
             ap (λ (t : SegsState). slice_index t.words (word_of at.0)) (walked.applied s pool begun span)
-            ∙ words_above f to s pool (word_of from) (word_of at.0) found.above
+            ∙ words_above f to s pool walked.done (word_of at.0) past
 
         heads : IsTrue (f.is_valid (slice_index s.words found.run.from)) × (f.size (slice_index s.words found.run.from) ≡ found.run.count)
         heads =
@@ -195,6 +208,12 @@ module _ (f : Layout) (to : Address → Option Address) (s : SegsState) (pool : 
             ends_inside found.run found.there (omega (arith, walked.above, found.above, found.begins))
             (omega (arith, found.below, found.begins))
 
+        pub over_at : segment_over now.segments at.0 ≡ Some span.segment
+        over_at =
+            ap (λ (ts : List Segment). segment_over ts at.0) (walked.segments ∙ same.segments)
+            ∙ over_in 0 s.segments span.segment at.0 begun.can.segments there
+            (omega (arith, walked.above, found.above, span.begins, is_aligned)) (omega (arith, found.below, span.ends))
+
         pub block : IsBlockOf f s pool (word_of at.0) (slice_index now.words (word_of at.0))
         block = record {
           has_head = sym head_is;
@@ -216,7 +235,7 @@ module _ (f : Layout) (to : Address → Option Address) (s : SegsState) (pool : 
         pub to_block : now ≡ after_apply_below f to s pool (word_of at.0)
         to_block =
             walked.applied s pool begun span
-            ∙ sym (gap_passed (word_of at.0) found.above (omega (arith, found.below))
+            ∙ sym (gap_passed (word_of at.0) past (omega (arith, found.below))
             (λ r is above below. omega (arith, found.first r is above (omega (arith, below, found.below)), below)))
 
         -- no block lies across its end
@@ -231,41 +250,56 @@ module _ (f : Layout) (to : Address → Option Address) (s : SegsState) (pool : 
               ]
             ]
 
--- a block is done, and the pass has come to its end
+        -- no block begins in it
+        pub none_inside : (r : Run) → Contains initial.blocks r → word_of at.0 < r.from → end_of found.run ≤ r.from
+        none_inside r is above =
+            elim (apart_each 0 (length s.words) s.blocks r found.run begun.can.blocks (listed r is) found.there) [
+              | inl equal ↦ absurd (omega (arith, equal, found.begins, above))
+              | inr apart ↦ elim apart [
+                | inl before ↦ absurd (omega (arith, before, found.begins, above))
+                | inr past ↦ past
+              ]
+            ]
+
+-- a block is done, and the pass has come to the word after its head
 pub walked_on : (f : Layout) (to : Address → Option Address) (s : SegsState) (pool : ℕ) (initial now after : SegsState)
     (base end from next : Address) (at : Addr)
     → IsAppliedBelow f to pool s initial (word_of base) → IsSpanOf initial.segments pool base end → IsWalked f to initial now base end from
-    → first_run (word_of from) (word_of end) now.blocks ≡ Some (word_of at.0) → at.0 % bytes_of_word ≡ 0
-    → next ≡ at.0 + 8 * f.size (slice_index now.words (word_of at.0))
+    → first_run (word_of from) (word_of end) now.blocks ≡ Some (word_of at.0) → next ≡ at.0 + 8
     → ((s' : SegsState) (pool' : ℕ) → now ≡ after_apply_below f to s' pool' (word_of at.0)
     → IsBlockOf f s' pool' (word_of at.0) (slice_index now.words (word_of at.0))
     → after ≡ after_apply_below f to s' pool' (word_of at.0 + f.size (slice_index now.words (word_of at.0))))
     → IsWalked f to initial after base end next
-walked_on f to s pool initial now after base end from next at begun span walked is aligned next_is done =
+walked_on f to s pool initial now after base end from next at begun span walked is next_is applied =
     let low = found f to s pool initial base end begun span now from walked at is in
     let size = size_is f to s pool initial base end begun span now from walked at is in
-    let word : word_of next ≡ end_of low.run = omega (arith, next_is, aligned, size, low.begins) in
-    let after_is = done s pool (to_block f to s pool initial base end begun span now from walked at is)
+    let after_is = applied s pool (to_block f to s pool initial base end begun span now from walked at is)
     (block f to s pool initial base end begun span now from walked at is) in
     let n : ℕ = word_of at.0 + f.size (slice_index now.words (word_of at.0)) in
+    let end_is : n ≡ end_of low.run = omega (arith, size, low.begins) in
     let parts = parts_below f to s pool n in
     let parts' = same f to s pool initial base end begun span in
     record {
-      aligned = omega (arith, next_is, aligned);
-      above = omega (arith, word, low.begins, low.above, walked.above);
-      within = omega (arith, word, ends f to s pool initial base end begun span now from walked at is);
+      done = n;
+      above = omega (arith, next_is, low.above, walked.above);
+      up_to = omega (arith, next_is, size, some f to s pool initial base end begun span now from walked at is);
+      within = omega (arith, end_is, ends f to s pool initial base end begun span now from walked at is);
       segments = ap (λ (t : SegsState). t.segments) after_is ∙ parts.segments ∙ sym parts'.segments;
       blocks = ap (λ (t : SegsState). t.blocks) after_is ∙ parts.blocks ∙ sym parts'.blocks;
       size = ap (λ (t : SegsState). length t.words) after_is ∙ parts.size ∙ sym parts'.size;
       bounded = λ r there below.
           omega (
             arith,
-            word,
-            bounded_after f to s pool initial base end begun span now from walked at is r there
-                (omega (arith, below, word)),
+            end_is,
+            bounded_after f to s pool initial base end begun span now from walked at is r there (omega (arith, below, end_is)),
+          );
+      none_between = λ r there past.
+          omega (
+            arith,
+            end_is,
+            none_inside f to s pool initial base end begun span now from walked at is r there (omega (arith, past, next_is)),
           );
       applied = λ s' pool' begun' span'.
-          done s' pool' (to_block f to s' pool' initial base end begun' span' now from walked at is)
-          (block f to s' pool' initial base end begun' span' now from walked at is)
-          ∙ ap (λ (w : ℕ). after_apply_below f to s' pool' w) (let e : n ≡ word_of next = omega (arith, word, size, low.begins) in e);
+          applied s' pool' (to_block f to s' pool' initial base end begun' span' now from walked at is)
+          (block f to s' pool' initial base end begun' span' now from walked at is);
     }

@@ -1,5 +1,5 @@
 -- What the passes over segments, blocks and cells keep while a transform is applied.
-use Rattle.std.specs.Prelude.{ℕ, ◌≡◌, ◌+◌, ◌<◌, ◌≤◌, ◌%◌, true, Option, Some, List, option_map, slice_index, nat_eq, Contains}
+use Rattle.std.specs.Prelude.{ℕ, ◌≡◌, ◌+◌, ◌<◌, ◌≤◌, ◌%◌, true, IsTrue, Option, Some, None, List, option_map, slice_index, nat_eq, Contains}
 use Rattle.std.specs.Map.{lookup}
 use Rattle.mps_base.specs.Address.{Address, Word, bytes_of_word}
 use Rattle.mps_base.specs.Segment.{Segment, end_of_segment}
@@ -21,6 +21,11 @@ AreAligned entries = (old : Address) (p : Pair) → lookup (nat_eq old) entries 
 pub record IsAppliedBelow (f : Layout) (to : Address → Option Address) (pool : ℕ) (before now : SegsState) (word : Word) : Type 0 where
   pub can : CanApply f before pool
   pub state : now ≡ after_apply_below f to before pool word
+
+-- no reference among the first cells of a block with this head leads to an old address
+abbrev pub LeadsToNone : Layout → (to : Address → Option Address) → SegsState → (at : Word) → (head cells : ℕ) → Type 0
+LeadsToNone f to s at head cells =
+    (cell : ℕ) → cell < cells → IsTrue (f.is_reference head cell) → to (f.target (slice_index s.words (at + cell))) ≡ None
 
 -- the addresses from one to another are those of a segment of this pool
 pub record IsSpanOf (segments : List Segment) (pool : ℕ) (base end : Address) : Type 0 where

@@ -1,14 +1,15 @@
 // A transform is applied to the references of a pool.
 #![tactic(auto)]
 
-ghost use Rattle.std.specs.Prelude.{◌≡◌, ◌+◌, ◌%◌, ◌<◌, ◌≤◌, ℕ, Some, None, IfSome, IfNone, IsTrue, length, slice_index};
+ghost use Rattle.std.specs.Prelude.{◌≡◌, ◌+◌, ◌%◌, ◌<◌, ◌≤◌, ℕ, false, Some, None, IfSome, IfNone, IsTrue, length, slice_index};
 ghost use Rattle.std.specs.List.{All};
 ghost use Rattle.mps_base.specs.Address.{word_of, bytes_of_word};
+ghost use Rattle.mps_base.specs.Segment.{Segment, segment_over};
 ghost use Rattle.mps_format.specs.Layout.{Layout};
 ghost use Rattle.mps_seg.specs.Extents.{first_run};
 ghost use Rattle.mps_seg.specs.Segs.{SegsState};
 ghost use Rattle.mps_xform.specs.Applying.{CanApply, after_apply, after_apply_below, after_replace, word_after_apply};
-ghost use Rattle.mps_xform.specs.Passing.{AreAligned, IsAppliedBelow, IsBlockOf, IsSpanOf, new_in};
+ghost use Rattle.mps_xform.specs.Passing.{AreAligned, IsAppliedBelow, IsBlockOf, IsSpanOf, LeadsToNone, new_in};
 ghost use Rattle.mps_xform.specs.State.{new_address};
 
 use crate::replacements::Replacements;
@@ -73,9 +74,11 @@ fn apply_to_segment<F: Format>(
     let _ = segs.grains(); // so few that the address of a word fits
     let mut from = base;
     while let Some(at) = next_block(segs, base, end, from) {
-        let head = segs.word(at);
-        apply_to_block(replacements, format, segs, at, head);
-        from = Addr(at.0 + BYTES_OF_WORD * u64::from(format.words(head)));
+        let head = segs.held_word(at);
+        if may_lead_to_old(replacements, format, segs, at, head) {
+            apply_to_block(replacements, format, segs, at, head);
+        }
+        from = Addr(at.0 + BYTES_OF_WORD); // so the search for the next block doesn't wait for this head
     }
 }
 
@@ -88,6 +91,32 @@ fn next_block(segs: &Segs, base: Addr, end: Addr, from: Addr) -> Option<Addr>
     ensures none { IfNone result (first_run (word_of from.0) (word_of end.0) segs.now.blocks ≡ None) }
 {
     segs.walk(base, from)
+}
+
+// Whether a reference of the block at `at` with this head may lead to an old address; false only if none does.
+#[inline(always)]
+fn may_lead_to_old<F: Format>(
+    replacements: &Replacements,
+    format: &F,
+    segs: &Segs,
+    at: Addr,
+    head: u64,
+) -> bool
+    requires valid { IsTrue ((F.layout format.now).is_valid head) }
+    requires held { (t : Segment) × (segment_over segs.now.segments at.0 ≡ Some t) }
+    requires inside { word_of at.0 + (F.layout format.now).size head ≤ length segs.now.words }
+    ensures { result ≡ false → LeadsToNone (F.layout format.now) (new_in replacements.now) segs.now (word_of at.0) head
+        ((F.layout format.now).size head) }
+{
+    let words = segs.words_from(at);
+    let mut from = 0;
+    while let Some(cell) = format.ref_from(head, from) {
+        if replacements.may_have(format.target(words[cell as usize])) {
+            return true;
+        }
+        from = cell + 1;
+    }
+    false
 }
 
 // Applies the pairs to the references of the block at `at` with this head, in ascending order.
