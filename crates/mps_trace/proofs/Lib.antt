@@ -16,5 +16,6 @@ pub mod Remembering
 pub mod Registrations
 pub mod Rooted
 pub mod Scanned
+pub mod Staying
 pub mod Units
 pub mod Zones

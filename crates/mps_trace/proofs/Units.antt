@@ -7,8 +7,7 @@ use Rattle.mps_format.specs.Layout.{Layout}
 use Rattle.mps_seg.specs.Segs.{SegsState}
 use Rattle.mps_amc.proofs.Lost.{spare_after}
 use Rattle.mps_seg.specs.Reclaiming.{IsSwept, is_given, is_used, lost_of}
-use Rattle.mps_trace.specs.Splat.{SplatsOne}
-use Rattle.mps_trace.specs.Trace.{TraceState, Traced, traced}
+use Rattle.mps_trace.specs.Trace.{TraceState, Traced}
 use Rattle.mps_trace.specs.Unit.{HasRoomToEnd, UnitTo}
 use Rattle.mps_trace.specs.declared.running.Running.{Running}
 
@@ -25,12 +24,3 @@ module _ {F : Type 0} (layout : F → Layout) (t t' : TraceState F) (same : t' �
       → UnitTo layout t.formats t.chains x f run y f' run'
   goes_still x y f f' run run' unit =
       let P : TraceState F → Type 0 = λ u. UnitTo layout u.formats u.chains x f run y f' run' in subst P same unit
-
--- a weak block is scanned at a state that is the same
-pub splats_still : {F : Type 0} (layout : F → Layout) (t t' : TraceState F) (s s' : SegsState) (m m' : Moves) (z : Traced)
-    → (s' ≡ s) × (m' ≡ m) × (t' ≡ t) → SplatsOne layout t'.formats (traced t' s' m') z → SplatsOne layout t.formats (traced t s m) z
-splats_still {F} layout t t' s s' m m' z same one =
-    let P : TraceState F → Type 0 = λ u. SplatsOne layout u.formats (traced u s m) z in
-    let Q : Moves → Type 0 = λ n. SplatsOne layout t'.formats (traced t' s n) z in
-    let R : SegsState → Type 0 = λ g. SplatsOne layout t'.formats (traced t' g m') z in
-    subst P same.2 (subst Q same.1 (subst R same.0 one))

@@ -6,6 +6,7 @@ ghost use Rattle.mps_base.specs.declared.address.Addr.{Addr};
 ghost use Rattle.mps_trace.specs.Trace.{traced};
 ghost use Rattle.mps_final.specs.State.{FinalsState};
 ghost use Rattle.mps_trace.specs.Examine.{IsNoneDue};
+ghost use Rattle.mps_trace.specs.Scan.{IsDrained};
 ghost use Rattle.mps_trace.specs.Splat.{HasNoMark};
 ghost use Rattle.mps_trace.specs.Unit.{CanReclaimNext, CanUnit, AreUnitsReady, UnitTo, LastUnitTo, UnitsTo, EndsWithin};
 
@@ -22,6 +23,7 @@ impl<F: Format> Trace<F> {
     /// One unit of a running collection, in constant time but for what it scans or reclaims. A grey block that isn't weak is scanned. Once
     /// there is none the next registration is examined, then weak grey blocks are scanned, and then the lowest condemned segment from the
     /// cursor on is reclaimed. None if that was the last one: the collection has ended.
+    #[inline(always)]
     pub fn unit(
         &mut self,
         segs: &mut Segs,
@@ -39,6 +41,27 @@ impl<F: Format> Trace<F> {
         if self.scan_next(segs, trail) {
             return Some(running);
         }
+        self.unit_once_drained(segs, trail, finals, running)
+    }
+
+    /// One unit once no block is grey but weak ones.
+    #[cold]
+    #[inline(never)]
+    fn unit_once_drained(
+        &mut self,
+        segs: &mut Segs,
+        trail: &mut Trail,
+        finals: &mut Finals,
+        running: Running,
+    ) -> Option<Running>
+        requires drained { IsDrained segs.old }
+        requires can { CanUnit F.layout self.old segs.old trail.old finals.old running }
+        ensures goes_on { IfSome result (λ next. UnitTo F.layout self.old.formats self.old.chains (traced self.old segs.old trail.old)
+            finals.old running (traced self.new segs.new trail.new) finals.new next) }
+        ensures ended { IfNone result (LastUnitTo F.layout self.old.formats (traced self.old segs.old trail.old) running
+            (traced self.new segs.new trail.new) × (finals.new ≡ finals.old)) }
+        ensures unchanged { self.new ≡ record self.old { amc = self.new.amc } }
+    {
         if running.next < running.registered_before {
             return Some(self.examine_next(segs, trail, finals, running));
         }

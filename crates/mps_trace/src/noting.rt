@@ -49,13 +49,17 @@ fn zones_of_block<F: Format>(segs: &Segs, format: &F, at: Addr) -> u64
 }
 
 /// Notes the references of the block at `to`, which was at `from`: unless the summary of the segment over `to` has all zones of that over
-/// `from`, it gains the zones to which the block leads.
+/// `from`, it gains the zones to which the block leads. A block that stays is in the same segment, so it notes nothing.
+#[tactic(auto, using(crate::proofs::Staying::nothing_noted))]
 pub(crate) fn note_copy<F: Format>(segs: &mut Segs, format: &F, from: Addr, to: Addr)
     requires aligned { to.0 % bytes_of_word ≡ 0 }
     requires in_arena { word_of from.0 < length segs.old.words }
     requires stands { BlockStands (F.layout format.now) segs.old.words to.0 (size_at (F.layout format.now) segs.old.words to.0) }
     ensures noted { segs.new ≡ copy_noted (F.layout format.now) segs.old from.0 to.0 }
 {
+    if from.0 == to.0 {
+        return;
+    }
     let _ = segs.grains(); // its words are those of the marks
     let (Some(old), Some(new)) = (segs.segment_of(from), segs.segment_of(to)) else {
         return;
