@@ -1,3 +1,4 @@
 pub mod Entries
 pub mod Ordered
+pub mod Parts
 pub mod Sorted

@@ -11,8 +11,8 @@ use Rattle.std.proofs.lemmas.List.{get_or-map, length-map}
 use Rattle.std.proofs.lemmas.List.Sorted.{IsPermutation-map}
 use Rattle.std.proofs.lemmas.Map.Keys.{IsDistinct-IsPermutation, IsDistinct-cons, IsDistinct-head, IsDistinct-tail, IsDistinct-from_apart, below_from_sorted, IsStrictlyIncreasing-from_distinct}
 use Rattle.indexmap.proofs.MapLemmas.{lookup_permutation}
-use Rattle.mps_address_map.specs.AddressMap.{found_at, Lists}
-use Rattle.mps_address_map.proofs.Entries.{ApartEntries, found_second}
+use Rattle.mps_address_map.specs.AddressMap.{found_at, IsAway, Lists}
+use Rattle.mps_address_map.proofs.Entries.{found_second}
 
 eqb-sym : (a b : ℕ) → eqb a b ≡ eqb b a
 eqb-sym a b = grind arith
@@ -51,7 +51,7 @@ module _ {X : Type 0} where
   there_case true x o h = refl
   there_case false x o h = h
 
-  pub distinct_of_both : (xs ys : List (ℕ × X)) → IsDistinct eqb (keys_of xs) → IsDistinct eqb (keys_of ys) → ApartEntries xs ys
+  pub distinct_of_both : (xs ys : List (ℕ × X)) → IsDistinct eqb (keys_of xs) → IsDistinct eqb (keys_of ys) → IsAway xs ys
       → IsDistinct eqb (keys_of (xs ++ ys))
   distinct_of_both [] ys h k apart = k
   distinct_of_both (e ∷ xs) ys h k apart =

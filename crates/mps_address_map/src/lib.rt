@@ -3,6 +3,7 @@
 
 mod crowd;
 mod map;
+mod table;
 
 pub use map::AddressMap;
 

@@ -1,34 +1,48 @@
 // A map by addresses.
 
-ghost use Rattle.std.specs.Prelude.{◌≡◌, ◌⊎◌, ℕ, List, Some, None, true, false, is_some, IfOk, OnOk, OnErr};
-ghost use Rattle.mps_address_map.specs.AddressMap.{found_at, Changes, Lists};
+ghost use Rattle.std.specs.Prelude.{◌≡◌, ◌++◌, Some, None, IfOk, OnOk, OnErr};
+ghost use Rattle.mps_address_map.specs.AddressMap.{found_at, Changes, Lists, AreApart};
+ghost use Rattle.mps_address_map.specs.declared.map.Part.TheVariants.{First, Second, Ordered};
 
-use crate::crowd::Crowd;
-use indexmap::IndexMap;
+use crate::table::Table;
 use std::alloc::{AllocError, Global};
 use std::collections::BTreeMap;
-use std::hash::BuildHasher;
+use std::hash::{BuildHasherDefault, DefaultHasher, FoldHasher};
 use std::marker::Model;
 
-/// A map by addresses. A hash table has most of them, and an ordered map those whose hashes are crowded; so a call takes at
-/// most logarithmic time, whatever the addresses are. The hash has no secret.
+/// The table that has most addresses.
+type FirstTable<V> = Table<V, BuildHasherDefault<FoldHasher>>;
+
+/// The table that has addresses whose hashes are crowded in the first, by another hash.
+type SecondTable<V> = Table<V, BuildHasherDefault<DefaultHasher>>;
+
+/// A map by addresses. A hash table has most of them. An address whose hash is crowded there is in a second table, by another
+/// hash, and one whose hash is crowded in both is in an ordered map. So a call takes at most logarithmic time, whatever the
+/// addresses are. The hashes have no secret.
 #[derive(Drop)]
 pub struct AddressMap<V: Copy> {
     alloc: Global,
-    hashed: IndexMap<u64, V>,
+    first: FirstTable<V>,
+    second: SecondTable<V>,
     ordered: BTreeMap<u64, V>,
-    crowd: Crowd,
 }
 
 impl<V: Copy> Model for AddressMap<V> {
-    ghost use Rattle.std.specs.Prelude.{◌≡◌, ℕ, List, ◌++◌, is_some, None, true};
-    ghost use Rattle.mps_address_map.specs.AddressMap.{found_at};
+    ghost use Rattle.std.specs.Prelude.{ℕ, List, ◌++◌};
+    ghost use Rattle.mps_address_map.specs.AddressMap.{AreApart};
 
     ghost Value = { List (ℕ × V) };
 
-    ghost view = { λ m. m.hashed.entries ++ m.ordered.entries };
+    ghost view = { λ m. m.first ++ (m.second ++ m.ordered.entries) };
 
-    ghost invariant = { λ m. (at : ℕ) → is_some (found_at m.hashed.entries at) ≡ true → found_at m.ordered.entries at ≡ None };
+    ghost invariant = { λ m. AreApart m.first m.second m.ordered.entries };
+}
+
+/// Which part of a map is to have an address.
+enum Part {
+    First,
+    Second,
+    Ordered,
 }
 
 impl<V: Copy> AddressMap<V> {
@@ -40,9 +54,9 @@ impl<V: Copy> AddressMap<V> {
     {
         AddressMap {
             alloc,
-            hashed: IndexMap::new(alloc),
+            first: Table::new(alloc, BuildHasherDefault::new()),
+            second: Table::new(alloc, BuildHasherDefault::new()),
             ordered: BTreeMap::new(alloc),
-            crowd: Crowd::new(alloc),
         }
     }
 
@@ -51,9 +65,9 @@ impl<V: Copy> AddressMap<V> {
     pub fn get(&self, at: u64) -> Option<V>
         ensures { result ≡ found_at self.now at }
     {
-        match self.hashed.get(&at) {
-            Some(value) => Some(*value),
-            None => self.ordered.get(&at).copied(),
+        match self.first.get(at) {
+            Some(value) => Some(value),
+            None => get_later(&self.second, &self.ordered, at),
         }
     }
 
@@ -63,18 +77,10 @@ impl<V: Copy> AddressMap<V> {
         ensures old { IfOk result (λ old. old ≡ found_at self.old at) }
         ensures changes { OnOk result (Changes self.old self.new at (Some value)) }
     {
-        let hash = self.hashed.hasher().hash_one(at);
-        if is_kept_in_order(&self.hashed, &self.ordered, &self.crowd, at, hash) {
-            insert_ordered(&mut self.ordered, at, value)
-        } else {
-            insert_hashed(
-                self.alloc,
-                &mut self.hashed,
-                &mut self.crowd,
-                at,
-                value,
-                hash,
-            )
+        match part_of(&self.first, &self.second, &self.ordered, at) {
+            Part::First => self.first.insert(at, value),
+            Part::Second => self.second.insert(at, value),
+            Part::Ordered => insert_ordered(&mut self.ordered, at, value),
         }
     }
 
@@ -84,13 +90,12 @@ impl<V: Copy> AddressMap<V> {
         ensures value { result ≡ found_at self.old at }
         ensures changes { Changes self.old self.new at None }
     {
-        let hash = self.hashed.hasher().hash_one(at);
-        match self.hashed.swap_remove(&at) {
-            Some(value) => {
-                self.crowd.leave(hash);
-                Some(value)
-            }
-            None => self.ordered.remove(&at),
+        match self.first.remove(at) {
+            Some(value) => Some(value),
+            None => match self.second.remove(at) {
+                Some(value) => Some(value),
+                None => self.ordered.remove(&at),
+            },
         }
     }
 
@@ -98,33 +103,72 @@ impl<V: Copy> AddressMap<V> {
     pub fn into_sorted(self) -> Result<Vec<(u64, V)>, AllocError>
         ensures { IfOk result (λ entries. Lists self entries.items) }
     {
-        let mut entries: Vec<(u64, V)> = self.hashed.into_iter().collect(self.alloc)?;
+        let mut entries: Vec<(u64, V)> = Vec::new(self.alloc);
+        self.first.append_to(&mut entries)?;
+        self.second.append_to(&mut entries)?;
         entries.extend(self.ordered)?;
         entries.sort_unstable_by_key(|entry| entry.0);
         Ok(entries)
     }
 }
 
-/// Whether the ordered map is to have an address: then the table hasn't, and else the ordered map hasn't.
-#[inline(always)]
-fn is_kept_in_order<V: Copy>(
-    hashed: &IndexMap<u64, V>,
-    ordered: &BTreeMap<u64, V>,
-    crowd: &Crowd,
-    at: u64,
-    hash: u64,
-) -> bool
-    requires once { (q : ℕ) → is_some (found_at hashed.now.entries q) ≡ true → found_at ordered.now.entries q ≡ None }
-    ensures ordered { result ≡ true → found_at hashed.now.entries at ≡ None }
-    ensures hashed { result ≡ false → found_at ordered.now.entries at ≡ None }
+/// The value at an address, if the first table hasn't the address.
+#[inline(never)]
+fn get_later<V: Copy>(second: &SecondTable<V>, ordered: &BTreeMap<u64, V>, at: u64) -> Option<V>
+    ensures { result ≡ found_at (second.now ++ ordered.now.entries) at }
 {
-    if ordered.is_empty() && !crowd.is_full(hash) {
-        return false;
+    match second.get(at) {
+        Some(value) => Some(value),
+        None => ordered.get(&at).copied(),
     }
-    if hashed.contains_key(&at) {
-        return false;
+}
+
+/// Which part is to have an address: the one that has it, else the first that isn't crowded there. No other part has it.
+#[inline(always)]
+fn part_of<V: Copy>(
+    first: &FirstTable<V>,
+    second: &SecondTable<V>,
+    ordered: &BTreeMap<u64, V>,
+    at: u64,
+) -> Part
+    requires apart { AreApart first.now second.now ordered.now.entries }
+    ensures first { result ≡ First → (found_at second.now at ≡ None) × (found_at ordered.now.entries at ≡ None) }
+    ensures second { result ≡ Second → (found_at first.now at ≡ None) × (found_at ordered.now.entries at ≡ None) }
+    ensures ordered { result ≡ Ordered → (found_at first.now at ≡ None) × (found_at second.now at ≡ None) }
+{
+    if second.is_empty() && ordered.is_empty() && !first.is_crowded(at) {
+        Part::First
+    } else {
+        part_of_any(first, second, ordered, at)
     }
-    crowd.is_full(hash) || ordered.contains_key(&at)
+}
+
+/// The same, where an address may be in each part.
+#[inline(never)]
+fn part_of_any<V: Copy>(
+    first: &FirstTable<V>,
+    second: &SecondTable<V>,
+    ordered: &BTreeMap<u64, V>,
+    at: u64,
+) -> Part
+    requires apart { AreApart first.now second.now ordered.now.entries }
+    ensures first { result ≡ First → (found_at second.now at ≡ None) × (found_at ordered.now.entries at ≡ None) }
+    ensures second { result ≡ Second → (found_at first.now at ≡ None) × (found_at ordered.now.entries at ≡ None) }
+    ensures ordered { result ≡ Ordered → (found_at first.now at ≡ None) × (found_at second.now at ≡ None) }
+{
+    if first.has(at) {
+        Part::First
+    } else if second.has(at) {
+        Part::Second
+    } else if ordered.contains_key(&at) {
+        Part::Ordered
+    } else if !first.is_crowded(at) {
+        Part::First
+    } else if !second.is_crowded(at) {
+        Part::Second
+    } else {
+        Part::Ordered
+    }
 }
 
 #[inline(never)]
@@ -140,40 +184,5 @@ fn insert_ordered<V: Copy>(
     match ordered.insert(at, value) {
         Ok(old) => Ok(old),
         Err(_) => Err(AllocError),
-    }
-}
-
-#[inline(always)]
-fn insert_hashed<V: Copy>(
-    alloc: Global,
-    hashed: &mut IndexMap<u64, V>,
-    crowd: &mut Crowd,
-    at: u64,
-    value: V,
-    hash: u64,
-) -> Result<Option<V>, AllocError>
-    ensures old { IfOk result (λ old. old ≡ found_at hashed.old.entries at) }
-    ensures changes { OnOk result (Changes hashed.old.entries hashed.new.entries at (Some value)) }
-    ensures same { OnErr result (hashed.new.entries ≡ hashed.old.entries) }
-{
-    let Ok(old) = hashed.insert(at, value) else {
-        return Err(AllocError);
-    };
-    if old.is_none() {
-        crowd.enter(hash);
-        if crowd.is_outgrown(hashed.len()) {
-            recount(alloc, hashed, crowd);
-        }
-    }
-    Ok(old)
-}
-
-/// Counts the hashes of a table anew.
-#[cold]
-#[inline(never)]
-fn recount<V: Copy>(alloc: Global, hashed: &IndexMap<u64, V>, crowd: &mut Crowd) {
-    crowd.clear(alloc, hashed.len());
-    for at in hashed.keys() {
-        crowd.enter(hashed.hasher().hash_one(*at));
     }
 }
