@@ -3,7 +3,9 @@ pub mod FirstWord
 pub mod Headed
 pub mod Heads
 pub mod NameBytes
+pub mod NameTable
 pub mod OneDigit
+pub mod NoDigit
 pub mod FirstName
 pub mod FirstSlot
 pub mod Unique

@@ -1,7 +1,7 @@
 -- The bytes of a name, gathered as numbers of 64 bits, the first of them lowest.
-use Rattle.std.proofs.Common.{◌≡◌, ℕ, zero, suc, ◌+◌, ◌-◌, ◌*◌, ◌/◌, ◌%◌, ◌^◌, ◌<◌, ◌≤◌, List, [], ◌∷◌, ◌++◌, length, drop, replicate, get_or, refl, sym, ap, ◌∙◌, arith}
+use Rattle.std.proofs.Common.{◌≡◌, ℕ, zero, suc, ◌+◌, ◌-◌, ◌*◌, ◌/◌, ◌%◌, ◌^◌, ◌<◌, ◌≤◌, pow-add, List, [], ◌∷◌, ◌++◌, length, take, drop, replicate, get_or, refl, sym, ap, ◌∙◌, arith}
 use Rattle.std.proofs.Math.Nat.{div-div-eq-div-mul, pow-succ'}
-use Rattle.std.proofs.lemmas.List.{append_assoc, drop-append-le, get_or-drop, length-drop}
+use Rattle.std.proofs.lemmas.List.{append_assoc, drop-append-le, drop-drop, get_or-drop, length-drop, length-take, take_all}
 use Rattle.std.specs.Int.{byte_at, bytes_low_first}
 use Rattle.mps_line_words.specs.Gathered.{gathered}
 
@@ -61,6 +61,12 @@ short_bytes bytes low le fits is =
 IsBytes-drop : (n : ℕ) (bytes : List ℕ) → IsBytes bytes → IsBytes (drop n bytes)
 IsBytes-drop n bytes h i = rw get_or-drop (h (n + i))
 
+IsBytes-take : (n : ℕ) (bytes : List ℕ) → IsBytes bytes → IsBytes (take n bytes)
+IsBytes-take zero bytes h i = omega arith
+IsBytes-take (suc n) [] h i = omega arith
+IsBytes-take (suc n) (byte ∷ bytes) h zero = h 0
+IsBytes-take (suc n) (byte ∷ bytes) h (suc i) = IsBytes-take n bytes (λ k. h (suc k)) i
+
 -- seven of eight bytes, with room for one more
 pub few_below : (bytes : List ℕ) (left : ℕ) → 1 ≤ left → length bytes ≤ 8 → IsBytes bytes → gathered (drop left bytes) < 256 ^ 7
 few_below bytes left some le fits =
@@ -80,3 +86,81 @@ one_before bytes left number byte some within is so_far =
     let there = one_at bytes (left - 1) (omega arith) in
     let rest : gathered (drop (suc (left - 1)) bytes) ≡ gathered (drop left bytes) = ap (λ (n : ℕ). gathered (drop n bytes)) up in
     omega (arith, there, rest, is, so_far)
+
+-- ---- four bytes at a time
+
+four : (bytes : List ℕ) → 4 ≤ length bytes
+    → gathered (take 4 bytes) ≡ get_or bytes 0 0 + 256 * (get_or bytes 1 0 + 256 * (get_or bytes 2 0 + 256 * get_or bytes 3 0))
+four [] le = absurd (omega arith)
+four (a ∷ []) le = absurd (omega arith)
+four (a ∷ b ∷ []) le = absurd (omega arith)
+four (a ∷ b ∷ c ∷ []) le = absurd (omega arith)
+four (a ∷ b ∷ c ∷ d ∷ bytes) le = omega arith
+
+pub four_at : (bytes : List ℕ) (at : ℕ) → at + 4 ≤ length bytes
+    → gathered (take 4 (drop at bytes))
+    ≡ get_or bytes at 0 + 256 * (get_or bytes (at + 1) 0 + 256 * (get_or bytes (at + 2) 0 + 256 * get_or bytes (at + 3) 0))
+four_at bytes at le =
+    let same : at + 0 ≡ at = omega arith in
+    let first : get_or (drop at bytes) 0 0 ≡ get_or bytes at 0 =
+    get_or-drop at bytes 0 0 ∙ ap (λ (i : ℕ). get_or bytes i 0) same
+    in
+    omega (
+      arith,
+      four (drop at bytes) (omega (arith, le, length-drop at bytes)),
+      first,
+      get_or-drop at bytes 1 0,
+      get_or-drop at bytes 2 0,
+      get_or-drop at bytes 3 0,
+    )
+
+-- the number of four bytes is below 2^32
+pub four_below : (bytes : List ℕ) (at : ℕ) → IsBytes bytes → gathered (take 4 (drop at bytes)) < 4294967296
+four_below bytes at fits =
+    omega (
+      arith,
+      gathered_below 4 (take 4 (drop at bytes)) (omega (arith, length-take 4 (drop at bytes)))
+          (IsBytes-take 4 (drop at bytes) (IsBytes-drop at bytes fits)),
+    )
+
+-- without its lowest bytes, it is the number of the others
+gathered_above : (k : ℕ) (bytes : List ℕ) → IsBytes bytes → gathered bytes / 2 ^ (8 * k) ≡ gathered (drop k bytes)
+gathered_above zero bytes fits = omega arith
+gathered_above (suc k) [] fits = omega arith
+gathered_above (suc k) (byte ∷ bytes) fits =
+    let low : byte < 256 = fits 0 in
+    let one : (byte + 256 * gathered bytes) / 256 ≡ gathered bytes = omega arith in
+    rw (power, sym (div-div-eq-div-mul (byte + 256 * gathered bytes) 256 (2 ^ (8 * k))), one)
+    (gathered_above k bytes (λ i. fits (suc i)))
+  where
+    power : 2 ^ (8 * suc k) ≡ 256 * 2 ^ (8 * k)
+    power = ap (λ (n : ℕ). 2 ^ n) (let e : 8 * suc k ≡ 8 + 8 * k = omega arith in e) ∙ pow-add 2 8 (8 * k)
+
+of_halves : (bytes : List ℕ) → 4 ≤ length bytes → gathered bytes ≡ gathered (take 4 bytes) + 4294967296 * gathered (drop 4 bytes)
+of_halves [] le = absurd (omega arith)
+of_halves (a ∷ []) le = absurd (omega arith)
+of_halves (a ∷ b ∷ []) le = absurd (omega arith)
+of_halves (a ∷ b ∷ c ∷ []) le = absurd (omega arith)
+of_halves (a ∷ b ∷ c ∷ d ∷ bytes) le = omega arith
+
+-- the number of four to eight bytes, by the first four and the last four of them
+pub halves : (bytes : List ℕ) (low last high : ℕ) → 4 ≤ length bytes → length bytes ≤ 8 → IsBytes bytes
+    → low ≡ gathered (take 4 (drop 0 bytes)) → last ≡ gathered (take 4 (drop (length bytes - 4) bytes))
+    → high ≡ last / 2 ^ (8 * (8 - length bytes))
+    → (high < 4294967296) × (low + high * 4294967296 ≡ gathered bytes)
+halves bytes low last high some few fits low_is last_is high_is =
+    let n = length bytes in
+    let tail = drop (n - 4) bytes in
+    let whole : take 4 tail ≡ tail = take_all 4 tail (omega (arith, length-drop (n - 4) bytes)) in
+    let above : gathered tail / 2 ^ (8 * (8 - n)) ≡ gathered (drop (8 - n) tail) =
+    gathered_above (8 - n) tail (IsBytes-drop (n - 4) bytes fits)
+    in
+    let sum : n - 4 + (8 - n) ≡ 4 = omega arith in
+    let rest : gathered (drop (8 - n) tail) ≡ gathered (drop 4 bytes) =
+    ap gathered (drop-drop (8 - n) (n - 4) bytes) ∙ ap (λ (k : ℕ). gathered (drop k bytes)) sum
+    in
+    let others : high ≡ gathered (drop 4 bytes) =
+    high_is ∙ ap (λ (x : ℕ). x / 2 ^ (8 * (8 - n))) (last_is ∙ ap gathered whole) ∙ above ∙ rest
+    in
+    let below = gathered_below 4 (drop 4 bytes) (omega (arith, length-drop 4 bytes)) (IsBytes-drop 4 bytes fits) in
+    (omega (arith, others, below), omega (arith, of_halves bytes some, low_is, others))

@@ -1,5 +1,5 @@
 // Names, as words and at the beginning of a line.
-ghost use Rattle.std.specs.Prelude.{◌≡◌, ◌≤◌, None, Some, length, IfSome, MatchOption};
+ghost use Rattle.std.specs.Prelude.{◌≡◌, ◌+◌, ◌≤◌, None, Some, length, take, drop, IfSome, MatchOption};
 ghost use Rattle.std.specs.Int.{bytes_low_first};
 ghost use Rattle.mps_base.specs.Name.{is_name_byte};
 ghost use Rattle.mps_line_words.specs.Gathered.{gathered};
@@ -14,12 +14,39 @@ use std::marker::Model;
 /// The bytes that are gathered in a number.
 const GATHERED_BYTES: usize = 8;
 
+/// The bytes of half of such a number.
+const HALF_BYTES: usize = 4;
+
+/// Which bytes may stand in a name.
+static NAME_BYTES: [bool; 256] = [
+    false, false, false, false, false, false, false, false, false, false, false, false, false,
+    false, false, false, false, false, false, false, false, false, false, false, false, false,
+    false, false, false, false, false, false, false, false, false, false, false, false, false,
+    false, false, false, false, false, false, false, false, false, true, true, true, true, true,
+    true, true, true, true, true, false, false, false, false, false, false, false, false, false,
+    false, false, false, false, false, false, false, false, false, false, false, false, false,
+    false, false, false, false, false, false, false, false, false, false, false, false, false,
+    false, false, true, false, true, true, true, true, true, true, true, true, true, true, true,
+    true, true, true, true, true, true, true, true, true, true, true, true, true, true, true,
+    false, false, false, false, false, false, false, false, false, false, false, false, false,
+    false, false, false, false, false, false, false, false, false, false, false, false, false,
+    false, false, false, false, false, false, false, false, false, false, false, false, false,
+    false, false, false, false, false, false, false, false, false, false, false, false, false,
+    false, false, false, false, false, false, false, false, false, false, false, false, false,
+    false, false, false, false, false, false, false, false, false, false, false, false, false,
+    false, false, false, false, false, false, false, false, false, false, false, false, false,
+    false, false, false, false, false, false, false, false, false, false, false, false, false,
+    false, false, false, false, false, false, false, false, false, false, false, false, false,
+    false, false, false, false, false, false, false, false, false, false, false, false, false,
+    false, false, false,
+];
+
 /// Whether a byte may stand in a name. Spaces and dots, at which a name ends, are found by the first comparison.
 #[inline(always)]
 fn is_name_byte(byte: u8) -> bool
     ensures { result ≡ is_name_byte byte }
 {
-    byte >= b'0' && (byte <= b'9' || byte.is_ascii_lowercase() || byte == b'_')
+    byte >= b'0' && NAME_BYTES[byte as usize]
 }
 
 /// What stands after the bytes at the beginning that may stand in a name.
@@ -71,9 +98,9 @@ pub fn next_name(bytes: &[u8]) -> Option<(&[u8], &[u8])>
     name_at(after_spaces(bytes))
 }
 
-/// The number whose bytes these are, the first lowest.
+/// The number whose bytes these are, the first lowest. They are read one by one.
 #[inline(always)]
-fn gathered(bytes: &[u8]) -> u64
+fn gathered_singly(bytes: &[u8]) -> u64
     requires { length bytes.now ≤ 8 }
     ensures { result ≡ gathered bytes.now }
 {
@@ -84,6 +111,33 @@ fn gathered(bytes: &[u8]) -> u64
         left -= 1;
     }
     number
+}
+
+/// The number of the four bytes from an index on, the first lowest. The compiler makes one load of it.
+#[inline(always)]
+fn gathered_four(bytes: &[u8], at: usize) -> u64
+    requires { at + 4 ≤ length bytes.now }
+    ensures { result ≡ gathered (take 4 (drop at bytes.now)) }
+{
+    let low = u64::from(bytes[at]) + 256 * u64::from(bytes[at + 1]);
+    let high = u64::from(bytes[at + 2]) + 256 * u64::from(bytes[at + 3]);
+    low + 65536 * high
+}
+
+/// The number whose bytes these are, the first lowest. Of four bytes or more the first four are one half, and the other half is what
+/// is above them in the last four.
+#[inline(always)]
+fn gathered(bytes: &[u8]) -> u64
+    requires { length bytes.now ≤ 8 }
+    ensures { result ≡ gathered bytes.now }
+{
+    if bytes.len() < HALF_BYTES {
+        return gathered_singly(bytes);
+    }
+    let low = gathered_four(bytes, 0);
+    let last = gathered_four(bytes, bytes.len() - HALF_BYTES);
+    let high = last >> (8 * (GATHERED_BYTES - bytes.len()));
+    low + high * 0x1_0000_0000
 }
 
 /// The same of a word of more than 8 bytes.

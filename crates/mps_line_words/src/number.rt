@@ -60,7 +60,7 @@ fn long_decimal_at(bytes: &[u8]) -> Option<(u64, &[u8])>
     Some((n, rest))
 }
 
-/// The word at the beginning as a number, decimal or hexadecimal, and what stands after it.
+/// The word at the beginning as a number, decimal or hexadecimal, and what stands after it. Either begins with a digit.
 #[inline(always)]
 fn value_at(bytes: &[u8]) -> Option<(u64, &[u8])>
     ensures { MatchOption result (number_of (word_at bytes.now) ≡ None)
@@ -69,7 +69,8 @@ fn value_at(bytes: &[u8]) -> Option<(u64, &[u8])>
     match bytes {
         [digit @ b'0'..=b'9'] => Some((u64::from(*digit - b'0'), &bytes[1..])),
         [digit @ b'0'..=b'9', b' ', ..] => Some((u64::from(*digit - b'0'), &bytes[1..])),
-        _ => long_value_at(bytes),
+        [b'0'..=b'9', ..] => long_value_at(bytes),
+        _ => None,
     }
 }
 

@@ -1,3 +1,4 @@
 pub mod Padded
 pub mod Capacities
 pub mod Classes
+pub mod Filling

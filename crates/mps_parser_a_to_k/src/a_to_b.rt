@@ -37,7 +37,7 @@ pub fn call_of_a_to_b(line: &[u8], into: &mut Call) -> Option<()>
 }
 
 /// `addr S`.
-#[inline(always)]
+#[inline(never)]
 fn address(arguments: &[u8], into: &mut Call) -> Option<()>
     ensures { filled result into.new ≡ one slot_of call.Address (words arguments.now) }
 {
@@ -47,7 +47,7 @@ fn address(arguments: &[u8], into: &mut Call) -> Option<()>
 }
 
 /// `alloc P SIZE B.I`.
-#[inline(always)]
+#[inline(never)]
 fn alloc(arguments: &[u8], into: &mut Call) -> Option<()>
     ensures { filled result into.new ≡ three name_of decimal_number slot_of call.Alloc (words arguments.now) }
 {
@@ -61,6 +61,7 @@ fn alloc(arguments: &[u8], into: &mut Call) -> Option<()>
 }
 
 /// `area A N`.
+#[inline(never)]
 fn area(arguments: &[u8], into: &mut Call) -> Option<()>
     ensures { filled result into.new ≡ two name_of length_of_root call.Area (words arguments.now) }
 {
@@ -70,6 +71,7 @@ fn area(arguments: &[u8], into: &mut Call) -> Option<()>
 }
 
 /// `arena GRAINS LIMIT`.
+#[inline(never)]
 fn arena(arguments: &[u8], into: &mut Call) -> Option<()>
     ensures { filled result into.new ≡ two (grains_from 1) (grains_from 0) call.Arena (words arguments.now) }
 {
@@ -79,6 +81,7 @@ fn arena(arguments: &[u8], into: &mut Call) -> Option<()>
 }
 
 /// `blocks B N`.
+#[inline(never)]
 fn blocks(arguments: &[u8], into: &mut Call) -> Option<()>
     ensures { filled result into.new ≡ two name_of length_of_root call.Blocks (words arguments.now) }
 {
@@ -88,6 +91,7 @@ fn blocks(arguments: &[u8], into: &mut Call) -> Option<()>
 }
 
 /// `ap X P exact` or `ap X P weak`.
+#[inline(never)]
 fn point(arguments: &[u8], into: &mut Call) -> Option<()>
     ensures { filled result into.new ≡ three name_of name_of (named_in ranks) call.Point (words arguments.now) }
 {

@@ -46,6 +46,7 @@ pub fn call_of_c(line: &[u8], into: &mut Call) -> Option<()>
 }
 
 /// `clamp`.
+#[inline(never)]
 fn clamp(arguments: &[u8], into: &mut Call) -> Option<()>
     ensures { filled result into.new ≡ none call.Clamp (words arguments.now) }
 {
@@ -55,6 +56,7 @@ fn clamp(arguments: &[u8], into: &mut Call) -> Option<()>
 }
 
 /// `clear S`.
+#[inline(never)]
 fn clear(arguments: &[u8], into: &mut Call) -> Option<()>
     ensures { filled result into.new ≡ one slot_of call.Clear (words arguments.now) }
 {
@@ -64,6 +66,7 @@ fn clear(arguments: &[u8], into: &mut Call) -> Option<()>
 }
 
 /// `collect`.
+#[inline(never)]
 fn collect(arguments: &[u8], into: &mut Call) -> Option<()>
     ensures { filled result into.new ≡ none call.Collect (words arguments.now) }
 {
@@ -73,7 +76,7 @@ fn collect(arguments: &[u8], into: &mut Call) -> Option<()>
 }
 
 /// `commit X SLOT`.
-#[inline(always)]
+#[inline(never)]
 fn commit(arguments: &[u8], into: &mut Call) -> Option<()>
     ensures { filled result into.new ≡ two name_of slot_of call.Commit (words arguments.now) }
 {
@@ -86,6 +89,7 @@ fn commit(arguments: &[u8], into: &mut Call) -> Option<()>
 }
 
 /// `committed`.
+#[inline(never)]
 fn committed(arguments: &[u8], into: &mut Call) -> Option<()>
     ensures { filled result into.new ≡ none call.Committed (words arguments.now) }
 {
@@ -95,7 +99,7 @@ fn committed(arguments: &[u8], into: &mut Call) -> Option<()>
 }
 
 /// `copy DST SRC`.
-#[inline(always)]
+#[inline(never)]
 fn copy(arguments: &[u8], into: &mut Call) -> Option<()>
     ensures { filled result into.new ≡ two slot_of slot_of call.Copy (words arguments.now) }
 {

@@ -70,6 +70,7 @@ fn classes(arguments: &[u8]) -> Option<(u8, Classes)>
 }
 
 /// `cache Q P CLASSES`, after `cache`.
+#[inline(never)]
 pub fn cache(arguments: &[u8], into: &mut Call) -> Option<()>
     ensures { filled result into.new ≡ cache (words arguments.now) }
 {
@@ -89,7 +90,7 @@ pub fn cache(arguments: &[u8], into: &mut Call) -> Option<()>
 }
 
 /// `calloc Q SIZE B.I`, after `calloc`.
-#[inline(always)]
+#[inline(never)]
 pub fn cache_alloc(arguments: &[u8], into: &mut Call) -> Option<()>
     ensures { filled result into.new ≡ three name_in decimal_in slot_of call.CacheAlloc (words arguments.now) }
 {
@@ -103,6 +104,7 @@ pub fn cache_alloc(arguments: &[u8], into: &mut Call) -> Option<()>
 }
 
 /// `cflush Q`, after `cflush`.
+#[inline(never)]
 pub fn cache_flush(arguments: &[u8], into: &mut Call) -> Option<()>
     ensures { filled result into.new ≡ one name_in call.CacheFlush (words arguments.now) }
 {
@@ -114,7 +116,7 @@ pub fn cache_flush(arguments: &[u8], into: &mut Call) -> Option<()>
 }
 
 /// `cfree Q B.I`, after `cfree`.
-#[inline(always)]
+#[inline(never)]
 pub fn cache_free(arguments: &[u8], into: &mut Call) -> Option<()>
     ensures { filled result into.new ≡ two name_in slot_of call.CacheFree (words arguments.now) }
 {

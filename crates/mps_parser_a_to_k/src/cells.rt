@@ -4,25 +4,29 @@ ghost use Rattle.mps_line_words.specs.Word.{words};
 ghost use Rattle.mps_grammar.specs.Filled.{filled};
 ghost use Rattle.mps_grammar.specs.Form.{init};
 
-use mps_line_words::{name_of, next_word, slot, value};
+use mps_line_words::{WrittenName, next_decimal, next_name, slot, value};
 use mps_model::Call;
-use mps_numerals::decimal_number;
 
 /// `init X K VALUE` or `init X K SLOT`.
-#[inline(always)]
+#[inline(never)]
 pub fn init(arguments: &[u8], into: &mut Call) -> Option<()>
     ensures { filled result into.new ≡ init (words arguments.now) }
 {
-    let (first, rest) = next_word(arguments)?;
-    let point = name_of(first)?;
-    let (second, rest) = next_word(rest)?;
-    let cell = decimal_number(second)?;
+    let (word, rest) = next_name(arguments)?;
+    let point = WrittenName::new(word);
+    let (cell, rest) = next_decimal(rest)?;
     match value(rest) {
-        Some(value) => *into = Call::InitNumber { point, cell, value },
+        Some(value) => {
+            *into = Call::InitNumber {
+                point: point.name(),
+                cell,
+                value,
+            };
+        }
         None => {
             let source = slot(rest)?;
             *into = Call::InitReference {
-                point,
+                point: point.name(),
                 cell,
                 source: source.slot(),
             };

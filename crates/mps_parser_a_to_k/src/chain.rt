@@ -35,6 +35,7 @@ fn capacities(arguments: &[u8]) -> Option<(u8, [u64; MAX_GENERATIONS])>
 }
 
 /// `chain C CAPS`, after `chain`.
+#[inline(never)]
 pub fn chain(arguments: &[u8], into: &mut Call) -> Option<()>
     ensures { filled result into.new ≡ chain (words arguments.now) }
 {

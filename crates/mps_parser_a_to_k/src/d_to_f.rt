@@ -36,6 +36,7 @@ pub fn call_of_d_to_f(line: &[u8], into: &mut Call) -> Option<()>
 }
 
 /// `definalize S`.
+#[inline(never)]
 fn definalize(arguments: &[u8], into: &mut Call) -> Option<()>
     ensures { filled result into.new ≡ one slot_of call.Definalize (words arguments.now) }
 {
@@ -45,6 +46,7 @@ fn definalize(arguments: &[u8], into: &mut Call) -> Option<()>
 }
 
 /// `depend S T`, after `depend`.
+#[inline(never)]
 pub fn depend(arguments: &[u8], into: &mut Call) -> Option<()>
     ensures { filled result into.new ≡ two slot_of slot_of call.Depend (words arguments.now) }
 {
@@ -57,6 +59,7 @@ pub fn depend(arguments: &[u8], into: &mut Call) -> Option<()>
 }
 
 /// `dropap X`.
+#[inline(never)]
 fn drop_point(arguments: &[u8], into: &mut Call) -> Option<()>
     ensures { filled result into.new ≡ one name_of call.DropPoint (words arguments.now) }
 {
@@ -68,6 +71,7 @@ fn drop_point(arguments: &[u8], into: &mut Call) -> Option<()>
 }
 
 /// `droproot R`.
+#[inline(never)]
 fn drop_root(arguments: &[u8], into: &mut Call) -> Option<()>
     ensures { filled result into.new ≡ one name_of call.DropRoot (words arguments.now) }
 {
@@ -77,6 +81,7 @@ fn drop_root(arguments: &[u8], into: &mut Call) -> Option<()>
 }
 
 /// `dump HEX`.
+#[inline(never)]
 fn dump(arguments: &[u8], into: &mut Call) -> Option<()>
     ensures { filled result into.new ≡ one prefixed_hexadecimal call.Dump (words arguments.now) }
 {
@@ -86,6 +91,7 @@ fn dump(arguments: &[u8], into: &mut Call) -> Option<()>
 }
 
 /// `finalize S`.
+#[inline(never)]
 fn finalize(arguments: &[u8], into: &mut Call) -> Option<()>
     ensures { filled result into.new ≡ one slot_of call.Finalize (words arguments.now) }
 {
@@ -95,6 +101,7 @@ fn finalize(arguments: &[u8], into: &mut Call) -> Option<()>
 }
 
 /// `free B.I`.
+#[inline(never)]
 fn free(arguments: &[u8], into: &mut Call) -> Option<()>
     ensures { filled result into.new ≡ one slot_of call.Free (words arguments.now) }
 {

@@ -31,7 +31,7 @@ pub fn call_of_g_to_k(line: &[u8], into: &mut Call) -> Option<()>
 }
 
 /// `get DST SRC K`.
-#[inline(always)]
+#[inline(never)]
 fn get(arguments: &[u8], into: &mut Call) -> Option<()>
     ensures { filled result into.new ≡ three slot_of slot_of decimal_number call.Get (words arguments.now) }
 {
@@ -45,6 +45,7 @@ fn get(arguments: &[u8], into: &mut Call) -> Option<()>
 }
 
 /// `head S`.
+#[inline(never)]
 fn head(arguments: &[u8], into: &mut Call) -> Option<()>
     ensures { filled result into.new ≡ one slot_of call.Head (words arguments.now) }
 {
@@ -54,6 +55,7 @@ fn head(arguments: &[u8], into: &mut Call) -> Option<()>
 }
 
 /// `intern L`.
+#[inline(never)]
 fn intern(arguments: &[u8], into: &mut Call) -> Option<()>
     ensures { filled result into.new ≡ one name_of call.Intern (words arguments.now) }
 {

@@ -41,6 +41,7 @@ pub fn call_of_l(line: &[u8], into: &mut Call) -> Option<()>
 }
 
 /// `ld D`.
+#[inline(never)]
 fn dependency(arguments: &[u8], into: &mut Call) -> Option<()>
     ensures { filled result into.new ≡ one name_of call.Dependency (words arguments.now) }
 {
@@ -52,6 +53,7 @@ fn dependency(arguments: &[u8], into: &mut Call) -> Option<()>
 }
 
 /// `ldadd D S`.
+#[inline(never)]
 fn dependency_add(arguments: &[u8], into: &mut Call) -> Option<()>
     ensures { filled result into.new ≡ two name_of slot_of call.DependencyAdd (words arguments.now) }
 {
@@ -64,6 +66,7 @@ fn dependency_add(arguments: &[u8], into: &mut Call) -> Option<()>
 }
 
 /// `ldmerge D E`.
+#[inline(never)]
 fn dependency_merge(arguments: &[u8], into: &mut Call) -> Option<()>
     ensures { filled result into.new ≡ two name_of name_of call.DependencyMerge (words arguments.now) }
 {
@@ -76,6 +79,7 @@ fn dependency_merge(arguments: &[u8], into: &mut Call) -> Option<()>
 }
 
 /// `ldreset D`.
+#[inline(never)]
 fn dependency_reset(arguments: &[u8], into: &mut Call) -> Option<()>
     ensures { filled result into.new ≡ one name_of call.DependencyReset (words arguments.now) }
 {
@@ -87,6 +91,7 @@ fn dependency_reset(arguments: &[u8], into: &mut Call) -> Option<()>
 }
 
 /// `ldstale D`.
+#[inline(never)]
 fn dependency_stale(arguments: &[u8], into: &mut Call) -> Option<()>
     ensures { filled result into.new ≡ one name_of call.DependencyStale (words arguments.now) }
 {
@@ -98,7 +103,7 @@ fn dependency_stale(arguments: &[u8], into: &mut Call) -> Option<()>
 }
 
 /// `label S L`.
-#[inline(always)]
+#[inline(never)]
 fn label(arguments: &[u8], into: &mut Call) -> Option<()>
     ensures { filled result into.new ≡ two slot_of name_of call.Label (words arguments.now) }
 {
@@ -111,6 +116,7 @@ fn label(arguments: &[u8], into: &mut Call) -> Option<()>
 }
 
 /// `limit N`.
+#[inline(never)]
 fn limit(arguments: &[u8], into: &mut Call) -> Option<()>
     ensures { filled result into.new ≡ one (grains_from 0) call.Limit (words arguments.now) }
 {
@@ -120,6 +126,7 @@ fn limit(arguments: &[u8], into: &mut Call) -> Option<()>
 }
 
 /// `live`.
+#[inline(never)]
 fn live(arguments: &[u8], into: &mut Call) -> Option<()>
     ensures { filled result into.new ≡ none call.Live (words arguments.now) }
 {
@@ -129,7 +136,7 @@ fn live(arguments: &[u8], into: &mut Call) -> Option<()>
 }
 
 /// `load B.I K`.
-#[inline(always)]
+#[inline(never)]
 fn load(arguments: &[u8], into: &mut Call) -> Option<()>
     ensures { filled result into.new ≡ two slot_of decimal_number call.Load (words arguments.now) }
 {

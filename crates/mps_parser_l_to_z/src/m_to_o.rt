@@ -28,6 +28,7 @@ pub fn call_of_m_to_o(line: &[u8], into: &mut Call) -> Option<()>
 }
 
 /// `message S`.
+#[inline(never)]
 fn message(arguments: &[u8], into: &mut Call) -> Option<()>
     ensures { filled result into.new ≡ one slot_of call.Message (words arguments.now) }
 {
@@ -37,7 +38,7 @@ fn message(arguments: &[u8], into: &mut Call) -> Option<()>
 }
 
 /// `null S`.
-#[inline(always)]
+#[inline(never)]
 fn null(arguments: &[u8], into: &mut Call) -> Option<()>
     ensures { filled result into.new ≡ one slot_of call.Null (words arguments.now) }
 {
@@ -47,7 +48,7 @@ fn null(arguments: &[u8], into: &mut Call) -> Option<()>
 }
 
 /// `num S K`.
-#[inline(always)]
+#[inline(never)]
 fn number(arguments: &[u8], into: &mut Call) -> Option<()>
     ensures { filled result into.new ≡ two slot_of decimal_number call.Number (words arguments.now) }
 {

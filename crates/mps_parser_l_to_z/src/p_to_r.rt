@@ -48,6 +48,7 @@ pub fn call_of_p_to_r(line: &[u8], into: &mut Call) -> Option<()>
 }
 
 /// `park`.
+#[inline(never)]
 fn park(arguments: &[u8], into: &mut Call) -> Option<()>
     ensures { filled result into.new ≡ none call.Park (words arguments.now) }
 {
@@ -57,6 +58,7 @@ fn park(arguments: &[u8], into: &mut Call) -> Option<()>
 }
 
 /// `peek A.I`.
+#[inline(never)]
 fn peek(arguments: &[u8], into: &mut Call) -> Option<()>
     ensures { filled result into.new ≡ one slot_of call.Peek (words arguments.now) }
 {
@@ -66,6 +68,7 @@ fn peek(arguments: &[u8], into: &mut Call) -> Option<()>
 }
 
 /// `pin A.I S`.
+#[inline(never)]
 fn pin(arguments: &[u8], into: &mut Call) -> Option<()>
     ensures { filled result into.new ≡ two slot_of slot_of call.Pin (words arguments.now) }
 {
@@ -78,6 +81,7 @@ fn pin(arguments: &[u8], into: &mut Call) -> Option<()>
 }
 
 /// `poke A.I VALUE`.
+#[inline(never)]
 fn poke(arguments: &[u8], into: &mut Call) -> Option<()>
     ensures { filled result into.new ≡ two slot_of number_of call.Poke (words arguments.now) }
 {
@@ -90,6 +94,7 @@ fn poke(arguments: &[u8], into: &mut Call) -> Option<()>
 }
 
 /// `pop P N`.
+#[inline(never)]
 fn pop(arguments: &[u8], into: &mut Call) -> Option<()>
     ensures { filled result into.new ≡ two name_of decimal_number call.Pop (words arguments.now) }
 {
@@ -102,6 +107,7 @@ fn pop(arguments: &[u8], into: &mut Call) -> Option<()>
 }
 
 /// `push P`.
+#[inline(never)]
 fn push(arguments: &[u8], into: &mut Call) -> Option<()>
     ensures { filled result into.new ≡ one name_of call.Push (words arguments.now) }
 {
@@ -111,7 +117,7 @@ fn push(arguments: &[u8], into: &mut Call) -> Option<()>
 }
 
 /// `put DST K SRC`.
-#[inline(always)]
+#[inline(never)]
 fn put(arguments: &[u8], into: &mut Call) -> Option<()>
     ensures { filled result into.new ≡ three slot_of decimal_number slot_of call.Put (words arguments.now) }
 {
@@ -125,6 +131,7 @@ fn put(arguments: &[u8], into: &mut Call) -> Option<()>
 }
 
 /// `release`.
+#[inline(never)]
 fn release(arguments: &[u8], into: &mut Call) -> Option<()>
     ensures { filled result into.new ≡ none call.Release (words arguments.now) }
 {
@@ -134,7 +141,7 @@ fn release(arguments: &[u8], into: &mut Call) -> Option<()>
 }
 
 /// `reserve X HEAD`.
-#[inline(always)]
+#[inline(never)]
 fn reserve(arguments: &[u8], into: &mut Call) -> Option<()>
     ensures { filled result into.new ≡ two name_of head_of call.Reserve (words arguments.now) }
 {

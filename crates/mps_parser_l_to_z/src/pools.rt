@@ -60,6 +60,7 @@ fn format_of(word: &[u8]) -> Option<u64>
 }
 
 /// `pool P KIND FORMAT`, after `pool`.
+#[inline(never)]
 fn automatic_pool(arguments: &[u8], into: &mut Call) -> Option<()>
     ensures { filled result into.new ≡ automatic_pool (words arguments.now) }
 {
@@ -81,6 +82,7 @@ fn format_chain(arguments: &[u8]) -> Option<(u64, Name)>
 }
 
 /// `pool P KIND FORMAT C`, after `pool`.
+#[inline(never)]
 fn pool_on_chain(arguments: &[u8], into: &mut Call) -> Option<()>
     ensures { filled result into.new ≡ pool_on_chain (words arguments.now) }
 {
@@ -99,6 +101,7 @@ fn pool_on_chain(arguments: &[u8], into: &mut Call) -> Option<()>
 }
 
 /// `pool P mfs SIZE`, after `pool`.
+#[inline(never)]
 fn pool_mfs(arguments: &[u8], into: &mut Call) -> Option<()>
     ensures { filled result into.new ≡ pool_mfs (words arguments.now) }
 {
@@ -115,6 +118,7 @@ fn pool_mfs(arguments: &[u8], into: &mut Call) -> Option<()>
 }
 
 /// `pool P mvff` or `pool P snc`, after `pool`.
+#[inline(never)]
 fn pool_of_any_sizes(arguments: &[u8], into: &mut Call) -> Option<()>
     ensures { filled result into.new ≡ or pool_mvff pool_snc (words arguments.now) }
 {
@@ -133,6 +137,7 @@ fn pool_of_any_sizes(arguments: &[u8], into: &mut Call) -> Option<()>
 }
 
 /// The forms of `pool`.
+#[inline(never)]
 pub fn pool(arguments: &[u8], into: &mut Call) -> Option<()>
     ensures { filled result into.new ≡ pool (words arguments.now) }
 {

@@ -56,7 +56,7 @@ pub fn call_of_s_to_z(line: &[u8], into: &mut Call) -> Option<()>
 }
 
 /// `same S S2`.
-#[inline(always)]
+#[inline(never)]
 fn same(arguments: &[u8], into: &mut Call) -> Option<()>
     ensures { filled result into.new ≡ two slot_of slot_of call.Same (words arguments.now) }
 {
@@ -69,7 +69,7 @@ fn same(arguments: &[u8], into: &mut Call) -> Option<()>
 }
 
 /// `setnum S K VALUE`.
-#[inline(always)]
+#[inline(never)]
 fn set_number(arguments: &[u8], into: &mut Call) -> Option<()>
     ensures { filled result into.new ≡ three slot_of decimal_number number_of call.SetNumber (words arguments.now) }
 {
@@ -83,7 +83,7 @@ fn set_number(arguments: &[u8], into: &mut Call) -> Option<()>
 }
 
 /// `settag S K N`.
-#[inline(always)]
+#[inline(never)]
 fn set_tag(arguments: &[u8], into: &mut Call) -> Option<()>
     ensures { filled result into.new ≡ three slot_of decimal_number tag_number call.SetTag (words arguments.now) }
 {
@@ -97,6 +97,7 @@ fn set_tag(arguments: &[u8], into: &mut Call) -> Option<()>
 }
 
 /// `start` or `start C I`.
+#[inline(never)]
 pub fn start(arguments: &[u8], into: &mut Call) -> Option<()>
     ensures { filled result into.new ≡ start (words arguments.now) }
 {
@@ -113,6 +114,7 @@ pub fn start(arguments: &[u8], into: &mut Call) -> Option<()>
 }
 
 /// `step N`.
+#[inline(never)]
 fn step(arguments: &[u8], into: &mut Call) -> Option<()>
     ensures { filled result into.new ≡ one decimal_number call.Step (words arguments.now) }
 {
@@ -122,7 +124,7 @@ fn step(arguments: &[u8], into: &mut Call) -> Option<()>
 }
 
 /// `store B.I K VALUE`.
-#[inline(always)]
+#[inline(never)]
 fn store(arguments: &[u8], into: &mut Call) -> Option<()>
     ensures { filled result into.new ≡ three slot_of decimal_number number_of call.Store (words arguments.now) }
 {
@@ -136,6 +138,7 @@ fn store(arguments: &[u8], into: &mut Call) -> Option<()>
 }
 
 /// `table T N`.
+#[inline(never)]
 fn table(arguments: &[u8], into: &mut Call) -> Option<()>
     ensures { filled result into.new ≡ two name_of length_of_root call.Table (words arguments.now) }
 {
@@ -145,7 +148,7 @@ fn table(arguments: &[u8], into: &mut Call) -> Option<()>
 }
 
 /// `tag S K`.
-#[inline(always)]
+#[inline(never)]
 fn tag(arguments: &[u8], into: &mut Call) -> Option<()>
     ensures { filled result into.new ≡ two slot_of decimal_number call.Tag (words arguments.now) }
 {
@@ -158,6 +161,7 @@ fn tag(arguments: &[u8], into: &mut Call) -> Option<()>
 }
 
 /// `take S A.I`.
+#[inline(never)]
 fn take(arguments: &[u8], into: &mut Call) -> Option<()>
     ensures { filled result into.new ≡ two slot_of slot_of call.Take (words arguments.now) }
 {
@@ -170,6 +174,7 @@ fn take(arguments: &[u8], into: &mut Call) -> Option<()>
 }
 
 /// `undepend S`, after `undepend`.
+#[inline(never)]
 pub fn undepend(arguments: &[u8], into: &mut Call) -> Option<()>
     ensures { filled result into.new ≡ one slot_of call.Undepend (words arguments.now) }
 {

@@ -10,6 +10,7 @@ use mps_line_words::{name, name_slot_slot};
 use mps_model::Call;
 
 /// `transform X`, after `transform`.
+#[inline(never)]
 pub fn transform(arguments: &[u8], into: &mut Call) -> Option<()>
     ensures { filled result into.new ≡ one name_of call.Transform (words arguments.now) }
 {
@@ -21,6 +22,7 @@ pub fn transform(arguments: &[u8], into: &mut Call) -> Option<()>
 }
 
 /// `transadd X S T`, after `transadd`.
+#[inline(never)]
 pub fn transform_add(arguments: &[u8], into: &mut Call) -> Option<()>
     ensures { filled result into.new ≡ three name_of slot_of slot_of call.TransformAdd (words arguments.now) }
 {
@@ -34,6 +36,7 @@ pub fn transform_add(arguments: &[u8], into: &mut Call) -> Option<()>
 }
 
 /// `transapply X`, after `transapply`.
+#[inline(never)]
 pub fn transform_apply(arguments: &[u8], into: &mut Call) -> Option<()>
     ensures { filled result into.new ≡ one name_of call.TransformApply (words arguments.now) }
 {
@@ -45,6 +48,7 @@ pub fn transform_apply(arguments: &[u8], into: &mut Call) -> Option<()>
 }
 
 /// `transdrop X`, after `transdrop`.
+#[inline(never)]
 pub fn transform_drop(arguments: &[u8], into: &mut Call) -> Option<()>
     ensures { filled result into.new ≡ one name_of call.TransformDrop (words arguments.now) }
 {

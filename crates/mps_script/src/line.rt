@@ -24,6 +24,7 @@ fn is_comment(line: &[u8]) -> bool
 
 /// Writes the call of a line, which has no line feed, and returns true; false if the line has no call: if it is empty,
 /// of spaces alone or a comment.
+#[inline(always)]
 pub fn call_of(line: &[u8], into: &mut Call) -> Result<bool, BadLine>
     ensures { found result into.new ≡ call_of_line line.now }
 {

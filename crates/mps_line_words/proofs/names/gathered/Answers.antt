@@ -1,26 +1,23 @@
-use Rattle.std.proofs.Common.{◌≡◌, ◌∙◌, ap, drop, arith}
-use Rattle.mps_line_words.specs.Gathered.{gathered}
-use Rattle.mps_line_words.proofs.NameBytes.{few_below, one_before}
+use Rattle.std.proofs.Common.{refl, arith}
+use Rattle.mps_line_words.proofs.NameBytes.{four_below, halves}
 use Rattle.mps_line_words.proofs.names.gathered.Goals as goal
 
-pub overflow_mul-number : goal.overflow_mul-number
-overflow_mul-number c =
-    let below = few_below c.args.bytes.now c.loop-left.left (omega arith) c.requires (λ i. omega (arith, c.type_inv.bytes i)) in
-    omega (arith, below, c.loop-left.invariant.so_far)
+pub overflow_mul-result : goal.overflow_mul-result
+overflow_mul-result c =
+    let both = halves c.args.bytes.now c.gathered_four-low.result c.gathered_four-last.result _ c.if-bytes-lt-HALF_BYTES.false c.requires
+    (λ i. omega (arith, c.type_inv.bytes i)) c.gathered_four-low.ensures c.gathered_four-last.ensures refl
+    in
+    omega (arith, both.0)
 
-pub overflow_add-number : goal.overflow_add-number
-overflow_add-number c =
-    let below = few_below c.args.bytes.now c.loop-left.left (omega arith) c.requires (λ i. omega (arith, c.type_inv.bytes i)) in
-    omega (arith, below, c.loop-left.invariant.so_far)
-
-pub loop-left-preserved : goal.loop-left-preserved
-loop-left-preserved c = record {
-  within = omega (arith, c.loop-left.invariant.within);
-  so_far = one_before c.args.bytes.now c.loop-left.left c.loop-left.number _ (omega arith) c.loop-left.invariant.within
-      c.from.ensures c.loop-left.invariant.so_far;
-}
+pub overflow_add-result : goal.overflow_add-result
+overflow_add-result c =
+    let both = halves c.args.bytes.now c.gathered_four-low.result c.gathered_four-last.result _ c.if-bytes-lt-HALF_BYTES.false c.requires
+    (λ i. omega (arith, c.type_inv.bytes i)) c.gathered_four-low.ensures c.gathered_four-last.ensures refl
+    in
+    let low = four_below c.args.bytes.now 0 (λ i. omega (arith, c.type_inv.bytes i)) in
+    omega (arith, both.0, low, c.gathered_four-low.ensures)
 
 pub returns : goal.returns
 returns c =
-    let zero : c.loop-left.left ≡ 0 = omega arith in
-    c.loop-left.invariant.so_far ∙ ap (λ n. gathered (drop n c.args.bytes.now)) zero
+    (halves c.args.bytes.now c.gathered_four-low.result c.gathered_four-last.result _ c.if-bytes-lt-HALF_BYTES.false c.requires
+    (λ i. omega (arith, c.type_inv.bytes i)) c.gathered_four-low.ensures c.gathered_four-last.ensures refl).1

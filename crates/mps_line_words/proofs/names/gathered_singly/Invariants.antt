@@ -1,6 +1,6 @@
 use Rattle.std.proofs.Common.{◌≡◌, ◌≤◌, length, drop}
 use Rattle.mps_line_words.specs.Gathered.{gathered}
-use Rattle.mps_line_words.proofs.names.gathered.Given as goal
+use Rattle.mps_line_words.proofs.names.gathered_singly.Given as goal
 
 abbrev pub invariant-loop-left : goal.invariant-loop-left
 invariant-loop-left l = record {
