@@ -1,6 +1,10 @@
+pub mod Adding
+pub mod Clearing
 pub mod OneWord
 pub mod Searches
 pub mod Ranges
 pub mod Row
 pub mod Runs
+pub mod RunsOfWords
+pub mod SweptTables
 pub mod Tables

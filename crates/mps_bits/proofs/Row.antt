@@ -1,5 +1,5 @@
 -- A row of bits, and a chunk of it: the bits that one word holds from an index on.
-use Rattle.std.proofs.Common.{ℕ, zero, suc, ◌+◌, ◌-◌, ◌/◌, ◌%◌, ◌^◌, ◌<◌, ◌≤◌, ◌≡◌, ◌⊎◌, List, length, get_or, set, replicate, sym, refl, ap, ◌∙◌, inl, inr, arith, get_or-set_same, get_or-set_other}
+use Rattle.std.proofs.Common.{ℕ, zero, suc, ◌+◌, ◌-◌, ◌/◌, ◌%◌, ◌^◌, ◌<◌, ◌≤◌, ◌≡◌, ◌⊎◌, List, length, get_or, set, replicate, Option, Some, None, MatchOption, min, sym, refl, ap, ◌∙◌, inl, inr, arith, get_or-set_same, get_or-set_other}
 use Rattle.std.specs.Int.{bit_at}
 use Rattle.std.specs.Int.RustNames.{count_ones}
 use Rattle.std.proofs.lemmas.Bool.{cases_lt, cases_eq}
@@ -8,7 +8,7 @@ use Rattle.std.proofs.lemmas.List.{length-replicate, get_or-replicate, get_or_pa
 use Rattle.std.proofs.lemmas.Nat.{ones_le_self}
 use Rattle.std.proofs.Math.Nat.{pow-suc}
 use lib.Count.{ones_step}
-use Rattle.mps_bits.specs.Row.{bit_in, sum_over, IsClear}
+use Rattle.mps_bits.specs.Row.{bit_in, sum_over, IsClear, IsLowestSet}
 
 pub bit_in_word : (words : List ℕ) (at i : ℕ) → at % 64 + i < 64 → bit_in words (at + i) ≡ bit_at (get_or words (at / 64) 0) (at % 64 + i)
 unfolding bit_in
@@ -29,6 +29,22 @@ pub record IsChunk (words : List ℕ) (at width bits : ℕ) : Type 0 where
 pub clear_join : (words : List ℕ) (a b c : ℕ) → IsClear words a b → IsClear words b c → IsClear words a c
 clear_join words a b c low high i from to =
     elim (cases_lt i b) [ inl h ↦ low i from h | inr h ↦ high i h to ]
+
+-- what a search from the bit `b` on up to `to` finds is found by one from `a` on, if the bits between are clear
+pub search_on : (words : List ℕ) (a b to c : ℕ) (found : Option ℕ) → a ≤ b → c ≡ min b to → IsClear words a c
+    → MatchOption found (IsClear words b to) (λ p. IsLowestSet words b to p)
+    → MatchOption found (IsClear words a to) (λ p. IsLowestSet words a to p)
+search_on words a b to c None order end low none =
+    λ i from below. elim (cases_lt i b) [ inl h ↦ low i from (omega (arith, end, h, below)) | inr h ↦ none i h below ]
+search_on words a b to c (Some p) order end low is = record {
+  above = omega (arith, order, is.above);
+  below = is.below;
+  set = is.set;
+  lower = λ i from below. elim (cases_lt i b) [
+    | inl h ↦ low i from (omega (arith, end, h, below, is.below))
+    | inr h ↦ is.lower i h below
+  ];
+}
 
 pub clear_of_zero : (words : List ℕ) (at width bits : ℕ) → IsChunk words at width bits → bits ≡ 0 → IsClear words at (at + width)
 clear_of_zero words at width bits chunk none i from to =

@@ -1,5 +1,5 @@
 -- The lowest and the highest index that passes a test.
-use Rattle.std.proofs.Common.{ℕ, zero, suc, ◌+◌, ◌<◌, ◌≤◌, ◌≡◌, Bool, true, false, Some, None, refl, ap, ◌∙◌, inl, inr, arith}
+use Rattle.std.proofs.Common.{ℕ, zero, suc, ◌+◌, ◌<◌, ◌≤◌, ◌≡◌, Bool, true, false, Some, None, refl, sym, ap, ◌∙◌, inl, inr, arith}
 use Rattle.std.proofs.lemmas.Bool.{cases_lt, cases_Bool, cond-true, cond-false}
 use Rattle.mps_bits.specs.Table.{lowest_from, highest_below}
 
@@ -97,3 +97,40 @@ unfolding highest_below
 highest_below_none p zero none = refl
 highest_below_none p (suc n) none =
     cond-false (p n) (Some n) (highest_below p n) (none n (omega arith)) ∙ highest_below_none p n (λ i below. none i (omega arith))
+
+pub highest_found : (p : ℕ → Bool) (n index : ℕ) → highest_below p n ≡ Some index → IsHighest p n index
+unfolding highest_below
+highest_found p zero index is = let never : None ≡ Some index = is in cc
+highest_found p (suc n) index is =
+    elim (cases_Bool (p n)) [
+      | inl passes ↦
+          let both : Some n ≡ Some index = sym (cond-true (p n) (Some n) (highest_below p n) passes) ∙ is in
+          let same : n ≡ index = cc in
+          record {
+            below = omega (arith, same);
+            passes = ap p (sym same) ∙ passes;
+            higher = λ i above below. absurd (omega (arith, same, above, below));
+          }
+      | inr fails ↦
+          let rest = highest_found p n index (sym (cond-false (p n) (Some n) (highest_below p n) fails) ∙ is) in
+          record {
+            below = omega (arith, rest.below);
+            passes = rest.passes;
+            higher = λ i above below. elim (cases_lt i n) [
+              | inl under ↦ rest.higher i above under
+              | inr here ↦ let same : i ≡ n = omega arith in ap p same ∙ fails
+            ];
+          }
+    ]
+
+pub highest_missing : (p : ℕ → Bool) (n : ℕ) → highest_below p n ≡ None → (i : ℕ) → i < n → p i ≡ false
+unfolding highest_below
+highest_missing p zero is i below = absurd (omega arith)
+highest_missing p (suc n) is i below =
+    elim (cases_Bool (p n)) [
+      | inl passes ↦ let never : Some n ≡ None = sym (cond-true (p n) (Some n) (highest_below p n) passes) ∙ is in cc
+      | inr fails ↦ elim (cases_lt i n) [
+        | inl under ↦ highest_missing p n (sym (cond-false (p n) (Some n) (highest_below p n) fails) ∙ is) i under
+        | inr here ↦ let same : i ≡ n = omega arith in ap p same ∙ fails
+      ]
+    ]

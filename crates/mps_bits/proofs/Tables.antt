@@ -1,7 +1,8 @@
 -- The table of a row of words: its bits, and the answers of the searches.
 use Rattle.std.proofs.Common.{ℕ, ◌+◌, ◌-◌, ◌<◌, ◌≤◌, ◌≡◌, ◌≢◌, ◌⊎◌, Bool, true, false, cond, eqb, List, length, get_or, set, replicate, Option, Some, None, MatchOption, sym, ap, ◌∙◌, inl, inr, arith, length-set, get_or-set_same, get_or-set_other}
 use Rattle.std.proofs.lemmas.Bool.{cases_lt, cases_eq, eq-eqb, ne_eqb, eqb-false, false_from_ne_true}
-use Rattle.std.proofs.lemmas.List.{same_lists, length-replicate, get_or-replicate}
+use Rattle.std.specs.List.{count_by}
+use Rattle.std.proofs.lemmas.List.{same_lists, length-replicate, get_or-replicate, take_all}
 use Rattle.std.proofs.lemmas.List.FromFn.{length-map-range_with_len, get_or-map-range_with_len}
 use Rattle.mps_bits.specs.Row.{bit_in, sum_over, IsClear, IsLowestSet, IsHighestSet, IsLowestRun}
 use Rattle.mps_bits.specs.Table.{table_of, bit, with_range, next_set, next_set_below, previous_set, is_clear_run, lowest_clear_run, count_set}
@@ -82,6 +83,46 @@ table_range old new len from to value ordered within inside outside =
         | inl under ↦ bit_written (bit_in new k) value (inside k above under)
             ∙ sym (with_range_inside (table_of old len) from to value k d ordered room above under)
         | inr past ↦ kept k d short (inr past)
+      ]
+    ])
+
+-- a range of which the last bit alone is set
+pub table_ended : (old new : List ℕ) (len from to : ℕ) → from < to → to ≤ len → bit_in new (to - 1) ≡ 1
+    → ((i : ℕ) → from ≤ i → i < to - 1 → bit_in new i ≡ 0)
+    → ((i : ℕ) → (i < from) ⊎ (to ≤ i) → bit_in new i ≡ bit_in old i)
+    → table_of new len ≡ set (with_range (table_of old len) from to false) (to - 1) true
+table_ended old new len from to some within last others outside =
+    let ordered : from ≤ to = omega arith in
+    let room : to ≤ length (table_of old len) = omega (arith, within, length-table_of old len) in
+    let cleared = with_range (table_of old len) from to false in
+    let ranged : length cleared ≡ len = length-with_range (table_of old len) from to false ordered room ∙ length-table_of old len in
+    let size : length (table_of new len) ≡ length (set cleared (to - 1) true) =
+    length-table_of new len ∙ sym ranged ∙ sym (length-set cleared (to - 1) true)
+    in
+    let kept = λ (k : ℕ) (d : Bool) (short : k < len) (out : (k < from) ⊎ (to ≤ k)) (other : k ≢ to - 1).
+    let here : eqb (bit_in new k) 1 ≡ get_or (set cleared (to - 1) true) k d =
+    ap (λ (x : ℕ). eqb x 1) (outside k out) ∙ sym (get_or-table_of old len k d short)
+    ∙ sym (with_range_outside (table_of old len) from to false k d ordered room out)
+    ∙ sym (get_or-set_other cleared (to - 1) k true d other)
+    in here
+    in
+    same_lists (table_of new len) (set cleared (to - 1) true) size (λ k d h.
+    let short : k < len = omega (arith, h, length-table_of new len) in
+    get_or-table_of new len k d short
+    ∙ elim (cases_eq k (to - 1)) [
+      | inl here ↦
+          ap (λ (i : ℕ). eqb (bit_in new i) 1) here ∙ bit_written (bit_in new (to - 1)) true last
+          ∙ sym (ap (λ (i : ℕ). get_or (set cleared (to - 1) true) i d) here
+          ∙ get_or-set_same cleared (to - 1) true d (omega (arith, ranged)))
+      | inr there ↦ elim (cases_lt k from) [
+        | inl below ↦ kept k d short (inl below) there
+        | inr above ↦ elim (cases_lt k to) [
+          | inl under ↦
+              bit_written (bit_in new k) false (others k above (omega (arith, there)))
+              ∙ sym (with_range_inside (table_of old len) from to false k d ordered room above under)
+              ∙ sym (get_or-set_other cleared (to - 1) k true d there)
+          | inr past ↦ kept k d short (inr past) there
+        ]
       ]
     ])
 
@@ -184,3 +225,18 @@ count_set_is words len from to ordered within =
 -- how many bits the table of some words has
 pub length_of_table : (words : List ℕ) (len : ℕ) (bits : List Bool) → table_of words len ≡ bits → length bits ≡ len
 length_of_table words len bits is = ap length (sym is) ∙ length-table_of words len
+
+-- the bit of a table that is seen of some words
+pub bit_of_table : (words : List ℕ) (len : ℕ) (bits : List Bool) (i : ℕ) → table_of words len ≡ bits → i < len
+    → eqb (bit_in words i) 1 ≡ bit bits i
+bit_of_table words len bits i is within = sym (bit-table_of words len i within) ∙ ap (λ (t : List Bool). bit t i) is
+
+-- how many bits of a table are set
+pub count_of_table : (words : List ℕ) (len : ℕ) → count_by (λ b. b) (table_of words len) ≡ sum_over (bit_in words) 0 len
+unfolding count_set
+count_of_table words len =
+    let size = length-table_of words len in
+    let whole : len - 0 ≡ len = omega arith in
+    let all = take_all (len - 0) (table_of words len) (omega (arith, size)) in
+    sym (ap (λ (k : ℕ). sum_over (bit_in words) 0 k) (sym whole) ∙ count_set_is words len 0 len (omega arith) (omega arith)
+    ∙ ap (λ (bs : List Bool). count_by (λ b. b) bs) all)

@@ -1,3 +1,4 @@
 pub mod OneWord
+pub mod OpenRuns
 pub mod Row
 pub mod Table

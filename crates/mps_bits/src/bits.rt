@@ -1,7 +1,8 @@
 // The table of bits.
 #![tactic(auto)]
 
-ghost use Rattle.std.specs.Prelude.{◌≡◌, ◌+◌, ◌^◌, ◌<◌, ◌≤◌, Bool, true, false, length, replicate, IfOk, slice_set};
+ghost use Rattle.std.specs.Prelude.{◌≡◌, ℕ, ◌+◌, ◌-◌, ◌%◌, ◌^◌, ◌<◌, ◌≤◌, ◌⊎◌, ◌&&◌, if◌then◌else◌, Bool, true, false, length, replicate, count_by, IfOk, slice_set};
+ghost use Rattle.mps_bits.specs.OpenRuns.{is_one, is_set_from, is_set_unless, in_run, AreRunsApart};
 ghost use Rattle.mps_bits.specs.Table.{bit, with_range, next_set, next_set_below, previous_set, lowest_clear_run, count_set};
 
 use crate::words::{self, is_set, write_bit, write_range};
@@ -89,6 +90,17 @@ impl Bits {
         self.write_range(from, to, false);
     }
 
+    /// Sets the last of the bits from `from` up to, but not at, `to`, and clears the others of these.
+    #[inline(always)]
+    pub fn end_run(&mut self, from: usize, to: usize)
+        requires nonempty { from < to }
+        requires in_table { to ≤ length self.old }
+        ensures state { self.new ≡ slice_set (with_range self.old from to false) (to - 1) true }
+        ensures len { length self.new ≡ length self.old }
+    {
+        words::end_run(&mut self.words, from, to);
+    }
+
     /// Writes `value` into the bit at `at`.
     fn write(&mut self, at: usize, value: bool)
         requires { at < length self.old }
@@ -138,6 +150,64 @@ impl Bits {
         ensures { result ≡ lowest_clear_run self.now from to count }
     {
         words::lowest_clear_run(&self.words, from, to, count)
+    }
+
+    /// Clears the bits from `from` up to, but not at, `to` that are clear in `others`, 64 a step, and returns how many of them were set.
+    pub fn clear_unless(&mut self, others: &Bits, from: usize, to: usize) -> usize
+        requires in_words { (from % 64 ≡ 0) × (to % 64 ≡ 0) }
+        requires in_table { to ≤ length self.old }
+        requires in_others { to ≤ length others.now }
+        ensures inside { (i : ℕ) → from ≤ i → i < to → bit self.new i ≡ (bit self.old i && bit others.now i) }
+        ensures outside { (i : ℕ) → (i < from) ⊎ (to ≤ i) → bit self.new i ≡ bit self.old i }
+        ensures counted { count_by (λ b. b) self.new + result ≡ count_by (λ b. b) self.old }
+        ensures len { length self.new ≡ length self.old }
+    {
+        words::clear_unless(&mut self.words, &others.words, from / 64, to / 64)
+    }
+
+    /// Clears the bits of runs from `from` up to, but not at, `to`, 64 a step, and returns how many of them were set. A run begins at a bit
+    /// of `begins` that is clear in `others`, and ends at the next bit of `ends`, which may be the one at which it begins.
+    pub fn clear_runs(
+        &mut self,
+        begins: &Bits,
+        others: &Bits,
+        ends: &Bits,
+        from: usize,
+        to: usize,
+    ) -> usize
+        requires in_words { (from % 64 ≡ 0) × (to % 64 ≡ 0) }
+        requires ordered { from ≤ to }
+        requires in_table { to ≤ length self.old }
+        requires in_begins { to ≤ length begins.now }
+        requires in_others { to ≤ length others.now }
+        requires in_ends { to ≤ length ends.now }
+        requires apart { AreRunsApart false (is_set_unless begins.now others.now from) (is_set_from ends.now from) (to - from) }
+        ensures inside { (n : ℕ) → n < to - from → bit self.new (from + n)
+            ≡ (if in_run false (is_set_unless begins.now others.now from) (is_set_from ends.now from) n then false
+            else bit self.old (from + n)) }
+        ensures outside { (i : ℕ) → (i < from) ⊎ (to ≤ i) → bit self.new i ≡ bit self.old i }
+        ensures counted { count_by (λ b. b) self.new + result ≡ count_by (λ b. b) self.old }
+        ensures len { length self.new ≡ length self.old }
+    {
+        words::clear_runs(
+            &mut self.words,
+            &begins.words,
+            &others.words,
+            &ends.words,
+            from / 64,
+            to / 64,
+        )
+    }
+
+    /// The 64 bits from `at` on that are clear in `others`, as a number.
+    #[inline(always)]
+    pub fn word_unless(&self, others: &Bits, at: usize) -> u64
+        requires in_words { at % 64 ≡ 0 }
+        requires in_table { at + 64 ≤ length self.now }
+        requires in_others { at + 64 ≤ length others.now }
+        ensures { (i : ℕ) → i < 64 → is_one result i ≡ is_set_unless self.now others.now at i }
+    {
+        words::word_unless(&self.words, &others.words, at / 64)
     }
 
     /// How many bits from `from` up to, but not at, `to` are set.

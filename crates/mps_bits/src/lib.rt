@@ -7,6 +7,7 @@ mod word;
 mod words;
 
 pub use bits::Bits;
+pub use word::{lowest_one, without_bit};
 
 #[cfg(test)]
 mod tests;

@@ -1,9 +1,20 @@
 // One word of 64 bits; bit 0 is its lowest.
 #![tactic(auto)]
 
-ghost use Rattle.std.specs.Prelude.{◌≡◌, ℕ, ◌+◌, ◌-◌, ◌*◌, ◌^◌, ◌<◌, ◌≤◌, ◌↔◌, ◌⊎◌, if◌then◌else◌, MatchOption};
+ghost use Rattle.std.specs.Prelude.{◌≡◌, ◌≢◌, ℕ, ◌+◌, ◌-◌, ◌*◌, ◌^◌, ◌<◌, ◌≤◌, ◌↔◌, ◌⊎◌, if◌then◌else◌, MatchOption};
 ghost use Rattle.std.specs.Int.{bit_at};
 ghost use Rattle.mps_bits.specs.OneWord.{IsClearIn, IsLowestRunIn};
+ghost use Rattle.mps_bits.specs.OpenRuns.{goes_on, in_run, is_one, AreRunsApart};
+
+/// A word of ones.
+const LOW_WORD: u128 = 0xffff_ffff_ffff_ffff;
+
+/// The bits in runs, and whether a run goes on after the highest of them.
+#[derive(Clone, Copy)]
+pub(crate) struct Runs {
+    pub(crate) inside: u64,
+    pub(crate) go_on: bool,
+}
 
 /// A word whose `width` lowest bits are set.
 pub(crate) fn low_ones(width: usize) -> u64
@@ -15,13 +26,39 @@ pub(crate) fn low_ones(width: usize) -> u64
 }
 
 /// The index of the lowest set bit.
-pub(crate) fn lowest_one(word: u64) -> usize
+pub fn lowest_one(word: u64) -> usize
     requires { 0 < word }
     ensures in_word { result < 64 }
     ensures set { bit_at word result ≡ 1 }
     ensures below { (i : ℕ) → i < result → bit_at word i ≡ 0 }
 {
     word.trailing_zeros() as usize
+}
+
+/// The word without the bit at `index`.
+#[inline(always)]
+pub fn without_bit(word: u64, index: usize) -> u64
+    requires { index < 64 }
+    ensures gone { bit_at result index ≡ 0 }
+    ensures others { (i : ℕ) → i < 64 → i ≢ index → bit_at result i ≡ bit_at word i }
+{
+    word & !(1 << index)
+}
+
+/// The bits in the runs that begin at bits of `begins`. Each ends at the next bit of `ends`, which may be the one at which it begins.
+/// `first` says whether a run goes on before the lowest bit. One sum finds them all: what a begin carries passes up to the next end.
+#[inline(always)]
+pub(crate) fn runs_between(begins: u64, ends: u64, first: bool) -> Runs
+    requires apart { AreRunsApart first (is_one begins) (is_one ends) 64 }
+    ensures inside { (i : ℕ) → i < 64 → is_one result.inside i ≡ in_run first (is_one begins) (is_one ends) i }
+    ensures rest { result.go_on ≡ goes_on first (is_one begins) (is_one ends) 64 }
+{
+    let others = !ends;
+    let sum = others as u128 + begins as u128 + first as u128;
+    Runs {
+        inside: (sum & LOW_WORD) as u64 ^ others,
+        go_on: sum >> 64 != 0,
+    }
 }
 
 /// The index of the highest set bit.
@@ -59,6 +96,18 @@ pub(crate) fn with_bits(word: u64, low: usize, width: usize, value: bool) -> u64
 {
     let mask = low_ones(width) << low;
     if value { word | mask } else { word & !mask }
+}
+
+/// The word with the last of `width` bits from `low` on set, and the others of these cleared.
+#[inline(always)]
+pub(crate) fn with_last(word: u64, low: usize, width: usize) -> u64
+    requires nonzero { 0 < width }
+    requires fits { low + width ≤ 64 }
+    ensures last { bit_at result (low + width - 1) ≡ 1 }
+    ensures others { (i : ℕ) → low ≤ i → i < low + width - 1 → bit_at result i ≡ 0 }
+    ensures unchanged { (i : ℕ) → i < 64 → (i < low) ⊎ (low + width ≤ i) → bit_at result i ≡ bit_at word i }
+{
+    with_bits(with_bits(word, low, width, false), low + width - 1, 1, true)
 }
 
 /// The `width` bits from `low` on, as the lowest bits of a word.

@@ -1,11 +1,11 @@
-use Rattle.std.proofs.Common.{◌+◌, arith}
-use Rattle.mps_bits.proofs.Row.{IsChunk, index_below_width, set_at, clear_join, clear_below, clear_of_zero}
+use Rattle.std.proofs.Common.{◌+◌, ◌*◌, ◌/◌, arith}
+use Rattle.mps_bits.proofs.Row.{IsChunk, index_below_width, set_at, clear_below, clear_of_zero, search_on}
 use Rattle.mps_bits.proofs.words.lowest_set.Goals as goal
 
 pub returns-then-bits-ne0 : goal.returns-then-bits-ne0
 returns-then-bits-ne0 c =
     let words = c.args.words.now in
-    let at = c.loop-at.at in
+    let at = c.args.from in
     let width = c.width_at-width.result in
     let bits = c.chunk-bits.result in
     let p = c.lowest_one.result in
@@ -15,22 +15,18 @@ returns-then-bits-ne0 c =
       above = omega arith;
       below = omega (arith, within, c.width_at-width.ensures.in_range);
       set = set_at words at width bits p chunk c.lowest_one.ensures.set;
-      lower =
-          clear_join words c.args.from at (at + p) c.loop-at.invariant.clear
-          (clear_below words at width bits p chunk (omega (arith, within)) c.lowest_one.ensures.below);
+      lower = clear_below words at width bits p chunk (omega (arith, within)) c.lowest_one.ensures.below;
     }
 
-pub loop-at-preserved : goal.loop-at-preserved
-loop-at-preserved c =
+pub returns : goal.returns
+returns c =
     let words = c.args.words.now in
-    let at = c.loop-at.at in
+    let at = c.args.from in
+    let to = c.args.to in
     let width = c.width_at-width.result in
     let chunk : IsChunk words at width c.chunk-bits.result =
     record { inside = c.chunk-bits.ensures.inside; above = c.chunk-bits.ensures.above }
     in
-    record {
-      from_on = omega arith;
-      clear =
-          clear_join words c.args.from at (at + width) c.loop-at.invariant.clear
-          (clear_of_zero words at width c.chunk-bits.result chunk c.if-bits-ne0.false);
-    }
+    let clear = clear_of_zero words at width c.chunk-bits.result chunk c.if-bits-ne0.false in
+    search_on words at (64 * (at / 64 + 1)) to (at + width) c.lowest_in_words.result (omega arith) c.width_at-width.ensures.whole clear
+    c.lowest_in_words.ensures
