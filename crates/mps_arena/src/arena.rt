@@ -56,6 +56,7 @@ impl Arena {
 
     /// Takes the lowest run of `grains` free grains and returns its address. Refuses `CommitLimit` if more grains would be held than
     /// the limit allows, and `NoRun` if the limit allows them and no free run is that long.
+    #[inline(always)]
     pub fn take_run(&mut self, grains: u32) -> Result<Addr, Refusal>
         requires { 0 < grains }
         ensures value { result ≡ answer_of_placement (placement_in self.old grains) }
