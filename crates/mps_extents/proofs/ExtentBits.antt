@@ -28,6 +28,9 @@ begin_of bits ends r there =
 pub record SameLengths (begins ends ends' : List Bool) (but : ℕ) : Type 0 where
   pub others : (s : ℕ) → bit begins s ≡ true → s ≢ but → length_at ends' s ≡ length_at ends s
 
+pub no_change : (begins ends : List Bool) (but : ℕ) → SameLengths begins ends ends but
+no_change begins ends but = record { others = λ s is other. refl }
+
 pub extents_kept : (begins bits ends ends' : List Bool) (but : ℕ) → SameLengths begins ends ends' but
     → ((s : ℕ) → bit bits s ≡ true → (bit begins s ≡ true) × (s ≢ but))
     → extents bits ends' ≡ extents bits ends

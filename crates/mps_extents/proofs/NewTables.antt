@@ -1,11 +1,12 @@
 -- Tables in which no bit is set.
 use Rattle.std.proofs.Common.{ℕ, zero, suc, ◌<◌, ◌^◌, ◌≡◌, Bool, false, List, [], length, replicate, refl, sym, ap, ◌∙◌, subst, inl, inr, arith}
-use Rattle.std.proofs.lemmas.Bool.{cases_lt, both_ways, false_from_ne_true}
+use Rattle.std.proofs.lemmas.Bool.{cases_lt, both_ways, false_from_ne_true, or_from}
 use Rattle.std.proofs.lemmas.List.{length-replicate, get_or-replicate}
 use Rattle.mps_base.specs.Run.{Run, IsAscending}
 use Rattle.mps_bits.specs.Table.{bit}
 use Rattle.mps_extents.specs.Extents.{is_covered, nothing_covered}
-use Rattle.mps_extents.specs.Inside.{length_at, runs_with, minus, extents, lists_of, AreSoundTables}
+use Rattle.mps_extents.specs.Inside.{length_at, runs_with, minus, either, extents, lists_of, AreSoundTables, AreApart, IsTally}
+use Rattle.mps_extents.proofs.EitherBits.{length-either, bit-either}
 use Rattle.mps_extents.proofs.WrittenBits.{bit_is, bit_past, length-minus, minus_is_begin, same_bits}
 
 no_bit : (n i : ℕ) → bit (replicate n false) i ≡ false
@@ -28,6 +29,14 @@ minus_nothing n =
     both_ways (bit (replicate n false) i) (no_bit n i) (minus_is_begin (replicate n false) (replicate n false) i is))
     ∙ sym (no_bit n i))
 
+pub either_nothing : (n : ℕ) → either (replicate n false) (replicate n false) ≡ replicate n false
+either_nothing n =
+    same_bits (either (replicate n false) (replicate n false)) (replicate n false)
+    (length-either (replicate n false) (replicate n false)) (λ i h.
+    bit-either (replicate n false) (replicate n false) i (omega (arith, h, length-either (replicate n false) (replicate n false)))
+    ∙ or_from (bit (replicate n false) i) (bit (replicate n false) i) (no_bit n i) (no_bit n i)
+    ∙ sym (no_bit n i))
+
 pub new_is_sound : (n : ℕ) → n < 2 ^ 32 → AreSoundTables (replicate n false) (replicate n false) (replicate n false) (replicate n false)
 new_is_sound n small =
     let size = length-replicate {A = Bool} n false in
@@ -38,9 +47,25 @@ new_is_sound n small =
       small = omega (arith, size, small);
       ascending = subst P (sym none) (omega arith);
       covered_is = λ word. no_bit n word ∙ ap (λ (rs : List Run). is_covered rs word) (sym none);
-      ends_inside = λ word is. is;
       blocks_begin = λ word is. is;
     }
+
+-- what holds of tables in which no bit is set
+abbrev pub AreEmptyTables : (covered blocks opens ends : List Bool) → Type 0
+AreEmptyTables covered blocks opens ends =
+    AreSoundTables covered (either opens blocks) ends blocks × AreApart opens blocks × IsTally (extents blocks ends) 0 0
+
+pub new_are_empty : (n : ℕ) → n < 2 ^ 32
+    → AreEmptyTables (replicate n false) (replicate n false) (replicate n false) (replicate n false)
+new_are_empty n small =
+    let clear : List Bool = replicate n false in
+    let P : List Bool → Type 0 = λ bs. AreSoundTables clear bs clear clear in
+    let Q : List Run → Type 0 = λ rs. IsTally rs 0 0 in
+    let nothing : IsTally [] 0 0 = record { counted = refl; summed = refl } in (
+      subst P (sym (either_nothing n)) (new_is_sound n small),
+      record { same_size = refl; no_block = λ word is. no_bit n word },
+      subst Q (sym (no_runs (length_at clear) 0 n)) nothing,
+    )
 
 pub new_lists : (n : ℕ) → lists_of (replicate n false) (replicate n false) (replicate n false) ≡ nothing_covered n
 new_lists n =

@@ -9,7 +9,8 @@ use Rattle.mps_extents.specs.Extents.{ExtentLists, has_word, is_covered}
 use Rattle.mps_extents.specs.declared.extents.Extents.TheInside.{Inside}
 use Rattle.mps_extents.specs.Inside.{length_at, minus, extents, lists_of, AreSoundTables}
 use Rattle.mps_extents.proofs.WrittenBits.{bit-set_same, bit-set_other, bit_within, bit-with_range_inside, bit-with_range_outside, minus_is_begin, length-minus, minus-set_first, minus_less}
-use Rattle.mps_extents.proofs.ExtentBits.{extent_at, begin_of, SameLengths, extents_kept, extents_put, extents_taken, others_stay, IsReservation, is_reservation, lists}
+use Rattle.mps_extents.proofs.ExtentBits.{extent_at, begin_of, SameLengths, no_change, extents_kept, extents_put, extents_taken, others_stay, IsReservation, is_reservation, lists}
+use Rattle.mps_extents.proofs.EitherBits.{length-either, begins_of}
 use Rattle.mps_extents.proofs.ExtentLengths.{IsLastWord, length_at_is, length_kept}
 use Rattle.mps_extents.proofs.ApartRuns.{has_word-true, has_word-below, has_word-above, contains_put, apart_from_put, covers_contained, uncovered_by_put, covered_put_has, covered_put_other}
 
@@ -19,9 +20,6 @@ pub record Put (covered begins ends blocks : List Bool) (at words : ℕ) : Type 
   pub free : IsAscending 0 (length begins) (with_run (record { from = at; count = words }) (extents begins ends))
 
 -- ---- a reservation that becomes a block
-
-no_change : (begins ends : List Bool) (at : ℕ) → SameLengths begins ends ends at
-no_change begins ends at = record { others = λ s is other. refl }
 
 module _
     (covered begins ends blocks : List Bool) (r : Run) (sound : AreSoundTables covered begins ends blocks)
@@ -65,7 +63,6 @@ module _
           small = sound.small;
           ascending = sound.ascending;
           covered_is = sound.covered_is;
-          ends_inside = sound.ends_inside;
           blocks_begin = λ word is. elim (cases_eq word r.from) [
             | inl here ↦ ap (λ (j : ℕ). bit begins j) here ∙ b.0
             | inr other ↦ sound.blocks_begin word (sym (bit-set_other blocks r.from word true other) ∙ is)
@@ -103,11 +100,9 @@ module _ (covered begins ends blocks : List Bool) (at words : ℕ) (put : Put co
   abbrev pub begins' : List Bool
   begins' = set begins at true
 
+  -- of the bits of its words in the table of last words the last one alone is set
   abbrev pub ends' : List Bool
-  ends' = set ends last true
-
-  length_ends' : length ends' ≡ length ends
-  length_ends' = length-set ends last true
+  ends' = set (with_range ends at (at + words) false) last true
 
   abbrev pub blocks' : List Bool
   blocks' = set blocks at true
@@ -120,7 +115,7 @@ module _ (covered begins ends blocks : List Bool) (at words : ℕ) (put : Put co
   free_word word above below =
       uncovered_by_put 0 (length begins) old new word put.free above below
 
-  no_begin : bit begins at ≡ false
+  pub no_begin : bit begins at ≡ false
   no_begin =
       false_from_ne_true (bit begins at) (λ is.
       let r : Run = record { from = at; count = length_at ends at } in
@@ -129,11 +124,26 @@ module _ (covered begins ends blocks : List Bool) (at words : ℕ) (put : Put co
       both_ways (is_covered old at) (free_word at (omega arith) (omega (arith, put.nonzero)))
       (covers_contained old r at there (has_word-true r at (omega arith) (omega (arith, bounds.1)))))
 
-  no_end : (word : ℕ) → at ≤ word → word < at + words → bit ends word ≡ false
+  ends_bounds : at + words ≤ length ends
+  ends_bounds = omega (arith, put_bounds, put.sound.same_size.1)
+
+  length_cleared : length (with_range ends at (at + words) false) ≡ length ends
+  length_cleared = length-with_range ends at (at + words) false (omega arith) ends_bounds
+
+  length_ends' : length ends' ≡ length ends
+  length_ends' = length-set (with_range ends at (at + words) false) last true ∙ length_cleared
+
+  no_end : (word : ℕ) → at ≤ word → word < last → bit ends' word ≡ false
   no_end word above below =
-      false_from_ne_true (bit ends word) (λ is.
-      both_ways (is_covered old word) (free_word word above below)
-      (sym (put.sound.covered_is word) ∙ put.sound.ends_inside word is))
+      bit-set_other (with_range ends at (at + words) false) last word true (λ e. omega arith)
+      ∙ bit-with_range_inside ends at (at + words) word false (omega arith) ends_bounds above (omega arith)
+
+  other_end : (word : ℕ) → (word < at) ⊎ (at + words ≤ word) → bit ends' word ≡ bit ends word
+  other_end word out =
+      let some = put.nonzero in
+      bit-set_other (with_range ends at (at + words) false) last word true
+      (λ e. elim out [ inl before ↦ omega arith | inr after ↦ omega arith ])
+      ∙ bit-with_range_outside ends at (at + words) word false (omega arith) ends_bounds out
 
   put_here : length_at ends' at ≡ words
   put_here =
@@ -141,8 +151,8 @@ module _ (covered begins ends blocks : List Bool) (at words : ℕ) (put : Put co
       let is : IsLastWord ends' at last = record {
         above = omega arith;
         below = omega (arith, length_ends', put_bounds, put.sound.same_size.1);
-        passes = bit-set_same ends last true (omega (arith, put_bounds, put.sound.same_size.1));
-        lower = λ i above below. bit-set_other ends last i true (λ e. omega arith) ∙ no_end i above (omega arith);
+        passes = bit-set_same (with_range ends at (at + words) false) last true (omega (arith, ends_bounds, length_cleared));
+        lower = λ i above below. no_end i above below;
       } in
       length_at_is ends' at last is ∙ (omega arith)
 
@@ -154,8 +164,10 @@ module _ (covered begins ends blocks : List Bool) (at words : ℕ) (put : Put co
         let there = extent_at begins ends s is in
         let bounds = contained_bounds 0 (length begins) old t put.sound.ascending there in
         length_kept ends ends' s length_ends' bounds.1 (λ i above below.
-        bit-set_other ends last i true (λ e.
-        elim (apart_from_put 0 (length begins) old new t put.free there) [ inl after ↦ omega arith | inr before ↦ omega arith ]));
+        other_end i (elim (apart_from_put 0 (length begins) old new t put.free there) [
+          | inl after ↦ inr (omega (arith, after))
+          | inr before ↦ inl (omega (arith, before))
+        ]));
   }
 
   pub put_extents : extents begins' ends' ≡ with_run new old
@@ -198,18 +210,6 @@ module _ (covered begins ends blocks : List Bool) (at words : ℕ) (put : Put co
                 ∙ ap (λ (rs : List Run). is_covered rs word) (sym now)
             | inr past ↦ outside word (inr past) (has_word-above new word past)
           ]
-        ];
-        ends_inside = λ word is. elim (cases_eq word last) [
-          | inl here ↦ bit-with_range_inside covered at (at + words) word true order room (omega arith) (omega arith)
-          | inr other ↦
-              let was : bit covered word ≡ true = sound.ends_inside word (sym (bit-set_other ends last word true other) ∙ is) in
-              elim (cases_lt word at) [
-                | inl before ↦ bit-with_range_outside covered at (at + words) word true order room (inl before) ∙ was
-                | inr above ↦ elim (cases_lt word (at + words)) [
-                  | inl below ↦ bit-with_range_inside covered at (at + words) word true order room above below
-                  | inr past ↦ bit-with_range_outside covered at (at + words) word true order room (inr past) ∙ was
-                ]
-              ]
         ];
         blocks_begin = λ word is. elim (cases_eq word at) [
           | inl here ↦ ap (λ (j : ℕ). bit begins' j) here ∙ bit-set_same begins at true (omega arith)
@@ -279,28 +279,28 @@ module _ (covered begins ends blocks : List Bool) (at words : ℕ) (put : Put co
 
 -- what is known of the tables where an extent can be put into them
 pub record PutFits (t : Inside) (at words : ℕ) : Type 0 where
-  pub put : Put t.covered t.begins t.ends t.blocks at words
+  pub put : Put t.covered (begins_of t) t.ends t.blocks at words
   pub nonzero : 0 < words
   pub in_covered : at + words ≤ length t.covered
-  pub in_begins : at + words ≤ length t.begins
+  pub in_opens : at + words ≤ length t.opens
   pub in_ends : at + words ≤ length t.ends
   pub in_blocks : at + words ≤ length t.blocks
   pub at_most : at + words < 2 ^ 32
 
-pub put_fits : (t : Inside) (seen : ExtentLists) (at words : ℕ) → AreSoundTables t.covered t.begins t.ends t.blocks
-    → lists_of t.begins t.ends t.blocks ≡ seen
+pub put_fits : (t : Inside) (seen : ExtentLists) (at words : ℕ) → AreSoundTables t.covered (begins_of t) t.ends t.blocks
+    → lists_of (begins_of t) t.ends t.blocks ≡ seen
     → 0 < words → IsAscending 0 seen.size (with_run (record { from = at; count = words }) seen.covered) → PutFits t at words
 put_fits t seen at words sound is nonzero free =
     let P : ExtentLists → Type 0 = λ e. IsAscending 0 e.size (with_run (record { from = at; count = words }) e.covered) in
-    let put : Put t.covered t.begins t.ends t.blocks at words =
+    let put : Put t.covered (begins_of t) t.ends t.blocks at words =
     record { sound = sound; nonzero = nonzero; free = subst P (sym is) free }
     in
-    let bounds = put_bounds t.covered t.begins t.ends t.blocks at words put in
+    let bounds = put_bounds t.covered (begins_of t) t.ends t.blocks at words put in
     record {
       put = put;
       nonzero = nonzero;
       in_covered = omega (arith, bounds, sound.same_size.0);
-      in_begins = bounds;
+      in_opens = omega (arith, bounds, length-either t.opens t.blocks);
       in_ends = omega (arith, bounds, sound.same_size.1);
       in_blocks = omega (arith, bounds, sound.same_size.2);
       at_most = omega (arith, bounds, sound.small);

@@ -1,15 +1,16 @@
 -- The run over a number: where it begins, and what it is after a run is put or taken out.
-use Rattle.std.proofs.Common.{IsSome, ℕ, ◌+◌, ◌<◌, ◌≡◌, Bool, true, false, List, [], ◌∷◌, length, set, Contains, refl, sym, ap, ◌∙◌, subst, inl, inr, arith, ◌≤◌, cond, Option, Some, None}
+use Rattle.std.proofs.Common.{ℕ, ◌+◌, ◌-◌, ◌<◌, ◌≡◌, Bool, true, false, List, [], ◌∷◌, length, Contains, refl, sym, ap, ◌∙◌, subst, inl, inr, arith, ◌≤◌, cond, Option, Some, None}
 use Rattle.std.proofs.lemmas.Bool.{cases_lt, both_ways, false_from_ne_true, cases_Bool, cond-true, cond-false, cases_eq}
 use Rattle.mps_base.proofs.Runs.{with_run_first, with_run_later, without_run_first, without_run_later, contains_cases, contains_first, contains_later, contained_bounds}
 use Rattle.mps_base.specs.Run.{Run, IsAscending, with_run, without_run, end_of}
-use Rattle.mps_bits.proofs.Searches.{highest_below_is}
-use Rattle.mps_bits.specs.Table.{bit, previous_set}
+use Rattle.mps_bits.proofs.Searches.{highest_found, highest_missing}
+use Rattle.mps_bits.specs.Table.{bit, next_set, previous_set}
 use Rattle.mps_extents.specs.Extents.{is_covered, has_word, run_over}
 use Rattle.mps_extents.specs.declared.extents.Extents.TheInside.{Inside}
 use Rattle.mps_extents.specs.Inside.{length_at, extents, AreSoundTables}
-use Rattle.mps_extents.proofs.ApartRuns.{apart_each, has_word-true, has_word-parts, has_word-below, has_word-above, covered_by, covers_contained, uncovered_taken}
-use Rattle.mps_extents.proofs.WrittenBits.{bit_within}
+use Rattle.mps_extents.proofs.ApartRuns.{apart_each, has_word-true, has_word-parts, has_word-below, has_word-above, covers_contained, uncovered_taken}
+use Rattle.mps_extents.proofs.EitherBits.{begins_of}
+use Rattle.mps_extents.proofs.ExtentLengths.{next_last, last_of}
 use Rattle.mps_extents.proofs.ExtentBits.{extent_at, begin_of, among_all}
 
 pub run_over_none : (rs : List Run) (word : ℕ) → ((r : Run) → Contains rs r → has_word r word ≡ false) → run_over rs word ≡ None
@@ -118,7 +119,7 @@ run_over_taken_has low high rs r n ascending there has =
     both_ways (is_covered (without_run r.from rs) n) (uncovered_taken low high rs r n ascending there has)
     (covers_contained (without_run r.from rs) s n there' has')))
 
--- the extent over a covered word begins at the highest set bit at or below it
+-- the extent that begins at a bit has a word
 pub record ExtentOver (begins ends : List Bool) (word at : ℕ) : Type 0 where
   pub begin : bit begins at ≡ true
   pub has : has_word (record { from = at; count = length_at ends at }) word ≡ true
@@ -131,30 +132,6 @@ module _ (covered begins ends blocks : List Bool) (sound : AreSoundTables covere
       false_from_ne_true (has_word r word) (λ has.
       both_ways (is_covered (extents begins ends) word) (sym (sound.covered_is word) ∙ none)
       (covers_contained (extents begins ends) r word (among_all begins blocks ends r sound.blocks_begin there) has)))
-
-  pub extent_over : (word : ℕ) → bit covered word ≡ true
-      → (at : ℕ) × (previous_set begins word ≡ Some at) × ExtentOver begins ends word at
-  unfolding previous_set
-  extent_over word is =
-      let by = covered_by (extents begins ends) word (sym (sound.covered_is word) ∙ is) in
-      let r = by.0 in
-      let b = begin_of begins ends r by.1 in
-      let parts = has_word-parts r word by.2 in
-      let P : ℕ → Type 0 = λ n. has_word (record { from = r.from; count = n }) word ≡ true in (
-        r.from,
-        highest_below_is (bit begins) (word + 1) r.from (record {
-          below = omega (arith, parts.0);
-          passes = b.0;
-          higher = λ i above below. false_from_ne_true (bit begins i) (λ set.
-              let s : Run = record { from = i; count = length_at ends i } in
-              elim (apart_each 0 (length begins) (extents begins ends) r s sound.ascending by.1 (extent_at begins ends i set)) [
-                | inl same ↦ absurd (omega (arith, same))
-                | inr apart ↦
-                    elim apart [ inl after ↦ absurd (omega (arith, after, parts.1)) | inr before ↦ absurd (omega (arith, before)) ]
-              ]);
-        }),
-        record { begin = b.0; has = subst P b.1 (by.2) },
-      )
 
   pub block_over_is : (word at : ℕ) → ExtentOver begins ends word at → bit blocks at ≡ true
       → run_over (extents blocks ends) word ≡ Some at
@@ -174,47 +151,68 @@ module _ (covered begins ends blocks : List Bool) (sound : AreSoundTables covere
             ]
       ])
 
-  pub reservation_over : (word at : ℕ) → ExtentOver begins ends word at → bit blocks at ≡ false
+  -- where no block begins at a word or below it, none covers it
+  pub no_block_upto : (word : ℕ) → previous_set blocks word ≡ None → run_over (extents blocks ends) word ≡ None
+  unfolding previous_set
+  no_block_upto word none =
+      run_over_none (extents blocks ends) word (λ r there.
+      false_from_ne_true (has_word r word) (λ has.
+      both_ways (bit blocks r.from)
+      (highest_missing (bit blocks) (word + 1) none r.from (omega (arith, (has_word-parts r word has).0)))
+      (begin_of blocks ends r there).0))
+
+  -- where the last block that begins at a word or below it ends before it, none covers it
+  pub block_past : (word at : ℕ) → previous_set blocks word ≡ Some at → at + length_at ends at ≤ word
       → run_over (extents blocks ends) word ≡ None
-  reservation_over word at over none =
+  unfolding previous_set
+  block_past word at is past =
+      let latest = highest_found (bit blocks) (word + 1) at is in
       let r : Run = record { from = at; count = length_at ends at } in
-      let parts = has_word-parts r word over.has in
+      let begun = sound.blocks_begin at latest.passes in
       run_over_none (extents blocks ends) word (λ s there.
       false_from_ne_true (has_word s word) (λ has.
-      let mine = has_word-parts s word has in
-      elim (apart_each 0 (length begins) (extents begins ends) s r sound.ascending
-      (among_all begins blocks ends s sound.blocks_begin there) (extent_at begins ends at over.begin)) [
-        | inl same ↦ both_ways (bit blocks at) none (ap (λ (j : ℕ). bit blocks j) (sym same) ∙ (begin_of blocks ends s there).0)
-        | inr apart ↦
-            elim apart [
-              | inl after ↦ absurd (omega (arith, after, parts.0, mine.1))
-              | inr before ↦ absurd
-                  (omega (arith, before, parts.1, mine.0))
+      let parts = has_word-parts s word has in
+      let b = begin_of blocks ends s there in
+      elim (cases_lt at s.from) [
+        | inl later ↦ both_ways (bit blocks s.from) (latest.higher s.from later (omega (arith, parts.0))) b.0
+        | inr upto ↦ elim (apart_each 0 (length begins) (extents begins ends) s r sound.ascending
+            (among_all begins blocks ends s sound.blocks_begin there) (extent_at begins ends at begun)) [
+              | inl same ↦ absurd (omega (arith, same, past, parts.1, b.1, ap (length_at ends) same))
+              | inr apart ↦ elim apart [
+                | inl after ↦ absurd (omega (arith, after, latest.below, parts.1))
+                | inr before ↦ absurd (omega (arith, before, upto, some_words at begun))
+              ]
             ]
       ]))
+    where
+      some_words : (at : ℕ) → bit begins at ≡ true → 0 < length_at ends at
+      some_words at begun =
+          (contained_bounds 0 (length begins) (extents begins ends) (record { from = at; count = length_at ends at }) sound.ascending
+          (extent_at begins ends at begun)).1
 
--- the search by a covered word: it finds where the extent over the word begins, and whether that is a block
-pub record FoundExtent (t : Inside) (word start : ℕ) : Type 0 where
-  pub in_blocks : start < length t.blocks
-  pub is_block : bit t.blocks start ≡ true → Some start ≡ run_over (extents t.blocks t.ends) word
-  pub is_reservation : bit t.blocks start ≡ false → None ≡ run_over (extents t.blocks t.ends) word
+-- the search for the block over a word: where the last one begins that begins at the word or below it, and which word is its last
+pub record FoundBlock (t : Inside) (word at : ℕ) : Type 0 where
+  pub last : ℕ
+  pub last_is : next_set t.ends at ≡ Some last
+  pub is_over : word ≤ last → Some at ≡ run_over (extents t.blocks t.ends) word
+  pub is_past : last < word → None ≡ run_over (extents t.blocks t.ends) word
 
-pub found_extent : (t : Inside) (word : ℕ) (o : Option ℕ) → AreSoundTables t.covered t.begins t.ends t.blocks → bit t.covered word ≡ true
-    → o ≡ previous_set t.begins word → IsSome o × ((start : ℕ) → o ≡ Some start → FoundExtent t word start)
-found_extent t word o sound set is =
-    let over = extent_over t.covered t.begins t.ends t.blocks sound word set in
-    let P : Option ℕ → Type 0 = λ x. IsSome x in
-    (subst P (sym (is ∙ over.1)) refl, found)
-  where
-    found : (start : ℕ) → o ≡ Some start → FoundExtent t word start
-    found start given =
-        let over = extent_over t.covered t.begins t.ends t.blocks sound word set in
-        let both : Some over.0 ≡ Some start = sym over.1 ∙ sym is ∙ given in
-        let same : over.0 ≡ start = cc in
-        let Q : ℕ → Type 0 = λ k. ExtentOver t.begins t.ends word k in
-        let extent = subst Q same over.2 in
-        record {
-          in_blocks = omega (arith, bit_within t.begins start extent.begin, sound.same_size.2);
-          is_block = λ block. sym (block_over_is t.covered t.begins t.ends t.blocks sound word start extent block);
-          is_reservation = λ none. sym (reservation_over t.covered t.begins t.ends t.blocks sound word start extent none);
-        }
+pub found_block : (t : Inside) (word at : ℕ) → AreSoundTables t.covered (begins_of t) t.ends t.blocks
+    → Some at ≡ previous_set t.blocks word → FoundBlock t word at
+unfolding previous_set
+found_block t word at sound is =
+    let latest = highest_found (bit t.blocks) (word + 1) at (sym is) in
+    let begun = sound.blocks_begin at latest.passes in
+    let r : Run = record { from = at; count = length_at t.ends at } in
+    let some =
+    (contained_bounds 0 (length (begins_of t)) (extents (begins_of t) t.ends) r sound.ascending (extent_at (begins_of t) t.ends at begun)).1
+    in
+    let below = latest.below in
+    record {
+      last = at + length_at t.ends at - 1;
+      last_is = next_last t.ends at (at + length_at t.ends at - 1) (last_of t.ends at some);
+      is_over = λ upto. sym (block_over_is t.covered (begins_of t) t.ends t.blocks sound word at
+          (record { begin = begun; has = has_word-true r word (omega arith) (omega (arith, some, upto)) })
+          latest.passes);
+      is_past = λ past. sym (block_past t.covered (begins_of t) t.ends t.blocks sound word at (sym is) (omega (arith, past, some)));
+    }

@@ -7,11 +7,12 @@ use Rattle.mps_bits.specs.Table.{bit, with_range, next_set}
 use Rattle.mps_bits.proofs.Ranges.{length-with_range}
 use Rattle.mps_extents.specs.Extents.{ExtentLists, has_word, is_covered}
 use Rattle.mps_extents.specs.declared.extents.Extents.TheInside.{Inside}
-use Rattle.mps_extents.specs.Inside.{length_at, minus, extents, lists_of, AreSoundTables}
+use Rattle.mps_extents.specs.Inside.{minus, extents, lists_of, AreSoundTables}
 use Rattle.mps_extents.proofs.WrittenBits.{bit-set_same, bit-set_other, bit_within, bit-with_range_inside, bit-with_range_outside, minus_is_begin, length-minus, bit-minus, minus_less, minus_same}
-use Rattle.mps_extents.proofs.ExtentBits.{extent_at, begin_of, among_all, SameLengths, extents_kept, extents_taken, others_stay, IsReservation, is_reservation, lists}
-use Rattle.mps_extents.proofs.ExtentLengths.{IsLastWord, next_last, last_of, length_kept}
-use Rattle.mps_extents.proofs.ApartRuns.{has_word-true, has_word-below, has_word-above, apart_each, uncovered_taken, covered_taken_other}
+use Rattle.mps_extents.proofs.ExtentBits.{begin_of, among_all, SameLengths, no_change, extents_kept, extents_taken, others_stay, IsReservation, is_reservation, lists}
+use Rattle.mps_extents.proofs.EitherBits.{length-either, begins_of}
+use Rattle.mps_extents.proofs.ExtentLengths.{IsLastWord, next_last, last_of}
+use Rattle.mps_extents.proofs.ApartRuns.{has_word-true, has_word-below, has_word-above, uncovered_taken, covered_taken_other}
 
 pub record Taken (covered begins ends blocks : List Bool) (r : Run) : Type 0 where
   pub sound : AreSoundTables covered begins ends blocks
@@ -33,14 +34,8 @@ module _ (covered begins ends blocks : List Bool) (r : Run) (taken : Taken cover
   abbrev pub begins' : List Bool
   begins' = set begins r.from false
 
-  abbrev pub ends' : List Bool
-  ends' = set ends last false
-
   abbrev pub blocks' : List Bool
   blocks' = set blocks r.from false
-
-  length_ends' : length ends' ≡ length ends
-  length_ends' = length-set ends last false
 
   pub taken_bounds : (0 < r.count) × (end_of r ≤ length begins)
   taken_bounds =
@@ -54,44 +49,31 @@ module _ (covered begins ends blocks : List Bool) (r : Run) (taken : Taken cover
       let P : ℕ → Type 0 = λ n. IsLastWord ends r.from (r.from + n - 1) in
       subst P (sym b.1) (last_of ends r.from (omega (arith, b.1, bounds.0)))
 
-  taken_same : SameLengths begins ends ends' r.from
-  taken_same = record {
-    others = λ s is other.
-        let t : Run = record { from = s; count = length_at ends s } in
-        let there = extent_at begins ends s is in
-        let bounds = contained_bounds 0 (length begins) old t taken.sound.ascending there in
-        let mine = taken_bounds in
-        length_kept ends ends' s length_ends' bounds.1 (λ i above below.
-        bit-set_other ends last i false (λ e.
-        elim (apart_each 0 (length begins) old r t taken.sound.ascending taken.there there) [
-          | inl same ↦ other (sym same)
-          | inr apart ↦ elim apart [ inl after ↦ omega (arith, mine.0) | inr before ↦ omega (arith, mine.0) ]
-        ]));
-  }
+  taken_same : SameLengths begins ends ends r.from
+  taken_same = no_change begins ends r.from
 
-  pub taken_extents : extents begins' ends' ≡ without_run r.from old
+  pub taken_extents : extents begins' ends ≡ without_run r.from old
   taken_extents =
       let b = begin_of begins ends r taken.there in
-      extents_taken begins begins ends ends' r.from taken_same (bit_within begins r.from b.0) b.0 (λ s is. is)
+      extents_taken begins begins ends ends r.from taken_same (bit_within begins r.from b.0) b.0 (λ s is. is)
 
   pub taken_is_sound :
       (still : List Bool) → length still ≡ length blocks
       → ((word : ℕ) → bit still word ≡ true → (bit begins word ≡ true) × (word ≢ r.from))
-      → AreSoundTables covered' begins' ends' still
+      → AreSoundTables covered' begins' ends still
   taken_is_sound still size left =
       let sound = taken.sound in
       let bounds = taken_bounds in
       let some = bounds.0 in
-      let lowest = taken_last in
       let begun = length-set begins r.from false in
       let room : end_of r ≤ length covered = omega (arith, bounds.0, bounds.1, sound.same_size.0) in
       let order : r.from ≤ end_of r = omega arith in
       let ranged = length-with_range covered r.from (end_of r) false order room in
       let now = taken_extents in
       let P : List Run → Type 0 = λ rs. IsAscending 0 (length begins) rs in
-      let Q : ℕ → Type 0 = λ n. IsAscending 0 n (extents begins' ends') in
+      let Q : ℕ → Type 0 = λ n. IsAscending 0 n (extents begins' ends) in
       let outside = λ (word : ℕ) (out : (word < r.from) ⊎ (end_of r ≤ word)) (other : has_word r word ≡ false).
-      let here : bit covered' word ≡ is_covered (extents begins' ends') word =
+      let here : bit covered' word ≡ is_covered (extents begins' ends) word =
       bit-with_range_outside covered r.from (end_of r) word false order room out ∙ sound.covered_is word
       ∙ sym (covered_taken_other 0 (length begins) old r word sound.ascending taken.there other)
       ∙ ap (λ (rs : List Run). is_covered rs word) (sym now)
@@ -100,7 +82,7 @@ module _ (covered begins ends blocks : List Bool) (r : Run) (taken : Taken cover
       record {
         same_size = (
           omega (arith, begun, ranged, sound.same_size.0),
-          omega (arith, begun, length_ends', sound.same_size.1),
+          omega (arith, begun, sound.same_size.1),
           omega (arith, begun, size, sound.same_size.2),
         );
         small = omega (arith, begun, sound.small);
@@ -114,23 +96,6 @@ module _ (covered begins ends blocks : List Bool) (r : Run) (taken : Taken cover
                 ∙ ap (λ (rs : List Run). is_covered rs word) (sym now)
             | inr past ↦ outside word (inr (omega (arith, some))) (has_word-above r word past)
           ]
-        ];
-        ends_inside = λ word is. elim (cases_eq word last) [
-          | inl here ↦ absurd (both_ways (bit ends' last)
-              (bit-set_same ends last false (omega (arith, some, bounds.1, sound.same_size.1)))
-              (ap (λ (j : ℕ). bit ends' j) (sym here) ∙ is))
-          | inr other ↦
-              let was : bit ends word ≡ true = sym (bit-set_other ends last word false other) ∙ is in
-              elim (cases_lt word r.from) [
-                | inl before ↦ bit-with_range_outside covered r.from (end_of r) word false order room (inl before)
-                    ∙ sound.ends_inside word was
-                | inr above ↦ elim (cases_lt word last) [
-                  | inl below ↦ absurd (both_ways (bit ends word) (lowest.lower word above below) was)
-                  | inr past ↦
-                      let rest : end_of r ≤ word = omega (arith, other) in
-                      bit-with_range_outside covered r.from (end_of r) word false order room (inr rest) ∙ sound.ends_inside word was
-                ]
-              ]
         ];
         blocks_begin = λ word is.
             let was = left word is in
@@ -154,34 +119,34 @@ module _ (covered begins ends blocks : List Bool) (r : Run) (taken : Taken cover
 
   pub uncover_lists :
       IsReservation begins ends blocks r
-      → lists_of begins' ends' blocks
+      → lists_of begins' ends blocks
       ≡ record (lists_of begins ends blocks)
       { covered = without_run r.from old; reservations = without_run r.from (extents (minus begins blocks) ends) }
   unfolding lists
   uncover_lists reserved =
       let within = bit_within begins r.from (begin_of begins ends r taken.there).0 in
       let same = taken_same in
-      let kept = extents_kept begins blocks ends ends' r.from same (others_than_reservation reserved.no_block) in
+      let kept = extents_kept begins blocks ends ends r.from same (others_than_reservation reserved.no_block) in
       let less : minus begins' blocks ≡ set (minus begins blocks) r.from false =
       minus_less begins begins' blocks blocks r.from within (length-set begins r.from false) (others_stay begins r.from false)
       (λ j other. refl)
       (ap (λ (b : Bool). b && not (bit blocks r.from)) (bit-set_same begins r.from false within))
       in
-      let gone : extents (minus begins' blocks) ends' ≡ without_run r.from (extents (minus begins blocks) ends) =
-      ap (λ (bits : List Bool). extents bits ends') less
-      ∙ extents_taken begins (minus begins blocks) ends ends' r.from same (omega (arith, within, length-minus begins blocks))
+      let gone : extents (minus begins' blocks) ends ≡ without_run r.from (extents (minus begins blocks) ends) =
+      ap (λ (bits : List Bool). extents bits ends) less
+      ∙ extents_taken begins (minus begins blocks) ends ends r.from same (omega (arith, within, length-minus begins blocks))
       reserved.reserved
       (minus_is_begin begins blocks)
       in
-      ap (λ (n : ℕ). lists n (extents begins' ends') (extents blocks ends') (extents (minus begins' blocks) ends'))
+      ap (λ (n : ℕ). lists n (extents begins' ends) (extents blocks ends) (extents (minus begins' blocks) ends))
       (length-set begins r.from false)
-      ∙ ap (λ (rs : List Run). lists (length begins) rs (extents blocks ends') (extents (minus begins' blocks) ends')) taken_extents
-      ∙ ap (λ (rs : List Run). lists (length begins) (without_run r.from old) rs (extents (minus begins' blocks) ends')) kept
+      ∙ ap (λ (rs : List Run). lists (length begins) rs (extents blocks ends) (extents (minus begins' blocks) ends)) taken_extents
+      ∙ ap (λ (rs : List Run). lists (length begins) (without_run r.from old) rs (extents (minus begins' blocks) ends)) kept
       ∙ ap (λ (rs : List Run). lists (length begins) (without_run r.from old) (extents blocks ends) rs) gone
 
   pub drop_lists :
       bit blocks r.from ≡ true
-      → lists_of begins' ends' (set blocks r.from false)
+      → lists_of begins' ends (set blocks r.from false)
       ≡ record (lists_of begins ends blocks) { covered = without_run r.from old; blocks = without_run r.from (extents blocks ends) }
   unfolding lists
   drop_lists block =
@@ -195,73 +160,73 @@ module _ (covered begins ends blocks : List Bool) (r : Run) (taken : Taken cover
       (others_stay blocks r.from false)
       (ap (λ (b : Bool). b && not (bit blocks' r.from)) (bit-set_same begins r.from false within) ∙ sym none_here)
       in
-      let kept : extents (minus begins' blocks') ends' ≡ extents (minus begins blocks) ends =
-      ap (λ (bits : List Bool). extents bits ends') still
-      ∙ extents_kept begins (minus begins blocks) ends ends' r.from same (λ s is. (
+      let kept : extents (minus begins' blocks') ends ≡ extents (minus begins blocks) ends =
+      ap (λ (bits : List Bool). extents bits ends) still
+      ∙ extents_kept begins (minus begins blocks) ends ends r.from same (λ s is. (
         minus_is_begin begins blocks s is,
         λ e. both_ways (bit (minus begins blocks) r.from) none (ap (λ (j : ℕ). bit (minus begins blocks) j) (sym e) ∙ is),
       ))
       in
-      let gone = extents_taken begins blocks ends ends' r.from same placed block taken.sound.blocks_begin in
-      ap (λ (n : ℕ). lists n (extents begins' ends') (extents blocks' ends') (extents (minus begins' blocks') ends'))
+      let gone = extents_taken begins blocks ends ends r.from same placed block taken.sound.blocks_begin in
+      ap (λ (n : ℕ). lists n (extents begins' ends) (extents blocks' ends) (extents (minus begins' blocks') ends))
       (length-set begins r.from false)
-      ∙ ap (λ (rs : List Run). lists (length begins) rs (extents blocks' ends') (extents (minus begins' blocks') ends')) taken_extents
-      ∙ ap (λ (rs : List Run). lists (length begins) (without_run r.from old) rs (extents (minus begins' blocks') ends')) gone
+      ∙ ap (λ (rs : List Run). lists (length begins) rs (extents blocks' ends) (extents (minus begins' blocks') ends)) taken_extents
+      ∙ ap (λ (rs : List Run). lists (length begins) (without_run r.from old) rs (extents (minus begins' blocks') ends)) gone
       ∙ ap (λ (rs : List Run). lists (length begins) (without_run r.from old) (without_run r.from (extents blocks ends)) rs) kept
 
 -- ---- what is known of the tables where an extent is taken out of them
 
 pub record TakenFits (t : Inside) (at words : ℕ) : Type 0 where
-  pub taken : Taken t.covered t.begins t.ends t.blocks (record { from = at; count = words })
+  pub taken : Taken t.covered (begins_of t) t.ends t.blocks (record { from = at; count = words })
   pub nonzero : 0 < words
   pub in_covered : at + words ≤ length t.covered
-  pub in_begins : at + words ≤ length t.begins
+  pub in_opens : at + words ≤ length t.opens
   pub in_ends : at + words ≤ length t.ends
   pub in_blocks : at + words ≤ length t.blocks
   pub at_most : at + words < 2 ^ 32
   pub last_is : next_set t.ends at ≡ Some (at + words - 1)
 
-taken_fits : (t : Inside) (at words : ℕ) → Taken t.covered t.begins t.ends t.blocks (record { from = at; count = words })
+taken_fits : (t : Inside) (at words : ℕ) → Taken t.covered (begins_of t) t.ends t.blocks (record { from = at; count = words })
     → TakenFits t at words
 taken_fits t at words taken =
     let r : Run = record { from = at; count = words } in
     let sound = taken.sound in
-    let bounds = taken_bounds t.covered t.begins t.ends t.blocks r taken in
+    let bounds = taken_bounds t.covered (begins_of t) t.ends t.blocks r taken in
     record {
       taken = taken;
       nonzero = bounds.0;
       in_covered = omega (arith, bounds.1, sound.same_size.0);
-      in_begins = bounds.1;
+      in_opens = omega (arith, bounds.1, length-either t.opens t.blocks);
       in_ends = omega (arith, bounds.1, sound.same_size.1);
       in_blocks = omega (arith, bounds.1, sound.same_size.2);
       at_most = omega (arith, bounds.1, sound.small);
-      last_is = next_last t.ends at (last_word r) (taken_last t.covered t.begins t.ends t.blocks r taken);
+      last_is = next_last t.ends at (last_word r) (taken_last t.covered (begins_of t) t.ends t.blocks r taken);
     }
 
 pub record ReservationFits (t : Inside) (at words : ℕ) : Type 0 where
   pub fits : TakenFits t at words
-  pub reserved : IsReservation t.begins t.ends t.blocks (record { from = at; count = words })
+  pub reserved : IsReservation (begins_of t) t.ends t.blocks (record { from = at; count = words })
 
-pub reservation_fits : (t : Inside) (seen : ExtentLists) (at words : ℕ) → AreSoundTables t.covered t.begins t.ends t.blocks
-    → lists_of t.begins t.ends t.blocks ≡ seen → Contains seen.reservations (record { from = at; count = words })
+pub reservation_fits : (t : Inside) (seen : ExtentLists) (at words : ℕ) → AreSoundTables t.covered (begins_of t) t.ends t.blocks
+    → lists_of (begins_of t) t.ends t.blocks ≡ seen → Contains seen.reservations (record { from = at; count = words })
     → ReservationFits t at words
 reservation_fits t seen at words sound is listed =
     let r : Run = record { from = at; count = words } in
     let P : ExtentLists → Type 0 = λ e. Contains e.reservations r in
-    let reserved = is_reservation t.begins t.ends t.blocks r (subst P (sym is) listed) in
+    let reserved = is_reservation (begins_of t) t.ends t.blocks r (subst P (sym is) listed) in
     record { fits = taken_fits t at words (record { sound = sound; there = reserved.there }); reserved = reserved }
 
 pub record BlockFits (t : Inside) (at words : ℕ) : Type 0 where
   pub fits : TakenFits t at words
   pub block : bit t.blocks at ≡ true
 
-pub block_fits : (t : Inside) (seen : ExtentLists) (at words : ℕ) → AreSoundTables t.covered t.begins t.ends t.blocks
-    → lists_of t.begins t.ends t.blocks ≡ seen → Contains seen.blocks (record { from = at; count = words }) → BlockFits t at words
+pub block_fits : (t : Inside) (seen : ExtentLists) (at words : ℕ) → AreSoundTables t.covered (begins_of t) t.ends t.blocks
+    → lists_of (begins_of t) t.ends t.blocks ≡ seen → Contains seen.blocks (record { from = at; count = words }) → BlockFits t at words
 block_fits t seen at words sound is listed =
     let r : Run = record { from = at; count = words } in
     let P : ExtentLists → Type 0 = λ e. Contains e.blocks r in
     let there = subst P (sym is) listed in
     record {
-      fits = taken_fits t at words (record { sound = sound; there = among_all t.begins t.blocks t.ends r sound.blocks_begin there });
+      fits = taken_fits t at words (record { sound = sound; there = among_all (begins_of t) t.blocks t.ends r sound.blocks_begin there });
       block = (begin_of t.blocks t.ends r there).0;
     }

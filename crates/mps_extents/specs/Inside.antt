@@ -1,5 +1,5 @@
 -- How tables of bits represent extents.
-use Rattle.std.specs.Prelude.{ℕ, suc, ◌+◌, ◌-◌, ◌<◌, ◌^◌, ◌≡◌, Bool, true, false, not, ◌&&◌, Option, Some, None, List, [], ◌∷◌, length, map}
+use Rattle.std.specs.Prelude.{ℕ, suc, ◌+◌, ◌-◌, ◌<◌, ◌^◌, ◌≡◌, Bool, true, false, not, ◌&&◌, ◌||◌, min, Option, Some, None, List, [], ◌∷◌, length, map}
 use Rattle.std.specs.List.{range_with_len}
 use Rattle.mps_base.specs.Run.{Run, IsAscending, total}
 use Rattle.mps_bits.specs.Table.{bit, next_set}
@@ -25,6 +25,16 @@ unfoldable pub minus : List Bool → List Bool → List Bool
 minus xs ys = map (λ i. bit xs i && not (bit ys i)) (range_with_len 0 (length xs))
 
 -- the extents that begin where the table has a bit
+-- the bits of two tables
+unfoldable pub either : List Bool → List Bool → List Bool
+either xs ys = map (λ i. bit xs i || bit ys i) (range_with_len 0 (length xs))
+
+-- the lower of two numbers, where there are two
+abbrev pub lower_of : Option ℕ → Option ℕ → Option ℕ
+lower_of None b = b
+lower_of (Some x) None = Some x
+lower_of (Some x) (Some y) = Some (min x y)
+
 abbrev pub extents : List Bool → List Bool → List Run
 extents begins ends = runs_with (length_at ends) 0 begins
 
@@ -36,15 +46,19 @@ lists_of begins ends blocks = record {
   reservations = extents (minus begins blocks) ends;
 }
 
--- the tables fit together: they have one length, a bit of the first is set exactly if an extent has a word, and bits of
--- the others lie in extents
+-- The tables fit together: they have one length, a bit of the first is set exactly if an extent has a word, and blocks begin where
+-- extents do. Bits of last words are of no account where nothing is covered.
 pub record AreSoundTables (covered begins ends blocks : List Bool) : Type 0 where
   pub same_size : (length covered ≡ length begins) × (length ends ≡ length begins) × (length blocks ≡ length begins)
   pub small : length begins < 2 ^ 32
   pub ascending : IsAscending 0 (length begins) (extents begins ends)
   pub covered_is : (word : ℕ) → bit covered word ≡ is_covered (extents begins ends) word
-  pub ends_inside : (word : ℕ) → bit ends word ≡ true → bit covered word ≡ true
   pub blocks_begin : (word : ℕ) → bit blocks word ≡ true → bit begins word ≡ true
+
+-- no reservation begins where a block does
+pub record AreApart (opens blocks : List Bool) : Type 0 where
+  pub same_size : length opens ≡ length blocks
+  pub no_block : (word : ℕ) → bit opens word ≡ true → bit blocks word ≡ false
 
 -- how many blocks there are, and how many words they have together
 pub record IsTally (blocks : List Run) (count words : ℕ) : Type 0 where

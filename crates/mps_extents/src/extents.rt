@@ -4,6 +4,9 @@
 ghost use Rattle.std.specs.Prelude.{◌≡◌, ℕ, ◌+◌, ◌^◌, ◌<◌, ◌≤◌, [], length, IfOk, IfSome, IfNone, Contains};
 ghost use Rattle.mps_base.specs.Run.{Run, IsAscending, with_run, without_run, gaps, lowest_fitting, runs_within, total};
 ghost use Rattle.mps_extents.specs.Extents.{ExtentLists, nothing_covered, run_over, first_run, IsFirstWithin, AreWhole};
+ghost use Rattle.mps_extents.specs.Inside.{lower_of};
+
+mod sweeping;
 
 use mps_bits::Bits;
 use std::alloc::{AllocError, Global};
@@ -13,22 +16,25 @@ use std::marker::Model;
 #[derive(Drop)]
 pub struct Extents {
     covered: Bits,
-    begins: Bits,
-    ends: Bits,
+    // Where blocks begin, and where reservations do.
     blocks: Bits,
+    opens: Bits,
+    // The last word of each extent. A bit is of no account where nothing is covered: who covers words writes the bits of all of them.
+    ends: Bits,
     live_blocks: usize,
     live_words: usize,
 }
 
 impl Model for Extents {
     ghost use Rattle.mps_extents.specs.Extents.{ExtentLists};
-    ghost use Rattle.mps_extents.specs.Inside.{extents, lists_of, AreSoundTables, IsTally};
+    ghost use Rattle.mps_extents.specs.Inside.{extents, either, lists_of, AreSoundTables, AreApart, IsTally};
 
     ghost Value = { ExtentLists };
 
-    ghost view = { λ e. lists_of e.begins e.ends e.blocks };
+    ghost view = { λ e. lists_of (either e.opens e.blocks) e.ends e.blocks };
 
-    ghost invariant = { λ e. AreSoundTables e.covered e.begins e.ends e.blocks
+    ghost invariant = { λ e. AreSoundTables e.covered (either e.opens e.blocks) e.ends e.blocks
+        × AreApart e.opens e.blocks
         × IsTally (extents e.blocks e.ends) e.live_blocks e.live_words };
 }
 
@@ -40,9 +46,9 @@ impl Extents {
     {
         Ok(Extents {
             covered: Bits::new(alloc, size)?,
-            begins: Bits::new(alloc, size)?,
-            ends: Bits::new(alloc, size)?,
             blocks: Bits::new(alloc, size)?,
+            opens: Bits::new(alloc, size)?,
+            ends: Bits::new(alloc, size)?,
             live_blocks: 0,
             live_words: 0,
         })
@@ -58,8 +64,8 @@ impl Extents {
         } }
     {
         self.covered.set_range(at, at + words);
-        self.begins.set(at);
-        self.ends.set(at + words - 1);
+        self.ends.end_run(at, at + words);
+        self.opens.set(at);
     }
 
     /// Removes the reservation of `words` words that begins at `at`.
@@ -72,8 +78,7 @@ impl Extents {
         ensures was_covered { Contains self.old.covered (record { from = at; count = words }) }
     {
         self.covered.clear_range(at, at + words); // a gap again
-        self.begins.clear(at);
-        self.ends.clear(at + words - 1);
+        self.opens.clear(at); // and no reservation
     }
 
     /// Covers `words` words from `at` on by a block.
@@ -87,8 +92,7 @@ impl Extents {
         } }
     {
         self.covered.set_range(at, at + words);
-        self.begins.set(at);
-        self.ends.set(at + words - 1);
+        self.ends.end_run(at, at + words); // its only end
         self.blocks.set(at);
         self.live_blocks += 1;
         self.live_words += words;
@@ -103,6 +107,7 @@ impl Extents {
         } }
         ensures covered { Contains self.old.covered (record { from = at; count = words }) }
     {
+        self.opens.clear(at);
         self.blocks.set(at);
         self.live_blocks += 1;
         self.live_words += words;
@@ -119,8 +124,6 @@ impl Extents {
         ensures was_covered { Contains self.old.covered (record { from = at; count = words }) }
     {
         self.covered.clear_range(at, at + words);
-        self.begins.clear(at);
-        self.ends.clear(at + words - 1);
         self.blocks.clear(at);
         self.live_blocks -= 1;
         self.live_words -= words;
@@ -177,8 +180,9 @@ impl Extents {
         if !self.covered.test(word) {
             return None;
         }
-        let at = self.begins.previous_set(word).unwrap();
-        if self.blocks.test(at) { Some(at) } else { None }
+        let at = self.blocks.previous_set(word)?;
+        let last = self.ends.next_set(at).unwrap();
+        if word <= last { Some(at) } else { None }
     }
 
     /// Where the lowest block begins among those that begin from `low` on and below `high`.
@@ -198,7 +202,9 @@ impl Extents {
         ensures first { IfSome result (λ at. IsFirstWithin low high self.now.covered at) }
         ensures none { IfNone result (runs_within low high self.now.covered ≡ []) }
     {
-        self.begins.next_set_below(low, high)
+        let block = self.blocks.next_set_below(low, high);
+        let open = self.opens.next_set_below(low, high);
+        lower_of(block, open)
     }
 
     /// Where the lowest gap of at least `words` words begins among the words from `low` on and below `high`.
@@ -211,5 +217,16 @@ impl Extents {
         ensures fits { IfSome result (λ at. at + words ≤ high) }
     {
         self.covered.lowest_clear_run(low, high, words)
+    }
+}
+
+/// The lower of two numbers, where there are two.
+fn lower_of(a: Option<usize>, b: Option<usize>) -> Option<usize>
+    ensures { result ≡ lower_of a b }
+{
+    match (a, b) {
+        (Some(x), Some(y)) => Some(x.min(y)),
+        (Some(x), None) => Some(x),
+        (None, found) => found,
     }
 }

@@ -3,6 +3,7 @@ use Rattle.mps_extents.specs.Extents.{ExtentLists, first_run}
 use Rattle.mps_extents.specs.Inside.{extents}
 use Rattle.mps_extents.proofs.extents.Extents.first_block.Goals as goal
 use Rattle.mps_extents.proofs.FirstRun.{first_block_is, first_within, none_within, IfFirst, IfNoneWithin}
+use Rattle.mps_extents.proofs.EitherBits.{begins_of}
 use Rattle.mps_extents.proofs.Tally.{blocks_ascend}
 
 pub returns-clause-value : goal.returns-clause-value
@@ -18,7 +19,7 @@ returns-clause-first c =
     let P : ExtentLists → Type 0 = λ e. IfFirst c.args.low c.args.high e.blocks c.next_set_below.result in
     subst P c.self.view_is
     (first_within 0 _ c.args.low c.args.high (extents t.blocks t.ends) c.next_set_below.result
-    (blocks_ascend t.covered t.begins t.ends t.blocks c.self.invariant.0) is)
+    (blocks_ascend t.covered (begins_of t) t.ends t.blocks c.self.invariant.0) is)
 
 pub returns-clause-none : goal.returns-clause-none
 returns-clause-none c =

@@ -1,8 +1,9 @@
-use Rattle.std.proofs.Common.{List, sym, Contains, refl, ap, ◌∙◌, subst, arith}
+use Rattle.std.proofs.Common.{List, sym, Contains, ap, ◌∙◌, subst, arith}
 use Rattle.mps_base.specs.Run.{Run, without_run}
 use Rattle.mps_extents.specs.Extents.{ExtentLists}
 use Rattle.mps_extents.specs.Inside.{IsTally}
-use Rattle.mps_extents.proofs.TakenExtent.{reservation_fits, taken_is_sound, others_than_reservation, uncover_lists}
+use Rattle.mps_extents.proofs.TakenExtent.{reservation_fits}
+use Rattle.mps_extents.proofs.Tables.{uncovered_is_sound, uncovered_apart, uncovered_lists}
 use Rattle.mps_extents.proofs.extents.Extents.uncover.Goals as goal
 
 pub overflow_add-at : goal.overflow_add-at
@@ -20,41 +21,27 @@ clear-requires c =
     let fits = (reservation_fits c.self.inside c.args.self.now c.args.at c.args.words c.self.invariant.0 c.self.view_is c.requires).fits in
     omega arith
 
-pub overflow_add-at-2 : goal.overflow_add-at-2
-overflow_add-at-2 c =
-    let fits = (reservation_fits c.self.inside c.args.self.now c.args.at c.args.words c.self.invariant.0 c.self.view_is c.requires).fits in
-    omega arith
-
-pub clear-requires-2 : goal.clear-requires-2
-clear-requires-2 c =
-    let fits = (reservation_fits c.self.inside c.args.self.now c.args.at c.args.words c.self.invariant.0 c.self.view_is c.requires).fits in
-    omega arith
-
-pub overflow_sub-at : goal.overflow_sub-at
-overflow_sub-at c =
-    let fits = (reservation_fits c.self.inside c.args.self.now c.args.at c.args.words c.self.invariant.0 c.self.view_is c.requires).fits in
-    omega arith
-
 pub invariant_of-self : goal.invariant_of-self
 invariant_of-self c =
     let t = c.self.inside in
     let r : Run = record { from = c.args.at; count = c.args.words } in
-    let taken = reservation_fits c.self.inside c.args.self.now c.args.at c.args.words c.self.invariant.0 c.self.view_is c.requires in
+    let taken = reservation_fits t c.args.self.now c.args.at c.args.words c.self.invariant.0 c.self.view_is c.requires in
     let P : List Run → Type 0 = λ rs. IsTally rs t.live_blocks t.live_words in
-    rw (c.clear_range.ensures.state, c.clear.ensures.state, c.clear-2.ensures.state) (
-      taken_is_sound t.covered t.begins t.ends t.blocks r taken.fits.taken t.blocks refl
-          (others_than_reservation t.covered t.begins t.ends t.blocks r taken.fits.taken taken.reserved.no_block),
+    rw (c.clear_range.ensures.state, c.clear.ensures.state) (
+      uncovered_is_sound t.covered t.opens t.ends t.blocks r c.self.invariant.1 taken.fits.taken taken.reserved,
+      uncovered_apart t.covered t.opens t.ends t.blocks r c.self.invariant.1 taken.fits.taken,
       subst P (sym (ap (λ (e : ExtentLists). e.blocks)
-          (uncover_lists t.covered t.begins t.ends t.blocks r taken.fits.taken taken.reserved))) c.self.invariant.1,
+          (uncovered_lists t.covered t.opens t.ends t.blocks r c.self.invariant.1 taken.fits.taken taken.reserved)))
+          c.self.invariant.2,
     )
 
 pub returns-clause-state : goal.returns-clause-state
 returns-clause-state c =
     let t = c.self.inside in
     let r : Run = record { from = c.args.at; count = c.args.words } in
-    let taken = reservation_fits c.self.inside c.args.self.now c.args.at c.args.words c.self.invariant.0 c.self.view_is c.requires in
-    rw (c.clear.ensures.state, c.clear-2.ensures.state)
-    (uncover_lists t.covered t.begins t.ends t.blocks r taken.fits.taken taken.reserved
+    let taken = reservation_fits t c.args.self.now c.args.at c.args.words c.self.invariant.0 c.self.view_is c.requires in
+    rw (c.clear.ensures.state)
+    (uncovered_lists t.covered t.opens t.ends t.blocks r c.self.invariant.1 taken.fits.taken taken.reserved
     ∙ ap (λ (e : ExtentLists). record e
     { covered = without_run c.args.at e.covered; reservations = without_run c.args.at e.reservations }) c.self.view_is)
 
