@@ -1,7 +1,7 @@
 // The marks of a collection, by the words at which blocks begin.
 #![tactic(auto)]
 
-ghost use Rattle.std.specs.Prelude.{◌≡◌, ℕ, true, false, ◌*◌, ◌^◌, ◌<◌, ◌≤◌, ◌||◌, length, replicate, slice_set, count_by, IfOk, IfSome, IfNone};
+ghost use Rattle.std.specs.Prelude.{◌≡◌, ℕ, true, false, ◌+◌, ◌*◌, ◌^◌, ◌<◌, ◌≤◌, ◌||◌, length, replicate, slice_set, count_by, IfOk, IfSome, IfNone};
 ghost use Rattle.mps_base.specs.Address.{words_of_grain};
 ghost use Rattle.mps_bits.specs.Table.{bit, next_set_below};
 ghost use Rattle.mps_marks.specs.Marks.{MarkTables, no_marks, grey_of, with_grey, after_blacken, without_marks};
@@ -55,6 +55,14 @@ impl Marks {
         ensures { result ≡ length self.now.kept }
     {
         self.kept.len()
+    }
+
+    /// The table of kept blocks, with a bit for each word.
+    #[inline(always)]
+    pub fn kept(&self) -> &Bits
+        ensures { result.now ≡ self.now.kept }
+    {
+        &self.kept
     }
 
     /// The collection keeps the block that begins at a word.
@@ -132,6 +140,18 @@ impl Marks {
         self.clear_kept();
         self.exact.clear_all();
         self.weak.clear_all();
+    }
+
+    /// Whether a block is grey, of either rank.
+    #[inline(always)]
+    pub fn is_any_grey(&self) -> bool
+        ensures some { result ≡ true → 0 < count_by (λ b. b) self.now.exact + count_by (λ b. b) self.now.weak }
+        ensures none { result ≡ false → (count_by (λ b. b) self.now.exact ≡ 0) × (count_by (λ b. b) self.now.weak ≡ 0) }
+    {
+        if self.exact.count() > 0 {
+            return true;
+        }
+        self.weak.count() > 0
     }
 
     /// How many blocks of a rank are grey.
