@@ -23,7 +23,9 @@ pub mod Placements
 pub mod Reclaimed
 pub mod Reopening
 pub mod Seen
+pub mod Sweeping
 pub mod SegmentOver
 pub mod Taking
+pub mod Unmarked
 pub mod Walked
 pub mod Within

@@ -75,14 +75,6 @@ module _ (s : SegsState) (base : Address) (spare : ℕ) (can : CanReclaim s base
       ordered = can.ordered;
     }
 
-    pub lost_is : lost_between (word_of base) (word_of end) s ≡ lost_of s can.segment
-    lost_is = ap (λ (high : Word). lost_between (word_of base) high s) fits ∙ lost_from_base
-
-    pub room_for : length (lost_between (word_of base) (word_of end) s) < spare
-    room_for =
-        let P : List Run → Type 0 = λ xs. length xs < spare in
-        subst P (sym (ap (λ (high : Word). lost_between (word_of base) high s) fits)) can.room
-
   -- there is room for one move more
   pub room_left : (moves m : Moves) → moves.spare ≡ spare → m ≡ moves_freed_in s can.segment moves → 0 < m.spare
   room_left moves m same is =

@@ -1,8 +1,8 @@
 -- The runs that begin between two words, one after the other.
 use Rattle.std.proofs.Common.{ℕ, ◌<◌, ◌≤◌, ◌≡◌, ◌⊎◌, ◌&&◌, true, false, ltb, leb, Some, None, List, [], ◌∷◌, Contains, refl, sym, ap, ◌∙◌, inl, inr, arith}
 use Rattle.std.proofs.lemmas.Bool.{cases_lt, cond-true, cond-false, le-leb, lt-ltb, lt-leb, le-ltb, and_from, and_left, and_right}
-use Rattle.mps_base.specs.Run.{Run, end_of, IsAscending, without_run, runs_within}
-use Rattle.mps_base.proofs.Runs.{contains_first, contains_later, without_run_first, without_run_later}
+use Rattle.mps_base.specs.Run.{Run, end_of, IsAscending, runs_within}
+use Rattle.mps_base.proofs.Runs.{contains_first, contains_later}
 use Rattle.mps_extents.specs.Extents.{first_run, is_covered, has_word}
 
 module _ (low high : ℕ) (r : Run) (rs : List Run) where
@@ -116,32 +116,6 @@ same_run r s from count =
     ap (λ (n : ℕ). let x : Run = record { from = s.from; count = n } in x) count
     in
     first ∙ second
-
--- a run taken out is none of those that begin after it
-pub within_without : (at low high : ℕ) (rs : List Run) → at < low → runs_within low high (without_run at rs) ≡ runs_within low high rs
-within_without at low high [] before = refl
-within_without at low high (r ∷ rs) before =
-    elim (sides_eq at r.from) [
-      | inl same ↦
-          ap (λ (xs : List Run). runs_within low high xs) (without_run_first at r rs same)
-          ∙ sym (within_later low high r rs (inl (omega (arith, same, before))))
-      | inr other ↦
-          ap (λ (xs : List Run). runs_within low high xs) (without_run_later at r rs other) ∙ elim (sides low high r.from) [
-            | inl (from, under) ↦
-                within_here low high r (without_run at rs) from under
-                ∙ ap (λ (xs : List Run). r ∷ xs) (within_without at low high rs before) ∙ sym (within_here low high r rs from under)
-            | inr out ↦
-                within_later low high r (without_run at rs) out ∙ within_without at low high rs before
-                ∙ sym (within_later low high r rs out)
-          ]
-    ]
-  where
-    sides_eq : (a b : ℕ) → (a ≡ b) ⊎ (a ≡ b → ⊥)
-    sides_eq a b =
-        elim (cases_lt a b) [
-          | inl less ↦ inr (λ e. omega (arith, e, less))
-          | inr least ↦ elim (cases_lt b a) [ inl less ↦ inr (λ e. omega (arith, e, less)) | inr most ↦ inl (omega (arith, least, most)) ]
-        ]
 
 -- ---- which words the runs have
 

@@ -28,6 +28,7 @@ impl Buffer {
     /// Finds `words` words for a block or a reservation: a prefix of these free words, or where they are too few the first words of a
     /// new segment of a pool, a generation and a rank. The rest is what is left of them. Nothing covers any of the words yet. Refuses
     /// `CommitLimit` and `NoRun` as `Segs::take` does, and a refusal changes nothing.
+    #[inline(always)]
     pub fn place(
         self,
         segs: &mut Segs,

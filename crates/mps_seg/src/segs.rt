@@ -119,6 +119,7 @@ impl Segs {
 
     /// Takes a new segment for `words` words and returns its base. It isn't condemned, and its summary is empty. Refuses `CommitLimit` and
     /// `NoRun` as the arena does.
+    #[inline(always)]
     pub fn take(
         &mut self,
         trail: &mut Trail,

@@ -1,18 +1,23 @@
 // The blocks of a segment that a collection didn't keep are freed.
 #![tactic(auto)]
 
-ghost use Rattle.std.specs.Prelude.{◌≡◌, ◌+◌, ◌*◌, ◌%◌, ◌<◌, ◌≤◌, true, false, Some, [], ◌∷◌, length, IfSome, IfNone, Contains};
-ghost use Rattle.mps_base.specs.Address.{word_of, bytes_of_word, words_of_grain};
+ghost use Rattle.std.specs.Prelude.{◌≡◌, ◌+◌, ◌*◌, ◌%◌, ◌^◌, ◌<◌, ◌≤◌, true, false, Some, [], ◌∷◌, length, IfSome, IfNone, Contains};
+ghost use Rattle.mps_base.specs.Address.{word_of, bytes_of_word};
 ghost use Rattle.mps_base.specs.Run.{runs_within};
 ghost use Rattle.mps_base.specs.Segment.{Segment, segment_over};
-ghost use Rattle.mps_base.specs.Trail.{with_move};
-ghost use Rattle.mps_base.specs.declared.moves.Move.TheVariants.{Free};
-ghost use Rattle.mps_seg.specs.Collecting.{is_kept_at};
+ghost use Rattle.mps_bits.specs.Table.{bit};
+ghost use Rattle.mps_extents.specs.Lost.{lost_runs};
+ghost use Rattle.mps_marks.specs.Marks.{without_marks};
 ghost use Rattle.mps_seg.specs.Moving.{run_at};
-ghost use Rattle.mps_seg.specs.Reclaiming.{IsSpan, CanReclaim, lost_between, without_block, without_blocks, moves_freed, freed_in, moves_freed_in};
+ghost use Rattle.mps_seg.specs.Reclaiming.{IsSpan, CanReclaim, freed_in, moves_freed_in};
+ghost use Rattle.mps_seg.specs.Unmarking.{unmarked};
 
 use super::Segs;
-use mps_base::{Addr, BYTES_OF_GRAIN, BYTES_OF_WORD, Move, Trail};
+use crate::SegmentInfo;
+use crate::first_grains::allow_any_gap;
+use mps_base::{Addr, Trail, WORDS_OF_GRAIN};
+use mps_extents::Extents;
+use mps_marks::Marks;
 
 /// A block: where it begins, and how many words it has.
 #[derive(Clone, Copy)]
@@ -22,16 +27,22 @@ pub struct Block {
 }
 
 impl Segs {
-    /// Frees the blocks of the segment at `base` that the collection didn't keep, in ascending order, with a Free for each.
+    /// Frees the blocks of the segment at `base` that the collection didn't keep, in ascending order, with a Free for each. It goes over
+    /// 64 words a step.
     pub fn drop_lost(&mut self, trail: &mut Trail, base: Addr)
         requires { CanReclaim self.old base.0 trail.old.spare }
         ensures state { (t : Segment) → segment_over self.old.segments base.0 ≡ Some t → self.new ≡ freed_in self.old t }
         ensures moves { (t : Segment) → segment_over self.old.segments base.0 ≡ Some t
             → trail.new ≡ moves_freed_in self.old t trail.old }
     {
-        let _ = self.grains();
-        let bytes = BYTES_OF_GRAIN * u64::from(self.segment(base).grains);
-        free_lost(self, trail, base, Addr(base.0 + bytes));
+        self.extents.blocks_are_covered();
+        self.extents.blocks_are_in_order();
+        let SegmentInfo { grains, .. } = self.segment(base);
+        let low = base.word();
+        let high = low + WORDS_OF_GRAIN * grains as usize;
+        clear_lost(&self.extents, &mut self.marks, low, high);
+        allow_any_gap(&self.firsts, &mut self.bounds, base);
+        self.extents.drop_lost(self.marks.kept(), low, high, trail);
     }
 
     /// The lowest block of the segment at `base` that begins at `from` or above. The segment ends at `end`.
@@ -53,33 +64,45 @@ impl Segs {
     }
 }
 
-/// Frees the blocks that begin in the segment from `base` to `end` and weren't kept, in ascending order.
-fn free_lost(segs: &mut Segs, trail: &mut Trail, base: Addr, end: Addr)
-    requires span { IsSpan segs.old base.0 end.0 }
-    requires fits { length (lost_between (word_of base.0) (word_of end.0) segs.old) < trail.old.spare }
-    ensures state { segs.new ≡ without_blocks (lost_between (word_of base.0) (word_of end.0) segs.old) segs.old }
-    ensures moves { trail.new ≡ moves_freed (lost_between (word_of base.0) (word_of end.0) segs.old) trail.old }
+/// Clears the marks of the blocks that begin from the word `low` on and below `high` and aren't kept. They have none unless a block is
+/// grey.
+fn clear_lost(extents: &Extents, marks: &mut Marks, low: usize, high: usize)
+    requires in_table { high ≤ extents.now.size }
+    requires small { extents.now.size < 2 ^ 32 }
+    requires in_kept { high ≤ length marks.old.kept }
+    requires in_exact { length marks.old.exact ≡ length marks.old.kept }
+    requires in_weak { length marks.old.weak ≡ length marks.old.kept }
+    ensures { marks.new ≡ unmarked (lost_runs low high marks.old.kept extents.now.blocks) marks.old }
 {
-    let _ = segs.grains();
-    let mut from = base;
-    while let Some(block) = segs.next_block(base, from, end) {
-        free_unless_kept(segs, trail, block);
-        from = Addr(block.at.0 + BYTES_OF_WORD * u64::from(block.words));
+    if !marks.is_any_grey() {
+        return;
+    }
+    clear_each(extents, marks, low, high);
+}
+
+/// The same, block by block.
+#[cold]
+#[inline(never)]
+fn clear_each(extents: &Extents, marks: &mut Marks, low: usize, high: usize)
+    requires in_table { high ≤ extents.now.size }
+    requires small { extents.now.size < 2 ^ 32 }
+    requires in_kept { high ≤ length marks.old.kept }
+    ensures { marks.new ≡ unmarked (lost_runs low high marks.old.kept extents.now.blocks) marks.old }
+{
+    let mut from = low;
+    while let Some(at) = extents.first_block(from, high) {
+        clear_unless_kept(marks, at);
+        from = at + 1;
     }
 }
 
-/// Frees a block, with a Free, unless the collection kept it.
-#[inline(always)]
-fn free_unless_kept(segs: &mut Segs, trail: &mut Trail, block: Block)
-    requires there { Contains segs.old.blocks (run_at block.at.0 block.words) }
-    requires inside { word_of block.at.0 < words_of_grain * (segs.old.grains + 1) }
-    requires fits { is_kept_at segs.old block.at.0 ≡ false → 0 < trail.old.spare }
-    ensures kept { is_kept_at segs.old block.at.0 ≡ true → (segs.new ≡ segs.old) × (trail.new ≡ trail.old) }
-    ensures freed { is_kept_at segs.old block.at.0 ≡ false → segs.new ≡ without_block (run_at block.at.0 block.words) segs.old }
-    ensures moves { is_kept_at segs.old block.at.0 ≡ false → trail.new ≡ with_move trail.old (Free block.at) }
+/// Clears the marks at a word, unless the block there is kept.
+fn clear_unless_kept(marks: &mut Marks, at: usize)
+    requires { at < length marks.old.kept }
+    ensures kept { bit marks.old.kept at ≡ true → marks.new ≡ marks.old }
+    ensures lost { bit marks.old.kept at ≡ false → marks.new ≡ without_marks at marks.old }
 {
-    if !segs.is_kept(block.at) {
-        segs.drop_block(block.at, block.words);
-        trail.push(Move::Free { at: block.at });
+    if !marks.is_kept(at) {
+        marks.clear(at);
     }
 }
