@@ -14,8 +14,8 @@ use Rattle.mps_model.specs.LegalMove.{target_in_cell}
 use Rattle.mps_laws.specs.Replay.{reached}
 use Rattle.mps_model.specs.History.{IsLegalHistoryOf, HeldAreLive, world_after}
 
--- After each step of a legal history: whatever stands in a slot, a hold, a message, a live reservation or a table of blocks is
--- live, and if no collection runs, so is whatever a live object refers to or a pair of a transform names.
+-- After each step of a legal history: whatever stands in a slot, a hold, a message, a live reservation, a table of blocks or a
+-- cache is live, and if no collection runs, so is whatever a live object refers to or a pair of a transform names.
 abbrev pub HeldObjectsAreLive : Type 0
 HeldObjectsAreLive =
     (formats : ℕ → Layout) (steps later : History) → IsLegalHistoryOf formats (steps ++ later)
