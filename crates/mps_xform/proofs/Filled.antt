@@ -1,6 +1,6 @@
 -- Pairs by their old addresses, while they are gathered.
 use Rattle.std.proofs.Common.{ℕ, ◌≡◌, ◌≢◌, ◌+◌, ◌<◌, ◌≤◌, ◌==◌, ◌&&◌, Bool, true, false, cond, eqb, Option, Some, None, List, [], ◌∷◌, ◌++◌, length, take, get_or, set, refl, sym, ap, ◌∙◌, subst, inl, inr, arith}
-use Rattle.std.specs.Prelude.{nat_eq, slice_set}
+use Rattle.std.specs.Prelude.{nat_eq}
 use Rattle.std.specs.List.{find}
 use Rattle.std.specs.Map.{lookup}
 use Rattle.std.specs.Option.{option_or}
@@ -8,16 +8,16 @@ use Rattle.std.proofs.Math.ListN.{get_or-append}
 use Rattle.std.proofs.Math.Seq.{get_or-append_seam}
 use Rattle.std.proofs.lemmas.Bool.{false≢true, cases_lt}
 use Rattle.std.proofs.lemmas.Bool.Decides.{eqb_tells}
-use Rattle.std.proofs.lemmas.List.{length-append, length-set, get_or-set_same, get_or-set_other, take_all, take_more}
+use Rattle.std.proofs.lemmas.List.{length-append, take_all, take_more}
 use Rattle.std.proofs.lemmas.List.Folds.{find-append}
 use Rattle.std.proofs.lemmas.List.Sorted.{IsNonDecreasingBy-short}
 use Rattle.mps_base.specs.Address.{Address}
-use Rattle.mps_bits.specs.Table.{bit}
+use Rattle.mps_bits.specs.Row.{bit_in}
 use Rattle.mps_xform.specs.declared.replacements.Ranked.{Ranked}
 use Rattle.mps_xform.specs.declared.transforms.Pair.{Pair}
 use Rattle.mps_xform.specs.Inside.{AreMarked, AreRanked, AreSoundReplacements, by_old}
 use Rattle.mps_address_marks.specs.Marks.{mark_of}
-use Rattle.mps_xform.specs.Marks.{marks_count, second_marks_count}
+use Rattle.mps_xform.specs.Marks.{marks_count, words_of_marks}
 use Rattle.mps_xform.specs.State.{is_of, max_pairs}
 
 eqb-sym : (a b : ℕ) → eqb a b ≡ eqb b a
@@ -30,19 +30,16 @@ none_ranked rs bound none = record {
   ascend = λ i j d lt within. absurd (omega (arith, within, ap (λ (xs : List Ranked). length xs) none));
 }
 
-pub none_marked : (n : ℕ) (rs : List Ranked) (marks : List Bool) → rs ≡ [] → AreMarked n rs marks
-none_marked n rs marks none = λ at unmarked. ap (λ (xs : List Ranked). lookup (nat_eq at) (by_old xs)) none
+pub none_marked : (rs : List Ranked) (marks : List ℕ) → rs ≡ [] → AreMarked rs marks
+none_marked rs marks none = λ at unmarked. ap (λ (xs : List Ranked). lookup (nat_eq at) (by_old xs)) none
 
-pub none_sound : (rs : List Ranked) (capacity : ℕ) (marks second_marks : List Bool) (second_capacity : ℕ) → rs ≡ []
-    → max_pairs ≤ capacity → length marks ≡ marks_count → second_marks_count ≤ second_capacity
-    → AreSoundReplacements rs capacity marks second_marks second_capacity
-none_sound rs capacity marks second_marks second_capacity none room whole second_room = record {
+pub none_sound : (rs : List Ranked) (capacity : ℕ) (marks : List ℕ) (marks_capacity : ℕ) → rs ≡ []
+    → max_pairs ≤ capacity → words_of_marks ≤ marks_capacity → AreSoundReplacements rs capacity marks marks_capacity
+none_sound rs capacity marks marks_capacity none room marks_room = record {
   room = room;
-  whole = whole;
   ascending = IsNonDecreasingBy-short (λ r. r.pair.old.0) rs (omega (arith, ap (λ (xs : List Ranked). length xs) none));
-  marked = none_marked marks_count rs marks none;
-  second_room = second_room;
-  second_marked = none_marked second_marks_count rs second_marks none;
+  marks_room = marks_room;
+  marked = none_marked rs marks none;
 }
 
 pub stay_ranked : (rs : List Ranked) (bound : ℕ) → AreRanked rs bound → AreRanked rs (bound + 1)
@@ -98,20 +95,20 @@ module _ (rs : List Ranked) (new : Ranked) where
           by true rest = refl
           by false rest = rest
 
-  pub one_more_marked : (n : ℕ) (marks : List Bool) → AreMarked n rs marks → mark_of n new.pair.old.0 < length marks
-      → AreMarked n (rs ++ new ∷ []) (slice_set marks (mark_of n new.pair.old.0) true)
-  unfolding bit
-  one_more_marked n marks marked within at unmarked =
-      let m = mark_of n new.pair.old.0 in
-      let other : mark_of n at ≢ m =
-      λ same. false≢true (sym unmarked ∙ ap (λ (k : ℕ). get_or (set marks m true) k false) same
-      ∙ get_or-set_same marks m true false within) in
+  -- its mark is set, and the others are as they were
+  pub one_more_marked : (marks marks' : List ℕ) → AreMarked rs marks → bit_in marks' (mark_of marks_count new.pair.old.0) ≡ 1
+      → ((other : ℕ) → other ≢ mark_of marks_count new.pair.old.0 → bit_in marks' other ≡ bit_in marks other)
+      → AreMarked (rs ++ new ∷ []) marks'
+  one_more_marked marks marks' marked set kept at unmarked =
+      let m = mark_of marks_count new.pair.old.0 in
+      let other : mark_of marks_count at ≢ m =
+      λ same. false≢true (sym unmarked ∙ ap (λ (k : ℕ). bit_in marks' k == 1) same ∙ ap (λ (b : ℕ). b == 1) set) in
       elim (eqb_tells new.pair.old.0 at) [
-        | inl same ↦ absurd (other (ap (mark_of n) (sym same.1)))
+        | inl same ↦ absurd (other (ap (mark_of marks_count) (sym same.1)))
         | inr differs ↦
             look_up_more at
             ∙ ap (λ (o : Option Pair). option_or o (cond (new.pair.old.0 == at) (Some new.pair) None))
-            (marked at (sym (get_or-set_other marks m (mark_of n at) true false other) ∙ unmarked))
+            (marked at (ap (λ (b : ℕ). b == 1) (sym (kept (mark_of marks_count at) other)) ∙ unmarked))
             ∙ ap (λ (b : Bool). cond b (Some new.pair) None) differs.0
       ]
 
@@ -149,76 +146,61 @@ module _ (pairs : List Pair) (transform index : ℕ) (d : Pair) (within : index 
   one_of_another other = by_transform false other ∙ or_none (find test (take index pairs))
 
 -- the pairs of a transform among the first ones are there, and their marks
-pub record AreGathered (pairs : List Pair) (transform count : ℕ) (rs : List Ranked) (marks second_marks : List Bool) : Type 0 where
+pub record AreGathered (pairs : List Pair) (transform count : ℕ) (rs : List Ranked) (marks : List ℕ) : Type 0 where
   pub few : length rs ≤ count
-  pub whole : length marks ≡ marks_count
-  pub marked : AreMarked marks_count rs marks
-  pub second_whole : length second_marks ≡ second_marks_count
-  pub second_marked : AreMarked second_marks_count rs second_marks
+  pub whole : length marks ≡ words_of_marks
+  pub marked : AreMarked rs marks
   pub ascending : AreRanked rs count
   pub pairs_alike : (old : ℕ) → lookup (nat_eq old) (by_old rs) ≡ find (λ p. is_of transform p && (p.old.0 == old)) (take count pairs)
 
-module _ (pairs : List Pair) (transform index : ℕ) (d : Pair) (rs : List Ranked) (marks second_marks : List Bool)
-    (within : index < length pairs) (before : AreGathered pairs transform index rs marks second_marks) where
+module _ (pairs : List Pair) (transform index : ℕ) (d : Pair) (rs : List Ranked) (marks : List ℕ)
+    (within : index < length pairs) (before : AreGathered pairs transform index rs marks) where
   pub another_passed : ((get_or pairs index d).transform == transform) ≡ false
-      → AreGathered pairs transform (index + 1) rs marks second_marks
+      → AreGathered pairs transform (index + 1) rs marks
   another_passed other = record {
     few = omega (arith, before.few);
     whole = before.whole;
     marked = before.marked;
-    second_whole = before.second_whole;
-    second_marked = before.second_marked;
     ascending = stay_ranked rs index before.ascending;
     pairs_alike = λ old. before.pairs_alike old ∙ sym (one_of_another pairs transform index d within old other);
   }
 
-  pub one_more_gathered : (rs' : List Ranked) (marks' second_marks' : List Bool)
+  pub one_more_gathered : (rs' : List Ranked) (marks' : List ℕ)
       → ((get_or pairs index d).transform == transform) ≡ true
-      → mark_of marks_count (get_or pairs index d).old.0 < marks_count
-      → mark_of second_marks_count (get_or pairs index d).old.0 < second_marks_count
       → rs' ≡ rs ++ record { pair = get_or pairs index d; rank = index } ∷ []
-      → marks' ≡ slice_set marks (mark_of marks_count (get_or pairs index d).old.0) true
-      → second_marks' ≡ slice_set second_marks (mark_of second_marks_count (get_or pairs index d).old.0) true
-      → AreGathered pairs transform (index + 1) rs' marks' second_marks'
-  one_more_gathered rs' marks' second_marks' here in_table in_second is marked second_marked =
+      → length marks' ≡ words_of_marks
+      → bit_in marks' (mark_of marks_count (get_or pairs index d).old.0) ≡ 1
+      → ((other : ℕ) → other ≢ mark_of marks_count (get_or pairs index d).old.0 → bit_in marks' other ≡ bit_in marks other)
+      → AreGathered pairs transform (index + 1) rs' marks'
+  one_more_gathered rs' marks' here is whole marked kept =
       let new : Ranked = record { pair = get_or pairs index d; rank = index } in
-      let m = mark_of marks_count new.pair.old.0 in
-      let second = mark_of second_marks_count new.pair.old.0 in
-      let P : List Ranked → Type 0 = λ xs. AreGathered pairs transform (index + 1) xs marks' second_marks' in
-      let Q : List Bool → Type 0 = λ bs. AreGathered pairs transform (index + 1) (rs ++ new ∷ []) bs second_marks' in
-      let R : List Bool → Type 0 = λ bs. AreGathered pairs transform (index + 1) (rs ++ new ∷ []) (slice_set marks m true) bs in
-      let gathered : AreGathered pairs transform (index + 1) (rs ++ new ∷ []) (slice_set marks m true)
-      (slice_set second_marks second true) = record {
+      let P : List Ranked → Type 0 = λ xs. AreGathered pairs transform (index + 1) xs marks' in
+      let gathered : AreGathered pairs transform (index + 1) (rs ++ new ∷ []) marks' = record {
         few = omega (arith, before.few, length-append rs (new ∷ []));
-        whole = length-set marks m true ∙ before.whole;
-        marked = one_more_marked rs new marks_count marks before.marked (omega (arith, in_table, before.whole));
-        second_whole = length-set second_marks second true ∙ before.second_whole;
-        second_marked =
-            one_more_marked rs new second_marks_count second_marks before.second_marked (omega (arith, in_second, before.second_whole));
+        whole = whole;
+        marked = one_more_marked rs new marks marks' before.marked marked kept;
         ascending = one_more_ranked rs new index before.ascending refl;
         pairs_alike = λ old.
             look_up_more rs new old
             ∙ ap (λ (o : Option Pair). option_or o (cond (new.pair.old.0 == old) (Some new.pair) None)) (before.pairs_alike old)
             ∙ sym (one_more pairs transform index d within old here);
       } in
-      subst P (sym is) (subst Q (sym marked) (subst R (sym second_marked) gathered))
+      subst P (sym is) gathered
 
-pub none_gathered : (pairs : List Pair) (transform : ℕ) (rs : List Ranked) (marks second_marks : List Bool) → rs ≡ []
-    → length marks ≡ marks_count → length second_marks ≡ second_marks_count → AreGathered pairs transform 0 rs marks second_marks
-none_gathered pairs transform rs marks second_marks none whole second_whole = record {
+pub none_gathered : (pairs : List Pair) (transform : ℕ) (rs : List Ranked) (marks : List ℕ) → rs ≡ []
+    → length marks ≡ words_of_marks → AreGathered pairs transform 0 rs marks
+none_gathered pairs transform rs marks none whole = record {
   few = omega (arith, ap (λ (xs : List Ranked). length xs) none);
   whole = whole;
-  marked = none_marked marks_count rs marks none;
-  second_whole = second_whole;
-  second_marked = none_marked second_marks_count rs second_marks none;
+  marked = none_marked rs marks none;
   ascending = none_ranked rs 0 none;
   pairs_alike = λ old. ap (λ (xs : List Ranked). lookup (nat_eq old) (by_old xs)) none;
 }
 
 -- after the last pair those of the transform are all there
-pub all_gathered : (pairs : List Pair) (transform count : ℕ) (rs : List Ranked) (marks second_marks : List Bool) → length pairs ≤ count
-    → AreGathered pairs transform count rs marks second_marks
+pub all_gathered : (pairs : List Pair) (transform count : ℕ) (rs : List Ranked) (marks : List ℕ) → length pairs ≤ count
+    → AreGathered pairs transform count rs marks
     → (old : ℕ) → lookup (nat_eq old) (by_old rs) ≡ find (λ p. is_of transform p && (p.old.0 == old)) pairs
-all_gathered pairs transform count rs marks second_marks all gathered old =
+all_gathered pairs transform count rs marks all gathered old =
     gathered.pairs_alike old
     ∙ ap (λ (ps : List Pair). find (λ p. is_of transform p && (p.old.0 == old)) ps) (take_all count pairs all)

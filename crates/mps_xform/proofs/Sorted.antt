@@ -13,7 +13,7 @@ use Rattle.std.proofs.lemmas.List.MinMax.{ranks_by}
 use Rattle.std.proofs.lemmas.List.Sorted.{Contains-permutation, IsPermutation-sym, sorted_far}
 use Rattle.mps_xform.specs.declared.replacements.Ranked.{Ranked}
 use Rattle.mps_xform.specs.Inside.{AreMarked, AreRanked, AreSoundReplacements, by_old}
-use Rattle.mps_xform.specs.Marks.{marks_count, second_marks_count}
+use Rattle.mps_xform.specs.Marks.{words_of_marks}
 use Rattle.mps_xform.specs.State.{max_pairs, pair_in}
 
 -- ---- the first pair with an old address
@@ -201,16 +201,13 @@ found_alike rs sorted bound old ranked moved is_sorted =
     alike rs sorted bound old no_pair ranked moved is_sorted
 
 -- sorted pairs are sound
-pub sorted_sound : (rs sorted : List Ranked) (bound capacity second_capacity : ℕ) (marks second_marks : List Bool) → AreRanked rs bound
-    → IsPermutation rs sorted → IsSortedByKey key_of key_cmp sorted → max_pairs ≤ capacity → second_marks_count ≤ second_capacity
-    → length marks ≡ marks_count → AreMarked marks_count rs marks → AreMarked second_marks_count rs second_marks
-    → AreSoundReplacements sorted capacity marks second_marks second_capacity
-sorted_sound rs sorted bound capacity second_capacity marks second_marks ranked moved is_sorted room second_room whole first second =
+pub sorted_sound : (rs sorted : List Ranked) (bound capacity marks_capacity : ℕ) (marks : List ℕ) → AreRanked rs bound
+    → IsPermutation rs sorted → IsSortedByKey key_of key_cmp sorted → max_pairs ≤ capacity → words_of_marks ≤ marks_capacity
+    → AreMarked rs marks → AreSoundReplacements sorted capacity marks marks_capacity
+sorted_sound rs sorted bound capacity marks_capacity marks ranked moved is_sorted room marks_room marked =
     record {
       room = room;
-      whole = whole;
       ascending = ascending sorted is_sorted;
-      marked = λ at unmarked. found_alike rs sorted bound at ranked moved is_sorted ∙ first at unmarked;
-      second_room = second_room;
-      second_marked = λ at unmarked. found_alike rs sorted bound at ranked moved is_sorted ∙ second at unmarked;
+      marks_room = marks_room;
+      marked = λ at unmarked. found_alike rs sorted bound at ranked moved is_sorted ∙ marked at unmarked;
     }

@@ -3,12 +3,10 @@ use Rattle.std.specs.Prelude.{ℕ, ◌≡◌, ◌<◌, ◌≤◌, Bool, true, fa
 use Rattle.std.specs.List.{All}
 use Rattle.std.specs.List.Sorted.{IsNonDecreasingBy}
 use Rattle.std.specs.Map.{lookup}
-use Rattle.mps_bits.specs.Table.{bit}
 use Rattle.mps_base.specs.Address.{Address}
 use Rattle.mps_xform.specs.declared.replacements.Ranked.{Ranked}
 use Rattle.mps_xform.specs.declared.transforms.Pair.{Pair}
-use Rattle.mps_address_marks.specs.Marks.{mark_of}
-use Rattle.mps_xform.specs.Marks.{marks_count, second_marks_count}
+use Rattle.mps_xform.specs.Marks.{is_marked, words_of_marks}
 use Rattle.mps_xform.specs.State.{max_pairs}
 
 -- there is room for all pairs that there may be, and each is of a transform that there is
@@ -21,21 +19,19 @@ pub record AreSoundTransforms (live : List Bool) (pairs : List Pair) (capacity :
 abbrev pub by_old : List Ranked → List (ℕ × Pair)
 by_old rs = map (λ r. (r.pair.old.0, r.pair)) rs
 
--- an address without a mark, of n, is the old one of none of these
-abbrev pub AreMarked : (n : ℕ) → List Ranked → (marks : List Bool) → Type 0
-AreMarked n rs marks = (at : Address) → bit marks (mark_of n at) ≡ false → lookup (nat_eq at) (by_old rs) ≡ None
+-- an address without a mark is the old one of none of these
+abbrev pub AreMarked : List Ranked → (marks : List ℕ) → Type 0
+AreMarked rs marks = (at : Address) → is_marked marks at ≡ false → lookup (nat_eq at) (by_old rs) ≡ None
 
 -- the ranks ascend, and are below a bound
 pub record AreRanked (rs : List Ranked) (bound : ℕ) : Type 0 where
   pub below : All (λ r. r.rank < bound) rs
   pub ascend : (i j : ℕ) (d : Ranked) → i < j → j < length rs → (slice_index_or rs i d).rank < (slice_index_or rs j d).rank
 
--- There is room for all pairs that there may be and for all second marks, and the pairs ascend by their old addresses. An address without
--- a mark, or without a second mark, is the old one of none.
-pub record AreSoundReplacements (rs : List Ranked) (capacity : ℕ) (marks second_marks : List Bool) (second_capacity : ℕ) : Type 0 where
+-- There is room for all pairs that there may be and for all marks, and the pairs ascend by their old addresses. An address without a mark
+-- is the old one of none.
+pub record AreSoundReplacements (rs : List Ranked) (capacity : ℕ) (marks : List ℕ) (marks_capacity : ℕ) : Type 0 where
   pub room : max_pairs ≤ capacity
-  pub whole : length marks ≡ marks_count
   pub ascending : IsNonDecreasingBy (λ r. r.pair.old.0) rs
-  pub marked : AreMarked marks_count rs marks
-  pub second_room : second_marks_count ≤ second_capacity
-  pub second_marked : AreMarked second_marks_count rs second_marks
+  pub marks_room : words_of_marks ≤ marks_capacity
+  pub marked : AreMarked rs marks

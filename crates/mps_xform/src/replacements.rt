@@ -1,28 +1,27 @@
 // The pairs of one transform, by their old addresses.
 #![tactic(auto)]
 
-ghost use Rattle.std.specs.Prelude.{◌≡◌, ℕ, ◌≤◌, ◌&&◌, ◌==◌, false, None, [], length, replicate, nat_eq, IfOk, vec_capacity};
+ghost use Rattle.std.specs.Prelude.{◌≡◌, ◌≢◌, ℕ, ◌≤◌, ◌&&◌, ◌==◌, false, None, [], length, replicate, nat_eq, IfOk, vec_capacity};
 ghost use Rattle.std.specs.List.{find};
 ghost use Rattle.std.specs.List.Sorted.{IsNonDecreasingBy};
 ghost use Rattle.std.specs.Map.{lookup};
 ghost use Rattle.mps_address_marks.specs.Marks.{mark_of};
-ghost use Rattle.mps_bits.specs.Table.{bit};
+ghost use Rattle.mps_bits.specs.Row.{bit_in};
 ghost use Rattle.mps_xform.specs.Inside.{AreMarked, AreRanked, by_old};
-ghost use Rattle.mps_xform.specs.Marks.{marks_count, second_marks_count};
+ghost use Rattle.mps_xform.specs.Marks.{is_marked, marks_count, words_of_marks};
 ghost use Rattle.mps_xform.specs.State.{max_pairs, is_of};
 
 use crate::transforms::{MAX_PAIRS, Pair};
 use mps_address_marks::mark_of;
 use mps_base::Addr;
-use mps_bits::Bits;
 use std::alloc::{AllocError, Global};
 use std::marker::Model;
 
-/// How many marks there are: 16 KiB of bits. Addresses 1 MiB apart have the same.
-const MARKS: usize = 131_072;
+/// How many marks there are, a bit each: as many as the largest arena has words. Addresses 8 MiB apart have the same.
+const MARKS: usize = 1_048_576;
 
-/// How many second marks there are, of a byte each. It is odd, so addresses that have the same mark seldom have the same second mark.
-const SECOND_MARKS: usize = 32_749;
+/// How many words they take: 128 KiB.
+const WORDS_OF_MARKS: usize = MARKS / 64;
 
 /// A pair, and where it comes in the order of adding.
 #[derive(Clone, Copy)]
@@ -31,14 +30,13 @@ struct Ranked {
     rank: usize,
 }
 
-/// The pairs of a transform, in ascending order of their old addresses. Beside them stands a mark for each old address, so that one bit
-/// says of most addresses that no pair has them, and a second mark, which says so of most others. `new` is the only call that allocates.
-/// It writes the marks alone: pairs and second marks are written once pairs are taken.
+/// The pairs of a transform, in ascending order of their old addresses. Beside them stands a mark for each old address. So one bit says of
+/// an address that no pair has it, of nearly each address that none has. `new` is the only call that allocates, and it writes nothing:
+/// pairs and marks are written once pairs are taken.
 #[derive(Drop)]
 pub(crate) struct Replacements {
     pairs: Vec<Ranked>,
-    marks: Bits,
-    second_marks: Vec<bool>,
+    marks: Vec<u64>,
 }
 
 impl Model for Replacements {
@@ -50,8 +48,7 @@ impl Model for Replacements {
 
     ghost view = { λ r. by_old r.pairs.items };
 
-    ghost invariant = { λ r. AreSoundReplacements r.pairs.items (vec_capacity r.pairs) r.marks r.second_marks.items
-        (vec_capacity r.second_marks) };
+    ghost invariant = { λ r. AreSoundReplacements r.pairs.items (vec_capacity r.pairs) r.marks.items (vec_capacity r.marks) };
 }
 
 impl Replacements {
@@ -61,8 +58,7 @@ impl Replacements {
     {
         Ok(Replacements {
             pairs: Vec::with_capacity(alloc, MAX_PAIRS)?,
-            marks: Bits::new(alloc, MARKS)?,
-            second_marks: Vec::with_capacity(alloc, SECOND_MARKS)?,
+            marks: Vec::with_capacity(alloc, WORDS_OF_MARKS)?,
         })
     }
 
@@ -71,7 +67,7 @@ impl Replacements {
     pub(crate) fn may_have(&self, old: Addr) -> bool
         ensures { result ≡ false → lookup (nat_eq old.0) self.now ≡ None }
     {
-        self.marks.test(mark_of(old, MARKS)) && is_marked(&self.second_marks, old)
+        is_marked(&self.marks, old)
     }
 
     /// The pair that has this old address.
@@ -91,38 +87,44 @@ impl Replacements {
         ensures { (old : ℕ) → lookup (nat_eq old) self.new ≡ find (λ p. is_of transform p && (p.old.0 == old)) pairs.now }
     {
         self.pairs.clear();
-        self.marks.clear_range(0, MARKS);
-        unmark_all(&mut self.second_marks);
-        gather(
-            &mut self.pairs,
-            &mut self.marks,
-            &mut self.second_marks,
-            pairs,
-            transform,
-        );
+        unmark_all(&mut self.marks);
+        gather(&mut self.pairs, &mut self.marks, pairs, transform);
         self.pairs
             .sort_unstable_by_key(|ranked| (ranked.pair.old.0, ranked.rank));
     }
 }
 
-// Whether an address has a second mark. None has before pairs are taken.
-fn is_marked(second_marks: &[bool], at: Addr) -> bool
-    ensures { result ≡ bit second_marks.now (mark_of second_marks_count at.0) }
+// Whether an address has a mark. None has before pairs are taken.
+#[inline(always)]
+fn is_marked(marks: &[u64], at: Addr) -> bool
+    ensures { result ≡ is_marked marks.now at.0 }
 {
-    match second_marks.get(mark_of(at, SECOND_MARKS)) {
-        Some(marked) => *marked,
+    let mark = mark_of(at, MARKS);
+    match marks.get(mark / 64) {
+        Some(word) => (*word >> (mark % 64)) & 1 == 1,
         None => false,
     }
 }
 
-// Makes all second marks, and clears them.
-fn unmark_all(second_marks: &mut Vec<bool>)
-    requires { second_marks_count ≤ vec_capacity second_marks.old }
-    ensures marks { second_marks.new.items ≡ replicate second_marks_count false }
-    ensures capacity { vec_capacity second_marks.old ≤ vec_capacity second_marks.new }
+// Gives an address its mark.
+fn mark(marks: &mut [u64], at: Addr)
+    requires { length marks.old ≡ words_of_marks }
+    ensures whole { length marks.new ≡ words_of_marks }
+    ensures marked { bit_in marks.new (mark_of marks_count at.0) ≡ 1 }
+    ensures unchanged { (other : ℕ) → other ≢ mark_of marks_count at.0 → bit_in marks.new other ≡ bit_in marks.old other }
 {
-    second_marks.clear();
-    let Ok(()) = second_marks.resize(SECOND_MARKS, false) else {
+    let mark = mark_of(at, MARKS);
+    marks[mark / 64] |= 1 << (mark % 64);
+}
+
+// Makes all marks, and clears them.
+fn unmark_all(marks: &mut Vec<u64>)
+    requires { words_of_marks ≤ vec_capacity marks.old }
+    ensures whole { length marks.new.items ≡ words_of_marks }
+    ensures capacity { vec_capacity marks.old ≤ vec_capacity marks.new }
+{
+    marks.clear();
+    let Ok(()) = marks.resize(WORDS_OF_MARKS, 0) else {
         unreachable!()
     };
 }
@@ -142,22 +144,13 @@ fn first_of(pairs: &[Ranked], old: Addr) -> Option<Pair>
 }
 
 // Adds the pairs of a transform to none, each with its index as its rank, and marks their old addresses.
-fn gather(
-    ranked: &mut Vec<Ranked>,
-    marks: &mut Bits,
-    second_marks: &mut [bool],
-    pairs: &[Pair],
-    transform: u32,
-)
+fn gather(ranked: &mut Vec<Ranked>, marks: &mut [u64], pairs: &[Pair], transform: u32)
     requires none { ranked.old.items ≡ [] }
     requires room { length pairs.now ≤ vec_capacity ranked.old }
-    requires whole { length marks.old ≡ marks_count }
-    requires second_whole { length second_marks.old ≡ second_marks_count }
+    requires whole { length marks.old ≡ words_of_marks }
     ensures capacity { vec_capacity ranked.old ≤ vec_capacity ranked.new }
-    ensures whole { length marks.new ≡ marks_count }
-    ensures marked { AreMarked marks_count ranked.new.items marks.new }
-    ensures second_whole { length second_marks.new ≡ second_marks_count }
-    ensures second_marked { AreMarked second_marks_count ranked.new.items second_marks.new }
+    ensures whole { length marks.new ≡ words_of_marks }
+    ensures marked { AreMarked ranked.new.items marks.new }
     ensures ascending { AreRanked ranked.new.items (length pairs.now) }
     ensures pairs { (old : ℕ) → lookup (nat_eq old) (by_old ranked.new.items)
         ≡ find (λ p. is_of transform p && (p.old.0 == old)) pairs.now }
@@ -165,8 +158,7 @@ fn gather(
     for rank in 0..pairs.len() {
         let pair = pairs[rank];
         if pair.transform == transform {
-            marks.set(mark_of(pair.old, MARKS));
-            second_marks[mark_of(pair.old, SECOND_MARKS)] = true;
+            mark(marks, pair.old);
             let Ok(()) = ranked.push(Ranked { pair, rank }) else {
                 unreachable!()
             };

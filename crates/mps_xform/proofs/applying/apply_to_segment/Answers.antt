@@ -1,5 +1,4 @@
-use Rattle.std.proofs.Common.{ℕ, ◌≡◌, ◌+◌, ◌*◌, ◌∙◌, IsTrue, sym, ap, subst, arith}
-use Rattle.std.specs.Prelude.{slice_index}
+use Rattle.std.proofs.Common.{ℕ, ◌≡◌, ◌+◌, ◌∙◌, IsTrue, sym, ap, subst, arith}
 use Rattle.mps_base.specs.Address.{word_of}
 use Rattle.mps_seg.specs.Segs.{SegsState}
 use Rattle.mps_xform.specs.Applying.{after_apply_below}

@@ -1,4 +1,4 @@
-use Rattle.std.proofs.Common.{ℕ, ◌≡◌, ◌<◌, ◌∙◌, Option, None, length, sym, ap, arith}
+use Rattle.std.proofs.Common.{ℕ, ◌<◌, ◌∙◌, Option, length, sym, ap, arith}
 use Rattle.std.specs.Option.{option_map}
 use Rattle.mps_base.specs.Address.{word_of}
 use Rattle.mps_xform.specs.declared.transforms.Pair.{Pair}
