@@ -25,6 +25,7 @@ fn put_spaced(out: &mut [u8], at: usize, n: u64) -> usize
 }
 
 /// A word in hexadecimal.
+#[inline(always)]
 fn put_word(out: &mut [u8], at: usize, n: u64) -> usize
     requires { at + 18 ≤ length out.old }
     ensures at_most { result ≤ at + 18 }
@@ -152,9 +153,9 @@ fn put_plain(out: &mut [u8], reply: &Reply) -> usize
     }
 }
 
-/// Writes the answer line of a reply at the start of the buffer, and returns its length. What the buffer holds after it is
-/// left open. The words of a dump are not printed here but from the arena.
-pub fn put_text(out: &mut [u8], reply: &Reply) -> usize
+/// The answer line of a reply of any kind.
+#[inline(never)]
+fn put_line(out: &mut [u8], reply: &Reply) -> usize
     requires fits { 64 ≤ length out.old }
     requires printable { is_printable reply.now ≡ true }
     ensures at_most { result ≤ 64 }
@@ -162,4 +163,30 @@ pub fn put_text(out: &mut [u8], reply: &Reply) -> usize
 {
     let at = put_plain(out, reply);
     put(b"\n", out, at)
+}
+
+/// The answer line of a word in hexadecimal.
+#[inline(always)]
+fn put_word_line(out: &mut [u8], word: u64) -> usize
+    requires { 19 ≤ length out.old }
+    ensures at_most { result ≤ 19 }
+    ensures text { take result out.new ≡ line_of_answer (Replied (reply.Word word)) }
+{
+    let end = put_word(out, 0, word);
+    put(b"\n", out, end)
+}
+
+/// Writes the answer line of a reply at the start of the buffer, and returns its length. What the buffer holds after it is
+/// left open. The words of a dump are not printed here but from the arena. The address that a label gives is written in place.
+#[inline(always)]
+pub fn put_text(out: &mut [u8], reply: &Reply) -> usize
+    requires fits { 64 ≤ length out.old }
+    requires printable { is_printable reply.now ≡ true }
+    ensures at_most { result ≤ 64 }
+    ensures text { take result out.new ≡ line_of_answer (Replied reply.now) }
+{
+    match *reply {
+        Reply::Labelled(at, _) => put_word_line(out, at.0),
+        _ => put_line(out, reply),
+    }
 }
