@@ -15,7 +15,10 @@ use mps_event::Event;
 /// How many records are gathered before they are handed to the desk.
 const MOVES_IN_A_BATCH: usize = 16;
 
-/// Writes the records of moves, in order. Most commands make one move or none; the many of a collection are gathered.
+/// How many moves a command has that makes or frees a block and besides takes or gives back its segment.
+const MOVES_WITH_A_SEGMENT: usize = 2;
+
+/// Writes the records of moves, in order. Most commands make one move or none, and some two; the many of a collection are gathered.
 #[inline(always)]
 pub(crate) fn log_moves<D: Desk>(desk: &mut D, line: u32, moves: &[Move]) -> Result<(), Failed>
     ensures logged { OnOk result (Logs (D.outside desk.old) (D.outside desk.new) (records_bytes (records_of moves.now line))) }
@@ -25,8 +28,22 @@ pub(crate) fn log_moves<D: Desk>(desk: &mut D, line: u32, moves: &[Move]) -> Res
     match moves {
         [] => Ok(()),
         [moved] => log_move(desk, line, moved),
+        [_, _] => log_two(desk, line, moves),
         _ => log_batches(desk, line, moves),
     }
+}
+
+/// Writes the records of at most two moves, in order, as one piece.
+#[inline(never)]
+fn log_two<D: Desk>(desk: &mut D, line: u32, moves: &[Move]) -> Result<(), Failed>
+    requires at_most { length moves.now ≤ 2 }
+    ensures logged { OnOk result (Logs (D.outside desk.old) (D.outside desk.new) (records_bytes (records_of moves.now line))) }
+    ensures failed { OnErr result (LogsPart (D.outside desk.old) (D.outside desk.new) (records_bytes (records_of moves.now line))) }
+    ensures recorded { All (IsRecord Two) (records_of moves.now line) }
+{
+    let mut bytes = [0u8; MOVES_WITH_A_SEGMENT * MAX_RECORD_BYTES];
+    let length = put_moves(&mut bytes, line, moves);
+    log_piece(desk, &bytes[..length])
 }
 
 /// Writes the records of many moves, in order.
@@ -50,11 +67,23 @@ fn log_batch<D: Desk>(desk: &mut D, line: u32, moves: &[Move]) -> Result<(), Fai
     ensures recorded { All (IsRecord Two) (records_of moves.now line) }
 {
     let mut bytes = [0u8; MOVES_IN_A_BATCH * MAX_RECORD_BYTES];
+    let length = put_moves(&mut bytes, line, moves);
+    log_piece(desk, &bytes[..length])
+}
+
+/// Puts the records of moves at the beginning of the bytes, in order, and returns the length of all.
+#[inline(always)]
+fn put_moves(bytes: &mut [u8], line: u32, moves: &[Move]) -> usize
+    requires fits { 64 * length moves.now ≤ length bytes.old }
+    ensures written { take result bytes.new ≡ records_bytes (records_of moves.now line) }
+    ensures at_most { result ≤ 64 * length moves.now }
+    ensures recorded { All (IsRecord Two) (records_of moves.now line) }
+{
     let mut length = 0;
     for moved in moves {
         length += put_move(&mut bytes[length..], line, moved);
     }
-    log_piece(desk, &bytes[..length])
+    length
 }
 
 /// Writes the record of a move.

@@ -8,13 +8,13 @@ use Rattle.mps_event.specs.Grammar.{IsRecord}
 use Rattle.mps_model.specs.Log.{records_of}
 use Rattle.mps_run.proofs.Batches.{one_record_more}
 use Rattle.mps_run.proofs.Pieces.{records_more}
-use Rattle.mps_run.proofs.log_moves.log_batch.Goals as goal
+use Rattle.mps_run.proofs.log_moves.put_moves.Goals as goal
 
 pub loop-moved-init : goal.loop-moved-init
-loop-moved-init g c = (search rules, search rules, All-from_recursion (IsRecord Two) [] tt)
+loop-moved-init c = (search rules, search rules, All-from_recursion (IsRecord Two) [] tt)
 
 pub loop-moved-preserved : goal.loop-moved-preserved
-loop-moved-preserved g c = (
+loop-moved-preserved c = (
   grind (arith, common_steps),
   one_record_more c.args.line c.args.moves.now c.loop-moved.moved-index (moves.Seg (record { 0 = 0 }) 0 0 0) c.loop-moved.bytes
       c.put_move-length.new.bytes c.loop-moved.length _ c.put_move-length.result c.loop-moved-test.true c.loop-moved.invariant.1
@@ -24,6 +24,6 @@ loop-moved-preserved g c = (
 )
 
 pub returns-clause-recorded : goal.returns-clause-recorded
-returns-clause-recorded g c =
+returns-clause-recorded c =
     let all : take c.loop-moved.moved-index c.args.moves.now ≡ c.args.moves.now = grind (arith, common_steps) in
     subst (λ ms. All (IsRecord Two) (records_of ms c.args.line)) all c.loop-moved.invariant.2
