@@ -1,8 +1,10 @@
 -- The entries of two maps, one after the other, of which each address is in one at most.
 use Rattle.std.proofs.Common.{◌≡◌, ℕ, Bool, true, false, cond, eqb, List, [], ◌∷◌, ◌++◌, Option, Some, None, refl, sym, ap, ◌∙◌}
 use Rattle.std.specs.Prelude.{is_some}
+use Rattle.std.specs.List.{AllByRecursion}
+use Rattle.std.specs.Map.{keys_of}
 use Rattle.std.proofs.lemmas.Bool.{eqb-true}
-use Rattle.mps_address_map.specs.AddressMap.{found_at, Changes, IsAway}
+use Rattle.mps_address_map.specs.AddressMap.{found_at, Changes}
 
 -- the first of two that is there
 abbrev pub first_there : {X : Type 0} → Option X → Option X → Option X
@@ -21,22 +23,9 @@ module _ {X : Type 0} where
       ap (λ (o : Option X). cond (eqb at e.0) (Some e.1) o) (found_in_both xs ys at)
       ∙ there_or_later (eqb at e.0) e.1 (found_at xs at) (found_at ys at)
 
-  pub found_first : (xs ys : List (ℕ × X)) (at : ℕ) (x : X) → found_at xs at ≡ Some x → found_at (xs ++ ys) at ≡ Some x
-  found_first xs ys at x there = found_in_both xs ys at ∙ ap (λ (o : Option X). first_there o (found_at ys at)) there
-
+  -- an address that the first hasn't
   pub found_second : (xs ys : List (ℕ × X)) (at : ℕ) → found_at xs at ≡ None → found_at (xs ++ ys) at ≡ found_at ys at
   found_second xs ys at none = found_in_both xs ys at ∙ ap (λ (o : Option X). first_there o (found_at ys at)) none
-
-  -- an address that neither has
-  neither_case : (a b : Option X) → first_there a b ≡ None → (a ≡ None) × (b ≡ None)
-  neither_case None b h = (refl, h)
-  neither_case (Some x) b h = absurd cc
-
-  pub none_in_first : (xs ys : List (ℕ × X)) (at : ℕ) → found_at (xs ++ ys) at ≡ None → found_at xs at ≡ None
-  none_in_first xs ys at none = (neither_case (found_at xs at) (found_at ys at) (sym (found_in_both xs ys at) ∙ none)).0
-
-  pub none_in_second : (xs ys : List (ℕ × X)) (at : ℕ) → found_at (xs ++ ys) at ≡ None → found_at ys at ≡ None
-  none_in_second xs ys at none = (neither_case (found_at xs at) (found_at ys at) (sym (found_in_both xs ys at) ∙ none)).1
 
   or_none : (a : Option X) → a ≡ first_there a None
   or_none None = refl
@@ -78,61 +67,25 @@ module _ {X : Type 0} where
 
   -- ---- an address is in one of them at most
 
-  no_entry : {Y : Type 0} (x : X) → Some x ≡ None → Y
-  no_entry x h = absurd cc
-
-  -- the first of two changed at an address that the second hasn't
-  away_case : (c : Bool) (x a b : Option X) → (c ≡ true → b ≡ None) → (is_some a ≡ true → b ≡ None) → is_some (cond c x a) ≡ true → b ≡ None
-  away_case true x a b none away there = none refl
-  away_case false x a b none away there = away there
-
-  pub away_after_change : (xs new ys : List (ℕ × X)) (at : ℕ) (x : Option X) → IsAway xs ys → Changes xs new at x → found_at ys at ≡ None
-      → IsAway new ys
-  away_after_change xs new ys at x away change none q there =
-      away_case (eqb at q) x (found_at xs q) (found_at ys q)
-      (λ is. ap (found_at ys) (sym (eqb-true at q is)) ∙ none) (away q)
-      (ap (λ (o : Option X). is_some o) (sym (change q)) ∙ there)
-
-  -- the second of two changed at an address that the first hasn't
-  away_from_case : (c : Bool) (x a b : Option X) → (c ≡ true → a ≡ None) → (is_some a ≡ true → b ≡ None) → is_some a ≡ true
-      → cond c x b ≡ None
-  away_from_case true x None b none away there = absurd cc
-  away_from_case true x (Some a) b none away there = no_entry a (none refl)
-  away_from_case false x a b none away there = away there
-
-  pub away_from_changed : (xs ys new : List (ℕ × X)) (at : ℕ) (x : Option X) → IsAway xs ys → Changes ys new at x → found_at xs at ≡ None
-      → IsAway xs new
-  away_from_changed xs ys new at x away change none q there =
-      change q
-      ∙ away_from_case (eqb at q) x (found_at xs q) (found_at ys q) (λ is. ap (found_at xs) (sym (eqb-true at q is)) ∙ none)
-      (away q) there
-
-  -- ---- an address taken away
-
-  removed_case : (c : Bool) (a b : Option X) → first_there (cond c None a) (cond c None b) ≡ cond c None (first_there a b)
-  removed_case true a b = refl
-  removed_case false a b = refl
-
-  pub removed_from_both : (xs ys left rest : List (ℕ × X)) (at : ℕ) → Changes xs left at None → Changes ys rest at None
-      → Changes (xs ++ ys) (left ++ rest) at None
-  removed_from_both xs ys left rest at change others q =
-      found_in_both left rest q
-      ∙ ap (λ (o : Option X). first_there o (found_at rest q)) (change q)
-      ∙ ap (λ (o : Option X). first_there (cond (eqb at q) None (found_at xs q)) o) (others q)
-      ∙ removed_case (eqb at q) (found_at xs q) (found_at ys q)
-      ∙ ap (λ (o : Option X). cond (eqb at q) None o) (sym (found_in_both xs ys q))
+  -- no address is in both
+  abbrev pub ApartEntries : (xs ys : List (ℕ × X)) → Type 0
+  ApartEntries xs ys = (at : ℕ) → is_some (found_at xs at) ≡ true → found_at ys at ≡ None
 
   absent_case : (c : Bool) (b : Option X) → b ≡ None → cond c None b ≡ None
   absent_case true b h = refl
   absent_case false b h = h
 
-  pub away_from_removed : (xs ys new : List (ℕ × X)) (at : ℕ) → IsAway xs ys → Changes ys new at None → IsAway xs new
-  away_from_removed xs ys new at away change q there = change q ∙ absent_case (eqb at q) (found_at ys q) (away q there)
+  -- what isn't there isn't there after a removal
+  pub absent_after_removal : (old new : List (ℕ × X)) (at q : ℕ) → Changes old new at None → found_at old q ≡ None → found_at new q ≡ None
+  absent_after_removal old new at q change none = change q ∙ absent_case (eqb at q) (found_at old q) none
 
-  left_case : (c : Bool) (a : Option X) → is_some (cond c None a) ≡ true → is_some a ≡ true
-  left_case true a there = absurd cc
-  left_case false a there = there
-
-  pub away_after_removal : (xs new ys : List (ℕ × X)) (at : ℕ) → IsAway xs ys → Changes xs new at None → IsAway new ys
-  away_after_removal xs new ys at away change q there =
-      away q (left_case (eqb at q) (found_at xs q) (ap (λ (o : Option X). is_some o) (sym (change q)) ∙ there))
+  -- an address that no entry has
+  pub none_from_each : (es : List (ℕ × X)) (q : ℕ) → found_at es q ≡ None → AllByRecursion (λ (y : ℕ). eqb q y ≡ false) (keys_of es)
+  none_from_each [] q h = tt
+  none_from_each (e ∷ es) q h = by (eqb q e.0) refl h (none_from_each es q)
+    where
+      by : (c : Bool) → eqb q e.0 ≡ c → cond c (Some e.1) (found_at es q) ≡ None
+          → (found_at es q ≡ None → AllByRecursion (λ (y : ℕ). eqb q y ≡ false) (keys_of es))
+          → AllByRecursion (λ (y : ℕ). eqb q y ≡ false) (keys_of (e ∷ es))
+      by true t k rest = absurd cc
+      by false t k rest = (t, rest k)

@@ -1,4 +1,3 @@
 pub mod Entries
-pub mod Ordered
-pub mod Parts
 pub mod Sorted
+pub mod WordEntries

@@ -1,6 +1,5 @@
 -- A map by addresses as the list of its entries: addresses, each with a value.
-use Rattle.std.specs.Prelude.{◌≡◌, ℕ, Option, Some, None, is_some, true, cond, List, [], ◌∷◌, ◌++◌, nat_eq, refl}
-use Rattle.std.specs.List.{IsDistinct}
+use Rattle.std.specs.Prelude.{◌≡◌, ℕ, Option, Some, None, cond, List, [], ◌∷◌, nat_eq, refl}
 use Rattle.std.specs.Map.{lookup, keys_of}
 use Rattle.std.specs.List.Sorted.{IsStrictlyIncreasing}
 
@@ -11,19 +10,6 @@ found_at entries at = lookup (nat_eq at) entries
 -- the new entries have this at an address, and at each other what the old ones have
 abbrev pub Changes : {X : Type 0} → (old new : List (ℕ × X)) → (at : ℕ) → Option X → Type 0
 Changes old new at x = (q : ℕ) → found_at new q ≡ cond (nat_eq at q) x (found_at old q)
-
--- no address has an entry in both
-abbrev pub IsAway : {X : Type 0} → (entries others : List (ℕ × X)) → Type 0
-IsAway entries others = (at : ℕ) → is_some (found_at entries at) ≡ true → found_at others at ≡ None
-
--- an address has an entry in one of three parts at most
-pub record AreApart {X : Type 0} (first second third : List (ℕ × X)) : Type 0 where
-  pub of_first : IsAway first (second ++ third)
-  pub of_second : IsAway second third
-
--- each address has one entry at most
-abbrev pub IsEachOnce : {X : Type 0} → List (ℕ × X) → Type 0
-IsEachOnce entries = IsDistinct nat_eq (keys_of entries)
 
 -- these are all entries, in ascending order of their addresses and each address once
 pub record Lists {X : Type 0} (entries sorted : List (ℕ × X)) : Type 0 where

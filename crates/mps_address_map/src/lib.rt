@@ -1,9 +1,9 @@
-//! A map by addresses that no choice of addresses makes slow.
+//! A map by addresses, whose hashes nobody can foresee who chooses addresses.
 #![tactic(auto)]
 
-mod crowd;
 mod map;
-mod table;
+mod secret;
+mod words;
 
 pub use map::AddressMap;
 

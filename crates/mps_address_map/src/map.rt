@@ -1,62 +1,50 @@
 // A map by addresses.
 
-ghost use Rattle.std.specs.Prelude.{◌≡◌, ◌++◌, Some, None, IfOk, OnOk, OnErr};
-ghost use Rattle.mps_address_map.specs.AddressMap.{found_at, Changes, Lists, AreApart};
-ghost use Rattle.mps_address_map.specs.declared.map.Part.TheVariants.{First, Second, Ordered};
+ghost use Rattle.std.specs.Prelude.{◌≡◌, ◌++◌, ℕ, List, Some, None, nat_eq, IfOk, OnOk, OnErr};
+ghost use Rattle.std.specs.List.{IsDistinct};
+ghost use Rattle.std.specs.Map.{keys_of};
+ghost use Rattle.mps_address_map.specs.AddressMap.{found_at, Changes, Lists};
 
-use crate::table::Table;
+use crate::secret::SecretHashes;
+use crate::words::{insert_word, list_words, remove_word, value_at, word_at};
+use indexmap::IndexMap;
 use std::alloc::{AllocError, Global};
-use std::collections::BTreeMap;
-use std::hash::{BuildHasherDefault, DefaultHasher, FoldHasher};
 use std::marker::Model;
 
-/// The table that has most addresses.
-type FirstTable<V> = Table<V, BuildHasherDefault<FoldHasher>>;
-
-/// The table that has addresses whose hashes are crowded in the first, by another hash.
-type SecondTable<V> = Table<V, BuildHasherDefault<DefaultHasher>>;
-
-/// A map by addresses. A hash table has most of them. An address whose hash is crowded there is in a second table, by another
-/// hash, and one whose hash is crowded in both is in an ordered map. So a call takes at most logarithmic time, whatever the
-/// addresses are. The hashes have no secret.
+/// A map by addresses. A table has the words of the lowest 16 MiB, and a hash table all other addresses: higher ones, and
+/// those that aren't multiples of 8. Its hashes begin with a secret, so nobody who chooses addresses can foresee which collide.
 #[derive(Drop)]
 pub struct AddressMap<V: Copy> {
     alloc: Global,
-    first: FirstTable<V>,
-    second: SecondTable<V>,
-    ordered: BTreeMap<u64, V>,
+    low: Vec<Option<V>>,
+    high: IndexMap<u64, V, SecretHashes>,
 }
 
 impl<V: Copy> Model for AddressMap<V> {
-    ghost use Rattle.std.specs.Prelude.{ℕ, List, ◌++◌};
-    ghost use Rattle.mps_address_map.specs.AddressMap.{AreApart};
+    ghost use Rattle.std.specs.Prelude.{◌≡◌, ◌*◌, ◌<◌, ◌≤◌, ℕ, List, ◌++◌, length, None};
+    ghost use Rattle.mps_address_map.specs.AddressMap.{found_at};
+    ghost use Rattle.mps_address_map.specs.Words.{words_of};
 
     ghost Value = { List (ℕ × V) };
 
-    ghost view = { λ m. m.first ++ (m.second ++ m.ordered.entries) };
+    ghost view = { λ m. words_of m.low.items ++ m.high.entries };
 
-    ghost invariant = { λ m. AreApart m.first m.second m.ordered.entries };
-}
-
-/// Which part of a map is to have an address.
-enum Part {
-    First,
-    Second,
-    Ordered,
+    ghost invariant = { λ m. (length m.low.items ≤ 2097152)
+        × ((word : ℕ) → word < 2097152 → found_at m.high.entries (8 * word) ≡ None) };
 }
 
 impl<V: Copy> AddressMap<V> {
     ghost use Rattle.std.specs.Prelude.{[]};
 
-    /// An empty map.
-    pub fn new(alloc: Global) -> AddressMap<V>
+    /// An empty map. The secret is a random number. Whoever knows it can choose addresses that make calls slow, but no answer
+    /// depends on it.
+    pub fn new(alloc: Global, secret: u64) -> AddressMap<V>
         ensures { result ≡ [] }
     {
         AddressMap {
             alloc,
-            first: Table::new(alloc, BuildHasherDefault::new()),
-            second: Table::new(alloc, BuildHasherDefault::new()),
-            ordered: BTreeMap::new(alloc),
+            low: Vec::new(alloc),
+            high: IndexMap::with_hasher(alloc, SecretHashes::new(secret)),
         }
     }
 
@@ -65,9 +53,9 @@ impl<V: Copy> AddressMap<V> {
     pub fn get(&self, at: u64) -> Option<V>
         ensures { result ≡ found_at self.now at }
     {
-        match self.first.get(at) {
-            Some(value) => Some(value),
-            None => get_later(&self.second, &self.ordered, at),
+        match word_at(at) {
+            Some(word) => value_at(&self.low, word),
+            None => get_high(&self.high, at),
         }
     }
 
@@ -77,10 +65,9 @@ impl<V: Copy> AddressMap<V> {
         ensures old { IfOk result (λ old. old ≡ found_at self.old at) }
         ensures changes { OnOk result (Changes self.old self.new at (Some value)) }
     {
-        match part_of(&self.first, &self.second, &self.ordered, at) {
-            Part::First => self.first.insert(at, value),
-            Part::Second => self.second.insert(at, value),
-            Part::Ordered => insert_ordered(&mut self.ordered, at, value),
+        match word_at(at) {
+            Some(word) => insert_word(&mut self.low, word, value),
+            None => insert_high(&mut self.high, at, value),
         }
     }
 
@@ -90,12 +77,9 @@ impl<V: Copy> AddressMap<V> {
         ensures value { result ≡ found_at self.old at }
         ensures changes { Changes self.old self.new at None }
     {
-        match self.first.remove(at) {
-            Some(value) => Some(value),
-            None => match self.second.remove(at) {
-                Some(value) => Some(value),
-                None => self.ordered.remove(&at),
-            },
+        match word_at(at) {
+            Some(word) => remove_word(&mut self.low, word),
+            None => remove_high(&mut self.high, at),
         }
     }
 
@@ -103,86 +87,53 @@ impl<V: Copy> AddressMap<V> {
     pub fn into_sorted(self) -> Result<Vec<(u64, V)>, AllocError>
         ensures { IfOk result (λ entries. Lists self entries.items) }
     {
-        let mut entries: Vec<(u64, V)> = Vec::new(self.alloc);
-        self.first.append_to(&mut entries)?;
-        self.second.append_to(&mut entries)?;
-        entries.extend(self.ordered)?;
+        let mut entries = list_words(self.alloc, self.low)?;
+        append_high(self.high, &mut entries)?;
         entries.sort_unstable_by_key(|entry| entry.0);
         Ok(entries)
     }
 }
 
-/// The value at an address, if the first table hasn't the address.
 #[inline(never)]
-fn get_later<V: Copy>(second: &SecondTable<V>, ordered: &BTreeMap<u64, V>, at: u64) -> Option<V>
-    ensures { result ≡ found_at (second.now ++ ordered.now.entries) at }
+fn get_high<V: Copy>(high: &IndexMap<u64, V, SecretHashes>, at: u64) -> Option<V>
+    ensures { result ≡ found_at high.now.entries at }
 {
-    match second.get(at) {
-        Some(value) => Some(value),
-        None => ordered.get(&at).copied(),
-    }
+    high.get(&at).copied()
 }
 
-/// Which part is to have an address: the one that has it, else the first that isn't crowded there. No other part has it.
-#[inline(always)]
-fn part_of<V: Copy>(
-    first: &FirstTable<V>,
-    second: &SecondTable<V>,
-    ordered: &BTreeMap<u64, V>,
-    at: u64,
-) -> Part
-    requires apart { AreApart first.now second.now ordered.now.entries }
-    ensures first { result ≡ First → (found_at second.now at ≡ None) × (found_at ordered.now.entries at ≡ None) }
-    ensures second { result ≡ Second → (found_at first.now at ≡ None) × (found_at ordered.now.entries at ≡ None) }
-    ensures ordered { result ≡ Ordered → (found_at first.now at ≡ None) × (found_at second.now at ≡ None) }
-{
-    if second.is_empty() && ordered.is_empty() && !first.is_crowded(at) {
-        Part::First
-    } else {
-        part_of_any(first, second, ordered, at)
-    }
-}
-
-/// The same, where an address may be in each part.
+/// Sets the value at an address, and answers the one that was there. Without memory nothing changes.
 #[inline(never)]
-fn part_of_any<V: Copy>(
-    first: &FirstTable<V>,
-    second: &SecondTable<V>,
-    ordered: &BTreeMap<u64, V>,
-    at: u64,
-) -> Part
-    requires apart { AreApart first.now second.now ordered.now.entries }
-    ensures first { result ≡ First → (found_at second.now at ≡ None) × (found_at ordered.now.entries at ≡ None) }
-    ensures second { result ≡ Second → (found_at first.now at ≡ None) × (found_at ordered.now.entries at ≡ None) }
-    ensures ordered { result ≡ Ordered → (found_at first.now at ≡ None) × (found_at second.now at ≡ None) }
-{
-    if first.has(at) {
-        Part::First
-    } else if second.has(at) {
-        Part::Second
-    } else if ordered.contains_key(&at) {
-        Part::Ordered
-    } else if !first.is_crowded(at) {
-        Part::First
-    } else if !second.is_crowded(at) {
-        Part::Second
-    } else {
-        Part::Ordered
-    }
-}
-
-#[inline(never)]
-fn insert_ordered<V: Copy>(
-    ordered: &mut BTreeMap<u64, V>,
+fn insert_high<V: Copy>(
+    high: &mut IndexMap<u64, V, SecretHashes>,
     at: u64,
     value: V,
 ) -> Result<Option<V>, AllocError>
-    ensures old { IfOk result (λ old. old ≡ found_at ordered.old.entries at) }
-    ensures changes { OnOk result (Changes ordered.old.entries ordered.new.entries at (Some value)) }
-    ensures same { OnErr result (ordered.new.entries ≡ ordered.old.entries) }
+    ensures old { IfOk result (λ old. old ≡ found_at high.old.entries at) }
+    ensures changes { OnOk result (Changes high.old.entries high.new.entries at (Some value)) }
+    ensures same { OnErr result (high.new.entries ≡ high.old.entries) }
 {
-    match ordered.insert(at, value) {
+    match high.insert(at, value) {
         Ok(old) => Ok(old),
         Err(_) => Err(AllocError),
     }
+}
+
+#[inline(never)]
+fn remove_high<V: Copy>(high: &mut IndexMap<u64, V, SecretHashes>, at: u64) -> Option<V>
+    ensures value { result ≡ found_at high.old.entries at }
+    ensures changes { Changes high.old.entries high.new.entries at None }
+{
+    high.swap_remove(&at)
+}
+
+/// Puts all entries after others.
+fn append_high<V: Copy>(
+    high: IndexMap<u64, V, SecretHashes>,
+    entries: &mut Vec<(u64, V)>,
+) -> Result<(), AllocError>
+    ensures all { OnOk result (entries.new.items ≡ entries.old.items ++ high.entries) }
+    ensures once { IsDistinct nat_eq (keys_of high.entries) }
+{
+    entries.extend(high)?;
+    Ok(())
 }

@@ -26,7 +26,8 @@ use std::alloc::Global;
 /// Prints the blocks that are live at the end of the log of this name, after all of it was read, in ascending order of
 /// their addresses, and returns the status of the program: 0, or with a report 3 where a read failed, 4 where a write
 /// failed, 6 at the first record that is wrong or cannot be replayed, 7 where record 2^32 begins, 8 where there is no memory.
-pub fn blocks<D: Desk>(alloc: Global, log: &str, desk: &mut D) -> u8
+/// The secret is a random number: whoever knows it can make a log over which this is slow, but what is printed doesn't depend on it.
+pub fn blocks<D: Desk>(alloc: Global, secret: u64, log: &str, desk: &mut D) -> u8
     ensures status { StatusIsJustified (D.outside desk.old) (D.outside desk.new) result }
     // The log of this name was asked for, and nothing else.
     ensures asked { AsksWith log.now (D.outside desk.old) (D.outside desk.new) result }
@@ -46,11 +47,16 @@ pub fn blocks<D: Desk>(alloc: Global, log: &str, desk: &mut D) -> u8
     // Where it is known what the desk opens, a log that is not there is not read: nothing is printed.
     ensures missing { OpensNothing (D.outside desk.old) log.now → IsUnopened result (D.outside desk.old) (D.outside desk.new) }
 {
-    let ending = list_blocks(alloc, log, desk);
+    let ending = list_blocks(alloc, secret, log, desk);
     report_ending(ending, desk)
 }
 
-fn list_blocks<D: Desk>(alloc: Global, log: &str, desk: &mut D) -> Result<(), Stop<BadReplay>>
+fn list_blocks<D: Desk>(
+    alloc: Global,
+    secret: u64,
+    log: &str,
+    desk: &mut D,
+) -> Result<(), Stop<BadReplay>>
     ensures cause { IsCaused (D.outside desk.old) (D.outside desk.new) result }
     ensures runs { LeavesLogAlone (D.outside desk.old) (D.outside desk.new) }
     ensures asked { AsksForInput log.now (D.outside desk.old) (D.outside desk.new) result }
@@ -67,7 +73,7 @@ fn list_blocks<D: Desk>(alloc: Global, log: &str, desk: &mut D) -> Result<(), St
         Ok(output) => output,
         Err(_) => return Err(Stop::OutOfMemory),
     };
-    let replay = replay_log(alloc, log, desk)?;
+    let replay = replay_log(alloc, secret, log, desk)?;
     let blocks = match sorted_blocks(replay.into_live()) {
         Ok(blocks) => blocks,
         Err(_) => return Err(Stop::OutOfMemory),
@@ -79,7 +85,12 @@ fn list_blocks<D: Desk>(alloc: Global, log: &str, desk: &mut D) -> Result<(), St
 }
 
 /// Replays the log of this name from its header to its end.
-fn replay_log<D: Desk>(alloc: Global, log: &str, desk: &mut D) -> Result<Replay, Stop<BadReplay>>
+fn replay_log<D: Desk>(
+    alloc: Global,
+    secret: u64,
+    log: &str,
+    desk: &mut D,
+) -> Result<Replay, Stop<BadReplay>>
     ensures cause { IsCaused (D.outside desk.old) (D.outside desk.new) result }
     ensures runs { LeavesLogAlone (D.outside desk.old) (D.outside desk.new) }
     ensures asked { AsksForInput log.now (D.outside desk.old) (D.outside desk.new) result }
@@ -95,7 +106,7 @@ fn replay_log<D: Desk>(alloc: Global, log: &str, desk: &mut D) -> Result<Replay,
         Ok(input) => input,
         Err(_) => return Err(Stop::OutOfMemory),
     };
-    let mut replay = Replay::new(alloc);
+    let mut replay = Replay::new(alloc, secret);
     let version = open_log(log, BadReplay::Log(BadLog::Header), &mut input, desk)?;
     replay_records(version, &mut replay, &mut input, desk)?;
     Ok(replay)

@@ -45,11 +45,11 @@ impl Replay {
     ghost use Rattle.mps_model.specs.Replayed.{at_the_start, replayed_after, after_interning, after_labelling};
 
     /// Before the first record.
-    pub(crate) fn new(alloc: Global) -> Replay
+    pub(crate) fn new(alloc: Global, secret: u64) -> Replay
         ensures { result ≡ at_the_start }
     {
         Replay {
-            live: AddressMap::new(alloc),
+            live: AddressMap::new(alloc, secret),
             interned: 0,
         }
     }

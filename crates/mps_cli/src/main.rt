@@ -7,11 +7,21 @@ use mps_program::{NoWords, start_over};
 use std::alloc::AllocError;
 use std::io::ErrorKind;
 use std::process::ExitCode;
+use std::random::RandomSource;
 use std::{env, io};
 
 fn main(rt: HostRuntime) -> ExitCode {
-    let (status, _desk) = start_over(rt.alloc(), words(&rt), HostDesk::new(&rt));
+    let (status, _desk) = start_over(rt.alloc(), secret(&rt), words(&rt), HostDesk::new(&rt));
     ExitCode::from(status)
+}
+
+/// A number that the writer of a log can't foresee, or 0 if the system gives none.
+fn secret(rt: &HostRuntime) -> u64 {
+    let mut bytes = [0u8; 8];
+    match rt.fill_bytes(&mut bytes) {
+        Ok(()) => u64::from_le_bytes(bytes),
+        Err(_) => 0,
+    }
 }
 
 /// The words of the command line after the program's name.

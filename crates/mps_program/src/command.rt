@@ -29,8 +29,14 @@ pub enum NoWords {
 }
 
 /// Does what the words of the command line ask for, and returns the status of the process. Words that are no text have no
-/// meaning.
-pub fn start<D: Desk>(alloc: Global, words: Result<Vec<String>, NoWords>, desk: &mut D) -> u8
+/// meaning. The secret is a random number: whoever knows it can make inputs over which `txt` and `blocks` are slow, but nothing
+/// that a command does depends on it.
+pub fn start<D: Desk>(
+    alloc: Global,
+    secret: u64,
+    words: Result<Vec<String>, NoWords>,
+    desk: &mut D,
+) -> u8
     ensures asked { IfOk words (λ given. DoesAsAsked (meaning (texts given.items)) result (D.outside desk.old) (D.outside desk.new)) }
     ensures no_text { words ≡ Err NotText → DoesAsAsked None result (D.outside desk.old) (D.outside desk.new) }
     ensures no_memory { words ≡ Err OutOfMemory → Reports (D.outside desk.old) (D.outside desk.new) (codes "mps: out of memory\n") }
@@ -48,15 +54,15 @@ pub fn start<D: Desk>(alloc: Global, words: Result<Vec<String>, NoWords>, desk: 
         → result ≢ 8 → is_input_verdict result ≡ true) }
 {
     match words {
-        Ok(words) => mps(alloc, &words, desk),
+        Ok(words) => mps(alloc, secret, &words, desk),
         Err(NoWords::NotText) => report_usage(desk),
         Err(NoWords::OutOfMemory) => report_ending(Err(Stop::<NoBadPlace>::OutOfMemory), desk),
     }
 }
 
 /// Does what the words of the command line ask for, and returns the status of the process. Where that is not 0, a line
-/// on standard error says why.
-pub fn mps<D: Desk>(alloc: Global, words: &[String], desk: &mut D) -> u8
+/// on standard error says why. The secret is a random number, as that of `start`.
+pub fn mps<D: Desk>(alloc: Global, secret: u64, words: &[String], desk: &mut D) -> u8
     ensures usage { (result ≡ 2) ↔ (meaning (texts words.now) ≡ None) }
 
     // What each command does; words without a meaning do nothing but report the usage.
@@ -79,7 +85,7 @@ pub fn mps<D: Desk>(alloc: Global, words: &[String], desk: &mut D) -> u8
         → result ≢ 8 → is_input_verdict result ≡ true }
 {
     match command_of(words) {
-        Some(command) => run_command(alloc, command, desk),
+        Some(command) => run_command(alloc, secret, command, desk),
         None => report_usage(desk),
     }
 }
@@ -98,7 +104,7 @@ fn report_usage<D: Desk>(desk: &mut D) -> u8
 }
 
 /// Does what a command asks for.
-fn run_command<D: Desk>(alloc: Global, command: Command<'_>, desk: &mut D) -> u8
+fn run_command<D: Desk>(alloc: Global, secret: u64, command: Command<'_>, desk: &mut D) -> u8
     requires { IsRunnable command }
     ensures meaning { result ≢ 2 }
     ensures asked { DoesAsAsked (Some (meaning_of command.entry)) result (D.outside desk.old) (D.outside desk.new) }
@@ -115,8 +121,8 @@ fn run_command<D: Desk>(alloc: Global, command: Command<'_>, desk: &mut D) -> u8
             run_script(alloc, Session::new(alloc), log, script, desk)
         },
         Command::Convert { log, kinds } => cnv(alloc, log, kinds, desk),
-        Command::Read { text } => txt(alloc, text, desk),
-        Command::Blocks { log } => blocks(alloc, log, desk),
+        Command::Read { text } => txt(alloc, secret, text, desk),
+        Command::Blocks { log } => blocks(alloc, secret, log, desk),
         Command::Generate { seed, count } => generate(alloc, seed, count, desk),
         Command::RunGenerated { log, seed, count } => {
             run_generated(Session::new(alloc), log, seed, count, desk)

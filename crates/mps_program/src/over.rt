@@ -14,9 +14,10 @@ use mps_gathering::Gathering;
 use std::alloc::Global;
 
 /// Does what the words of the command line ask for over an inner desk, to which the log and what is printed are handed on in
-/// large pieces. Returns the status of the process, and the inner desk.
+/// large pieces. Returns the status of the process, and the inner desk. The secret is a random number, as that of `start`.
 pub fn start_over<D: Desk + Drop>(
     alloc: Global,
+    secret: u64,
     words: Result<Vec<String>, NoWords>,
     inner: D,
 ) -> (u8, D)
@@ -37,6 +38,6 @@ pub fn start_over<D: Desk + Drop>(
     ensures out_fault { result.0 ≡ 4 → HasRisen 0 (D.outside result.1).out_faults ⊎ HasRisen 0 (D.outside result.1).log_faults }
 {
     let mut desk = Gathering::new(inner, alloc);
-    let status = start(alloc, words, &mut desk);
+    let status = start(alloc, secret, words, &mut desk);
     (status, desk.into_inner())
 }

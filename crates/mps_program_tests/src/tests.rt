@@ -99,7 +99,7 @@ struct Ends {
 /// Runs the program with the words of a line, and returns the status.
 fn run(alloc: Global, desk: &mut MemDesk, line: &str) -> Result<u8, AllocError> {
     let words = words_of(alloc, line)?;
-    Ok(mps(alloc, &words, desk))
+    Ok(mps(alloc, 7, &words, desk))
 }
 
 /// The words of a line.

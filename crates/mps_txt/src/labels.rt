@@ -41,12 +41,12 @@ impl Model for Labels {
 
 impl Labels {
     /// No names and no labels.
-    pub(crate) fn new(alloc: Global) -> Labels
+    pub(crate) fn new(alloc: Global, secret: u64) -> Labels
         ensures { result ≡ no_names }
     {
         Labels {
             names: Vec::new(alloc),
-            at: AddressMap::new(alloc),
+            at: AddressMap::new(alloc, secret),
         }
     }
 

@@ -36,7 +36,8 @@ const MAX_LINE_BYTES: usize = 4096;
 /// Prints the readable text of the portable text of this name, line by line, and returns the status of the program: 0,
 /// or with a report 3 where a read failed, 4 where a write failed, 6 at the first line that is wrong, 7 where line 2^32
 /// begins, 8 when out of memory.
-pub fn txt<D: Desk>(alloc: Global, text: &str, desk: &mut D) -> u8
+/// The secret is a random number: whoever knows it can make a text over which this is slow, but what is printed doesn't depend on it.
+pub fn txt<D: Desk>(alloc: Global, secret: u64, text: &str, desk: &mut D) -> u8
     ensures status { StatusIsJustified (D.outside desk.old) (D.outside desk.new) result }
     // The text of this name was asked for, and nothing else.
     ensures asked { AsksWith text.now (D.outside desk.old) (D.outside desk.new) result }
@@ -57,12 +58,17 @@ pub fn txt<D: Desk>(alloc: Global, text: &str, desk: &mut D) -> u8
     // With any status its ending was reported, and nothing with 0.
     ensures reported { ReportsStatus text_of_bad_line result (D.outside desk.old) (D.outside desk.new) }
 {
-    let ending = read_text(alloc, text, desk);
+    let ending = read_text(alloc, secret, text, desk);
     report_ending(ending, desk)
 }
 
 /// The same, up to the report.
-fn read_text<D: Desk>(alloc: Global, text: &str, desk: &mut D) -> Result<(), Stop<BadTextLine>>
+fn read_text<D: Desk>(
+    alloc: Global,
+    secret: u64,
+    text: &str,
+    desk: &mut D,
+) -> Result<(), Stop<BadTextLine>>
     ensures cause { IsCaused (D.outside desk.old) (D.outside desk.new) result }
     ensures runs { LeavesLogAlone (D.outside desk.old) (D.outside desk.new) }
     ensures asked { AsksForInput text.now (D.outside desk.old) (D.outside desk.new) result }
@@ -86,7 +92,7 @@ fn read_text<D: Desk>(alloc: Global, text: &str, desk: &mut D) -> Result<(), Sto
         Ok(output) => output,
         Err(_) => return Err(Stop::OutOfMemory),
     };
-    let mut labels = Labels::new(alloc);
+    let mut labels = Labels::new(alloc, secret);
     let version = open_text(text, &mut input, desk)?;
     put_first_line(version, &mut output);
     let ending = read_lines(version, &mut labels, &mut input, &mut output, desk);

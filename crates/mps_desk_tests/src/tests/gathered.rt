@@ -47,7 +47,7 @@ fn run_played(
 ) -> Result<(u8, PlayedDesk), AllocError> {
     let words = words_of(alloc, "run")?;
     let desk = PlayedDesk::new(alloc, script, played)?;
-    Ok(start_over(alloc, Ok(words), desk))
+    Ok(start_over(alloc, 7, Ok(words), desk))
 }
 
 fn compare_played(rt: &impl Abort, desk: &PlayedDesk, status: u8, case: &PlayedCase) {

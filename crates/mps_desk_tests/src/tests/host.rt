@@ -56,7 +56,7 @@ const HOST_CASES: [HostCase; 9] = [
 /// Runs the program with the words of a line over a real desk, and returns the status.
 fn run_host(alloc: Global, desk: HostDesk, line: &str) -> Result<u8, AllocError> {
     let words = words_of(alloc, line)?;
-    let (status, desk) = start_over(alloc, Ok(words), desk);
+    let (status, desk) = start_over(alloc, 7, Ok(words), desk);
     drop(desk);
     Ok(status)
 }

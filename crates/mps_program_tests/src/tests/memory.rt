@@ -34,7 +34,7 @@ fn words_without_memory(rt: HostRuntime) {
 }
 
 fn check_words_without_memory(rt: &impl Abort, alloc: Global, desk: &mut MemDesk) {
-    let status = start(alloc, Err(NoWords::OutOfMemory), desk);
+    let status = start(alloc, 7, Err(NoWords::OutOfMemory), desk);
     assert_eq!(rt; status, 8);
     compare_bytes(rt, desk.reported(), b"mps: out of memory\n", "no words");
     compare_bytes(rt, desk.printed(), b"", "no words");

@@ -88,9 +88,9 @@ fn fail_calls(desk: &mut MemDesk, failing: &[(DeskCall, u64)]) -> Result<(), All
 /// Runs a tool on the file that it reads, and returns its status.
 fn run(tool: Tool, alloc: Global, desk: &mut MemDesk) -> u8 {
     match tool {
-        Tool::Blocks => blocks(alloc, input_name(tool), desk),
+        Tool::Blocks => blocks(alloc, 7, input_name(tool), desk),
         Tool::Cnv(kinds) => cnv(alloc, input_name(tool), kinds, desk),
-        Tool::Txt => txt(alloc, input_name(tool), desk),
+        Tool::Txt => txt(alloc, 7, input_name(tool), desk),
     }
 }
 
