@@ -1,10 +1,15 @@
 #!/usr/bin/env python3
-"""Times the readers over a log and a text whose addresses are chosen to collide: python3 bench/hostile.py PATH-OF-MPS [BLOCKS]
+"""Times the readers over logs and texts whose addresses are chosen: python3 bench/hostile.py PATH-OF-MPS [BLOCKS]
 
-The hash of an address is no secret. It is the xor of the four 32-bit limbs of (ADDRESS xor SEED) times FACTOR; a table takes
-its low bits. The low 12 bits of each limb are 0 for the numbers of STEPS, so sums of them have few values there. Prints for
-`blocks` and `txt` the least seconds of five runs over such addresses and over random ones, in turn, and their ratio. The
-status is 1 if one is above 1.5.
+Each kind of addresses is compared with random ones of 64 bits:
+- those that collide if the secret of the hashes is 0: such a hash is the xor of the four 32-bit limbs of (ADDRESS xor BEGUN)
+  times a factor, a table takes its low bits, and the low 12 bits of each limb are 0 for the numbers of STEPS, so sums of them
+  have few values there;
+- those that ascend or descend word by word from 16 MiB on, and odd ones from 4 GiB on, which are in the hash table too;
+- the last word below 16 MiB and then random ones: the table of words grows at once to its greatest length;
+- words below 16 MiB, in no order.
+Prints for `blocks` and `txt` the least seconds of processor of five runs over each kind, in turn, and their ratio to those over
+random ones. The status is 1 if one is above 1.5.
 """
 import os
 import random
@@ -12,11 +17,10 @@ import struct
 import subprocess
 import sys
 import tempfile
-import time
 
 REPEATS = 5
 COMMIT = 80
-SEED = 0x243f6a8885a308d3
+BEGUN = 0xa58d2dfdad70bb16
 STEPS = [
     0x005faa90bde50000, 0x04db0dfb54e55000, 0x07745eb69f557000, 0x01b1a214be1a0000, 0x02c2e0ecd64f6000,
     0x01c65d3a88ba3000, 0x0665f4bec7f59000, 0x04fb6a5148e52000, 0x06562e228becf000, 0x042e2092c4a08000,
@@ -29,12 +33,25 @@ def colliding(count):
     while len(sums) < count:
         for step in STEPS:
             sums.update((total + step, None) for total in list(sums) if total + step < 1 << 64)
-    return [SEED ^ total for total in list(sums)[:count]]
+    return [BEGUN ^ total for total in list(sums)[:count]]
 
 
-def harmless(count):
+def kinds(count):
+    """The addresses of each kind; the first are the ones that the others are compared with."""
     random_bits = random.Random(3)
-    return list({random_bits.getrandbits(64): None for _ in range(count)})
+    others = list({random_bits.getrandbits(64): None for _ in range(count)})
+    ascending = [(1 << 24) + 8 * number for number in range(count)]
+    words = list(range(0x1000, 1 << 24, 8))
+    random_bits.shuffle(words)
+    return {
+        'random': others,
+        'colliding': colliding(count),
+        'ascending': ascending,
+        'descending': ascending[::-1],
+        'odd': [(1 << 32) + 2 * number + 1 for number in range(count)],
+        'last word': [(1 << 24) - 8] + others[1:],
+        'low words': words[:count],
+    }
 
 
 def make_log(path, addresses):
@@ -50,20 +67,23 @@ def make_text(path, addresses):
 
 
 def seconds(words):
+    """Of processor, by the program and by the system for it."""
     with open(os.devnull, 'wb') as nowhere:
-        began = time.perf_counter()
-        status = subprocess.run(words, stdout=nowhere).returncode
-        if status != 0:
-            sys.exit('%s: status %d' % (' '.join(words), status))
-        return time.perf_counter() - began
+        child = subprocess.Popen(words, stdout=nowhere)
+        _, status, used = os.wait4(child.pid, 0)
+        child.returncode = os.waitstatus_to_exitcode(status)
+        if child.returncode != 0:
+            sys.exit('%s: status %d' % (' '.join(words), child.returncode))
+        return used.ru_utime + used.ru_stime
 
 
-def compare(name, words, chosen, others):
-    best = [float('inf'), float('inf')]
+def compare(words, names, paths):
+    best = [float('inf')] * len(paths)
     for _ in range(REPEATS):
-        best = [min(least, seconds(words + [path])) for least, path in zip(best, (chosen, others))]
-    print('%-8s %7.3f %7.3f %6.2f' % (name, best[0], best[1], best[0] / best[1]), flush=True)
-    return best[0] <= 1.5 * best[1]
+        best = [min(least, seconds(words + [path])) for least, path in zip(best, paths)]
+    for name, least in zip(names, best):
+        print('%-8s %-11s %7.3f %6.2f' % (words[1], name, least, least / best[0]), flush=True)
+    return max(best) <= 1.5 * best[0]
 
 
 def main():
@@ -71,12 +91,14 @@ def main():
     count = int(sys.argv[2]) if len(sys.argv) > 2 else 1_000_000
     with tempfile.TemporaryDirectory() as folder:
         os.chdir(folder)
-        for kind, addresses in (('chosen', colliding(count)), ('others', harmless(count))):
-            make_log(kind + '.log', addresses)
-            make_text(kind + '.txt', addresses)
-        print('%-8s %7s %7s %6s' % ('', 'chosen', 'others', 'ratio'))
-        good = [compare('blocks', [mps, 'blocks', '-f'], 'chosen.log', 'others.log'),
-                compare('txt', [mps, 'txt', '-l'], 'chosen.txt', 'others.txt')]
+        names = []
+        for name, addresses in kinds(count).items():
+            make_log(name + '.log', addresses)
+            make_text(name + '.txt', addresses)
+            names.append(name)
+        print('%-8s %-11s %7s %6s' % ('', '', 'seconds', 'ratio'))
+        good = [compare([mps, 'blocks', '-f'], names, [name + '.log' for name in names]),
+                compare([mps, 'txt', '-l'], names, [name + '.txt' for name in names])]
     sys.exit(0 if all(good) else 1)
 
 
