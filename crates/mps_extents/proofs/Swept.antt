@@ -35,9 +35,6 @@ module _
     pub size_of_table : high ≤ length (begins_of t)
     size_of_table = omega (arith, ap (λ (e : ExtentLists). e.size) is, inside)
 
-    pub in_opens : high ≤ length t.opens
-    in_opens = omega (arith, size_of_table, length-either t.opens t.blocks)
-
     pub in_blocks : high ≤ length t.blocks
     in_blocks = omega (arith, size_of_table, holds.0.same_size.2)
 

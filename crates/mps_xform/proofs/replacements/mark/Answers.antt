@@ -1,4 +1,4 @@
-use Rattle.std.proofs.Common.{ℕ, ◌≡◌, ◌≢◌, ◌+◌, ◌-◌, ◌*◌, ◌/◌, ◌%◌, ◌^◌, ◌<◌, ◌≤◌, ◌⊎◌, ◌∙◌, bit_or, get_or, set, ap, sym, inl, inr, arith, w64}
+use Rattle.std.proofs.Common.{ℕ, ◌≡◌, ◌≢◌, ◌+◌, ◌-◌, ◌*◌, ◌/◌, ◌%◌, ◌^◌, ◌<◌, ◌≤◌, ◌⊎◌, ◌∙◌, bit_or, get_or, length, set, ap, sym, inl, inr, arith, w64}
 use Rattle.std.specs.Int.{bit_at}
 use Rattle.std.proofs.lemmas.Bool.{cases_lt}
 use Rattle.std.proofs.lemmas.Nat.Bits.{bit_at_set_same, bit_at_set_other}
@@ -12,8 +12,9 @@ returns-clause-marked c =
     let marks = c.args.marks.now in
     let word = bit_or (get_or marks (m / 64) 0) (1 * 2 ^ (m % 64) % 2 ^ 64) in
     let column : m % 64 + (m - m) ≡ m % 64 = omega arith in
+    let in_marks : m / 64 < length marks = omega (arith, c.requires, c.mark_of-mark.ensures.within) in
     ap (λ (i : ℕ). bit_in (set marks (m / 64) word) i) (sym c.mark_of-mark.ensures.value)
-    ∙ bit_in_write_inside marks m 1 word m (omega arith) (omega (arith, c.requires, c.mark_of-mark.ensures.within)) (omega arith) (omega arith)
+    ∙ bit_in_write_inside marks m 1 word m (omega arith) in_marks (omega arith) (omega arith)
     ∙ ap (λ (i : ℕ). bit_at word i) column
     ∙ bit_at_set_same w64 (get_or marks (m / 64) 0) (m % 64) (omega arith)
 

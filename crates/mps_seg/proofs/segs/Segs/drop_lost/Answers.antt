@@ -116,4 +116,5 @@ returns-clause-moves c =
     c.blocks_are_covered.ensures c.blocks_are_in_order.ensures
     in
     let kept_is = c.kept.ensures ∙ ap (λ (m : MarkTables). m.kept) c.clear_lost.ensures in
-    c.drop_lost.ensures.moves ∙ ap (λ (rs : List Run). frees rs c.args.trail.now) (swept.same_lost kept_is) ∙ swept.moves t c.args.trail.now over
+    let same = ap (λ (rs : List Run). frees rs c.args.trail.now) (swept.same_lost kept_is) in
+    c.drop_lost.ensures.moves ∙ same ∙ swept.moves t c.args.trail.now over
