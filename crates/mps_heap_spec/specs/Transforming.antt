@@ -1,5 +1,5 @@
 -- The outcomes of the calls on transforms. None takes memory, and none makes moves.
-use Rattle.std.specs.Prelude.{ℕ, zero, suc, ◌≡◌, ◌%◌, Bool, true, false, not, ◌&&◌, nat_lt, Option, Some, None, List, Result, Ok, Err, is_some, length, slice_get, option_and_then}
+use Rattle.std.specs.Prelude.{ℕ, zero, suc, ◌≡◌, ◌%◌, ◌≤◌, Bool, true, false, not, ◌&&◌, nat_lt, Option, Some, None, List, Result, Ok, Err, is_some, length, slice_get, option_and_then}
 use Rattle.std.specs.List.{All}
 use Rattle.std.specs.Option.{option_map_or}
 use Rattle.mps_base.specs.Address.{Address, bytes_of_word}
@@ -21,6 +21,7 @@ use Rattle.mps_seg.specs.Segs.{SegsState}
 use Rattle.mps_xform.specs.Applying.{CanApply, after_apply}
 use Rattle.mps_xform.specs.Blocking.{is_blocked}
 use Rattle.mps_xform.specs.Slots.{AreListedOnce, slots_after_apply}
+use Rattle.mps_xform.specs.Summed.{AreBlocksSummed}
 use Rattle.mps_xform.specs.declared.transforms.Pair.{Pair}
 use Rattle.mps_heap_spec.specs.Coming.{Outcome, done}
 use Rattle.mps_heap_spec.specs.Finding.{object_at, slot_in, transform_named}
@@ -149,13 +150,19 @@ module _ {F : Type 0} (layout : F → Layout) where
     roots = slots_after_apply (new_address h.beside.transforms number) h.roots;
   }
 
-  -- what applying a transform asks for: it can be applied to each automatic pool by its own format, each new address is that of a word,
-  -- and the order of the tables has each key once. Each parked heap keeps it
-  pub record CanTransform (h : HeapState F) : Type 0 where
+  -- what applying a transform to the pools from a number on asks for: it can be applied to each automatic pool by its own format, blocks
+  -- of those that are still to come are summed, each new address is that of a word, and the order of the tables has each key once
+  pub record CanTransformFrom (h : HeapState F) (first : ℕ) : Type 0 where
     pub pools : (number : ℕ) (format : F) → option_and_then format_of_pool (slice_get h.pools number) ≡ Some format
         → CanApply (layout format) h.segs number
+    pub summed : (number : ℕ) (format : F) → first ≤ number → option_and_then format_of_pool (slice_get h.pools number) ≡ Some format
+        → AreBlocksSummed (layout format) h.segs number
     pub aligned : All (λ p. p.new.0 % bytes_of_word ≡ 0) h.beside.transforms.pairs
     pub slots : AreListedOnce h.roots
+
+  -- what applying a transform asks for. Each parked heap keeps it
+  abbrev pub CanTransform : HeapState F → Type 0
+  CanTransform h = CanTransformFrom h 0
 
   -- a transform is applied, and goes with its pairs
   pub record AppliesTransform (h : HeapState F) (name : Name) (number : ℕ) (after : HeapState F) : Type 0 where

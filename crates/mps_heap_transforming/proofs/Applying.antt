@@ -1,5 +1,5 @@
 -- From what was found to the outcomes of a call that applies a transform.
-use Rattle.std.proofs.Common.{◌≡◌, ◌∙◌, ℕ, Bool, true, false, length, None, Ok, Err, sym, ap, subst}
+use Rattle.std.proofs.Common.{◌≡◌, ◌≢◌, ◌∙◌, ℕ, ◌+◌, Bool, true, false, length, None, Ok, Err, sym, ap, subst, arith}
 use Rattle.std.specs.Prelude.{not}
 use Rattle.mps_base.specs.declared.names.Name.{Name}
 use Rattle.mps_base.specs.declared.refusal.Refusal.{Refusal}
@@ -13,9 +13,10 @@ use Rattle.mps_root.specs.State.{RootsState}
 use Rattle.mps_seg.specs.Segs.{SegsState}
 use Rattle.mps_xform.specs.Applying.{CanApply}
 use Rattle.mps_xform.specs.Slots.{slots_after_apply}
+use Rattle.mps_xform.specs.Summed.{AreBlocksSummed}
 use Rattle.mps_heap_spec.specs.Finding.{transform_named}
 use Rattle.mps_heap_spec.specs.State.{HeapState}
-use Rattle.mps_heap_spec.specs.Transforming.{Applied, CanTransform, IsApplying, KeptFromApplying, NotApplied, check_apply, is_blocked_by, is_parked, with_pools_applied, with_segs, with_transforms}
+use Rattle.mps_heap_spec.specs.Transforming.{Applied, CanTransformFrom, IsApplying, KeptFromApplying, NotApplied, check_apply, is_blocked_by, is_parked, with_pools_applied, with_segs, with_transforms}
 
 -- ---- checks
 
@@ -44,18 +45,33 @@ module _ {F : Type 0} (was h : HeapState F) (name : Name) (number : ℕ) (same :
 
 -- ---- what another pool may have applied after one
 
-pub still_can : {F : Type 0} {layout : F → Layout} {was h : HeapState F} {segs : SegsState} {t : TransformsState} → was ≡ h
-    → CanTransform layout h
-    → ((f : Layout) (other : ℕ) → CanApply f was.segs other → CanApply f segs other) → t ≡ was.beside.transforms
-    → CanTransform layout (with_segs (with_transforms was t) segs)
-still_can {F} {layout} {was} {h} {segs} {t} same can again unchanged =
-    subst (λ (x : TransformsState). CanTransform layout (with_segs (with_transforms was x) segs)) (sym unchanged)
-    (let could = subst (λ (x : HeapState F). CanTransform layout x) (sym same) can in
+pub still_can : {F : Type 0} {layout : F → Layout} {was h : HeapState F} {segs : SegsState} {t : TransformsState} {pool : ℕ} → was ≡ h
+    → CanTransformFrom layout h pool
+    → ((f : Layout) (other : ℕ) → CanApply f was.segs other → CanApply f segs other)
+    → ((f : Layout) (other : ℕ) → other ≢ pool → AreBlocksSummed f was.segs other → AreBlocksSummed f segs other)
+    → t ≡ was.beside.transforms
+    → CanTransformFrom layout (with_segs (with_transforms was t) segs) (pool + 1)
+still_can {F} {layout} {was} {h} {segs} {t} {pool} same can again summed unchanged =
+    subst (λ (x : TransformsState). CanTransformFrom layout (with_segs (with_transforms was x) segs) (pool + 1)) (sym unchanged)
+    (let could = subst (λ (x : HeapState F). CanTransformFrom layout x pool) (sym same) can in
     record {
       pools = λ number format has. again (layout format) number (could.pools number format has);
+      summed = λ number format past has.
+          summed (layout format) number (λ same. omega (arith, past, same))
+          (could.summed number format (omega (arith, past)) has);
       aligned = could.aligned;
       slots = could.slots;
     })
+
+-- a pool is passed over
+pub fewer_left : {F : Type 0} {layout : F → Layout} {h : HeapState F} {pool : ℕ} → CanTransformFrom layout h pool
+    → CanTransformFrom layout h (pool + 1)
+fewer_left can = record {
+  pools = can.pools;
+  summed = λ number format past has. can.summed number format (omega (arith, past)) has;
+  aligned = can.aligned;
+  slots = can.slots;
+}
 
 -- ---- outcomes
 

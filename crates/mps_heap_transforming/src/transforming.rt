@@ -1,5 +1,5 @@
 // The calls that make, drop and apply transforms, and add pairs to them.
-ghost use Rattle.std.specs.Prelude.{◌≡◌, ◌<◌, true, None, Some, IfOk, IsSome, OnOk, length, option_and_then, slice_get};
+ghost use Rattle.std.specs.Prelude.{◌≡◌, ◌+◌, ◌<◌, true, None, Some, IfOk, IsSome, OnOk, length, option_and_then, slice_get};
 ghost use Rattle.mps_format.specs.Pools.{format_of_pool};
 ghost use Rattle.mps_names.specs.State.{own_room, thing_named};
 ghost use Rattle.mps_names.specs.declared.names.Thing.TheVariants as thing;
@@ -7,7 +7,7 @@ ghost use Rattle.mps_neighbours.specs.Transforms.{free_number, is_live, new_addr
 ghost use Rattle.mps_heap_spec.specs.Coming.{Comes};
 ghost use Rattle.mps_heap_spec.specs.Finding.{transform_named};
 ghost use Rattle.mps_heap_spec.specs.Making.{IsDropping};
-ghost use Rattle.mps_heap_spec.specs.Transforming.{AreTransformsThere, CanTransform, IsApplying, IsTransforming, check_apply, check_transform, has_room_for_transform, is_moved_at, is_parked, pair_added, transform_dropped, with_pair_checked, with_pool_applied, with_pools_applied, with_segs};
+ghost use Rattle.mps_heap_spec.specs.Transforming.{AreTransformsThere, CanTransform, CanTransformFrom, IsApplying, IsTransforming, check_apply, check_transform, has_room_for_transform, is_moved_at, is_parked, pair_added, transform_dropped, with_pair_checked, with_pool_applied, with_pools_applied, with_segs};
 
 use mps_base::{Addr, Name, Refusal, Slot};
 use mps_format::{Format, format_of_pool, is_copying};
@@ -161,10 +161,10 @@ fn format_of<F: Format>(state: &State<F>, pool: u32) -> Option<F>
 
 /// Applies a transform to the references of a pool, if it is automatic, by its own format.
 fn apply_to_pool<F: Format>(state: &mut State<F>, transform: u32, pool: u32)
-    requires { CanTransform F.layout state.old }
+    requires { CanTransformFrom F.layout state.old pool }
     ensures state { state.new ≡ with_segs state.old (with_pool_applied F.layout (new_address state.old.beside.transforms transform)
         (option_and_then format_of_pool (slice_get state.old.pools pool)) pool state.old.segs) }
-    ensures again { CanTransform F.layout state.new }
+    ensures again { CanTransformFrom F.layout state.new (pool + 1) }
 {
     let Some(format) = format_of(state, pool) else {
         return;
@@ -180,7 +180,7 @@ fn apply_to_pools<F: Format>(state: &mut State<F>, transform: u32)
     requires { CanTransform F.layout state.old }
     ensures state { state.new ≡ with_segs state.old (with_pools_applied F.layout (new_address state.old.beside.transforms transform)
         state.old.pools (length state.old.pools) state.old.segs) }
-    ensures again { CanTransform F.layout state.new }
+    ensures again { CanTransformFrom F.layout state.new (length state.old.pools) }
 {
     for pool in 0..count_pools(state) {
         apply_to_pool(state, transform, pool);

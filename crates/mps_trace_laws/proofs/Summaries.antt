@@ -1,5 +1,4 @@
 -- Summaries have the zones of what segments refer to: in the middle of a collection by words, and at rest.
-pub mod Zones
 pub mod Runs
 pub mod CopyZones
 pub mod Copies

@@ -6,8 +6,9 @@ ghost use Rattle.mps_format.specs.Front.{front_layout};
 ghost use Rattle.mps_seg.specs.Segs.{new_segments};
 ghost use Rattle.mps_xform.specs.Applying.{CanApply};
 ghost use Rattle.mps_xform.specs.State.{is_live, no_transforms};
+ghost use Rattle.mps_transform_tests.specs.Full.{AreFull};
 
-use mps_base::{Addr, Rank, Refusal, Trail};
+use mps_base::{Addr, Rank, Refusal, Trail, ZoneSet};
 use mps_format::Front;
 use mps_seg::Segs;
 use mps_xform::{AddRefusal, Pair, Transforms};
@@ -23,13 +24,15 @@ const REFERENCES: usize = 513;
 
 const NUMBERS: usize = 529;
 
-// Makes a block of 33 words in a segment of pool 0.
+// Makes a block of 33 words in a segment of pool 0, whose summary has all zones.
 fn make_block(segs: &mut Segs, trail: &mut Trail) -> Result<(), Refusal>
     requires unused { segs.old ≡ new_segments 2 2 }
     requires fits { 0 < trail.old.spare }
-    ensures { IfOk result (λ _. (pool : ℕ) → CanApply front_layout segs.new pool) }
+    ensures can { IfOk result (λ _. (pool : ℕ) → CanApply front_layout segs.new pool) }
+    ensures full { IfOk result (λ _. AreFull segs.new) }
 {
     let at = segs.take(trail, 0, 33, 0, Rank::Exact)?;
+    segs.set_summary(at, ZoneSet(u64::MAX));
     segs.commit_block(at, 33);
     segs.set_word(at, HEAD);
     Ok(())
@@ -37,8 +40,10 @@ fn make_block(segs: &mut Segs, trail: &mut Trail) -> Result<(), Refusal>
 
 // Writes a word of a block that isn't its head. Whether there is one.
 fn write(segs: &mut Segs, at: Addr, word: u64) -> bool
-    requires { (pool : ℕ) → CanApply front_layout segs.old pool }
-    ensures { (pool : ℕ) → CanApply front_layout segs.new pool }
+    requires can { (pool : ℕ) → CanApply front_layout segs.old pool }
+    requires full { AreFull segs.old }
+    ensures can { (pool : ℕ) → CanApply front_layout segs.new pool }
+    ensures full { AreFull segs.new }
 {
     let Some(block) = segs.block_at(at.0) else {
         return false;
@@ -107,8 +112,10 @@ fn are_alike(segs: &Segs, plain: &Plain) -> bool {
 
 // Whether a word is written in the block as in the plain lists.
 fn written_alike(segs: &mut Segs, plain: &mut Plain, cell: u8, word: u64) -> bool
-    requires { (pool : ℕ) → CanApply front_layout segs.old pool }
-    ensures { (pool : ℕ) → CanApply front_layout segs.new pool }
+    requires can { (pool : ℕ) → CanApply front_layout segs.old pool }
+    requires full { AreFull segs.old }
+    ensures can { (pool : ℕ) → CanApply front_layout segs.new pool }
+    ensures full { AreFull segs.new }
 {
     let index = cell as usize % 32;
     if index < 16 && index < plain.references.len() {
@@ -151,8 +158,10 @@ fn added_alike(
 fn apply_to(transforms: &mut Transforms, transform: u32, segs: &mut Segs, pool: u32)
     requires aligned { All (λ p. p.new.0 % bytes_of_word ≡ 0) transforms.old.pairs }
     requires can { (pool : ℕ) → CanApply front_layout segs.old pool }
+    requires full { AreFull segs.old }
     ensures unchanged { transforms.new ≡ transforms.old }
     ensures can { (pool : ℕ) → CanApply front_layout segs.new pool }
+    ensures full { AreFull segs.new }
 {
     transforms.apply(transform, &Front, segs, pool);
 }
@@ -168,9 +177,11 @@ fn agree(
     requires live { is_live transforms.old transform ≡ true }
     requires aligned { All (λ p. p.new.0 % bytes_of_word ≡ 0) transforms.old.pairs }
     requires can { (pool : ℕ) → CanApply front_layout segs.old pool }
+    requires full { AreFull segs.old }
     ensures live { is_live transforms.new transform ≡ true }
     ensures aligned { All (λ p. p.new.0 % bytes_of_word ≡ 0) transforms.new.pairs }
     ensures can { (pool : ℕ) → CanApply front_layout segs.new pool }
+    ensures full { AreFull segs.new }
 {
     let [choice, cell, old, new] = bytes;
     match choice {
@@ -206,8 +217,10 @@ fn agree_in_turn(
 ) -> Result<bool, AllocError>
     requires aligned { All (λ p. p.new.0 % bytes_of_word ≡ 0) transforms.old.pairs }
     requires can { (pool : ℕ) → CanApply front_layout segs.old pool }
+    requires full { AreFull segs.old }
     ensures aligned { All (λ p. p.new.0 % bytes_of_word ≡ 0) transforms.new.pairs }
     ensures can { (pool : ℕ) → CanApply front_layout segs.new pool }
+    ensures full { AreFull segs.new }
 {
     if !transforms.has_room() {
         return Ok(false);
@@ -235,6 +248,7 @@ fn all_agree(
 ) -> Result<bool, AllocError>
     requires none { transforms.old ≡ no_transforms }
     requires can { (pool : ℕ) → CanApply front_layout segs.old pool }
+    requires full { AreFull segs.old }
 {
     let other = transforms.make();
     let mut seed = 1u64;

@@ -33,13 +33,14 @@ none_ranked rs bound none = record {
 pub none_marked : (rs : List Ranked) (marks : List ℕ) → rs ≡ [] → AreMarked rs marks
 none_marked rs marks none = λ at unmarked. ap (λ (xs : List Ranked). lookup (nat_eq at) (by_old xs)) none
 
-pub none_sound : (rs : List Ranked) (capacity : ℕ) (marks : List ℕ) (marks_capacity : ℕ) → rs ≡ []
-    → max_pairs ≤ capacity → words_of_marks ≤ marks_capacity → AreSoundReplacements rs capacity marks marks_capacity
-none_sound rs capacity marks marks_capacity none room marks_room = record {
+pub none_sound : (rs : List Ranked) (capacity : ℕ) (marks : List ℕ) (marks_capacity zones : ℕ) → rs ≡ []
+    → max_pairs ≤ capacity → words_of_marks ≤ marks_capacity → AreSoundReplacements rs capacity marks marks_capacity zones
+none_sound rs capacity marks marks_capacity zones none room marks_room = record {
   room = room;
   ascending = IsNonDecreasingBy-short (λ r. r.pair.old.0) rs (omega (arith, ap (λ (xs : List Ranked). length xs) none));
   marks_room = marks_room;
   marked = none_marked rs marks none;
+  zoned = λ k d within. absurd (omega (arith, within, ap (λ (xs : List Ranked). length xs) none));
 }
 
 pub stay_ranked : (rs : List Ranked) (bound : ℕ) → AreRanked rs bound → AreRanked rs (bound + 1)

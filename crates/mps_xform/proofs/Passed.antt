@@ -10,6 +10,7 @@ use Rattle.mps_format.specs.Layout.{Layout}
 use Rattle.mps_seg.specs.Segs.{SegsState, segment_from, base_address}
 use Rattle.mps_xform.specs.Applying.{CanApply, after_apply, after_apply_below, is_in_pool}
 use Rattle.mps_xform.specs.Passing.{IsAppliedBelow, IsSpanOf}
+use Rattle.mps_xform.specs.Summed.{AreBlocksSummed}
 use Rattle.mps_xform.proofs.Applied.{parts_below, passed_to, none_elsewhere}
 use Rattle.mps_xform.proofs.Walked.{LowestSegment, next_segment as lowest_segment, no_segment, over_is, over_in, bounds, apart_segments}
 
@@ -86,8 +87,8 @@ module _ (f : Layout) (to : Address → Option Address) (pool : ℕ) (s : SegsSt
           ∙ sym (gap_passed (word_of base.0) (omega (arith, next.above)) (λ t there above below aligned.
           omega (arith, next.first t there above, below, aligned)))
 
-      pub begun : IsAppliedBelow f to pool s now (word_of base.0)
-      begun = record { can = can; state = to_segment }
+      pub begun : AreBlocksSummed f s pool → IsAppliedBelow f to pool s now (word_of base.0)
+      begun summed = record { can = can; summed = summed; state = to_segment }
 
       pub span : (end : Address) → end ≡ end_of_segment next.segment → next.segment.pool ≡ pool → IsSpanOf now.segments pool base.0 end
       span end ends of_pool = record { segment = next.segment; there = listed; of_pool = of_pool; begins = next.begins; ends = sym ends }

@@ -12,7 +12,7 @@ use Rattle.std.proofs.lemmas.List.{get_or_default}
 use Rattle.std.proofs.lemmas.List.MinMax.{ranks_by}
 use Rattle.std.proofs.lemmas.List.Sorted.{Contains-permutation, IsPermutation-sym, sorted_far}
 use Rattle.mps_xform.specs.declared.replacements.Ranked.{Ranked}
-use Rattle.mps_xform.specs.Inside.{AreMarked, AreRanked, AreSoundReplacements, by_old}
+use Rattle.mps_xform.specs.Inside.{AreInZones, AreMarked, AreRanked, AreSoundReplacements, by_old}
 use Rattle.mps_xform.specs.Marks.{words_of_marks}
 use Rattle.mps_xform.specs.State.{max_pairs, pair_in}
 
@@ -201,13 +201,14 @@ found_alike rs sorted bound old ranked moved is_sorted =
     alike rs sorted bound old no_pair ranked moved is_sorted
 
 -- sorted pairs are sound
-pub sorted_sound : (rs sorted : List Ranked) (bound capacity marks_capacity : ℕ) (marks : List ℕ) → AreRanked rs bound
+pub sorted_sound : (rs sorted : List Ranked) (bound capacity marks_capacity zones : ℕ) (marks : List ℕ) → AreRanked rs bound
     → IsPermutation rs sorted → IsSortedByKey key_of key_cmp sorted → max_pairs ≤ capacity → words_of_marks ≤ marks_capacity
-    → AreMarked rs marks → AreSoundReplacements sorted capacity marks marks_capacity
-sorted_sound rs sorted bound capacity marks_capacity marks ranked moved is_sorted room marks_room marked =
+    → AreMarked rs marks → AreInZones sorted zones → AreSoundReplacements sorted capacity marks marks_capacity zones
+sorted_sound rs sorted bound capacity marks_capacity zones marks ranked moved is_sorted room marks_room marked zoned =
     record {
       room = room;
       ascending = ascending sorted is_sorted;
       marks_room = marks_room;
       marked = λ at unmarked. found_alike rs sorted bound at ranked moved is_sorted ∙ marked at unmarked;
+      zoned = zoned;
     }

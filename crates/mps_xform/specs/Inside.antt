@@ -4,6 +4,7 @@ use Rattle.std.specs.List.{All}
 use Rattle.std.specs.List.Sorted.{IsNonDecreasingBy}
 use Rattle.std.specs.Map.{lookup}
 use Rattle.mps_base.specs.Address.{Address}
+use Rattle.mps_base.specs.Zones.{zones_meet, zone_bit_of}
 use Rattle.mps_xform.specs.declared.replacements.Ranked.{Ranked}
 use Rattle.mps_xform.specs.declared.transforms.Pair.{Pair}
 use Rattle.mps_xform.specs.Marks.{is_marked, words_of_marks}
@@ -28,10 +29,15 @@ pub record AreRanked (rs : List Ranked) (bound : ℕ) : Type 0 where
   pub below : All (λ r. r.rank < bound) rs
   pub ascend : (i j : ℕ) (d : Ranked) → i < j → j < length rs → (slice_index_or rs i d).rank < (slice_index_or rs j d).rank
 
+-- the old address of each of these lies in one of some zones
+abbrev pub AreInZones : List Ranked → (zones : ℕ) → Type 0
+AreInZones rs zones = All (λ r. zones_meet (zone_bit_of r.pair.old.0) zones ≡ true) rs
+
 -- There is room for all pairs that there may be and for all marks, and the pairs ascend by their old addresses. An address without a mark
--- is the old one of none.
-pub record AreSoundReplacements (rs : List Ranked) (capacity : ℕ) (marks : List ℕ) (marks_capacity : ℕ) : Type 0 where
+-- is the old one of none, and so is one outside the zones.
+pub record AreSoundReplacements (rs : List Ranked) (capacity : ℕ) (marks : List ℕ) (marks_capacity zones : ℕ) : Type 0 where
   pub room : max_pairs ≤ capacity
   pub ascending : IsNonDecreasingBy (λ r. r.pair.old.0) rs
   pub marks_room : words_of_marks ≤ marks_capacity
   pub marked : AreMarked rs marks
+  pub zoned : AreInZones rs zones

@@ -5,3 +5,4 @@ pub mod Marks
 pub mod Passing
 pub mod Slots
 pub mod State
+pub mod Summed

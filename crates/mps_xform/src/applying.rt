@@ -1,16 +1,18 @@
 // A transform is applied to the references of a pool.
 #![tactic(auto)]
 
-ghost use Rattle.std.specs.Prelude.{◌≡◌, ◌+◌, ◌%◌, ◌<◌, ◌≤◌, ℕ, false, Some, None, IfSome, IfNone, IsTrue, length, slice_index};
+ghost use Rattle.std.specs.Prelude.{◌≡◌, ◌≢◌, ◌+◌, ◌%◌, ◌<◌, ◌≤◌, ℕ, false, Some, None, Contains, IfSome, IfNone, IsTrue, length, slice_index};
 ghost use Rattle.std.specs.List.{All};
 ghost use Rattle.mps_base.specs.Address.{word_of, bytes_of_word};
 ghost use Rattle.mps_base.specs.Segment.{Segment, segment_over};
 ghost use Rattle.mps_format.specs.Layout.{Layout};
 ghost use Rattle.mps_seg.specs.Extents.{first_run};
+ghost use Rattle.mps_seg.specs.Collecting.{summary_at};
 ghost use Rattle.mps_seg.specs.Segs.{SegsState};
 ghost use Rattle.mps_xform.specs.Applying.{CanApply, after_apply, after_apply_below, after_replace, word_after_apply};
-ghost use Rattle.mps_xform.specs.Passing.{AreAligned, IsAppliedBelow, IsBlockOf, IsSpanOf, LeadsToNone, new_in};
+ghost use Rattle.mps_xform.specs.Passing.{AreAligned, AreNoneIn, IsAppliedBelow, IsBlockOf, IsSpanOf, LeadsToNone, new_in};
 ghost use Rattle.mps_xform.specs.State.{new_address};
+ghost use Rattle.mps_xform.specs.Summed.{AreBlocksSummed};
 
 use crate::replacements::Replacements;
 use crate::transforms::Transforms;
@@ -21,16 +23,20 @@ use mps_seg::Segs;
 impl Transforms {
     /// Applies a transform to a pool: in each block of the pool each reference that leads to an old address leads to its new one, and keeps
     /// its tag. Each is judged by the word that it had before, so a pair never acts on what another wrote. Each written cell is noted in
-    /// the summary of its segment; no other word changes. Needs the format of the pool, and new addresses that are multiples of 8. A
-    /// transform can be applied to any pool after it to which it could be applied before.
+    /// the summary of its segment; no other word changes. A segment whose summary has the zone of no old address is passed over. Needs the
+    /// format of the pool, summaries that have the zones of its references, and new addresses that are multiples of 8. A transform can be
+    /// applied to any pool after it to which it could be applied before, and the summaries of another pool have the zones that they had.
     pub fn apply<F: Format>(&mut self, transform: u32, format: &F, segs: &mut Segs, pool: u32)
         requires aligned { All (λ p. p.new.0 % bytes_of_word ≡ 0) self.old.pairs }
         requires can { CanApply (F.layout format.now) segs.old pool }
+        requires summed { AreBlocksSummed (F.layout format.now) segs.old pool }
         ensures unchanged { self.new ≡ self.old }
         ensures state { segs.new ≡ after_apply (F.layout format.now) (new_address self.old transform) segs.old pool }
         ensures words { (word : ℕ) → slice_index segs.new.words word
             ≡ word_after_apply (F.layout format.now) (new_address self.old transform) segs.old pool word }
         ensures again { (layout : Layout) (other : ℕ) → CanApply layout segs.old other → CanApply layout segs.new other }
+        ensures summed { (layout : Layout) (other : ℕ) → other ≢ pool
+            → AreBlocksSummed layout segs.old other → AreBlocksSummed layout segs.new other }
     {
         self.replacements.fill(&self.pairs, transform);
         apply_to_pool(&self.replacements, format, segs, pool);
@@ -41,6 +47,7 @@ impl Transforms {
 fn apply_to_pool<F: Format>(replacements: &Replacements, format: &F, segs: &mut Segs, pool: u32)
     requires aligned { AreAligned replacements.now }
     requires can { CanApply (F.layout format.now) segs.old pool }
+    requires summed { AreBlocksSummed (F.layout format.now) segs.old pool }
     ensures { segs.new ≡ after_apply (F.layout format.now) (new_in replacements.now) segs.old pool }
 {
     let _ = segs.grains(); // so few that the address of a word fits
@@ -49,10 +56,39 @@ fn apply_to_pool<F: Format>(replacements: &Replacements, format: &F, segs: &mut 
         let segment = segs.segment(base);
         let end = Addr(base.0 + BYTES_OF_GRAIN * u64::from(segment.grains));
         if segment.pool == pool {
-            apply_to_segment(replacements, format, segs, base, end);
+            pass_segment(replacements, format, segs, base, end);
         }
         from = end;
     }
+}
+
+// Applies the pairs to the segment from `base` to `end`, of which nothing is read if its summary says that none has an effect.
+fn pass_segment<F: Format>(
+    replacements: &Replacements,
+    format: &F,
+    segs: &mut Segs,
+    base: Addr,
+    end: Addr,
+)
+    requires aligned { AreAligned replacements.now }
+    requires begun { (s : SegsState) × (pool : ℕ)
+        × IsAppliedBelow (F.layout format.now) (new_in replacements.now) pool s segs.old (word_of base.0)
+        × IsSpanOf segs.old.segments pool base.0 end.0 }
+    ensures { (s : SegsState) (pool : ℕ) → IsAppliedBelow (F.layout format.now) (new_in replacements.now) pool s segs.old (word_of base.0)
+        → IsSpanOf segs.old.segments pool base.0 end.0
+        → segs.new ≡ after_apply_below (F.layout format.now) (new_in replacements.now) s pool (word_of end.0) }
+{
+    if may_refer_to_old(replacements, segs, base) {
+        apply_to_segment(replacements, format, segs, base, end);
+    }
+}
+
+// Whether a reference in the segment at `base` may lead to an old address, by its summary, which has no zone for null.
+fn may_refer_to_old(replacements: &Replacements, segs: &Segs, base: Addr) -> bool
+    requires { (t : Segment) × Contains segs.now.segments t × (t.base ≡ base.0) }
+    ensures none { result ≡ false → AreNoneIn (new_in replacements.now) (summary_at segs.now base.0) }
+{
+    replacements.may_have(Addr(0)) || segs.may_lead_to(base, replacements.zones())
 }
 
 // Applies the pairs to the blocks of the segment from `base` to `end`, in ascending order.

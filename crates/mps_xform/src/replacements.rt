@@ -1,19 +1,20 @@
 // The pairs of one transform, by their old addresses.
 #![tactic(auto)]
 
-ghost use Rattle.std.specs.Prelude.{◌≡◌, ◌≢◌, ℕ, ◌≤◌, ◌&&◌, ◌==◌, false, None, [], length, replicate, nat_eq, IfOk, vec_capacity};
+ghost use Rattle.std.specs.Prelude.{◌≡◌, ◌≢◌, ℕ, ◌≤◌, ◌&&◌, ◌==◌, bit_or, false, None, [], length, replicate, nat_eq, IfOk, vec_capacity};
 ghost use Rattle.std.specs.List.{find};
 ghost use Rattle.std.specs.List.Sorted.{IsNonDecreasingBy};
 ghost use Rattle.std.specs.Map.{lookup};
 ghost use Rattle.mps_address_marks.specs.Marks.{mark_of};
+ghost use Rattle.mps_base.specs.Zones.{zones_meet, zone_bit_of};
 ghost use Rattle.mps_bits.specs.Row.{bit_in};
-ghost use Rattle.mps_xform.specs.Inside.{AreMarked, AreRanked, by_old};
+ghost use Rattle.mps_xform.specs.Inside.{AreInZones, AreMarked, AreRanked, by_old};
 ghost use Rattle.mps_xform.specs.Marks.{is_marked, marks_count, words_of_marks};
 ghost use Rattle.mps_xform.specs.State.{max_pairs, is_of};
 
 use crate::transforms::{MAX_PAIRS, Pair};
 use mps_address_marks::mark_of;
-use mps_base::Addr;
+use mps_base::{Addr, ZoneSet};
 use std::alloc::{AllocError, Global};
 use std::marker::Model;
 
@@ -31,12 +32,13 @@ struct Ranked {
 }
 
 /// The pairs of a transform, in ascending order of their old addresses. Beside them stands a mark for each old address. So one bit says of
-/// an address that no pair has it, of nearly each address that none has. `new` is the only call that allocates, and it writes nothing:
-/// pairs and marks are written once pairs are taken.
+/// an address that no pair has it, of nearly each address that none has. The zones of the old addresses say so of whole segments, by their
+/// summaries. `new` is the only call that allocates, and it writes nothing: pairs and marks are written once pairs are taken.
 #[derive(Drop)]
 pub(crate) struct Replacements {
     pairs: Vec<Ranked>,
     marks: Vec<u64>,
+    zones: ZoneSet,
 }
 
 impl Model for Replacements {
@@ -48,7 +50,8 @@ impl Model for Replacements {
 
     ghost view = { λ r. by_old r.pairs.items };
 
-    ghost invariant = { λ r. AreSoundReplacements r.pairs.items (vec_capacity r.pairs) r.marks.items (vec_capacity r.marks) };
+    ghost invariant = { λ r. AreSoundReplacements r.pairs.items (vec_capacity r.pairs) r.marks.items (vec_capacity r.marks)
+        r.zones.0 };
 }
 
 impl Replacements {
@@ -59,6 +62,7 @@ impl Replacements {
         Ok(Replacements {
             pairs: Vec::with_capacity(alloc, MAX_PAIRS)?,
             marks: Vec::with_capacity(alloc, WORDS_OF_MARKS)?,
+            zones: ZoneSet(0),
         })
     }
 
@@ -68,6 +72,13 @@ impl Replacements {
         ensures { result ≡ false → lookup (nat_eq old.0) self.now ≡ None }
     {
         is_marked(&self.marks, old)
+    }
+
+    /// Zones in which all old addresses lie.
+    pub(crate) fn zones(&self) -> ZoneSet
+        ensures { (old : ℕ) → zones_meet (zone_bit_of old) result.0 ≡ false → lookup (nat_eq old) self.now ≡ None }
+    {
+        self.zones
     }
 
     /// The pair that has this old address.
@@ -91,6 +102,7 @@ impl Replacements {
         gather(&mut self.pairs, &mut self.marks, pairs, transform);
         self.pairs
             .sort_unstable_by_key(|ranked| (ranked.pair.old.0, ranked.rank));
+        self.zones = zones_of(&self.pairs);
     }
 }
 
@@ -164,4 +176,22 @@ fn gather(ranked: &mut Vec<Ranked>, marks: &mut [u64], pairs: &[Pair], transform
             };
         }
     }
+}
+
+// The zones of the old addresses of pairs.
+fn zones_of(pairs: &[Ranked]) -> ZoneSet
+    ensures { AreInZones pairs.now result.0 }
+{
+    let mut zones = 0;
+    for index in 0..pairs.len() {
+        zones = with_zone(zones, pairs[index].pair.old);
+    }
+    ZoneSet(zones)
+}
+
+// Some zones with that of an address too.
+fn with_zone(zones: u64, at: Addr) -> u64
+    ensures { result ≡ bit_or zones (zone_bit_of at.0) }
+{
+    zones | 1 << (at.grain() % 64)
 }

@@ -28,6 +28,7 @@ use Rattle.mps_neighbours.specs.Transforms.{is_live, new_address}
 use Rattle.mps_seg.specs.Segs.{SegsState}
 use Rattle.mps_trace_laws.specs.Image.AtRest.{StandsAtRest}
 use Rattle.mps_trace_laws.specs.Summaries.Summed.{AreWordsSummed}
+use Rattle.mps_xform.proofs.Noting.{KeepsRest}
 use Rattle.mps_xform.specs.Slots.{slots_after_apply}
 use Rattle.mps_heap_spec.specs.State.{HeapState}
 use Rattle.mps_heap_spec.specs.declared.arena.ArenaState.{ArenaState}
@@ -43,7 +44,7 @@ use Rattle.mps_refinement.proofs.Calls.TransformPairs.{same_unless}
 use Rattle.mps_refinement.proofs.Lookups.LiveObjects.{different}
 use Rattle.mps_refinement.proofs.Parts.PartsWritten.{roots_written, words_written}
 use Rattle.mps_refinement.proofs.Parts.Resting.{image_at_rest}
-use Rattle.mps_refinement.proofs.Substitution.AppliedPools.{KeepsRest, below_keeps}
+use Rattle.mps_refinement.proofs.Substitution.AppliedPools.{below_keeps}
 use Rattle.mps_refinement.proofs.Substitution.Applicable.{can_transform, have_summaries, parked_rests, segments_apart}
 use Rattle.mps_refinement.proofs.Substitution.Blocked.{blocked_alike}
 use Rattle.mps_refinement.proofs.Substitution.LivePoints.{live_alike, none_lies_reserved, none_reserved}

@@ -56,7 +56,8 @@ use Rattle.mps_refinement.proofs.Parts.SegmentsTaken.{condemned_held, condemned_
 use Rattle.mps_refinement.proofs.Parts.Unforwarded.{flip_known, still_in, unmoved}
 use Rattle.mps_refinement.proofs.Parts.Registered.{as_before}
 use Rattle.mps_model.specs.WellFormed.{is_live_automatic}
-use Rattle.mps_trace_laws.specs.Summaries.Summed.{IsRunSummed, AreWordsSummed}
+use Rattle.mps_trace_laws.specs.Summaries.Summed.{AreWordsSummed}
+use Rattle.mps_xform.specs.Summed.{IsRunSummed}
 use Rattle.mps_format.specs.Pools.{policy_of_pool}
 use Rattle.mps_format.specs.declared.pool.Policy.{Policy}
 use Rattle.mps_laws.proofs.Positions.Covered.{covered-shapes, covered_ascending}

@@ -40,7 +40,8 @@ use Rattle.mps_trace_laws.specs.Image.Changes.{AreHome, IsOfNoMovedBlock}
 use Rattle.mps_trace_laws.specs.Image.SegmentWords.{AreSegmentsInOrder}
 use Rattle.mps_trace_laws.proofs.Image.SegmentWords.{segments_are_home}
 use Rattle.mps_laws.proofs.Positions.Occupancy.{OfReservation, PointShape, occupancy_of, run_of as run_of_occupant}
-use Rattle.mps_trace_laws.specs.Summaries.Summed.{IsRunSummed, AreWordsSummed}
+use Rattle.mps_trace_laws.specs.Summaries.Summed.{AreWordsSummed}
+use Rattle.mps_xform.specs.Summed.{IsRunSummed}
 use Rattle.mps_format.specs.Pools.{policy_of_pool}
 use Rattle.mps_format.specs.declared.pool.Policy.{Policy}
 use Rattle.mps_laws.proofs.Positions.Covered.{covered-shapes, covered_ascending}

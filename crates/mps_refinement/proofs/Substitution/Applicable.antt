@@ -1,8 +1,8 @@
 -- A transform can be applied to a heap that is parked: to each automatic pool by its own format, and to the slots of all tables.
-use Rattle.std.proofs.Common.{◌≡◌, ◌∙◌, ℕ, zero, suc, ◌+◌, ◌%◌, ◌<◌, ◌≤◌, Bool, true, false, refl, sym, ap, subst, List, [], ◌∷◌, length, map, Contains, Option, Some, None, IsSome, inl, inr, arith}
+use Rattle.std.proofs.Common.{◌≡◌, ◌∙◌, ℕ, zero, suc, ◌+◌, ◌%◌, ◌<◌, ◌≤◌, Bool, true, false, refl, sym, ap, subst, List, [], ◌∷◌, ◌++◌, length, map, Contains, Option, Some, None, IsSome, inl, inr, arith}
 use Rattle.std.proofs.lemmas.Bool.{cases_lt}
 use Rattle.std.proofs.lemmas.List.{get_or_default, length-map}
-use Rattle.std.proofs.lemmas.Option.{none-some, same_Some}
+use Rattle.std.proofs.lemmas.Option.{none-some, same_Some, slice_get-map}
 use Rattle.std.specs.Prelude.{IsTrue, is_some, option_and_then, option_map, slice_get, slice_index}
 use Rattle.std.specs.List.{All, AllByRecursion}
 use Rattle.mps_base.specs.Address.{Address, Id, address_of_grain, address_of_word, bytes_of_word, grain_of, word_of}
@@ -11,22 +11,28 @@ use Rattle.mps_base.specs.Segment.{Segment, end_of_segment, grains_of_segment, s
 use Rattle.mps_base.proofs.Runs.{contains_first, contains_later}
 use Rattle.mps_extents.specs.Extents.{AreWhole}
 use Rattle.mps_format.specs.Layout.{Layout}
-use Rattle.mps_format.specs.Pools.{format_of_pool}
+use Rattle.mps_format.specs.Pools.{format_of_pool, is_copying_pool, policy_of_pool}
+use Rattle.mps_format.specs.declared.pool.Policy.{Policy}
+use Rattle.mps_format.specs.declared.pool.Pool.{Pool}
+use Rattle.mps_format.specs.declared.pool.Pool.TheVariants as pool
 use Rattle.mps_model.specs.Checked.{head_of_body}
 use Rattle.mps_model.specs.Graph.{HeadCell, entry_at, is_automatic, size_of}
-use Rattle.mps_model.specs.World.{TransformPair, World, is_parked, is_running, pairs_in}
+use Rattle.mps_model.specs.World.{TransformPair, World, extents_of, is_parked, is_running, pairs_in, reserved_extents}
 use Rattle.mps_model.specs.WellFormed.{IsWellFormed}
 use Rattle.mps_root.specs.State.{kept}
-use Rattle.mps_trace_laws.proofs.Image.BlockRuns.{IsExtent, run_of_object}
+use Rattle.mps_trace_laws.proofs.Image.BlockRuns.{IsExtent, contained_in_order, extent_there, run_of_object}
+use Rattle.mps_trace_laws.proofs.Reclaim.Around.{contains_left}
 use Rattle.mps_trace_laws.proofs.Image.Shaped.{are_shaped_objects}
 use Rattle.mps_trace_laws.proofs.Reclaim.SegmentBounds.{segment_cases}
 use Rattle.mps_trace_laws.proofs.Summaries.Moves.{has_summary}
 use Rattle.mps_trace_laws.specs.Image.AtRest.{StandsAtRest}
 use Rattle.mps_trace_laws.specs.Image.Image.{AreShaped, IsAddress}
 use Rattle.mps_trace_laws.specs.Image.Memory.{pool_layout, words_of_arena}
+use Rattle.mps_seg.specs.Collecting.{summary_at}
 use Rattle.mps_xform.proofs.Walked.{apart_segments, bounds, over_in}
 use Rattle.mps_xform.specs.Applying.{AreOfFormat, AreSegmentsApart, CanApply}
 use Rattle.mps_xform.specs.Slots.{AreListedOnce}
+use Rattle.mps_xform.specs.Summed.{AreBlocksSummed, IsRunSummed}
 use Rattle.mps_xform.specs.declared.transforms.Pair.{Pair}
 use Rattle.mps_heap_spec.specs.State.{HeapState}
 use Rattle.mps_heap_spec.specs.Transforming.{CanTransform}
@@ -232,6 +238,43 @@ module _ {F : Type 0} (layout : F → Layout) (past : Past) (h : HeapState F) (w
       heads = headed number format has;
     }
 
+    -- ---- summaries
+
+    policy_of_format : (number : ℕ) (format : F) → option_and_then format_of_pool (slice_get h.pools number) ≡ Some format
+        → (policy : Policy F) × (slice_get (map policy_of_pool h.pools) number ≡ Some (Some policy)) × (policy.format ≡ format)
+    policy_of_format number format has = of_pool (slice_get h.pools number) refl has
+      where
+        of_pool : (o : Option (Pool F)) → slice_get h.pools number ≡ o → option_and_then format_of_pool o ≡ Some format
+            → (policy : Policy F) × (slice_get (map policy_of_pool h.pools) number ≡ Some (Some policy)) × (policy.format ≡ format)
+        of_pool None is own = absurd (none-some format own)
+        of_pool (Some (pool.Automatic kind own_format)) is own = (
+          record { format = own_format; moves = is_copying_pool (pool.Automatic kind own_format) },
+          slice_get-map policy_of_pool h.pools number ∙ ap (option_map policy_of_pool) is,
+          same_Some own_format format own,
+        )
+        of_pool (Some (pool.OneSize words)) is own = absurd (none-some format own)
+        of_pool (Some pool.AnySize) is own = absurd (none-some format own)
+
+    covered_too : (r : Run) → Contains h.segs.blocks r → Contains h.segs.covered r
+    covered_too r listed =
+        let x = of_object r listed in
+        let extents = extents_of w.graph.objects w.addresses in
+        let reserved = reserved_extents w.graph.points w.point_memories in
+        subst (λ (rs : List Run). Contains rs r) (sym st.runs.covered)
+        (contained_in_order (extents ++ reserved) r
+        (contains_left extents reserved r
+        (subst (Contains extents) (sym x.is) (extent_there w.graph.objects w.addresses x.id x.at x.object x.address x.there))))
+
+    pub blocks_summed : (number : ℕ) (format : F) → option_and_then format_of_pool (slice_get h.pools number) ≡ Some format
+        → AreBlocksSummed (layout format) h.segs number
+    blocks_summed number format has t r there of_pool listed above below_it =
+        let p = policy_of_format number format has in
+        let aligned = (bounds 0 h.segs.segments t segments_apart there).aligned in
+        let over = over_in 0 h.segs.segments t (address_of_word r.from) segments_apart there (omega (arith, above, aligned))
+        (omega (arith, below_it, aligned)) in
+        subst (λ (x : F). IsRunSummed (layout x) h.segs.words (summary_at h.segs t.base) r) p.2
+        (parts.summed.each r t p.0 (covered_too r listed) over (ap (slice_get (map policy_of_pool h.pools)) of_pool ∙ p.1))
+
 -- ---- pairs
 
 aligned_pairs : (number : ℕ → ℕ) (moves : Id → Bool) (addresses : List (Option Address)) (live : List Bool)
@@ -336,6 +379,7 @@ pub can_transform : {F : Type 0} (layout : F → Layout) (past : Past) (h : Heap
     → IsKnown past.time w → StandsAtRest h.segs w → CanTransform layout h
 can_transform layout past h w parts known st = record {
   pools = can_apply layout past h w parts known st;
+  summed = λ number format low has. blocks_summed layout past h w parts known st number format has;
   aligned = aligned_pairs past.transform_number (Rattle.mps_model.specs.World.is_copying_object w) w.addresses h.beside.transforms.live
       st.placed.address h.beside.transforms.pairs (pairs_in w.state) parts.transforms.pairs_are;
   slots = listed_once layout past h w parts;

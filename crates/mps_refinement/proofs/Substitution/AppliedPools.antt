@@ -2,11 +2,10 @@
 -- each new address is noted.
 use Rattle.std.proofs.Common.{◌≡◌, ◌≢◌, ◌∙◌, ℕ, zero, suc, ◌-◌, ◌==◌, ◌<◌, ◌≤◌, Bool, true, false, refl, sym, ap, subst, List, length, Option, Some, None, inl, inr, arith}
 use Rattle.std.proofs.lemmas.Bool.{cases_lt, eq-eqb, ne_eqb}
-use Rattle.std.proofs.lemmas.List.{length-set}
 use Rattle.std.proofs.lemmas.Option.{none-some, same_Some}
 use Rattle.std.specs.Prelude.{Contains, IsTrue, if◌then◌else◌, option_and_then, option_map, slice_get, slice_index, slice_set}
 use Rattle.std.specs.Option.{option_map_or}
-use Rattle.mps_base.specs.Address.{Address, Grain, Word, address_of_word, grain_of, word_of, zone_of}
+use Rattle.mps_base.specs.Address.{Address, Word, address_of_word, grain_of, word_of, zone_of}
 use Rattle.mps_base.specs.Run.{Run, IsAscending}
 use Rattle.mps_base.specs.Segment.{Segment, end_of_segment, segment_over}
 use Rattle.mps_base.specs.Zones.{zones_meet, zone_bit_of}
@@ -16,8 +15,7 @@ use Rattle.mps_format.specs.declared.pool.Pool.{Pool}
 use Rattle.mps_extents.specs.Extents.{AreWhole, run_over}
 use Rattle.mps_seg.specs.Collecting.{noting_in}
 use Rattle.mps_seg.specs.Segs.{SegsState}
-use Rattle.mps_trace_laws.proofs.Summaries.Writes.{others_noted, zone_noted}
-use Rattle.mps_trace_laws.proofs.Summaries.Zones.{AreZonesOf}
+use Rattle.mps_xform.proofs.Noting.{KeepsRest, kept_twice, pass_keeps, replace_keeps, rest_kept, same_blocks, same_segments, zone_noted}
 use Rattle.mps_trace_laws.specs.Image.Memory.{pool_over_word}
 use Rattle.mps_xform.proofs.Walked.{bounds, over_in}
 use Rattle.mps_xform.proofs.Applied.{none_elsewhere, none_of_numbers, of_reference}
@@ -25,31 +23,7 @@ use Rattle.mps_xform.proofs.Done.{word_is}
 use Rattle.mps_xform.specs.Applying.{AreSegmentsApart, CanApply, after_apply, after_apply_below, after_replace, is_in_pool, is_reference_word, replacement}
 use Rattle.mps_heap_spec.specs.Transforming.{with_pool_applied, with_pools_applied}
 
--- ---- words and summaries alone change
-
--- all but words and summaries stays, there are as many of both, and no summary has lost a zone
-pub record KeepsRest (s now : SegsState) : Type 0 where
-  pub rest : now ≡ record s { words = now.words; summaries = now.summaries }
-  pub size : length now.words ≡ length s.words
-  pub summed : length now.summaries ≡ length s.summaries
-  pub zones : (grain : Grain) → AreZonesOf (slice_index s.summaries grain) (slice_index now.summaries grain)
-
-rest_kept : (s : SegsState) → KeepsRest s s
-rest_kept s = record { rest = refl; size = refl; summed = refl; zones = λ grain k h. h }
-
-kept_twice : {s t u : SegsState} → KeepsRest s t → KeepsRest t u → KeepsRest s u
-kept_twice {s} {t} {u} first second = record {
-  rest = second.rest ∙ ap (λ (x : SegsState). record x { words = u.words; summaries = u.summaries }) first.rest;
-  size = second.size ∙ first.size;
-  summed = second.summed ∙ first.summed;
-  zones = λ grain k h. second.zones grain k (first.zones grain k h);
-}
-
-pub same_segments : {s t : SegsState} → KeepsRest s t → t.segments ≡ s.segments
-same_segments kept = ap (λ (x : SegsState). x.segments) kept.rest
-
-pub same_blocks : {s t : SegsState} → KeepsRest s t → t.blocks ≡ s.blocks
-same_blocks kept = ap (λ (x : SegsState). x.blocks) kept.rest
+-- ---- each new address is noted
 
 -- each segment has a summary
 abbrev pub HaveSummaries : SegsState → Type 0
@@ -65,25 +39,7 @@ module _ (f : Layout) (word value : ℕ) (s : SegsState) (have : HaveSummaries s
   abbrev written : Address → SegsState
   written at = record s { words = slice_set s.words word (f.retarget value at) }
 
-  abbrev over : Option Segment
-  over = segment_over s.segments (address_of_word word)
-
-  noted_keeps : (at : Address) (o : Option Segment) → over ≡ o
-      → KeepsRest s (noting_in (written at) (option_map (λ (t : Segment). grain_of t.base) o) at)
-  noted_keeps at None is =
-      record { rest = refl; size = length-set s.words word (f.retarget value at); summed = refl; zones = λ grain k h. h }
-  noted_keeps at (Some t) is = record {
-    rest = refl;
-    size = length-set s.words word (f.retarget value at);
-    summed = length-set s.summaries (grain_of t.base) _;
-    zones = λ grain. others_noted s.summaries (grain_of t.base) at (have word t is) grain;
-  }
-
-  replace_keeps : (o : Option Address) → KeepsRest s (after_replace f word value o s)
-  replace_keeps None = rest_kept s
-  replace_keeps (Some at) = noted_keeps at over refl
-
-  replace_notes : (at : Address) (t : Segment) → over ≡ Some t
+  replace_notes : (at : Address) (t : Segment) → segment_over s.segments (address_of_word word) ≡ Some t
       → zones_meet (zone_bit_of at) (slice_index (after_replace f word value (Some at) s).summaries (grain_of t.base)) ≡ true
   replace_notes at t is =
       let P : Option Segment → Type 0 = λ o.
@@ -98,23 +54,16 @@ module _ (f : Layout) (to : Address → Option Address) (s : SegsState) (number 
   abbrev pass : ℕ → SegsState
   pass n = after_apply_below f to s number n
 
-  pass_keeps : (n : ℕ) → KeepsRest s (after_apply_below f to s number n)
-  pass_keeps zero = rest_kept s
-  pass_keeps (suc n) =
-      let before = pass_keeps n in
-      kept_twice before
-      (replace_keeps f n (slice_index s.words n) (pass n) (still_have before have) (replacement f to s number n))
-
   pass_notes : (n word : ℕ) → word < n → (at : Address) → replacement f to s number word ≡ Some at → (t : Segment)
       → segment_over s.segments (address_of_word word) ≡ Some t
       → zones_meet (zone_bit_of at) (slice_index (after_apply_below f to s number n).summaries (grain_of t.base)) ≡ true
   pass_notes zero word low at is t over = absurd (omega (arith, low))
   pass_notes (suc n) word low at is t over =
-      let before = pass_keeps n in
+      let before = pass_keeps f to s number n in
       let value = slice_index s.words n in
       elim (cases_lt word n) [
         | inl earlier ↦
-            (replace_keeps f n value (pass n) (still_have before have) (replacement f to s number n)).zones (grain_of t.base) (zone_of at)
+            (replace_keeps f n value (pass n) (replacement f to s number n)).zones (grain_of t.base) (zone_of at)
             (pass_notes n word earlier at is t over)
         | inr last ↦
             let same : word ≡ n = omega (arith, low, last) in
@@ -145,17 +94,16 @@ module _ {F : Type 0} (layout : F → Layout) (to : Address → Option Address) 
   abbrev format_at : ℕ → Option F
   format_at number = option_and_then format_of_pool (slice_get pools number)
 
-  pool_keeps : (number : ℕ) (o : Option F) (t : SegsState) → HaveSummaries t → KeepsRest t (with_pool_applied layout to o number t)
-  pool_keeps number None t there = rest_kept t
-  pool_keeps number (Some format) t there = pass_keeps (layout format) to t number there (length t.words)
+  pool_keeps : (number : ℕ) (o : Option F) (t : SegsState) → KeepsRest t (with_pool_applied layout to o number t)
+  pool_keeps number None t = rest_kept t
+  pool_keeps number (Some format) t = pass_keeps (layout format) to t number (length t.words)
 
   pub below_keeps : (n : ℕ) → KeepsRest s (with_pools_applied layout to pools n s)
   below_keeps zero = rest_kept s
-  below_keeps (suc n) =
-      let before = below_keeps n in kept_twice before (pool_keeps n (format_at n) (below n) (still_have before have))
+  below_keeps (suc n) = kept_twice (below_keeps n) (pool_keeps n (format_at n) (below n))
 
   step_keeps : (n : ℕ) → KeepsRest (below n) (below (suc n))
-  step_keeps n = pool_keeps n (format_at n) (below n) (still_have (below_keeps n) have)
+  step_keeps n = pool_keeps n (format_at n) (below n)
 
   module _ (can : (number : ℕ) (format : F) → HasFormat number format → CanApply (layout format) s number) where
     -- what could be applied to a pool can be when its turn comes, if none of its words has changed

@@ -30,7 +30,8 @@ use Rattle.mps_trace_laws.specs.Fix.Housed.{LieInOne, rank_of_object}
 use Rattle.mps_trace_laws.specs.Image.AtRest.{StandsAtRest}
 use Rattle.mps_trace_laws.specs.Image.Image.{AreShaped, IsCellWord, black_cells, no_colours}
 use Rattle.mps_trace_laws.specs.Image.Memory.{Lies, LiesReserved, all_cells, memory_in, pool_layout, pool_over_word, setting_at_rest}
-use Rattle.mps_trace_laws.specs.Summaries.Summed.{AreWordsSummed, IsRunSummed}
+use Rattle.mps_trace_laws.specs.Summaries.Summed.{AreWordsSummed}
+use Rattle.mps_xform.specs.Summed.{IsRunSummed}
 use Rattle.mps_trace_laws.proofs.Reclaim.Around.{contains_left}
 use Rattle.mps_laws.proofs.Lookups.{there_is}
 use Rattle.mps_xform.proofs.Walked.{bounds, over_in}

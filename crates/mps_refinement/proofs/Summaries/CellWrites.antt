@@ -19,9 +19,10 @@ use Rattle.mps_seg.specs.Segs.{SegsState}
 use Rattle.mps_trace_laws.specs.Fix.Tracing.{AreHeld}
 use Rattle.mps_trace_laws.specs.Summaries.Summed.{AreWordsSummed}
 use Rattle.mps_trace_laws.proofs.Summaries.Moves.{has_summary}
-use Rattle.mps_trace_laws.proofs.Summaries.Runs.{summed_again}
-use Rattle.mps_trace_laws.proofs.Summaries.Writes.{noted, others_noted, write_summed, zone_noted}
-use Rattle.mps_trace_laws.proofs.Summaries.Zones.{AreZonesOf}
+use Rattle.mps_xform.proofs.SummedRuns.{summed_again}
+use Rattle.mps_trace_laws.proofs.Summaries.Writes.{write_summed}
+use Rattle.mps_xform.proofs.Noting.{noted, others_noted, zone_noted}
+use Rattle.mps_xform.proofs.Zones.{AreZonesOf}
 use Rattle.mps_heap_spec.specs.Referring.{noting_reference}
 use Rattle.mps_heap_spec.specs.State.{HeapState}
 use Rattle.mps_refinement.specs.StandsFor.{collector_of}

@@ -9,9 +9,10 @@ use Rattle.mps_format.specs.Layout.{Layout}
 use Rattle.mps_format.specs.declared.pool.Policy.{Policy}
 use Rattle.mps_seg.specs.Collecting.{summary_at}
 use Rattle.mps_seg.specs.Segs.{SegsState, new_segments}
-use Rattle.mps_trace_laws.specs.Summaries.Summed.{IsRunSummed, AreWordsSummed}
-use Rattle.mps_trace_laws.proofs.Summaries.Runs.{summed_again, summed_in}
-use Rattle.mps_trace_laws.proofs.Summaries.Zones.{AreZonesOf}
+use Rattle.mps_trace_laws.specs.Summaries.Summed.{AreWordsSummed}
+use Rattle.mps_xform.specs.Summed.{IsRunSummed}
+use Rattle.mps_xform.proofs.SummedRuns.{summed_again, summed_in}
+use Rattle.mps_xform.proofs.Zones.{AreZonesOf}
 use Rattle.std.proofs.lemmas.List.{length-replicate}
 
 -- a run was there, in the same segment, whose summary has lost no zone, and no word of it was written

@@ -18,8 +18,9 @@ use Rattle.mps_laws.proofs.Positions.Segments.{AreAligned, IsAmong}
 use Rattle.mps_model.specs.World.{World}
 use Rattle.mps_seg.specs.Collecting.{summary_at}
 use Rattle.mps_seg.specs.Segs.{SegsState, noted_for, segments_after}
-use Rattle.mps_trace_laws.specs.Summaries.Summed.{IsRunSummed, AreWordsSummed}
-use Rattle.mps_trace_laws.proofs.Summaries.Zones.{AreZonesOf}
+use Rattle.mps_trace_laws.specs.Summaries.Summed.{AreWordsSummed}
+use Rattle.mps_xform.specs.Summed.{IsRunSummed}
+use Rattle.mps_xform.proofs.Zones.{AreZonesOf}
 use Rattle.mps_heap_spec.specs.State.{HeapState}
 use Rattle.mps_refinement.specs.StandsFor.{AreParts, Past}
 use Rattle.mps_refinement.proofs.Parts.SegmentsTaken.{new_apart, over_same}

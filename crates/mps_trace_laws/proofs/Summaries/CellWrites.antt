@@ -23,7 +23,8 @@ use Rattle.mps_trace_laws.proofs.Image.BlockRuns.{contained_in_order, extent_the
 use Rattle.mps_trace_laws.proofs.Fix.Found.{over_of_pool}
 use Rattle.mps_trace_laws.proofs.Reclaim.Around.{contains_left}
 use Rattle.mps_trace_laws.proofs.Summaries.Moves.{has_summary}
-use Rattle.mps_trace_laws.proofs.Summaries.Writes.{noted, write_summed, zone_noted, others_noted}
+use Rattle.mps_trace_laws.proofs.Summaries.Writes.{write_summed}
+use Rattle.mps_xform.proofs.Noting.{noted, zone_noted, others_noted}
 
 -- the block of a live object is one of the runs that are covered
 pub block_there : {F : Type 0} (layout : F → Layout) (formats : List (Option (Policy F))) (of : ChainsState)

@@ -14,9 +14,10 @@ use Rattle.mps_seg.specs.Collecting.{summary_at}
 use Rattle.mps_seg.specs.Moving.{run_at}
 use Rattle.mps_seg.specs.Segs.{SegsState}
 use Rattle.mps_amc.specs.Moving.{AreCopied}
-use Rattle.mps_trace_laws.specs.Summaries.Summed.{IsRunSummed, AreRunsSummed}
-use Rattle.mps_trace_laws.proofs.Summaries.Zones.{AreZonesOf}
-use Rattle.mps_trace_laws.proofs.Summaries.Runs.{summed_in, summed_again}
+use Rattle.mps_trace_laws.specs.Summaries.Summed.{AreRunsSummed}
+use Rattle.mps_xform.specs.Summed.{IsRunSummed}
+use Rattle.mps_xform.proofs.Zones.{AreZonesOf}
+use Rattle.mps_xform.proofs.SummedRuns.{summed_in, summed_again}
 
 -- the run that was taken out isn't left
 not_taken : (low high : ℕ) (rs : List Run) (r s : Run) → IsAscending low high rs → Contains rs r → Contains (without_run r.from rs) s

@@ -8,9 +8,10 @@ use Rattle.mps_base.specs.Zones.{zones_meet, zone_bit}
 use Rattle.mps_format.specs.Layout.{Layout}
 use Rattle.mps_seg.specs.Moving.{run_at}
 use Rattle.mps_trace.specs.Noting.{zones_of_block, summaries_of_copy}
-use Rattle.mps_trace_laws.specs.Summaries.Summed.{IsRunSummed}
-use Rattle.mps_trace_laws.proofs.Summaries.Zones.{AreZonesOf, more_zones, nothing_new}
-use Rattle.mps_trace_laws.proofs.Summaries.Runs.{summed_in, block_noted}
+use Rattle.mps_xform.specs.Summed.{IsRunSummed}
+use Rattle.mps_xform.proofs.Zones.{AreZonesOf, more_zones, nothing_new}
+use Rattle.mps_trace_laws.proofs.Summaries.Runs.{block_noted}
+use Rattle.mps_xform.proofs.SummedRuns.{summed_in}
 
 module _ (summaries : List ℕ) (from to : Grain) (zones : ℕ) (within : to < length summaries) where
   abbrev before : Grain → ℕ

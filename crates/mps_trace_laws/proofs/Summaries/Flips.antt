@@ -21,7 +21,8 @@ use Rattle.mps_trace_laws.specs.Begin.Condemning.{MayCondemn, collecting_at_flip
 use Rattle.mps_trace_laws.specs.Image.Image.{black_cells}
 use Rattle.mps_trace_laws.specs.Nails.Nailed.{AreWordsShown, words_of_areas}
 use Rattle.mps_trace_laws.specs.Summaries.Laws.{ABeginKeepsSummaries}
-use Rattle.mps_trace_laws.specs.Summaries.Summed.{IsRunSummed, AreWordsSummed}
+use Rattle.mps_trace_laws.specs.Summaries.Summed.{AreWordsSummed}
+use Rattle.mps_xform.specs.Summed.{IsRunSummed}
 use Rattle.mps_trace_laws.proofs.Image.BlockRuns.{all_contained, contained_in_order, extent_there}
 use Rattle.mps_trace_laws.proofs.Image.Extents.{all_extents}
 use Rattle.mps_trace_laws.proofs.Begin.Acted.{something_condemned}

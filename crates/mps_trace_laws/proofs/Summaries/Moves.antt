@@ -15,10 +15,11 @@ use Rattle.mps_amc.specs.Moving.{AreCopied, moved_to, run_at, size_at}
 use Rattle.mps_trace.specs.Noting.{copy_noted, summaries_of_copy, zones_of_block}
 use Rattle.mps_laws.proofs.Positions.Segments.{segment_bounds}
 use Rattle.mps_trace_laws.specs.Fix.Tracing.{AreHeld, HasTables}
-use Rattle.mps_trace_laws.specs.Summaries.Summed.{IsRunSummed, AreWordsSummed}
+use Rattle.mps_trace_laws.specs.Summaries.Summed.{AreWordsSummed}
+use Rattle.mps_xform.specs.Summed.{IsRunSummed}
 use Rattle.mps_trace_laws.proofs.Fix.Growing.{IsFree, with_one, over_is, over_still, other_grain}
-use Rattle.mps_trace_laws.proofs.Summaries.Zones.{AreZonesOf}
-use Rattle.mps_trace_laws.proofs.Summaries.Runs.{summed_again}
+use Rattle.mps_xform.proofs.Zones.{AreZonesOf}
+use Rattle.mps_xform.proofs.SummedRuns.{summed_again}
 use Rattle.mps_trace_laws.proofs.Summaries.CopyZones.{still_there, same_length, copy_is_noted}
 use Rattle.mps_trace_laws.proofs.Summaries.Copies.{AreSegmentsKept, copy_summed}
 

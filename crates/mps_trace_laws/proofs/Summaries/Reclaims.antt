@@ -25,13 +25,14 @@ use Rattle.mps_laws.proofs.Positions.ApartRuns.{all_in_order}
 use Rattle.mps_trace_laws.specs.Reclaim.Freed.{addresses_of, addresses_without}
 use Rattle.mps_trace_laws.specs.Reclaim.Left.{AreReservationsUnwritten}
 use Rattle.mps_trace_laws.specs.Reclaim.Units.{FreesFor}
-use Rattle.mps_trace_laws.specs.Summaries.Summed.{IsRunSummed, AreWordsSummed}
+use Rattle.mps_trace_laws.specs.Summaries.Summed.{AreWordsSummed}
+use Rattle.mps_xform.specs.Summed.{IsRunSummed}
 use Rattle.mps_trace_laws.proofs.Image.BlockRuns.{all_contained}
 use Rattle.mps_trace_laws.proofs.Image.Extents.{all_extents, all_reserved}
 use Rattle.mps_trace_laws.proofs.Reclaim.HeldSegments.{over, over_base, was_held}
 use Rattle.mps_trace_laws.proofs.Reclaim.Reclaimed.{freed_stands, grains_after, inside_same}
 use Rattle.mps_trace_laws.proofs.Reclaim.SegmentBounds.{over_inside, segment_bounds, aligned_in}
-use Rattle.mps_trace_laws.proofs.Summaries.Runs.{summed_again}
+use Rattle.mps_xform.proofs.SummedRuns.{summed_again}
 
 -- what frees leave
 covered_before : (rs : List Run) (g : SegsState) (r : Run) → Contains (without_blocks rs g).covered r → Contains g.covered r

@@ -2,20 +2,21 @@
 use Rattle.std.proofs.Common.{◌≡◌, ◌≢◌, ◌∙◌, ℕ, ◌+◌, ◌<◌, true, sym, ap, List, length, Option, Some, Contains, subst, inl, inr, arith}
 use Rattle.std.proofs.lemmas.Bool.{cases_eq}
 use Rattle.std.proofs.lemmas.List.{get_or-set_same, get_or-set_other}
-use Rattle.std.specs.Prelude.{IsTrue, slice_get, slice_index, slice_set, bit_or}
-use Rattle.mps_base.specs.Address.{Address, Grain, grain_of, zone_of, address_of_word}
+use Rattle.std.specs.Prelude.{IsTrue, slice_get, slice_index, slice_set}
+use Rattle.mps_base.specs.Address.{grain_of, address_of_word}
 use Rattle.mps_base.specs.Run.{Run, IsAscending}
 use Rattle.mps_base.specs.Segment.{Segment, segment_over}
-use Rattle.mps_base.specs.Zones.{zones_meet, zone_bit, zone_bit_of}
+use Rattle.mps_base.specs.Zones.{zones_meet, zone_bit_of}
 use Rattle.mps_base.proofs.Runs.{contained_bounds}
 use Rattle.mps_extents.proofs.ApartRuns.{apart_each}
 use Rattle.mps_format.specs.Layout.{Layout}
 use Rattle.mps_format.specs.declared.pool.Policy.{Policy}
 use Rattle.mps_seg.specs.Collecting.{summary_at}
 use Rattle.mps_seg.specs.Segs.{SegsState}
-use Rattle.mps_trace_laws.specs.Summaries.Summed.{IsRunSummed, AreRunsSummed}
-use Rattle.mps_trace_laws.proofs.Summaries.Zones.{AreZonesOf, more_zones, zones_before, own_zone}
-use Rattle.mps_trace_laws.proofs.Summaries.Runs.{summed_in, summed_again}
+use Rattle.mps_trace_laws.specs.Summaries.Summed.{AreRunsSummed}
+use Rattle.mps_xform.specs.Summed.{IsRunSummed}
+use Rattle.mps_xform.proofs.Zones.{AreZonesOf}
+use Rattle.mps_xform.proofs.SummedRuns.{summed_in, summed_again}
 
 module _ {F : Type 0} (layout : F → Layout) (formats : List (Option (Policy F))) (s : SegsState) (high : ℕ)
     (ascending : IsAscending 0 high s.covered) (r : Run) (there : Contains s.covered r) (cell value : ℕ) (later : 0 < cell)
@@ -88,31 +89,3 @@ module _ {F : Type 0} (layout : F → Layout) (formats : List (Option (Policy F)
               (λ reference some. own t format (subst P (sym same) over) listed (subst Q (sym same) reference) some) old
           | inr other ↦ other_run f zones q its other old
         ]
-
--- ---- what a note leaves of summaries
-
-module _ (summaries : List ℕ) (grain : Grain) (target : Address) (within : grain < length summaries) where
-  abbrev pub noted : List ℕ
-  noted = slice_set summaries grain (bit_or (slice_index summaries grain) (zone_bit_of target))
-
-  own : slice_index noted grain ≡ bit_or (slice_index summaries grain) (zone_bit_of target)
-  own = get_or-set_same summaries grain (bit_or (slice_index summaries grain) (zone_bit_of target)) 0 within
-
-  pub zone_noted : zones_meet (zone_bit_of target) (slice_index noted grain) ≡ true
-  zone_noted =
-      ap (λ z. zones_meet (zone_bit_of target) z) own
-      ∙ zones_before (slice_index summaries grain) (zone_bit_of target) (zone_of target) (own_zone (zone_of target))
-
-  pub others_noted : (other : Grain) → AreZonesOf (slice_index summaries other) (slice_index noted other)
-  others_noted other k h =
-      elim (cases_eq other grain) [
-        | inl same ↦
-            let P : ℕ → Type 0 = λ z. zones_meet (zone_bit k) z ≡ true in
-            let Q : Grain → Type 0 = λ g. P (slice_index noted g) in
-            let there : P (slice_index summaries grain) = subst (λ g. P (slice_index summaries g)) same h in
-            subst Q (sym same) (subst P (sym own) (more_zones (slice_index summaries grain) (zone_bit_of target) k there))
-        | inr apart ↦
-            let P : ℕ → Type 0 = λ z. zones_meet (zone_bit k) z ≡ true in
-            subst P
-            (sym (get_or-set_other summaries grain other (bit_or (slice_index summaries grain) (zone_bit_of target)) 0 apart)) h
-      ]

@@ -4,6 +4,7 @@ use Rattle.mps_base.specs.Address.{bytes_of_word}
 use Rattle.mps_format.specs.Front.{front_layout}
 use Rattle.mps_xform.specs.Applying.{CanApply}
 use Rattle.mps_xform.specs.State.{is_live}
+use Rattle.mps_transform_tests.specs.Full.{AreFull}
 use Rattle.mps_transform_tests.proofs.applying.agree_in_turn.Given as goal
 
 abbrev pub invariant-loop : goal.invariant-loop
@@ -11,4 +12,5 @@ invariant-loop l = record {
   live : is_live l.transforms l.transform ≡ true;
   aligned : All (λ p. p.new.0 % bytes_of_word ≡ 0) l.transforms.pairs;
   can : (pool : ℕ) → CanApply front_layout l.segs pool;
+  full : AreFull l.segs;
 }

@@ -42,8 +42,8 @@ overflow_add-end g c =
       c.grains.ensures.size,
     )
 
-pub apply_to_segment-requires-clause-begun : goal.apply_to_segment-requires-clause-begun
-apply_to_segment-requires-clause-begun g c =
+pub pass_segment-requires-clause-begun : goal.pass_segment-requires-clause-begun
+pass_segment-requires-clause-begun g c =
     let f = g.F.Format.layout c.args.format.now in
     let to = new_in c.args.replacements.now in
     let s = c.args.segs.now in
@@ -59,7 +59,7 @@ apply_to_segment-requires-clause-begun g c =
     let of_pool = sym (ap (λ (i : SegmentInfo). i.pool) info) ∙ c.if-segment-pool.true in (
       s,
       c.args.pool,
-      passed.begun f to c.args.pool s c.requires.can l.segs l.from.0 l.invariant base is,
+      passed.begun f to c.args.pool s c.requires.can l.segs l.from.0 l.invariant base is c.requires.summed,
       passed.span f to c.args.pool s c.requires.can l.segs l.from.0 l.invariant base is (base.0 + 4096 * c.from.result) end of_pool,
     )
 
@@ -100,10 +100,10 @@ loop-base-preserved-then-segment-pool g c =
     let end : base.0 + 4096 * c.from.result ≡ end_of_segment t =
     omega (arith, c.from.ensures, ap (λ (i : SegmentInfo). i.grains) info, begins) in
     let of_pool = sym (ap (λ (i : SegmentInfo). i.pool) info) ∙ c.if-segment-pool.true in
-    passed.passed_on f to c.args.pool s c.requires.can l.segs l.from.0 l.invariant base is c.apply_to_segment.new.segs
+    passed.passed_on f to c.args.pool s c.requires.can l.segs l.from.0 l.invariant base is c.pass_segment.new.segs
     (base.0 + 4096 * c.from.result) end
-    (c.apply_to_segment.ensures s c.args.pool
-    (passed.begun f to c.args.pool s c.requires.can l.segs l.from.0 l.invariant base is)
+    (c.pass_segment.ensures s c.args.pool
+    (passed.begun f to c.args.pool s c.requires.can l.segs l.from.0 l.invariant base is c.requires.summed)
     (passed.span f to c.args.pool s c.requires.can l.segs l.from.0 l.invariant base is (base.0 + 4096 * c.from.result) end of_pool))
 
 pub loop-base-smaller : goal.loop-base-smaller

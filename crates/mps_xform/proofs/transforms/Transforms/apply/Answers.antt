@@ -8,9 +8,11 @@ use Rattle.mps_xform.specs.declared.transforms.Pair.{Pair}
 use Rattle.mps_xform.specs.Passing.{new_in}
 use Rattle.mps_xform.specs.State.{TransformsState, is_of, new_address, pair_of}
 use Rattle.mps_xform.specs.Applying.{CanApply}
+use Rattle.mps_xform.specs.Summed.{AreBlocksSummed}
 use Rattle.mps_xform.proofs.Again.{can_again}
 use Rattle.mps_xform.proofs.Applied.{below_same}
 use Rattle.mps_xform.proofs.Done.{found_has, word_is}
+use Rattle.mps_xform.proofs.Skipped.{still_summed}
 use Rattle.mps_xform.proofs.transforms.Transforms.apply.Goals as goal
 
 pub apply_to_pool-requires-clause-aligned : goal.apply_to_pool-requires-clause-aligned
@@ -48,3 +50,10 @@ returns-clause-again g c = λ layout other could.
     subst P (sym (returns-clause-state g c))
     (can_again (g.F.Format.layout c.args.format.now) (g.met.F.Format.lawful c.args.format.now)
     (new_address c.args.self.now c.args.transform) c.args.segs.now c.args.pool c.requires.can layout other could)
+
+pub returns-clause-summed : goal.returns-clause-summed
+returns-clause-summed g c = λ layout other apart was.
+    let P : SegsState → Type 0 = λ x. AreBlocksSummed layout x other in
+    subst P (sym (returns-clause-state g c))
+    (still_summed (g.F.Format.layout c.args.format.now) (new_address c.args.self.now c.args.transform) c.args.segs.now c.args.pool
+    c.requires.can layout other apart was)

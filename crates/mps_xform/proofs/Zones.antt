@@ -28,25 +28,49 @@ no_bit a k z =
     ∙ ap (λ n. bit_at n k) (eqb-true (bit_and (2 ^ k) a) 0 z)
     ∙ bit_at-zero k)
 
-pub own_zone : (k : ℕ) → zones_meet (zone_bit k) (zone_bit k) ≡ true
-own_zone k = elim (cases_Bool (bit_and (zone_bit k) (zone_bit k) == 0)) [
-  | inl z ↦ absurd (omega (arith, no_bit (zone_bit k) k z, bit_at-pow_same k))
+-- a set that has the bit of a zone meets it
+pub has_zone : (a k : ℕ) → bit_at a k ≡ 1 → zones_meet (zone_bit k) a ≡ true
+has_zone a k bit = elim (cases_Bool (bit_and (zone_bit k) a == 0)) [
+  | inl z ↦ absurd (omega (arith, no_bit a k z, bit))
   | inr nz ↦ ap not nz
 ]
+
+pub own_zone : (k : ℕ) → zones_meet (zone_bit k) (zone_bit k) ≡ true
+own_zone k = has_zone (zone_bit k) k (bit_at-pow_same k)
+
+-- a set that meets a zone has a bit of it
+has_bit : (a k : ℕ) → zones_meet (zone_bit k) a ≡ true → bit_at a k ≡ 0 → ⊥
+has_bit a k h bit =
+    let none : bit_and (2 ^ k) a ≡ 0 =
+    and_comm (2 ^ k) a ∙ and_pow a k ∙ ap (λ (n : ℕ). n * 2 ^ k) bit ∙ none_times (2 ^ k)
+    in
+    false≢true (ap (λ (n : ℕ). not (n == 0)) (sym none) ∙ h)
 
 pub more_zones : (a b k : ℕ) → zones_meet (zone_bit k) a ≡ true → zones_meet (zone_bit k) (bit_or a b) ≡ true
 more_zones a b k h = elim (cases_Bool (bit_and (zone_bit k) (bit_or a b) == 0)) [
   | inl z ↦
-      let bit : bit_at a k ≡ 0 = none_of_max (bit_at a k) (bit_at b k) (sym (bit_at_or a b k) ∙ no_bit (bit_or a b) k z) in
-      let none : bit_and (2 ^ k) a ≡ 0 =
-      and_comm (2 ^ k) a ∙ and_pow a k ∙ ap (λ (n : ℕ). n * 2 ^ k) bit ∙ none_times (2 ^ k)
-      in
-      absurd (false≢true (ap (λ (n : ℕ). not (n == 0)) (sym none) ∙ h))
+      absurd (has_bit a k h (none_of_max (bit_at a k) (bit_at b k) (sym (bit_at_or a b k) ∙ no_bit (bit_or a b) k z)))
   | inr nz ↦ ap not nz
 ]
 
 pub zones_before : (a b k : ℕ) → zones_meet (zone_bit k) b ≡ true → zones_meet (zone_bit k) (bit_or a b) ≡ true
 zones_before a b k h = ap (λ z. zones_meet (zone_bit k) z) (or_comm a b) ∙ more_zones b a k h
+
+some_of_min : (m n : ℕ) → min m n ≡ 0 → (m ≡ 0 → ⊥) → n ≡ 0
+some_of_min zero n e some = absurd (some refl)
+some_of_min (suc m) zero e some = refl
+some_of_min (suc m) (suc n) e some = absurd (omega (arith, e))
+
+-- two sets that have a zone in common meet
+pub in_both : (a b k : ℕ) → zones_meet (zone_bit k) a ≡ true → zones_meet (zone_bit k) b ≡ true → zones_meet a b ≡ true
+in_both a b k in_a in_b = elim (cases_Bool (bit_and a b == 0)) [
+  | inl z ↦
+      let none : min (bit_at a k) (bit_at b k) ≡ 0 =
+      sym (bit_at_and a b k) ∙ ap (λ n. bit_at n k) (eqb-true (bit_and a b) 0 z) ∙ bit_at-zero k
+      in
+      absurd (has_bit b k in_b (some_of_min (bit_at a k) (bit_at b k) none (has_bit a k in_a)))
+  | inr nz ↦ ap not nz
+]
 
 -- each zone of a set is one of another
 abbrev pub AreZonesOf : (zones all : ℕ) → Type 0
