@@ -15,6 +15,7 @@ use mps_root::Roots;
 use mps_snc::Place;
 
 /// The number of the pool of frames that has a name.
+#[inline(always)]
 fn pool_of_frames<F: Format>(state: &State<F>, name: Name) -> Result<u32, Refusal>
     ensures { MatchResult result
         (λ key. pool_at state.now.beside.frames key ≡ Some (state_of state.now.beside.frames key)

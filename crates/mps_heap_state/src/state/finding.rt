@@ -27,6 +27,7 @@ impl<F: Format> State<F> {
     }
 
     /// The pool that has a name.
+    #[inline(always)]
     pub fn pool_named(&self, name: Name) -> Result<Kept<Pool<F>>, Refusal>
         ensures { result ≡ pool_named self.now name }
     {
@@ -86,6 +87,7 @@ impl<F: Format> State<F> {
     }
 
     /// A place of a table of blocks.
+    #[inline(always)]
     pub fn block_place_in(&self, place: Slot) -> Result<Entry<u64>, Refusal>
         ensures value { result ≡ block_place_in self.now place }
         ensures fits { IfOk result (λ e. HasPlace self.now.roots.blocks e.key e.index) }
