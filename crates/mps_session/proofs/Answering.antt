@@ -51,6 +51,12 @@ module _ {h after : HeapState AnyFormat} {c d : Call} (is : c ≡ d) where
       let moved : trail_after ≡ r.moves = r.appended ∙ ap (λ (ms : List Move). ms ++ r.moves) none in
       answered tells (subst (λ (ms : List Move). IsRight any_layout h d ms answer after) (sym moved) r.right)
 
+  -- a call that made no move, beside an empty trail
+  pub answered_still : {trail : List Move} {given : Reply} {answer : Answer} → trail ≡ [] → Tells given answer
+      → IsRight any_layout h d [] answer after → IsAnswered h c trail given after
+  answered_still {trail} {given} none tells right =
+      subst (λ (ms : List Move). IsAnswered h c ms given after) (sym none) (answered tells right)
+
   -- a call that made a thing, unless it was out of memory
   pub answered_making : {A : Type 0} (came : Result A Refusal) {E : Type 0} (told : Result Reply E)
       → IfOk told (λ reply. Tells reply (answer_of_making came)) → IfOk told (λ reply. came ≢ Err refusal.OutOfMemory)

@@ -6,7 +6,7 @@ use Rattle.mps_model.specs.declared.call.Call.{Call}
 use Rattle.mps_model.specs.declared.call.Call.TheVariants as call
 use Rattle.mps_model.specs.FirstCall.{is_arena}
 use Rattle.mps_session.specs.Memory.{call_takes_memory}
-use Rattle.mps_session.specs.Groups.{is_collection, is_frequent, is_on_areas, is_on_arena, is_on_caches, makes_thing, may_move, reads_words, writes_words}
+use Rattle.mps_session.specs.Groups.{is_collection, is_frequent, is_manual, is_on_areas, is_on_arena, is_on_caches, makes_thing, may_move, reads_words, writes_words}
 
 -- each call but `arena` is in a group
 pub in_a_group : (c : Call)
@@ -26,11 +26,13 @@ left_over c other collection frequent areas arena caches =
     ∙ in_a_group c
     ∙ ap not other
 
--- a call of none of three groups
-pub seldom : (c : Call) → false ≡ reads_words c → false ≡ may_move c → false ≡ writes_words c → is_frequent c ≡ false
-seldom c reads moves writes =
-    ap (λ b. b || may_move c || writes_words c) (sym reads) ∙ ap (λ b. false || b || writes_words c) (sym moves)
-    ∙ ap (λ b. false || false || b) (sym writes)
+-- a call of none of four groups
+pub seldom : (c : Call) → false ≡ reads_words c → false ≡ may_move c → false ≡ is_manual c → false ≡ writes_words c
+    → is_frequent c ≡ false
+seldom c reads moves manual writes =
+    ap (λ b. b || may_move c || is_manual c || writes_words c) (sym reads)
+    ∙ ap (λ b. false || b || is_manual c || writes_words c) (sym moves)
+    ∙ ap (λ b. false || false || b || writes_words c) (sym manual) ∙ ap (λ b. false || false || false || b) (sym writes)
 
 -- what makes a thing takes memory
 pub making_takes_memory : (c : Call) → makes_thing c ≡ true → call_takes_memory c ≡ true

@@ -2,6 +2,8 @@
 use Rattle.std.specs.Prelude.{Bool, true, false, ◌||◌}
 use Rattle.mps_model.specs.declared.call.Call.{Call}
 use Rattle.mps_model.specs.declared.call.Call.TheVariants as call
+use Rattle.mps_session.specs.declared.grouping.Group.{Group}
+use Rattle.mps_session.specs.declared.grouping.Group.TheVariants as group
 
 -- a call that begins a collection, or has one in progress go on or end
 abbrev pub is_collection : Call → Bool
@@ -12,19 +14,23 @@ is_collection call.Collect = true
 is_collection call.Park = true
 is_collection _ = false
 
--- a call that makes or ends a block, puts one into a cache or takes it out, flushes a cache, closes a frame, or reads a reference, and
--- may make moves
+-- a call that makes an object or reads a reference, and may make moves
 abbrev pub may_move : Call → Bool
 may_move (call.Reserve point head) = true
 may_move (call.Commit point target) = true
-may_move (call.Alloc pool words place) = true
-may_move (call.Free place) = true
-may_move (call.CacheAlloc cache words place) = true
-may_move (call.CacheFree cache place) = true
-may_move (call.CacheFlush cache) = true
-may_move (call.Pop pool frame) = true
 may_move (call.Get target source cell) = true
 may_move _ = false
+
+-- a call that makes or ends a manual block, puts one into a cache or takes it out, flushes a cache, or opens or closes a frame
+abbrev pub is_manual : Call → Bool
+is_manual (call.Alloc pool words place) = true
+is_manual (call.Free place) = true
+is_manual (call.CacheAlloc cache words place) = true
+is_manual (call.CacheFree cache place) = true
+is_manual (call.CacheFlush cache) = true
+is_manual (call.Push pool) = true
+is_manual (call.Pop pool frame) = true
+is_manual _ = false
 
 -- a call that reads a slot, or a word of an object or a manual block
 abbrev pub reads_words : Call → Bool
@@ -52,7 +58,24 @@ writes_words _ = false
 
 -- a call of the groups that a script has most of
 abbrev pub is_frequent : Call → Bool
-is_frequent c = reads_words c || may_move c || writes_words c
+is_frequent c = reads_words c || may_move c || is_manual c || writes_words c
+
+-- which group it is
+abbrev pub is_reading_group : Group → Bool
+is_reading_group group.Reading = true
+is_reading_group _ = false
+
+abbrev pub is_moving_group : Group → Bool
+is_moving_group group.Moving = true
+is_moving_group _ = false
+
+abbrev pub is_manual_group : Group → Bool
+is_manual_group group.Manual = true
+is_manual_group _ = false
+
+abbrev pub is_writing_group : Group → Bool
+is_writing_group group.Writing = true
+is_writing_group _ = false
 
 -- a call on an area, a registration, a message, a dependency, a transform or a dependent
 abbrev pub is_on_areas : Call → Bool
@@ -88,10 +111,9 @@ is_on_arena (call.DropPoint point) = true
 is_on_arena (call.Intern label) = true
 is_on_arena _ = false
 
--- a call that makes a cache, or opens a frame
+-- a call that makes a cache
 abbrev pub is_on_caches : Call → Bool
 is_on_caches (call.Cache cache pool count sizes limits) = true
-is_on_caches (call.Push pool) = true
 is_on_caches _ = false
 
 -- a call that makes a thing in the arena, and takes memory

@@ -1,4 +1,4 @@
-// Answers the calls that make an allocation cache, or open a frame.
+// Answers the call that makes an allocation cache.
 ghost use Rattle.std.specs.Prelude.{◌≡◌, ◌≤◌, All, IfNone, IfSome, IsTrue, is_some, length, map, []};
 ghost use Rattle.std.specs.List.{list_all};
 ghost use Rattle.mps_commands.specs.Range.{IsInRange, are_cached};
@@ -6,14 +6,14 @@ ghost use Rattle.mps_model.specs.declared.call.Call.TheVariants as call;
 ghost use Rattle.mps_session.specs.Groups.{is_on_caches};
 ghost use Rattle.mps_session.specs.Standing.{IsAnswered};
 
-use crate::replies::{count, done};
+use crate::replies::done;
 use mps_base::Name;
 use mps_format::AnyFormat;
 use mps_heap::Heap;
 use mps_model::{Call, Reply};
 use mps_sac::ClassSize;
 
-/// Answers a call that makes a cache or opens a frame; `None` if it is another.
+/// Answers a call that makes a cache; `None` if it is another.
 pub fn answer(heap: &mut Heap<AnyFormat>, call: &Call) -> Option<Reply>
     requires range { IsInRange call.now }
     ensures right { IfSome result (λ reply. IsAnswered heap.old call.now [] reply heap.new) }
@@ -28,7 +28,6 @@ pub fn answer(heap: &mut Heap<AnyFormat>, call: &Call) -> Option<Reply>
             sizes,
             limits,
         } => Some(make_cache(heap, cache, pool, count, sizes, limits)),
-        Call::Push { pool } => Some(count(heap.push(pool))),
         _ => None,
     }
 }

@@ -9,7 +9,8 @@ ghost use Rattle.mps_session.specs.Groups.{is_frequent};
 ghost use Rattle.mps_session.specs.Standing.{HeapStandsStill, IsAnswered};
 ghost use Rattle.mps_refinement.specs.TraceCollect.{most_moves};
 
-use crate::{areas, arena, caching, collecting, making, moving, reading, writing};
+use crate::grouping::{Group, group_of};
+use crate::{areas, arena, caching, collecting, making, manual, moving, reading, writing};
 use mps_base::Trail;
 use mps_format::AnyFormat;
 use mps_heap::Heap;
@@ -35,19 +36,25 @@ pub fn answer(
     ensures memory { OnErr result (IsTrue (call_takes_memory call.now)) }
     ensures room { KeepsRoom trail.old trail.new }
 {
-    if reading::reads_words(call) {
-        reading::answer(heap, call, reply);
-        return Ok(());
+    match group_of(call) {
+        Group::Reading => {
+            reading::answer(heap, call, reply);
+            Ok(())
+        }
+        Group::Moving => {
+            moving::answer(heap, trail, call, reply);
+            Ok(())
+        }
+        Group::Manual => {
+            manual::answer(heap, trail, call, reply);
+            Ok(())
+        }
+        Group::Writing => {
+            writing::answer(heap, call, reply);
+            Ok(())
+        }
+        Group::Seldom => answer_seldom(heap, trail, call, reply),
     }
-    if moving::may_move(call) {
-        moving::answer(heap, trail, call, reply);
-        return Ok(());
-    }
-    if writing::writes_words(call) {
-        writing::answer(heap, call, reply);
-        return Ok(());
-    }
-    answer_seldom(heap, trail, call, reply)
 }
 
 /// Executes the rare calls, writes the reply, and appends the moves to the empty trail. An `Err` says that memory is out. Not inlined, to

@@ -6,12 +6,15 @@ mod arena;
 mod caching;
 mod calls;
 mod collecting;
+mod grouping;
 mod machine;
 mod made;
 mod making;
+mod manual;
 mod moving;
 mod reading;
 mod replies;
+mod telling;
 mod writing;
 
 pub use machine::Session;

@@ -1,13 +1,12 @@
-// The replies to the heap's calls, by their results.
-ghost use Rattle.mps_refinement.specs.Answering.{answer_to, says_block, says_bool, says_committed, says_head, says_interned, says_labelled, says_message, says_number, says_ok, says_progress, says_word};
+// The replies to the heap's seldom calls, by their results.
+ghost use Rattle.mps_refinement.specs.Answering.{answer_to, says_block, says_bool, says_interned, says_message, says_ok, says_progress, says_word};
 ghost use Rattle.mps_refinement.specs.Making.{answer_of_making};
-ghost use Rattle.mps_heap.specs.Answers.{says_address};
 ghost use Rattle.std.specs.Prelude.{◌≡◌, ◌≢◌, Err, IfOk, OnErr};
 ghost use Rattle.mps_base.specs.declared.refusal.Refusal.TheVariants.{OutOfMemory};
 ghost use Rattle.mps_session.specs.Told.{Tells};
 
-use mps_base::{Addr, Refusal};
-use mps_heap::{Committed, Progress};
+use mps_base::Refusal;
+use mps_heap::Progress;
 use mps_model::Reply;
 use std::alloc::AllocError;
 
@@ -45,36 +44,6 @@ pub fn yes_or_no(came: Result<bool, Refusal>) -> Reply
     }
 }
 
-/// Of a call that reads a number.
-pub fn number(came: Result<u64, Refusal>) -> Reply
-    ensures { Tells result (answer_to says_number came) }
-{
-    match came {
-        Ok(n) => Reply::Number(n),
-        Err(why) => Reply::Refused(why),
-    }
-}
-
-/// Of a call that reads a tag.
-pub fn tag(came: Result<u8, Refusal>) -> Reply
-    ensures { Tells result (answer_to says_number came) }
-{
-    match came {
-        Ok(n) => Reply::Number(u64::from(n)),
-        Err(why) => Reply::Refused(why),
-    }
-}
-
-/// Of a call that counts something.
-pub fn count(came: Result<u32, Refusal>) -> Reply
-    ensures { Tells result (answer_to says_number came) }
-{
-    match came {
-        Ok(n) => Reply::Number(u64::from(n)),
-        Err(why) => Reply::Refused(why),
-    }
-}
-
 /// Of a call that makes a label.
 pub fn interned(came: Result<u32, Refusal>) -> Reply
     ensures { Tells result (answer_to says_interned came) }
@@ -85,42 +54,12 @@ pub fn interned(came: Result<u32, Refusal>) -> Reply
     }
 }
 
-/// Of a call that labels an object.
-pub fn labelled(came: Result<(Addr, u32), Refusal>) -> Reply
-    ensures { Tells result (answer_to says_labelled came) }
-{
-    match came {
-        Ok((at, number)) => Reply::Labelled(at, number),
-        Err(why) => Reply::Refused(why),
-    }
-}
-
-/// Of a call that reads a head.
-pub fn head(came: Result<u64, Refusal>) -> Reply
-    ensures { Tells result (answer_to says_head came) }
-{
-    match came {
-        Ok(word) => Reply::Head(word),
-        Err(why) => Reply::Refused(why),
-    }
-}
-
 /// Of a call that reads a word of an area.
 pub fn word(came: Result<u64, Refusal>) -> Reply
     ensures { Tells result (answer_to says_word came) }
 {
     match came {
         Ok(word) => Reply::Word(word),
-        Err(why) => Reply::Refused(why),
-    }
-}
-
-/// Of a call that asks for an address.
-pub fn address(came: Result<Addr, Refusal>) -> Reply
-    ensures { Tells result (answer_to says_address came) }
-{
-    match came {
-        Ok(at) => Reply::Word(at.0),
         Err(why) => Reply::Refused(why),
     }
 }
@@ -154,16 +93,5 @@ pub fn progress(came: Progress) -> Reply
     match came {
         Progress::More => Reply::More,
         Progress::Idle => Reply::Idle,
-    }
-}
-
-/// Of a commit.
-pub fn committed(came: Result<Committed, Refusal>) -> Reply
-    ensures { Tells result (answer_to says_committed came) }
-{
-    match came {
-        Ok(Committed::AsBlock) => Reply::Ok,
-        Ok(Committed::AsFlipped) => Reply::Flipped,
-        Err(why) => Reply::Refused(why),
     }
 }
