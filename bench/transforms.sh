@@ -1,6 +1,7 @@
 #!/bin/sh
 # Measures how long a transform takes to apply: to 21,845, 109,225 and 305,830 objects of three words, of which two are references, with
 # 1,000 pairs that lie equally far apart, and to the most objects with one pair and with 4,000. Each is applied five times.
+# The summaries of all segments have all zones, so none is passed over: passing.py shows what that saves.
 # It makes a program over a copy of the crates, proves it, and runs it.
 home=$(cd "$(dirname "$0")/.." && pwd)
 folder=$(mktemp -d)
@@ -13,7 +14,7 @@ for crate in base bits address_marks gaps numerals arena extents marks gen seg r
     done
     grep "^mps_$crate:" "$home/crates.txt" >> crates.txt
 done
-echo 'apply_times: mps_base mps_format mps_seg mps_xform' >> crates.txt
+echo 'apply_times: mps_base mps_arena mps_format mps_seg mps_xform' >> crates.txt
 mkdir crates/apply_times
 cd crates/apply_times || exit 1
 mkdir src specs proofs
@@ -31,9 +32,9 @@ ghost use Rattle.mps_format.specs.Front.{front_layout};
 ghost use Rattle.mps_seg.specs.Segs.{new_segments};
 ghost use Rattle.mps_xform.specs.Applying.{CanApply};
 ghost use Rattle.mps_xform.specs.State.{is_live, no_transforms};
-ghost use Rattle.apply_times.specs.Filled.{begin, IsInSegment, IsLaid, IsFilled};
+ghost use Rattle.apply_times.specs.Filled.{AreFull, begin, IsInSegment, IsLaid, IsFilled};
 
-use mps_base::{Addr, Rank, Refusal, Trail};
+use mps_base::{Addr, Rank, Refusal, Trail, ZoneSet};
 use mps_format::Front;
 use mps_seg::Segs;
 use mps_xform::{Pair, Transforms};
@@ -49,7 +50,7 @@ const SEGMENTS: u64 = 15;
 /// How many objects lie in a segment.
 const OBJECTS_OF_SEGMENT: u64 = 21_845;
 
-/// The segments are taken, one after another.
+/// The segments are taken, one after another, and their summaries get all zones.
 fn lay(segs: &mut Segs, trail: &mut Trail) -> Result<(), Refusal>
     requires unused { segs.old ≡ new_segments 2048 2048 }
     requires fits { 15 ≤ trail.old.spare }
@@ -57,7 +58,8 @@ fn lay(segs: &mut Segs, trail: &mut Trail) -> Result<(), Refusal>
 {
     for index in 0..SEGMENTS {
         let _ = index;
-        segs.take(trail, 0, 65_536, 0, Rank::Exact)?;
+        let base = segs.take(trail, 0, 65_536, 0, Rank::Exact)?;
+        segs.set_summary(base, ZoneSet(u64::MAX));
     }
     Ok(())
 }
@@ -90,7 +92,8 @@ fn fill_segment(segs: &mut Segs, index: u64)
 fn fill(segs: &mut Segs, count: u64)
     requires few { count ≤ 15 }
     requires filled { IsFilled segs.old 512 }
-    ensures { (pool : ℕ) → CanApply front_layout segs.new pool }
+    ensures can { (pool : ℕ) → CanApply front_layout segs.new pool }
+    ensures full { AreFull segs.new }
 {
     for index in 0..count {
         fill_segment(segs, index);
@@ -129,8 +132,10 @@ fn add_pairs(transforms: &mut Transforms, transform: u32, objects: u64, pairs: u
 fn apply(transforms: &mut Transforms, transform: u32, segs: &mut Segs)
     requires aligned { All (λ p. p.new.0 % bytes_of_word ≡ 0) transforms.old.pairs }
     requires can { (pool : ℕ) → CanApply front_layout segs.old pool }
+    requires full { AreFull segs.old }
     ensures unchanged { transforms.new ≡ transforms.old }
     ensures can { (pool : ℕ) → CanApply front_layout segs.new pool }
+    ensures full { AreFull segs.new }
 {
     transforms.apply(transform, &Front, segs, 0);
 }
@@ -139,6 +144,7 @@ fn apply(transforms: &mut Transforms, transform: u32, segs: &mut Segs)
 fn time(rt: &HostRuntime, transforms: &mut Transforms, transform: u32, segs: &mut Segs, objects: u64, added: u64) -> io::Result<()>
     requires aligned { All (λ p. p.new.0 % bytes_of_word ≡ 0) transforms.old.pairs }
     requires can { (pool : ℕ) → CanApply front_layout segs.old pool }
+    requires full { AreFull segs.old }
 {
     for _ in 0..5 {
         let began = Instant::now(rt)?;
@@ -199,11 +205,13 @@ pub mod Filled
 P
 cat > specs/Filled.antt <<'P'
 -- An arena that is filled with objects of three words, from its lowest word on.
-use Rattle.std.specs.Prelude.{ℕ, zero, suc, ◌≡◌, ◌+◌, ◌*◌, ◌<◌, ◌≤◌, List, [], ◌∷◌, length, slice_index}
+use Rattle.std.specs.Prelude.{ℕ, zero, suc, ◌≡◌, ◌+◌, ◌*◌, ◌-◌, ◌^◌, ◌<◌, ◌≤◌, true, List, [], ◌∷◌, Contains, length, slice_index}
 use Rattle.mps_base.specs.Address.{address_of_grain}
 use Rattle.mps_base.specs.Run.{Run, IsAscending}
 use Rattle.mps_base.specs.Segment.{Segment}
+use Rattle.mps_base.specs.Zones.{zones_meet, zone_bit}
 use Rattle.mps_base.specs.declared.names.Rank.TheVariants.{Exact}
+use Rattle.mps_seg.specs.Collecting.{summary_at}
 use Rattle.mps_seg.specs.Segs.{SegsState}
 
 -- the head of an object of three words, of which the two after the head are references
@@ -239,6 +247,14 @@ abbrev pub AreObjects : List ℕ → List Run → Type 0
 AreObjects words [] = Unit {0}
 AreObjects words (r ∷ rs) = IsObject words r × AreObjects words rs
 
+-- each zone is in the summary of each segment
+abbrev pub AreFull : SegsState → Type 0
+AreFull s = (t : Segment) (zone : ℕ) → Contains s.segments t → zone < 64 → zones_meet (zone_bit zone) (summary_at s t.base) ≡ true
+
+-- the summaries of the first segments have all zones
+abbrev pub AreFullBelow : List ℕ → (n : ℕ) → Type 0
+AreFullBelow summaries n = (index : ℕ) → index < n → slice_index summaries (1 + 128 * index) ≡ 2 ^ 64 - 1
+
 -- the segments are there, and have no block yet
 pub record IsLaid (s : SegsState) (n : ℕ) : Type 0 where
   pub grains : s.grains ≡ 2048
@@ -247,6 +263,8 @@ pub record IsLaid (s : SegsState) (n : ℕ) : Type 0 where
   pub words : length s.words ≡ 512 * 2049
   pub covered : s.covered ≡ []
   pub blocks : s.blocks ≡ []
+  pub sized : length s.summaries ≡ 2049
+  pub full : AreFullBelow s.summaries n
 
 -- objects lie below a word
 pub record IsFilled (s : SegsState) (next : ℕ) : Type 0 where
@@ -256,28 +274,36 @@ pub record IsFilled (s : SegsState) (next : ℕ) : Type 0 where
   pub covered : s.covered ≡ s.blocks
   pub below : IsAscending 0 next s.blocks
   pub objects : AreObjects s.words s.blocks
+  pub full : AreFullBelow s.summaries 15
 P
 cat > proofs/Lib.antt <<'P'
 pub mod Laying
 pub mod Filling
 pub mod Made
 pub mod Applying
+pub mod Full
 P
 cat > proofs/Laying.antt <<'P'
 -- The segments are laid one after another.
-use Rattle.std.proofs.Common.{ℕ, Bool, zero, suc, ◌+◌, ◌*◌, ◌-◌, ◌<◌, ◌≤◌, ◌≡◌, ◌%◌, List, [], ◌∷◌, ◌++◌, Contains, length, map, refl, sym, ap, ◌∙◌, subst, inl, inr, arith, Some}
+use Rattle.std.proofs.Common.{ℕ, Bool, zero, suc, ◌+◌, ◌*◌, ◌-◌, ◌^◌, ◌<◌, ◌≤◌, ◌≡◌, ◌%◌, List, [], ◌∷◌, ◌++◌, Contains, length, map, refl, sym, ap, ◌∙◌, subst, inl, inr, arith, Some}
 use Rattle.std.proofs.lemmas.Bool.Decides.{nat_tests}
 use Rattle.mps_base.specs.Address.{address_of_grain, grain_of, bytes_of_word, bytes_of_grain}
 use Rattle.mps_base.specs.Placement.{Placement, NewSegment, run_placement}
 use Rattle.mps_base.specs.Run.{Run, gaps, between, total, lowest_fitting}
 use Rattle.mps_base.specs.Segment.{Segment, grains_of_segment, with_segment, end_of_segment}
 use Rattle.mps_base.proofs.Runs.{between_some, between_none, total-cons}
-use Rattle.std.proofs.lemmas.List.{length-replicate}
+use Rattle.std.proofs.lemmas.Bool.{cases_lt}
+use Rattle.std.proofs.lemmas.List.{get_or-set_other, get_or-set_same, length-replicate, length-set}
+use Rattle.std.specs.Prelude.{slice_index, slice_set, Result, Ok}
+use Rattle.mps_arena.specs.Arena.{answer_of_placement}
 use Rattle.mps_base.specs.Trail.{Moves}
+use Rattle.mps_base.specs.declared.address.Addr.{Addr}
+use Rattle.mps_base.specs.declared.refusal.Refusal.{Refusal}
 use Rattle.mps_base.specs.declared.names.Rank.TheVariants.{Exact}
-use Rattle.mps_seg.specs.Segs.{SegsState, held_runs, moves_after, new_segments, placement_for, segments_after}
+use Rattle.mps_seg.specs.Collecting.{summarizing}
+use Rattle.mps_seg.specs.Segs.{SegsState, held_runs, moves_after, new_segments, noted_for, placement_for, segments_after}
 use Rattle.mps_xform.specs.Applying.{AreSegmentsApart}
-use Rattle.apply_times.specs.Filled.{segment_at, laid, IsLaid}
+use Rattle.apply_times.specs.Filled.{AreFullBelow, segment_at, laid, IsLaid}
 
 abbrev runs : (from n : ℕ) → List Run
 runs from n = map grains_of_segment (laid from n)
@@ -328,10 +354,22 @@ placement_is s n l few =
 one_more : (n : ℕ) → suc n ≡ n + 1
 one_more n = omega arith
 
-pub laid_next : (s t : SegsState) (n : ℕ) (condemned : List Bool) (summaries : List ℕ) → IsLaid s n → n < 15
-    → t ≡ record s { segments = segments_after (placement_for s 65536) 0 0 Exact s.segments; condemned = condemned; summaries = summaries }
-    → IsLaid t (n + 1)
-laid_next s t n condemned summaries l few is = record {
+record IsTaken (s : SegsState) (n : ℕ) : Type 0 where
+  pub grains : s.grains ≡ 2048
+  pub limit : s.limit ≡ 2048
+  pub segments : s.segments ≡ laid 1 n
+  pub words : length s.words ≡ 512 * 2049
+  pub covered : s.covered ≡ []
+  pub blocks : s.blocks ≡ []
+
+taken_next : (s t : SegsState) (n : ℕ) (condemned : List Bool) → IsLaid s n → n < 15
+    → t ≡ record s {
+      segments = segments_after (placement_for s 65536) 0 0 Exact s.segments;
+      condemned = condemned;
+      summaries = noted_for (placement_for s 65536) 0 s.summaries;
+    }
+    → IsTaken t (n + 1)
+taken_next s t n condemned l few is = record {
   grains = ap (λ x. x.grains) is ∙ l.grains;
   limit = ap (λ x. x.limit) is ∙ l.limit;
   segments = ap (λ x. x.segments) is ∙ ap (λ p. segments_after p 0 0 Exact s.segments) (placement_is s n l few)
@@ -340,6 +378,57 @@ laid_next s t n condemned summaries l few is = record {
   covered = ap (λ x. x.covered) is ∙ l.covered;
   blocks = ap (λ x. x.blocks) is ∙ l.blocks;
 }
+
+-- where it begins
+pub begins_at : (s : SegsState) (n : ℕ) (base : Addr) → IsLaid s n → n < 15 → Ok base ≡ answer_of_placement (placement_for s 65536)
+    → base.0 ≡ address_of_grain (1 + 128 * n)
+begins_at s n base l few is =
+    let both : Ok base ≡ answer_of_placement (NewSegment (1 + 128 * n) 128) = is ∙ ap answer_of_placement (placement_is s n l few) in
+    ap (λ (a : Addr). a.0) (ok_same base (record { 0 = address_of_grain (1 + 128 * n) }) both)
+  where
+    ok_same : (a b : Addr) → (let r : Result Addr Refusal = Ok a in r) ≡ Ok b → a ≡ b
+    ok_same a b e = cc
+
+one_full : (summaries : List ℕ) (n grain : ℕ) → 1 + 128 * n < length summaries → grain ≡ 1 + 128 * n → AreFullBelow summaries n
+    → AreFullBelow (slice_set (slice_set summaries (1 + 128 * n) 0) grain (2 ^ 64 - 1)) (n + 1)
+one_full summaries n grain within is full index below =
+    let zeroed = slice_set summaries (1 + 128 * n) 0 in
+    elim (cases_lt index n) [
+      | inl before ↦
+          get_or-set_other zeroed grain (1 + 128 * index) (2 ^ 64 - 1) 0 (λ same. omega (arith, same, is, before))
+          ∙ get_or-set_other summaries (1 + 128 * n) (1 + 128 * index) 0 0 (λ same. omega (arith, same, before))
+          ∙ full index before
+      | inr last ↦
+          let here : 1 + 128 * index ≡ grain = omega (arith, below, last, is) in
+          ap (λ i. slice_index (slice_set zeroed grain (2 ^ 64 - 1)) i) here
+          ∙ get_or-set_same zeroed grain (2 ^ 64 - 1) 0 (omega (arith, within, is, length-set summaries (1 + 128 * n) 0))
+    ]
+
+pub laid_next : (s u t : SegsState) (n base : ℕ) (condemned : List Bool) → IsLaid s n → n < 15 → base ≡ address_of_grain (1 + 128 * n)
+    → u ≡ record s {
+      segments = segments_after (placement_for s 65536) 0 0 Exact s.segments;
+      condemned = condemned;
+      summaries = noted_for (placement_for s 65536) 0 s.summaries;
+    }
+    → t ≡ summarizing u base (2 ^ 64 - 1) → IsLaid t (n + 1)
+laid_next s u t n base condemned l few begins is summarized =
+    let P : SegsState → Type 0 = λ x. IsLaid x (n + 1) in
+    let laid = taken_next s u n condemned l few is in
+    let grain : grain_of base ≡ 1 + 128 * n = omega (arith, begins) in
+    let summaries : u.summaries ≡ slice_set s.summaries (1 + 128 * n) 0 =
+    ap (λ x. x.summaries) is ∙ ap (λ p. noted_for p 0 s.summaries) (placement_is s n l few) in
+    subst P (sym summarized) (record {
+      grains = laid.grains;
+      limit = laid.limit;
+      segments = laid.segments;
+      words = laid.words;
+      covered = laid.covered;
+      blocks = laid.blocks;
+      sized = length-set u.summaries (grain_of base) (2 ^ 64 - 1) ∙ ap (λ (x : List ℕ). length x) summaries
+          ∙ length-set s.summaries (1 + 128 * n) 0 ∙ l.sized;
+      full = subst (λ (xs : List ℕ). AreFullBelow (slice_set xs (grain_of base) (2 ^ 64 - 1)) (n + 1)) (sym summaries)
+          (one_full s.summaries n (grain_of base) (omega (arith, few, l.sized)) grain l.full);
+    })
 
 pub spare_next : (s : SegsState) (before after : Moves) (n : ℕ) → IsLaid s n → n < 15
     → after ≡ moves_after (placement_for s 65536) 0 0 before → after.spare ≡ before.spare - 1
@@ -357,6 +446,8 @@ none_laid = record {
   words = empty_words 2048;
   covered = refl;
   blocks = refl;
+  sized = length-replicate {A = ℕ} 2049 0;
+  full = λ index below. absurd (omega (arith, below));
 }
 P
 cat > proofs/Filling.antt <<'P'
@@ -457,6 +548,7 @@ written s p word value filled above = record {
   covered = filled.covered;
   below = filled.below;
   objects = unwritten s.words 0 p word value s.blocks filled.below above filled.objects;
+  full = filled.full;
 }
 
 pub one_more : (s : SegsState) (p : ℕ) → IsFilled s p → IsInSegment p → slice_index s.words p ≡ head
@@ -468,6 +560,7 @@ one_more s p filled lies is = record {
   covered = ap (with_run (object_at p)) filled.covered;
   below = last_run 0 p (p + 3) s.blocks filled.below (omega arith);
   objects = last_object s.words 0 p s.blocks filled.below filled.objects (record { count = refl; head = is; inside = lies });
+  full = filled.full;
 }
 
 pub later : (s : SegsState) (p q : ℕ) → IsFilled s p → p ≤ q → IsFilled s q
@@ -478,6 +571,7 @@ later s p q filled le = record {
   covered = filled.covered;
   below = raised 0 p q s.blocks filled.below le;
   objects = filled.objects;
+  full = filled.full;
 }
 
 pub none_yet : (s : SegsState) → IsLaid s 15 → IsFilled s 512
@@ -488,6 +582,7 @@ none_yet s l = record {
   covered = l.covered ∙ sym l.blocks;
   below = subst (IsAscending 0 512) (sym l.blocks) (omega arith);
   objects = subst (AreObjects s.words) (sym l.blocks) tt;
+  full = l.full;
 }
 P
 cat > proofs/Made.antt <<'P'
@@ -530,7 +625,7 @@ segment_cases : (ss : List Segment) (t s : Segment) → Contains (s ∷ ss) t �
 segment_cases ss t s (zero, within, is) = inl is
 segment_cases ss t s (suc k, within, is) = inr (k, omega arith, is)
 
-member : (from n : ℕ) (t : Segment) → Contains (laid from n) t → (i : ℕ) × (i < n) × (segment_at (from + 128 * i) ≡ t)
+pub member : (from n : ℕ) (t : Segment) → Contains (laid from n) t → (i : ℕ) × (i < n) × (segment_at (from + 128 * i) ≡ t)
 member from zero t (k, within, is) = absurd (omega (arith, within))
 member from (suc n) t there =
     elim (segment_cases (laid (from + 128) n) t (segment_at from) there) [
@@ -592,6 +687,42 @@ can_apply s p pool filled fits = record {
     );
 }
 P
+cat > proofs/Full.antt <<'P'
+-- What a segment has is summed where the summaries have all zones, and they have all zones after a transform was applied.
+use Rattle.std.proofs.Common.{ℕ, ◌+◌, ◌*◌, ◌-◌, ◌^◌, ◌<◌, ◌≡◌, true, Option, List, Contains, length, sym, ap, ◌∙◌, subst, arith}
+use Rattle.std.specs.Prelude.{slice_index}
+use Rattle.std.proofs.lemmas.Nat.Bits.{bit_at_ones}
+use Rattle.mps_base.specs.Address.{Address, address_of_grain, grain_of, zone_of}
+use Rattle.mps_base.specs.Segment.{Segment}
+use Rattle.mps_base.specs.Zones.{zones_meet, zone_bit}
+use Rattle.mps_format.specs.Layout.{Layout}
+use Rattle.mps_seg.specs.Segs.{SegsState}
+use Rattle.mps_xform.specs.Applying.{after_apply}
+use Rattle.mps_xform.specs.Summed.{AreBlocksSummed}
+use Rattle.mps_xform.proofs.Noting.{pass_keeps, same_segments}
+use Rattle.mps_xform.proofs.Zones.{has_zone}
+use Rattle.apply_times.specs.Filled.{AreFull, IsFilled, segment_at}
+use Rattle.apply_times.proofs.Applying.{member}
+
+pub are_full : (s : SegsState) (p : ℕ) → IsFilled s p → AreFull s
+are_full s p filled t zone there low =
+    let m = member 1 15 t (subst (λ ss. Contains ss t) filled.segments there) in
+    let P : Segment → Type 0 = λ x. zones_meet (zone_bit zone) (slice_index s.summaries (grain_of x.base)) ≡ true in
+    let grain : 1 + 128 * m.0 ≡ grain_of (address_of_grain (1 + 128 * m.0)) = omega arith in
+    let is = sym (ap (λ g. slice_index s.summaries g) grain) ∙ filled.full m.0 m.1 in
+    let Q : ℕ → Type 0 = λ zones. zones_meet (zone_bit zone) zones ≡ true in
+    subst P m.2 (subst Q (sym is) (has_zone (2 ^ 64 - 1) zone (bit_at_ones 64 zone low)))
+
+pub full_summed : (f : Layout) (s : SegsState) (pool : ℕ) → AreFull s → AreBlocksSummed f s pool
+full_summed f s pool full t r there of_pool listed above below k few reference some =
+    full t (zone_of (f.target (slice_index s.words (r.from + k)))) there (omega arith)
+
+pub full_still : (f : Layout) (to : Address → Option Address) (s : SegsState) (pool : ℕ) → AreFull s → AreFull (after_apply f to s pool)
+full_still f to s pool full t zone there low =
+    let kept = pass_keeps f to s pool (length s.words) in
+    let was = let P : List Segment → Type 0 = λ ts. Contains ts t in subst P (same_segments kept) there in
+    kept.zones (grain_of t.base) zone (full t zone was low)
+P
 cat > proofs/lay/Invariants.antt <<'P'
 use Rattle.std.proofs.Common.{◌+◌, ◌≤◌}
 use Rattle.apply_times.specs.Filled.{IsLaid}
@@ -601,10 +732,15 @@ abbrev pub invariant-loop-index : goal.invariant-loop-index
 invariant-loop-index l = record { laid : IsLaid l.segs l.index; fits : 15 ≤ l.trail.spare + l.index }
 P
 cat > proofs/lay/Answers.antt <<'P'
-use Rattle.std.proofs.Common.{◌<◌, sym, subst, arith}
+use Rattle.std.proofs.Common.{◌<◌, ap, sym, subst, arith}
 use Rattle.apply_times.specs.Filled.{IsLaid}
-use Rattle.apply_times.proofs.Laying.{laid_next, none_laid, spare_next}
+use Rattle.apply_times.proofs.Laying.{begins_at, laid_next, none_laid, spare_next}
 use Rattle.apply_times.proofs.lay.Goals as goal
+
+pub set_summary-requires : goal.set_summary-requires
+set_summary-requires c =
+    let begins = begins_at c.loop-index.segs c.loop-index.index c.in_ok-base.base c.loop-index.invariant.laid c.loop-index-test.true c.in_ok-base.ensures.value in
+    omega (arith, begins, c.loop-index-test.true, ap (λ x. x.grains) c.take.ensures.state, c.loop-index.invariant.laid.grains)
 
 pub loop-index-init : goal.loop-index-init
 loop-index-init c = record {
@@ -617,7 +753,10 @@ loop-index-preserved c =
     let few : c.loop-index.index < 15 = c.loop-index-test.true in
     let spare = spare_next c.loop-index.segs c.loop-index.trail c.take.new.trail c.loop-index.index c.loop-index.invariant.laid few c.take.ensures.moves in
     record {
-      laid = laid_next c.loop-index.segs c.take.new.self c.loop-index.index _ _ c.loop-index.invariant.laid few c.take.ensures.state;
+      laid = laid_next c.loop-index.segs c.take.new.self c.set_summary.new.self c.loop-index.index c.in_ok-base.base.0 _
+          c.loop-index.invariant.laid few
+          (begins_at c.loop-index.segs c.loop-index.index c.in_ok-base.base c.loop-index.invariant.laid few c.in_ok-base.ensures.value)
+          c.take.ensures.state c.set_summary.ensures;
       fits = omega (arith, spare, few, c.loop-index.invariant.fits);
     }
 P
@@ -692,12 +831,16 @@ cat > proofs/fill/Answers.antt <<'P'
 use Rattle.std.proofs.Common.{arith}
 use Rattle.apply_times.specs.Filled.{begin}
 use Rattle.apply_times.proofs.Applying.{can_apply}
+use Rattle.apply_times.proofs.Full.{are_full}
 use Rattle.apply_times.proofs.fill.Goals as goal
 
-pub returns : goal.returns
-returns c = λ pool.
+pub returns-clause-can : goal.returns-clause-can
+returns-clause-can c = λ pool.
     can_apply c.loop-index.segs (begin c.loop-index.index) pool c.loop-index.invariant
     (omega (arith, c.loop-index.auto.index-end, c.requires.few))
+
+pub returns-clause-full : goal.returns-clause-full
+returns-clause-full c = are_full c.loop-index.segs (begin c.loop-index.index) c.loop-index.invariant
 P
 cat > proofs/add_pairs/Invariants.antt <<'P'
 use Rattle.std.proofs.Common.{◌≡◌, ◌%◌, true}
@@ -713,11 +856,23 @@ invariant-loop-number l = record {
 }
 P
 cat > proofs/apply/Answers.antt <<'P'
+use Rattle.std.proofs.Common.{subst, sym}
 use Rattle.mps_format.specs.Front.{front_layout}
+use Rattle.mps_xform.specs.State.{new_address}
+use Rattle.apply_times.specs.Filled.{AreFull}
+use Rattle.apply_times.proofs.Full.{full_still, full_summed}
 use Rattle.apply_times.proofs.apply.Goals as goal
 
 pub apply-requires-clause-can : goal.apply-requires-clause-can
 apply-requires-clause-can c = c.requires.can 0
+
+pub apply-requires-clause-summed : goal.apply-requires-clause-summed
+apply-requires-clause-summed c = full_summed front_layout c.args.segs.now 0 c.requires.full
+
+pub returns-clause-full : goal.returns-clause-full
+returns-clause-full c =
+    subst AreFull (sym c.apply.ensures.state)
+    (full_still front_layout (new_address c.args.transforms.now c.args.transform) c.args.segs.now 0 c.requires.full)
 
 pub returns-clause-can : goal.returns-clause-can
 returns-clause-can c = λ pool. c.apply.ensures.again front_layout pool (c.requires.can pool)
@@ -728,12 +883,14 @@ use Rattle.std.specs.List.{All}
 use Rattle.mps_base.specs.Address.{bytes_of_word}
 use Rattle.mps_format.specs.Front.{front_layout}
 use Rattle.mps_xform.specs.Applying.{CanApply}
+use Rattle.apply_times.specs.Filled.{AreFull}
 use Rattle.apply_times.proofs.time.Given as goal
 
 abbrev pub invariant-loop : goal.invariant-loop
 invariant-loop l = record {
   aligned : All (λ p. p.new.0 % bytes_of_word ≡ 0) l.transforms.pairs;
   can : (pool : ℕ) → CanApply front_layout l.segs pool;
+  full : AreFull l.segs;
 }
 P
 rt run
