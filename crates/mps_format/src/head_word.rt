@@ -65,8 +65,10 @@ pub fn target_of_forwarded(mem: &[u64]) -> Option<Addr>
 {
     let head = *mem.first()?;
     let size = size_of_head(head);
-    let whole = 2 <= size && size <= MAX_WORDS && size as usize <= mem.len();
-    if whole && head == FORWARDED + 0x100 * u64::from(size) {
+    if head != FORWARDED + 0x100 * u64::from(size) {
+        return None;
+    }
+    if 2 <= size && size <= MAX_WORDS && size as usize <= mem.len() {
         Some(Addr(mem[1]))
     } else {
         None

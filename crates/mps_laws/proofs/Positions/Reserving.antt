@@ -19,10 +19,6 @@ use Rattle.mps_laws.proofs.Positions.LaidOut.{IsLaidOut, IsRightShape, IsRightPo
 use Rattle.mps_laws.proofs.Positions.Making.{blocks_kept, new_run, new_pool, new_rank, right_shapes, more_lengths}
 use Rattle.mps_laws.proofs.Positions.Segments.{IsAmong}
 
-abbrev is_block : Occupant → Bool
-is_block (OfBlock id) = true
-is_block _ = false
-
 abbrev is_reservation : Occupant → Bool
 is_reservation (OfReservation point) = true
 is_reservation _ = false
