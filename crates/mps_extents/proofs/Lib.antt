@@ -9,6 +9,7 @@ pub mod ExtentLengths
 pub mod FirstRun
 pub mod LostRuns
 pub mod LowestGap
+pub mod Moved
 pub mod NewTables
 pub mod Passing
 pub mod PutExtent

@@ -10,7 +10,7 @@ use Rattle.mps_extents.specs.Extents.{ExtentLists, AreWhole}
 use Rattle.mps_extents.specs.declared.extents.Extents.TheInside.{Inside}
 use Rattle.mps_extents.specs.Inside.{either, extents, lists_of, AreSoundTables, AreApart, IsTally}
 use Rattle.mps_extents.specs.Lost.{lost_runs, frees, freed_at, passing, begins_lost}
-use Rattle.mps_extents.proofs.EitherBits.{begins_of, length-either}
+use Rattle.mps_extents.proofs.EitherBits.{begins_of}
 use Rattle.mps_extents.proofs.Counts.{set_bits}
 use Rattle.mps_extents.proofs.Tally.{blocks_ascend}
 use Rattle.mps_extents.proofs.LostRuns.{lost_ascends, lost_member}

@@ -129,6 +129,25 @@ impl Extents {
         self.live_words -= words;
     }
 
+    /// The block of `words` words that begins at `from` begins at `to` from now on, on words that nothing else covers. There are as many
+    /// blocks as before, with as many words.
+    #[inline(always)]
+    pub fn move_block(&mut self, from: usize, to: usize, words: usize)
+        requires nonzero { 0 < words }
+        requires block { Contains self.old.blocks (record { from = from; count = words }) }
+        requires free { IsAscending 0 self.old.size (with_run (record { from = to; count = words }) (without_run from self.old.covered)) }
+        ensures { self.new ≡ record self.old {
+          covered = with_run (record { from = to; count = words }) (without_run from self.old.covered);
+          blocks = with_run (record { from = to; count = words }) (without_run from self.old.blocks);
+        } }
+    {
+        self.covered.clear_range(from, from + words);
+        self.blocks.clear(from);
+        self.covered.set_range(to, to + words);
+        self.ends.end_run(to, to + words); // its only end
+        self.blocks.set(to);
+    }
+
     /// How many blocks there are.
     pub fn live_blocks(&self) -> usize
         ensures { result ≡ length self.now.blocks }
