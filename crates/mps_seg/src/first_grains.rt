@@ -26,5 +26,8 @@ pub(crate) fn allow_any_gap(firsts: &[u32], bounds: &mut GapBounds, at: Addr)
     requires in_bounds { first_at firsts.now at.0 < length bounds.old }
     ensures { bounds.new ≡ with_any_gap firsts.now bounds.old at.0 }
 {
-    bounds.set(firsts[at.grain()] as usize, u32::MAX);
+    let first = firsts[at.grain()] as usize;
+    if bounds.at(first) != u32::MAX {
+        bounds.set(first, u32::MAX);
+    }
 }

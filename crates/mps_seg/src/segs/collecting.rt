@@ -147,6 +147,7 @@ impl Segs {
     }
 
     /// The collection keeps the block at `at`.
+    #[inline(always)]
     pub fn keep(&mut self, at: Addr)
         requires { word_of at.0 < words_of_grain * (self.old.grains + 1) }
         ensures { self.new ≡ keeping self.old at.0 }
@@ -155,6 +156,7 @@ impl Segs {
     }
 
     /// Whether the collection keeps the block at `at`.
+    #[inline(always)]
     pub fn is_kept(&self, at: Addr) -> bool
         requires { word_of at.0 < words_of_grain * (self.now.grains + 1) }
         ensures { result ≡ is_kept_at self.now at.0 }
@@ -195,6 +197,7 @@ impl Segs {
     }
 
     /// Keeps the block at `at` where it lies. It is grey.
+    #[inline(always)]
     pub fn keep_in_place(&mut self, at: Addr)
         requires { word_of at.0 < words_of_grain * (self.old.grains + 1) }
         ensures { self.new ≡ kept_in_place self.old at.0 }
@@ -225,6 +228,7 @@ impl Segs {
     }
 
     /// The block at `at` is grey no longer.
+    #[inline(always)]
     pub fn blacken(&mut self, at: Addr)
         requires { word_of at.0 < words_of_grain * (self.old.grains + 1) }
         ensures { self.new ≡ blackening self.old at.0 }
@@ -233,6 +237,7 @@ impl Segs {
     }
 
     /// The zones to which references in the segment at `base` may lead.
+    #[inline(always)]
     pub fn summary(&self, base: Addr) -> ZoneSet
         requires { grain_of base.0 ≤ self.now.grains }
         ensures { result.0 ≡ summary_at self.now base.0 }
@@ -249,6 +254,7 @@ impl Segs {
     }
 
     /// Sets the summary of the segment at `base`, as a scan of all its blocks may do that found the zones of all its references.
+    #[inline(always)]
     pub fn set_summary(&mut self, base: Addr, zones: ZoneSet)
         requires { grain_of base.0 ≤ self.old.grains }
         ensures { self.new ≡ summarizing self.old base.0 zones.0 }
@@ -257,6 +263,7 @@ impl Segs {
     }
 
     /// Notes that a reference to `target` was stored at `holder`: the summary of the segment over `holder` gains the zone of the target.
+    #[inline(always)]
     pub fn note_write(&mut self, holder: Addr, target: Addr)
         ensures { self.new ≡ noting self.old holder.0 target.0 }
     {
@@ -266,6 +273,7 @@ impl Segs {
     }
 
     /// A grey block of a segment of a rank; None if there is none. Which one it is is open.
+    #[inline(always)]
     pub fn next_grey(&mut self, rank: Rank) -> Option<Addr>
         ensures unchanged { self.new ≡ self.old }
         ensures sound { IfSome result (λ at. bit (grey_of rank self.old.marks) (word_of at.0) ≡ true) }

@@ -13,6 +13,7 @@ use mps_base::Addr;
 impl Segs {
     /// Moves the block of `words` words at `at` to words that no block and no reservation covers, where it is grey. No mark of it is
     /// left at `at`, but its words are, until something covers them.
+    #[inline(always)]
     pub fn move_block(&mut self, at: Addr, to: Addr, words: u32)
         requires nonzero { 0 < words }
         requires block { IsBlockOf self.old at.0 words }
