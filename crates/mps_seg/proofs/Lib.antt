@@ -21,6 +21,7 @@ pub mod OpenWords
 pub mod PartCovered
 pub mod Placements
 pub mod Reclaimed
+pub mod Rehousing
 pub mod Reopening
 pub mod Seen
 pub mod Sweeping

@@ -1,13 +1,16 @@
 // A block moves.
 #![tactic(auto)]
 
-ghost use Rattle.std.specs.Prelude.{◌≡◌, ℕ, ◌+◌, ◌<◌};
-ghost use Rattle.mps_base.specs.Address.{word_of};
+ghost use Rattle.std.specs.Prelude.{◌≡◌, ℕ, ◌+◌, ◌*◌, ◌<◌, ◌≤◌};
+ghost use Rattle.mps_base.specs.Address.{word_of, words_of_grain};
+ghost use Rattle.mps_base.specs.Run.{with_run, without_run};
 ghost use Rattle.mps_arena.specs.Arena.{copied_words};
+ghost use Rattle.mps_marks.specs.Marks.{without_marks};
 ghost use Rattle.mps_seg.specs.Segs.{CanCover, LiesIn, held_runs};
 ghost use Rattle.mps_seg.specs.Moving.{IsBlockOf, run_at, moved_to};
 
 use super::Segs;
+use crate::first_grains::allow_any_gap;
 use mps_base::Addr;
 
 impl Segs {
@@ -26,9 +29,29 @@ impl Segs {
             → CanCover self.new (record { from = word_of to.0 + words; count = rest }) }
     {
         let _ = self.grains();
-        self.drop_block(at, words);
-        self.commit_block(to, words);
+        self.rehouse(at, to, words);
         self.copy(at, to, words);
         self.set_grey(to);
+    }
+
+    /// The block of `words` words at `at` is at `to` from now on, on words that no block and no reservation covers. No mark of it is left.
+    /// The words themselves are as they were.
+    #[inline(always)]
+    fn rehouse(&mut self, at: Addr, to: Addr, words: u32)
+        requires nonzero { 0 < words }
+        requires block { IsBlockOf self.old at.0 words }
+        requires free { CanCover self.old (run_at to.0 words) }
+        ensures state { self.new ≡ record self.old {
+          covered = with_run (run_at to.0 words) (without_run (word_of at.0) self.old.covered);
+          blocks = with_run (run_at to.0 words) (without_run (word_of at.0) self.old.blocks);
+          marks = without_marks (word_of at.0) self.old.marks;
+        } }
+        ensures held { LiesIn (held_runs self.new) (run_at at.0 words) }
+        ensures within { word_of at.0 + words ≤ words_of_grain * (self.new.grains + 1) }
+    {
+        self.extents
+            .move_block(at.word(), to.word(), words as usize);
+        self.marks.clear(at.word());
+        allow_any_gap(&self.firsts, &mut self.bounds, at);
     }
 }

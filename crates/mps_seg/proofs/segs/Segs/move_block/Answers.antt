@@ -1,6 +1,6 @@
 use Rattle.std.proofs.Common.{ℕ, ◌≡◌, ◌+◌, ◌-◌, length, sym, ap, subst, arith}
 use Rattle.mps_base.specs.Address.{word_of}
-use Rattle.mps_base.specs.Run.{with_run}
+use Rattle.mps_base.specs.Run.{with_run, without_run}
 use Rattle.mps_seg.specs.Moving.{run_at}
 use Rattle.mps_seg.specs.Segs.{SegsState, CanCover, IsOpenRun, held_runs}
 use Rattle.mps_seg.proofs.OpenWords.{open_bounds}
@@ -8,60 +8,38 @@ use Rattle.mps_seg.proofs.PartCovered.{rest_is_open}
 use Rattle.mps_seg.proofs.Reopening.{open_after_without}
 use Rattle.mps_seg.proofs.segs.Segs.move_block.Goals as goal
 
-pub commit_block-requires-clause-free : goal.commit_block-requires-clause-free
-commit_block-requires-clause-free c =
-    let s = c.args.self.now in
-    let r = run_at c.args.to.0 c.args.words in
-    let P : SegsState → Type 0 = λ x. CanCover x r in
-    subst P (sym c.drop_block.ensures.state)
-    (open_after_without s.grains (held_runs s) s.covered r (word_of c.args.at.0) c.requires.free)
-
 pub returns-clause-rest : goal.returns-clause-rest
 returns-clause-rest c = λ rest some free.
     let s = c.args.self.now in
-    let dropped = c.drop_block.new.self in
     let n = c.args.words in
     let whole = run_at c.args.to.0 (n + rest) in
-    let W : SegsState → Type 0 = λ x. CanCover x whole in
-    let open_whole : CanCover dropped whole =
-    subst W (sym c.drop_block.ensures.state)
-    (open_after_without s.grains (held_runs s) s.covered whole (word_of c.args.at.0) free)
-    in
-    let open_rest =
-    rest_is_open whole n c.requires.nonzero dropped.grains (held_runs dropped) dropped.covered open_whole
-    (omega (arith, some))
-    in
+    let covered = without_run (word_of c.args.at.0) s.covered in
+    let open_whole = open_after_without s.grains (held_runs s) s.covered whole (word_of c.args.at.0) free in
+    let open_rest = rest_is_open whole n c.requires.nonzero s.grains (held_runs s) covered open_whole (omega (arith, some)) in
     let counted : n + rest - n ≡ rest = omega arith in
     let Q : ℕ → Type 0 =
-    λ k. IsOpenRun dropped.grains (held_runs dropped) (with_run (run_at c.args.to.0 n) dropped.covered)
-    (record { from = word_of c.args.to.0 + n; count = k })
+    λ k. IsOpenRun s.grains (held_runs s) (with_run (run_at c.args.to.0 n) covered) (record { from = word_of c.args.to.0 + n; count = k })
     in
     let R : SegsState → Type 0 = λ x. CanCover x (record { from = word_of c.args.to.0 + n; count = rest }) in
-    subst R (sym c.set_grey.ensures)
-    (subst R (sym c.copy.ensures) (subst R (sym c.commit_block.ensures) (subst Q counted open_rest)))
+    subst R (sym c.set_grey.ensures) (subst R (sym c.copy.ensures) (subst R (sym c.rehouse.ensures.state) (subst Q counted open_rest)))
 
 pub copy-requires-clause-from_in_arena : goal.copy-requires-clause-from_in_arena
 copy-requires-clause-from_in_arena c =
-    let x = c.drop_block.new.self in
-    let bounds = open_bounds x.grains (held_runs x) x.covered (run_at c.args.at.0 c.args.words) c.drop_block.ensures.free in
-    let long = ap (λ (y : SegsState). length y.words) c.commit_block.ensures in
-    let long' = ap (λ (y : SegsState). length y.words) c.drop_block.ensures.state in
-    let same = ap (λ (y : SegsState). y.grains) c.drop_block.ensures.state in
-    omega (arith, bounds, long, long', same, c.grains.ensures.size)
+    let long = ap (λ (y : SegsState). length y.words) c.rehouse.ensures.state in
+    let same = ap (λ (y : SegsState). y.grains) c.rehouse.ensures.state in
+    omega (arith, c.rehouse.ensures.within, long, same, c.grains.ensures.size)
 
 pub copy-requires-clause-to_in_arena : goal.copy-requires-clause-to_in_arena
 copy-requires-clause-to_in_arena c =
     let s = c.args.self.now in
     let bounds = open_bounds s.grains (held_runs s) s.covered (run_at c.args.to.0 c.args.words) c.requires.free in
-    let long = ap (λ (y : SegsState). length y.words) c.commit_block.ensures in
-    let long' = ap (λ (y : SegsState). length y.words) c.drop_block.ensures.state in
-    omega (arith, bounds, long, long', c.grains.ensures.size)
+    let long = ap (λ (y : SegsState). length y.words) c.rehouse.ensures.state in
+    omega (arith, bounds, long, c.grains.ensures.size)
 
 pub set_grey-requires : goal.set_grey-requires
 set_grey-requires c =
     let s = c.args.self.now in
     let bounds = open_bounds s.grains (held_runs s) s.covered (run_at c.args.to.0 c.args.words) c.requires.free in
     let same = ap (λ (x : SegsState). x.grains) c.copy.ensures in
-    let same' = ap (λ (x : SegsState). x.grains) c.commit_block.ensures in
-    let same'' = ap (λ (x : SegsState). x.grains) c.drop_block.ensures.state in
-    omega (arith, bounds, same, same', same'', c.requires.nonzero)
+    let same' = ap (λ (x : SegsState). x.grains) c.rehouse.ensures.state in
+    omega (arith, bounds, same, same', c.requires.nonzero)
