@@ -84,6 +84,7 @@ impl Amc {
 
     /// Keeps the block at `at`, which isn't kept yet: it moves to a generation of its pool, or if there is no room it stays. Returns
     /// where it then lies. It is grey.
+    #[inline(always)]
     pub fn keep<F: Format>(
         &mut self,
         segs: &mut Segs,
@@ -142,6 +143,7 @@ impl Amc {
     }
 
     /// Keeps a block of `words` words, as `keep` does.
+    #[inline(always)]
     fn keep_block<F: Format>(
         &mut self,
         segs: &mut Segs,
@@ -185,6 +187,7 @@ impl Amc {
 }
 
 /// Where the block has moved that was at `at`; None if no forwarded block begins there.
+#[inline(always)]
 pub fn forwarded_from<F: Format>(segs: &Segs, format: &F, at: Addr) -> Option<Addr>
     requires held { (t : Segment) × (segment_over segs.now.segments at.0 ≡ Some t) }
     ensures sound { IfSome result (λ to. IsForwarded (F.layout format.now) segs.now.words at.0 to.0) }

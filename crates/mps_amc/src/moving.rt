@@ -12,6 +12,7 @@ use mps_format::Format;
 use mps_seg::Segs;
 
 /// Moves the block of `words` words at `at` to free words, where it is grey, and leaves a forwarded block.
+#[inline(always)]
 pub(crate) fn move_block<F: Format>(segs: &mut Segs, format: &F, at: Addr, to: Addr, words: u32)
     requires aligned { at.0 % bytes_of_word ≡ 0 }
     requires stands { BlockStands (F.layout format.now) segs.old.words at.0 words }
@@ -28,6 +29,7 @@ pub(crate) fn move_block<F: Format>(segs: &mut Segs, format: &F, at: Addr, to: A
 }
 
 /// Leaves a forwarded block in place of the block of `words` words at `at`.
+#[inline(always)]
 fn forward_block<F: Format>(segs: &mut Segs, format: &F, at: Addr, words: u32, to: Addr)
     requires aligned { at.0 % bytes_of_word ≡ 0 }
     requires held { LiesIn (held_runs segs.old) (run_at at.0 1) }
@@ -45,6 +47,7 @@ fn forward_block<F: Format>(segs: &mut Segs, format: &F, at: Addr, words: u32, t
 }
 
 /// Leaves a forwarded block in place of the block that the first `words` words are.
+#[inline(always)]
 fn forward_first<F: Format>(format: &F, memory: &mut [u64], words: u32, to: Addr)
     requires whole { words ≤ length memory.old }
     requires block { IsBlock (F.layout format.now) (take words memory.old) }
