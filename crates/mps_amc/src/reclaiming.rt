@@ -47,6 +47,9 @@ fn pad_around<F: Format>(segs: &mut Segs, format: &F, base: Addr, end: Addr)
     ensures words { ArePadded (F.layout format.now) (word_of base.0) (word_of end.0)
         (runs_within (word_of base.0) (word_of end.0) segs.old.blocks) segs.old.words segs.new.words }
 {
+    if segs.is_full(base, end) {
+        return;
+    }
     let _ = segs.grains();
     let mut from = base;
     while let Some(Block { at, words }) = segs.next_block(base, from, end) {

@@ -2,6 +2,7 @@ pub mod ApartRuns
 pub mod BitRuns
 pub mod ContainedRuns
 pub mod Counts
+pub mod Dense
 pub mod Dropping
 pub mod EitherBits
 pub mod ExtentBits

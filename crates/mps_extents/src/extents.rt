@@ -1,9 +1,9 @@
 // Which words are covered, as tables of bits.
 #![tactic(auto)]
 
-ghost use Rattle.std.specs.Prelude.{◌≡◌, ℕ, ◌+◌, ◌^◌, ◌<◌, ◌≤◌, [], length, IfOk, IfSome, IfNone, Contains};
+ghost use Rattle.std.specs.Prelude.{◌≡◌, ℕ, ◌+◌, ◌^◌, ◌<◌, ◌≤◌, true, [], length, IfOk, IfSome, IfNone, Contains};
 ghost use Rattle.mps_base.specs.Run.{Run, IsAscending, with_run, without_run, gaps, lowest_fitting, runs_within, total};
-ghost use Rattle.mps_extents.specs.Extents.{ExtentLists, nothing_covered, run_over, first_run, IsFirstWithin, AreWhole};
+ghost use Rattle.mps_extents.specs.Extents.{ExtentLists, nothing_covered, is_covered, run_over, first_run, IsFirstWithin, AreWhole};
 ghost use Rattle.mps_extents.specs.Inside.{lower_of};
 
 mod sweeping;
@@ -224,6 +224,22 @@ impl Extents {
         let block = self.blocks.next_set_below(low, high);
         let open = self.opens.next_set_below(low, high);
         lower_of(block, open)
+    }
+
+    /// Whether blocks have all words from `low` on and below `high`: none of these is free, and no reservation begins there.
+    pub fn are_dense(&self, low: usize, high: usize) -> bool
+        requires ordered { low ≤ high }
+        requires in_table { high ≤ self.now.size }
+        requires whole { AreWhole low high self.now.covered }
+        ensures sound { result ≡ true
+            → (word : ℕ) → low ≤ word → word < high → is_covered (runs_within low high self.now.blocks) word ≡ true }
+        ensures complete { ((word : ℕ) → low ≤ word → word < high → is_covered (runs_within low high self.now.blocks) word ≡ true)
+            → result ≡ true }
+    {
+        if self.opens.next_set_below(low, high).is_some() {
+            return false;
+        }
+        self.covered.lowest_clear_run(low, high, 1).is_none()
     }
 
     /// Where the lowest gap of at least `words` words begins among the words from `low` on and below `high`.

@@ -24,6 +24,7 @@ pub mod Reclaimed
 pub mod Rehousing
 pub mod Reopening
 pub mod Seen
+pub mod Spans
 pub mod Sweeping
 pub mod SegmentOver
 pub mod Taking

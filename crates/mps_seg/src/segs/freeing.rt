@@ -1,11 +1,12 @@
 // The blocks of a segment that a collection didn't keep are freed.
 #![tactic(auto)]
 
-ghost use Rattle.std.specs.Prelude.{◌≡◌, ◌+◌, ◌*◌, ◌%◌, ◌^◌, ◌<◌, ◌≤◌, true, false, Some, [], ◌∷◌, length, IfSome, IfNone, Contains};
+ghost use Rattle.std.specs.Prelude.{◌≡◌, ℕ, ◌+◌, ◌*◌, ◌%◌, ◌^◌, ◌<◌, ◌≤◌, true, false, Some, [], ◌∷◌, length, IfSome, IfNone, Contains};
 ghost use Rattle.mps_base.specs.Address.{word_of, bytes_of_word};
 ghost use Rattle.mps_base.specs.Run.{runs_within};
 ghost use Rattle.mps_base.specs.Segment.{Segment, segment_over};
 ghost use Rattle.mps_bits.specs.Table.{bit};
+ghost use Rattle.mps_extents.specs.Extents.{is_covered};
 ghost use Rattle.mps_extents.specs.Lost.{lost_runs};
 ghost use Rattle.mps_marks.specs.Marks.{without_marks};
 ghost use Rattle.mps_seg.specs.Moving.{run_at};
@@ -43,6 +44,17 @@ impl Segs {
         clear_lost(&self.extents, &mut self.marks, low, high);
         allow_any_gap(&self.firsts, &mut self.bounds, base);
         self.extents.drop_lost(self.marks.kept(), low, high, trail);
+    }
+
+    /// Whether blocks have all words of the segment at `base`, which ends at `end`. 64 words are one step.
+    pub fn is_full(&self, base: Addr, end: Addr) -> bool
+        requires { IsSpan self.now base.0 end.0 }
+        ensures sound { result ≡ true → (word : ℕ) → word_of base.0 ≤ word → word < word_of end.0
+            → is_covered (runs_within (word_of base.0) (word_of end.0) self.now.blocks) word ≡ true }
+        ensures complete { ((word : ℕ) → word_of base.0 ≤ word → word < word_of end.0
+            → is_covered (runs_within (word_of base.0) (word_of end.0) self.now.blocks) word ≡ true) → result ≡ true }
+    {
+        self.extents.are_dense(base.word(), end.word())
     }
 
     /// The lowest block of the segment at `base` that begins at `from` or above. The segment ends at `end`.

@@ -1,0 +1,138 @@
+-- Blocks have all words of a range exactly if none of these is free and no reservation begins there.
+use Rattle.std.proofs.Common.{ℕ, ◌+◌, ◌-◌, ◌<◌, ◌≤◌, ◌≡◌, ◌||◌, Bool, true, false, not, Option, Some, None, List, length, Contains, refl, sym, ap, ◌∙◌, subst, inl, inr, is_some, arith}
+use Rattle.std.proofs.lemmas.Bool.{cases_Bool, both_ways, false_from_ne_true, false≢true}
+use Rattle.mps_base.proofs.Runs.{contained_bounds}
+use Rattle.mps_base.specs.Run.{Run, end_of, runs_within}
+use Rattle.mps_bits.proofs.Ranges.{clear_run_at, clear_run_from}
+use Rattle.mps_bits.proofs.Searches.{IsLowest, found, missing, lowest_cases, lowest_from_none}
+use Rattle.mps_bits.specs.Table.{bit, is_clear_run, lowest_clear_run, next_set_below}
+use Rattle.mps_extents.specs.Extents.{has_word, is_covered, AreWhole}
+use Rattle.mps_extents.specs.Inside.{either, extents, length_at, AreApart, AreSoundTables}
+use Rattle.mps_extents.proofs.ApartRuns.{apart_each, covered_by, covers_contained, has_word-parts}
+use Rattle.mps_extents.proofs.ContainedRuns.{begins_within, side_of}
+use Rattle.mps_extents.proofs.EitherBits.{bit-either, length-either, not_open}
+use Rattle.mps_extents.proofs.ExtentBits.{among_all, begin_of, extent_at}
+use Rattle.mps_extents.proofs.LowestGap.{contains_within}
+use Rattle.mps_extents.proofs.WrittenBits.{bit_within}
+
+pub none_of : (o : Option ℕ) → is_some o ≡ false → None ≡ o
+none_of None none = refl
+none_of (Some n) none = absurd (false≢true (sym none))
+
+pub known_none : (b : Bool) → false ≡ not b → b ≡ true
+known_none true is = refl
+known_none false is = absurd (false≢true is)
+
+none_set : (bits : List Bool) (low high : ℕ) → None ≡ next_set_below bits low high → (i : ℕ) → low ≤ i → i < high → bit bits i ≡ false
+unfolding next_set_below
+none_set bits low high none i above below =
+    elim (lowest_cases (bit bits) low (high - low)) [
+      | found index is lowest ↦ let never : None ≡ Some index = none ∙ is in cc
+      | missing is clear ↦ clear i above (omega (arith, above, below))
+    ]
+
+none_clear : (bits : List Bool) (low high : ℕ) → None ≡ lowest_clear_run bits low high 1 → (i : ℕ) → low ≤ i → i < high
+    → bit bits i ≡ true
+unfolding lowest_clear_run
+none_clear bits low high none i above below =
+    elim (lowest_cases (λ p. is_clear_run bits p 1) low (high + 1 - (low + 1))) [
+      | found index is lowest ↦ let never : None ≡ Some index = none ∙ is in cc
+      | missing is set ↦
+          elim (cases_Bool (bit bits i)) [
+            | inl here ↦ here
+            | inr clear ↦
+                let alone = clear_run_from bits i 1 (λ j from to. let e : j ≡ i = omega arith in ap (λ (k : ℕ). bit bits k) e ∙ clear) in
+                absurd (both_ways (is_clear_run bits i 1) (set i above (omega (arith, above, below))) alone)
+          ]
+    ]
+
+-- ---- what is found where blocks have all words
+
+pub no_set : (bits : List Bool) (low high : ℕ) → ((i : ℕ) → low ≤ i → i < high → bit bits i ≡ false) → next_set_below bits low high ≡ None
+unfolding next_set_below
+no_set bits low high clear = lowest_from_none (bit bits) low (high - low) (λ i above below. clear i above (omega (arith, above, below)))
+
+pub no_clear : (bits : List Bool) (low high : ℕ) → ((i : ℕ) → low ≤ i → i < high → bit bits i ≡ true)
+    → lowest_clear_run bits low high 1 ≡ None
+unfolding lowest_clear_run
+no_clear bits low high set =
+    lowest_from_none (λ p. is_clear_run bits p 1) low (high + 1 - (low + 1)) (λ p above below.
+    false_from_ne_true (is_clear_run bits p 1) (λ clear.
+    both_ways (bit bits p) (clear_run_at bits p 1 clear p (omega arith) (omega arith)) (set p above (omega (arith, above, below)))))
+
+module _
+    (covered opens ends blocks : List Bool) (low high : ℕ) (sound : AreSoundTables covered (either opens blocks) ends blocks)
+    (apart : AreApart opens blocks)
+    (all : (word : ℕ) → low ≤ word → word < high → is_covered (runs_within low high (extents blocks ends)) word ≡ true)
+  where
+    abbrev begun : List Bool
+    begun = either opens blocks
+
+    in_block : (word : ℕ) → low ≤ word → word < high → (r : Run) × Contains (extents blocks ends) r × (has_word r word ≡ true)
+    in_block word above below =
+        let over = covered_by (runs_within low high (extents blocks ends)) word (all word above below) in
+        (over.0, contains_within low high (extents blocks ends) over.0 over.1, over.2)
+
+    pub each_covered : (word : ℕ) → low ≤ word → word < high → bit covered word ≡ true
+    each_covered word above below =
+        let b = in_block word above below in
+        sound.covered_is word
+        ∙ covers_contained (extents begun ends) b.0 word (among_all begun blocks ends b.0 sound.blocks_begin b.1) b.2
+
+    pub none_opens : (word : ℕ) → low ≤ word → word < high → bit opens word ≡ false
+    none_opens word above below =
+        false_from_ne_true (bit opens word) (λ is.
+        let b = in_block word above below in
+        let r = b.0 in
+        let parts = has_word-parts r word b.2 in
+        let begins_there : bit begun word ≡ true =
+        bit-either opens blocks word (bit_within opens word is) ∙ ap (λ (x : Bool). x || bit blocks word) is
+        in
+        let q : Run = record { from = word; count = length_at ends word } in
+        let there = extent_at begun ends word begins_there in
+        let own = among_all begun blocks ends r sound.blocks_begin b.1 in
+        let some = (contained_bounds 0 (length begun) (extents begun ends) q sound.ascending there).1 in
+        let same : r.from ≡ word =
+        elim (apart_each 0 (length begun) (extents begun ends) r q sound.ascending own there) [
+          | inl here ↦ here
+          | inr elsewhere ↦ elim elsewhere [
+            | inl before ↦ absurd (omega (arith, before, parts.1))
+            | inr after ↦ absurd (omega (arith, after, parts.0, some))
+          ]
+        ]
+        in
+        let block : bit blocks word ≡ true = ap (λ (i : ℕ). bit blocks i) (sym same) ∙ (begin_of blocks ends r b.1).0 in
+        both_ways (bit opens word) (not_open opens blocks word apart block) is)
+
+-- ---- what blocks have where nothing is found
+
+module _
+    (covered opens ends blocks : List Bool) (low high : ℕ) (sound : AreSoundTables covered (either opens blocks) ends blocks)
+    (whole : AreWhole low high (extents (either opens blocks) ends)) (no_open : None ≡ next_set_below opens low high)
+    (no_gap : None ≡ lowest_clear_run covered low high 1)
+  where
+    abbrev begins : List Bool
+    begins = either opens blocks
+
+    pub dense : (word : ℕ) → low ≤ word → word < high → is_covered (runs_within low high (extents blocks ends)) word ≡ true
+    dense word above below =
+        let over = covered_by (extents begins ends) word (sym (sound.covered_is word) ∙ none_clear covered low high no_gap word above below)
+        in
+        let r = over.0 in
+        let parts = has_word-parts r word over.2 in
+        let starts = begin_of begins ends r over.1 in
+        let inside : (low ≤ r.from) × (r.from < high) =
+        elim (side_of low high (extents begins ends) r whole over.1) [
+          | inl before ↦ absurd (omega (arith, before, parts.1, above))
+          | inr rest ↦ elim rest [ inl after ↦ absurd (omega (arith, after, parts.0, below)) | inr within ↦ within ]
+        ]
+        in
+        let place : r.from < length opens = omega (arith, bit_within begins r.from starts.0, length-either opens blocks) in
+        let either_is = sym (bit-either opens blocks r.from place) ∙ starts.0 in
+        let block : bit blocks r.from ≡ true =
+        ap (λ (b : Bool). b || bit blocks r.from) (sym (none_set opens low high no_open r.from inside.0 inside.1)) ∙ either_is
+        in
+        let Q : ℕ → Type 0 = λ n. Contains (extents blocks ends) (record { from = r.from; count = n }) in
+        let there : Contains (extents blocks ends) r = subst Q (sym starts.1) (extent_at blocks ends r.from block) in
+        covers_contained (runs_within low high (extents blocks ends)) r word
+        (begins_within low high (extents blocks ends) r there inside.0 inside.1) over.2
