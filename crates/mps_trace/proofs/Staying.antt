@@ -1,5 +1,5 @@
 -- A block that stays where it is notes nothing.
-use Rattle.std.proofs.Common.{ℕ, ◌==◌, ◌≡◌, Option, Some, None, List, bit_or, refl, sym, ap, ◌∙◌, subst}
+use Rattle.std.proofs.Common.{ℕ, ◌==◌, ◌≡◌, Option, Some, None, List, bit_or, refl, sym, ap, subst}
 use Rattle.std.proofs.lemmas.Bool.{cond-true, eq-eqb}
 use Rattle.std.specs.Prelude.{slice_index, slice_set}
 use Rattle.std.specs.Int.Bits.{or_self}

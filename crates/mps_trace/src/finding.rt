@@ -14,6 +14,7 @@ use mps_format::{Format, Policy};
 use mps_seg::{SegmentInfo, Segs};
 
 /// What is known of the segment over an address; None if the address lies in none.
+#[inline(always)]
 pub(crate) fn segment_at(segs: &Segs, at: Addr) -> Option<SegmentInfo>
     ensures found { (t : Segment) → segment_over segs.now.segments at.0 ≡ Some t → result ≡ Some (info_of segs.now t) }
     ensures over { IfSome result (λ info. (t : Segment) × (segment_over segs.now.segments at.0 ≡ Some t)) }
@@ -34,6 +35,7 @@ pub(crate) fn next_condemned(segs: &Segs, from: Addr) -> Option<Addr>
 }
 
 /// Where the block at `at` lies, which hasn't moved; None if it isn't kept.
+#[inline(always)]
 fn find_kept(segs: &Segs, at: Addr) -> Option<Addr>
     requires in_arena { word_of at.0 < words_of_grain * (segs.now.grains + 1) }
     ensures { result ≡ kept_at segs.now at }
@@ -42,6 +44,7 @@ fn find_kept(segs: &Segs, at: Addr) -> Option<Addr>
 }
 
 /// Where the block lies now that was at `at` in a condemned segment of a pool that moves its blocks; None if it is white.
+#[inline(always)]
 fn find_moved<F: Format>(segs: &Segs, format: &F, at: Addr) -> Option<Addr>
     requires held { (t : Segment) × (segment_over segs.now.segments at.0 ≡ Some t) }
     requires in_arena { word_of at.0 < words_of_grain * (segs.now.grains + 1) }
@@ -54,6 +57,7 @@ fn find_moved<F: Format>(segs: &Segs, format: &F, at: Addr) -> Option<Addr>
 }
 
 /// Where the block lies now that was at `at` in a condemned segment of a pool with this policy; None if it is white.
+#[inline(always)]
 pub(crate) fn find_in<F: Format>(segs: &Segs, policy: Policy<F>, at: Addr) -> Option<Addr>
     requires held { (t : Segment) × (segment_over segs.now.segments at.0 ≡ Some t) }
     requires in_arena { word_of at.0 < words_of_grain * (segs.now.grains + 1) }

@@ -184,7 +184,7 @@ impl<F: Format> Trace<F> {
     }
 
     /// Keeps the white block at `at` of a segment with this owner, as the policy of the pool says.
-    #[inline(always)]
+    #[inline(never)]
     fn keep_as(
         &mut self,
         segs: &mut Segs,
@@ -217,6 +217,7 @@ impl<F: Format> Trace<F> {
 
     /// Fixes a reference: returns the new address of the block at `at`. A block in a segment that isn't condemned stays; any other
     /// is fixed as its pool does.
+    #[inline(always)]
     pub fn fix(&mut self, segs: &mut Segs, trail: &mut Trail, at: Addr) -> Addr
         requires { CanFix F.layout self.old segs.old trail.old at }
         ensures fixed { FixesTo F.layout self.old.formats self.old.chains (traced self.old segs.old trail.old) at
@@ -240,6 +241,7 @@ impl<F: Format> Trace<F> {
 
     /// Fixes the reference in a cell of the block at `at`: the block to which it leads is fixed, and the cell leads to where that then
     /// lies. A null reference is left as it is.
+    #[inline(always)]
     fn fix_cell(&mut self, segs: &mut Segs, trail: &mut Trail, format: &F, at: Addr, cell: u32)
         requires aligned { at.0 % bytes_of_word ≡ 0 }
         requires inside { word_of at.0 + cell < length segs.old.words }
@@ -262,6 +264,7 @@ impl<F: Format> Trace<F> {
     }
 
     /// Fixes the references of the block at `at` with this head, in ascending order.
+    #[inline(always)]
     fn fix_cells(&mut self, segs: &mut Segs, trail: &mut Trail, format: &F, head: u64, at: Addr)
         requires aligned { at.0 % bytes_of_word ≡ 0 }
         requires valid { IsTrue ((F.layout format.now).is_valid head) }
@@ -280,6 +283,7 @@ impl<F: Format> Trace<F> {
     }
 
     /// The format of the objects in the segment over `at`, whose pool is automatic.
+    #[inline(always)]
     pub(crate) fn format_over(&self, segs: &Segs, at: Addr) -> F
         requires { (t : Segment) × (format : Policy F) × (segment_over segs.now.segments at.0 ≡ Some t)
             × (slice_get self.now.formats t.pool ≡ Some (Some format)) }
@@ -297,6 +301,7 @@ impl<F: Format> Trace<F> {
 
     /// Scans the block at `at`: each block to which it refers is fixed, its references lead to where these then lie, and it is grey no
     /// longer.
+    #[inline(always)]
     pub fn scan(&mut self, segs: &mut Segs, trail: &mut Trail, at: Addr)
         requires { CanScan F.layout self.old segs.old trail.old at }
         ensures scanned { Scanned F.layout self.old.formats self.old.chains (traced self.old segs.old trail.old) at
@@ -304,13 +309,14 @@ impl<F: Format> Trace<F> {
         ensures unchanged { self.new ≡ record self.old { amc = self.new.amc } }
     {
         let format = self.format_over(segs, at);
-        let head = segs.word(at);
+        let head = segs.held_word(at);
         self.fix_cells(segs, trail, &format, head, at);
         let _ = segs.grains(); // its words are those of the marks
         segs.blacken(at);
     }
 
     /// Scans one of the grey blocks that aren't weak, and returns whether there was one. Which one it is is open.
+    #[inline(always)]
     pub fn scan_next(&mut self, segs: &mut Segs, trail: &mut Trail) -> bool
         requires { CanScanGrey F.layout self.old segs.old trail.old }
         ensures scanned { result ≡ true → ScansOne F.layout self.old.formats self.old.chains (traced self.old segs.old trail.old)

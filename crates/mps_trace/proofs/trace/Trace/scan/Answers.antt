@@ -17,7 +17,7 @@ fix_cells-requires-clause-ready g c =
     let Q : ℕ → Type 0 =
     λ h. AreReadyIn g.F.Format.layout (g.F.Format.layout c.format_over-format.result) c.args.self.now s c.args.trail.now h c.args.at
     in
-    subst Q (sym c.word-head.ensures) (subst P (sym got_is) c.requires.ready)
+    subst Q (sym c.held_word-head.ensures) (subst P (sym got_is) c.requires.ready)
 
 pub returns-clause-scanned : goal.returns-clause-scanned
 returns-clause-scanned g c =
@@ -39,6 +39,6 @@ returns-clause-scanned g c =
       format = c.requires.format;
       listed = c.requires.listed;
       before = y;
-      all = subst P got_is (subst Q c.word-head.ensures c.fix_cells.ensures.all);
+      all = subst P got_is (subst Q c.held_word-head.ensures c.fix_cells.ensures.all);
       black = ap (λ (u : SegsState). let z : Traced = record y { segs = u } in z) c.blacken.ensures;
     }
