@@ -1,7 +1,7 @@
 // The units of a running collection.
 #![tactic(auto)]
 
-ghost use Rattle.std.specs.Prelude.{◌≡◌, ℕ, IfSome, IfNone};
+ghost use Rattle.std.specs.Prelude.{◌≡◌, ℕ, true, false, IfSome, IfNone};
 ghost use Rattle.mps_base.specs.declared.address.Addr.{Addr};
 ghost use Rattle.mps_trace.specs.Trace.{traced};
 ghost use Rattle.mps_final.specs.State.{FinalsState};
@@ -38,10 +38,40 @@ impl<F: Format> Trace<F> {
             (traced self.new segs.new trail.new) × (finals.new ≡ finals.old)) }
         ensures unchanged { self.new ≡ record self.old { amc = self.new.amc } }
     {
-        if self.scan_next(segs, trail) {
-            return Some(running);
+        let mut next = running;
+        if self.advance(segs, trail, finals, &mut next) {
+            Some(next)
+        } else {
+            None
         }
-        self.unit_once_drained(segs, trail, finals, running)
+    }
+
+    /// One unit, which brings up to date how far the collection is. False if the collection has ended.
+    #[inline(always)]
+    fn advance(
+        &mut self,
+        segs: &mut Segs,
+        trail: &mut Trail,
+        finals: &mut Finals,
+        running: &mut Running,
+    ) -> bool
+        requires { CanUnit F.layout self.old segs.old trail.old finals.old running.old }
+        ensures goes_on { result ≡ true → UnitTo F.layout self.old.formats self.old.chains (traced self.old segs.old trail.old)
+            finals.old running.old (traced self.new segs.new trail.new) finals.new running.new }
+        ensures ended { result ≡ false → LastUnitTo F.layout self.old.formats (traced self.old segs.old trail.old) running.old
+            (traced self.new segs.new trail.new) × (finals.new ≡ finals.old) }
+        ensures unchanged { self.new ≡ record self.old { amc = self.new.amc } }
+    {
+        if self.scan_next(segs, trail) {
+            return true;
+        }
+        match self.unit_once_drained(segs, trail, finals, *running) {
+            Some(next) => {
+                *running = next;
+                true
+            }
+            None => false,
+        }
     }
 
     /// One unit once no block is grey but weak ones.
@@ -120,9 +150,8 @@ impl<F: Format> Trace<F> {
     {
         let mut running = running;
         for _ in 0..most {
-            match self.unit(segs, trail, finals, running) {
-                Some(next) => running = next,
-                None => return None,
+            if !self.advance(segs, trail, finals, &mut running) {
+                return None;
             }
         }
         Some(running)
