@@ -12,6 +12,7 @@ pub mod Keeping
 pub mod Known
 pub mod Nailing
 pub mod Ordered
+pub mod OwnZones
 pub mod Remembering
 pub mod Registrations
 pub mod Rooted
