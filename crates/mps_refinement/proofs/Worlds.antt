@@ -5,6 +5,7 @@ pub mod RunningSteps
 pub mod RunningActs
 pub mod FlipKept
 pub mod Reached
+pub mod TimeKept
 pub mod Steps
 pub mod Known
 pub mod LaidWithin

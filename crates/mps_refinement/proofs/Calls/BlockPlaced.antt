@@ -35,7 +35,7 @@ use Rattle.mps_refinement.proofs.Parts.SegmentsTaken.{condemned_held, condemned_
 use Rattle.mps_refinement.proofs.Worlds.FlipKept.{flips_kept}
 use Rattle.mps_refinement.proofs.Worlds.Known.{IsKnown}
 use Rattle.mps_refinement.proofs.Worlds.Placing.{IsSameArena}
-use Rattle.mps_refinement.proofs.Worlds.Steps.{KeepsTime}
+use Rattle.mps_refinement.proofs.Worlds.TimeKept.{KeepsTime}
 use Rattle.mps_model.specs.declared.call.Call.{Call}
 
 -- ---- what was checked
@@ -130,7 +130,7 @@ module _ {F : Type 0} (layout : F → Layout) (past : Past) (h : HeapState F) (w
         (subst (λ (m : World). length m.addresses ≡ length m.graph.objects) (sym moved_is) own.formed.addresses) of_moved) of_moved)
 
     pub placed_keeps : act false w moved c ≡ done placed → HasLayout (w.grains + 1) placed
-        → KeepsTime layout past.time (collector_of h) w (collector_of (record h { segs = segs })) placed
+        → KeepsTime past.time (collector_of h) w (collector_of (record h { segs = segs })) placed
     placed_keeps comes after = record {
       rest = λ rest. rest;
       not_condemned = λ not_condemned grain. noted_clear q h.segs.condemned grain (not_condemned grain);

@@ -36,7 +36,8 @@ use Rattle.mps_refinement.specs.RightStep.{IsRightIn, step_of}
 use Rattle.mps_refinement.specs.StandsFor.{IsInTime, IsReached, Time, rests, runs, collector_of}
 use Rattle.mps_refinement.proofs.Worlds.Known.{IsKnown}
 use Rattle.mps_refinement.proofs.Worlds.RunningSteps.{IsOwnStep, placed_from_layout}
-use Rattle.mps_refinement.proofs.Worlds.Steps.{HasParts, KeepsTime, own_step_is_right, step_stands, run_kept}
+use Rattle.mps_refinement.proofs.Worlds.Steps.{HasParts, own_step_is_right, step_stands}
+use Rattle.mps_refinement.proofs.Worlds.TimeKept.{KeepsTime, run_kept}
 use Rattle.mps_refinement.proofs.Worlds.RestingSteps.{moving_step}
 use Rattle.mps_laws.proofs.QuietSteps.{IsSound}
 use Rattle.mps_model.specs.WellFormed.{IsWellFormed}
@@ -224,7 +225,7 @@ module _ (w : World) (laid : HasLayout (w.grains + 1) w) (name : Name) (head : �
     -- it is right at any time
     pub reserved_rightly : {F : Type 0} (layout : F → Layout) (line : ℕ) (before after : HeapState F) → IsReached w
         → IsInTime t (collector_of before) v → HasParts layout t after (world_from u result)
-        → (v.collection ≡ None → IsSound (world_from u result)) → KeepsTime layout t (collector_of before) v (collector_of after)
+        → (v.collection ≡ None → IsSound (world_from u result)) → KeepsTime t (collector_of before) v (collector_of after)
         (world_from u result)
         → (world_from u result).formats ≡ v.formats → IsRightIn layout w (step_of line c ms answer) after
     reserved_rightly layout line before after reach (rests rest) has sound keeps formats =
@@ -252,4 +253,4 @@ module _ (w : World) (laid : HasLayout (w.grains + 1) w) (name : Name) (head : �
         (ap (λ o. (world_from o result).formats) moved_so ∙ formats ∙ polled.formats)
         (subst (λ o. HasParts layout t after (world_from o result)) (sym moved_so) has)
         (subst (λ o. IsRunKept (Err refusal.NotRegistered) t (collector_of before) (collector_of after) v (world_from o result) y)
-        (sym moved_so) (run_kept layout keeps y r))
+        (sym moved_so) (run_kept keeps y r))

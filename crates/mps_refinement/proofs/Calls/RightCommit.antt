@@ -44,7 +44,8 @@ use Rattle.mps_refinement.proofs.Lookups.Found.{same_found}
 use Rattle.mps_refinement.proofs.Lookups.HeldCells.{held_same}
 use Rattle.mps_refinement.proofs.Worlds.Known.{IsKnown, known_now}
 use Rattle.mps_refinement.proofs.Lookups.Lookups.{IsPointFound, IsSlotFound, point_same, slot_same}
-use Rattle.mps_refinement.proofs.Worlds.Steps.{HasParts, moving_is_right, KeepsTime, MovesTo, keeps_still}
+use Rattle.mps_refinement.proofs.Worlds.Steps.{HasParts, moving_is_right, MovesTo}
+use Rattle.mps_refinement.proofs.Worlds.TimeKept.{KeepsTime, keeps_still}
 use Rattle.mps_laws.proofs.Sound.SoundEffects.{reservation_gone_sound}
 use Rattle.std.specs.List.{list_all}
 use Rattle.mps_extents.specs.Table.{bit}
@@ -78,7 +79,7 @@ module _ {F : Type 0} (layout : F → Layout) (past : Past) (h : HeapState F) (w
     pub sound_after : w.collection ≡ None → IsSound a.world
     pub blocks : list_all (is_live a.world) (ids_in_blocks a.world.graph) ≡ true
     pub keeps : (AreOfFlip past.time.at_flip w → AreOfFlip past.time.at_flip a.world)
-        → KeepsTime layout past.time (collector_of h) w (collector_of o.state) a.world
+        → KeepsTime past.time (collector_of h) w (collector_of o.state) a.world
     pub formats : a.world.formats ≡ w.formats
 
   module _ (k : Kept Point) (n : Numbered graph.Point) (found : IsPointFound past h w k n) (named : point_named w name ≡ Ok n)
@@ -112,7 +113,7 @@ module _ {F : Type 0} (layout : F → Layout) (past : Past) (h : HeapState F) (w
         ∙ sym (ap (moves_of_commit w) named ∙ ap (commit_of w n) open_there)
 
     keeps_made : (AreOfFlip past.time.at_flip w → AreOfFlip past.time.at_flip (world_committed w n r slot))
-        → KeepsTime layout past.time (collector_of h) w (collector_of as_block.state) (world_committed w n r slot)
+        → KeepsTime past.time (collector_of h) w (collector_of as_block.state) (world_committed w n r slot)
     keeps_made flips = record {
       rest = λ none. none;
       not_condemned = λ not_condemned. not_condemned;
@@ -256,7 +257,7 @@ module _ {F : Type 0} (layout : F → Layout) (past : Past) (h : HeapState F) (w
             record { different = of.different; apart = of.apart }
 
     moves_to : (after : HeapState F) → HasParts layout past.time after (world_from w result)
-        → KeepsTime layout past.time (collector_of h) w (collector_of after) (world_from w result) → (world_from w result).formats
+        → KeepsTime past.time (collector_of h) w (collector_of after) (world_from w result) → (world_from w result).formats
         ≡ w.formats
         → MovesTo layout past.time (collector_of h) w (call.Commit name target) ms answer after result
     moves_to after has keeps formats = record {
@@ -271,7 +272,7 @@ module _ {F : Type 0} (layout : F → Layout) (past : Past) (h : HeapState F) (w
       };
       formats = ap (λ (v : World). v.formats) from_same ∙ formats;
       has = subst (HasParts layout past.time after) (sym from_same) has;
-      keeps = subst (λ v. KeepsTime layout past.time (collector_of h) w (collector_of after) v) (sym from_same) keeps;
+      keeps = subst (λ v. KeepsTime past.time (collector_of h) w (collector_of after) v) (sym from_same) keeps;
     }
 
   of_both : (x : Checked (Moved F Committed)) (y : Checked Act) → act_commit w name target ≡ y → Same CommitLeads x y → IsRightOutcome x
@@ -292,7 +293,7 @@ module _ {F : Type 0} (layout : F → Layout) (past : Past) (h : HeapState F) (w
       reach now
       (moves_to [] (refused why) (Err why) theirs refl refl refl sound knows.live.blocks h
       (record { past = past; timed = refl; parts = parts })
-      (keeps_still layout) refl))
+      keeps_still refl))
 
   pub committed_outcome : IsRightOutcome (after_commit_kept h trail name target)
   committed_outcome = of_both (after_commit_kept h trail name target) (act_commit w name target) refl commit_same

@@ -29,7 +29,8 @@ use Rattle.mps_refinement.specs.StandsFor.{AreParts, IsInTime, IsReached, Past, 
 use Rattle.mps_refinement.proofs.Worlds.Known.{IsKnown, known_now}
 use Rattle.mps_refinement.proofs.Worlds.RestingActs.{resting_sound}
 use Rattle.mps_refinement.proofs.Worlds.RunningSteps.{placed_from_layout}
-use Rattle.mps_refinement.proofs.Worlds.Steps.{HasParts, KeepsTime, keeps_still, moving_is_right}
+use Rattle.mps_refinement.proofs.Worlds.Steps.{HasParts, moving_is_right}
+use Rattle.mps_refinement.proofs.Worlds.TimeKept.{KeepsTime, keeps_still}
 
 -- such a call: none of its moves are a collector's, and it is judged in the world before it
 pub record IsOwn (w : World) (c : Call) : Type 0 where
@@ -58,7 +59,7 @@ module _ {F : Type 0} (layout : F → Layout) (h : HeapState F) (trail : Moves) 
     pub blocks : list_all (is_live v) (ids_in_blocks v.graph) ≡ true
     pub laid : HasLayout (w.grains + 1) v
     pub has : HasParts layout past.time state v
-    pub keeps : KeepsTime layout past.time (collector_of h) w (collector_of state) v
+    pub keeps : KeepsTime past.time (collector_of h) w (collector_of state) v
     pub formats : v.formats ≡ w.formats
 
   module _ (w : World) (line : ℕ) (past : Past) (parts : AreParts layout past h w) (knows : IsKnown past.time w)
@@ -127,7 +128,7 @@ module _ {F : Type 0} (layout : F → Layout) (h : HeapState F) (trail : Moves) 
           };
           formats = ap (λ (u : World). u.formats) own.still;
           has = subst (HasParts layout past.time h) (sym own.still) (record { past = past; timed = refl; parts = parts });
-          keeps = subst (λ u. KeepsTime layout past.time (collector_of h) w (collector_of h) u) (sym own.still) (keeps_still layout);
+          keeps = subst (λ u. KeepsTime past.time (collector_of h) w (collector_of h) u) (sym own.still) keeps_still;
         }))
 
   -- so a call is right if its outcome is right in each world that the heap represents

@@ -67,7 +67,7 @@ use Rattle.mps_laws.proofs.Sound.SoundChanges.{sound_again}
 use Rattle.mps_laws.proofs.Sound.SoundEffects.{reservation_sound}
 use Rattle.std.proofs.lemmas.Option.{none-some}
 use Rattle.mps_refinement.proofs.Parts.SegmentsTaken.{condemned_held, condemned_stay, over_same}
-use Rattle.mps_refinement.proofs.Worlds.Steps.{keeps_still}
+use Rattle.mps_refinement.proofs.Worlds.TimeKept.{keeps_still}
 use Rattle.mps_refinement.proofs.Parts.GreyRanks.{ranks_stay}
 
 module _ {F : Type 0} (layout : F → Layout) (past : Past) (h : HeapState F) (w : World) (laid_before : HasLayout (w.grains + 1) w)
@@ -92,7 +92,7 @@ module _ {F : Type 0} (layout : F → Layout) (past : Past) (h : HeapState F) (w
       (Rattle.std.proofs.lemmas.List.append-nil poll ∙ sym none)
       (reserved_rightly w laid_before name head poll v polled [] (cut_without poll polled.never_own) own_is v refl (Err why) acts
       (refused why) past.time knows refl knows.live.blocks layout line h h reach time
-      (record { past = past; timed = refl; parts = parts }) (λ rest. resting_sound v rest knows.live) (keeps_still layout) refl)
+      (record { past = past; timed = refl; parts = parts }) (λ rest. resting_sound v rest knows.live) keeps_still refl)
 
   refused_outcome : (why : Refusal) → model.check_reserve v name head ≡ Err why → IsRightOutcome (Err why)
   refused_outcome why e =

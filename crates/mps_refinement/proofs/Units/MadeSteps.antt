@@ -18,7 +18,8 @@ use Rattle.mps_refinement.specs.StandsFor.{IsInTime, IsReached, Time, collector_
 use Rattle.mps_refinement.proofs.Following.Made.{AreMade}
 use Rattle.mps_refinement.proofs.Worlds.RestingActs.{resting_sound}
 use Rattle.mps_refinement.proofs.Worlds.RunningSteps.{still_step_runs_on}
-use Rattle.mps_refinement.proofs.Worlds.Steps.{keeps_still, moved_to_rest, run_kept, runs_on_is_right}
+use Rattle.mps_refinement.proofs.Worlds.Steps.{moved_to_rest, runs_on_is_right}
+use Rattle.mps_refinement.proofs.Worlds.TimeKept.{keeps_still, run_kept}
 
 -- a call with these moves and this answer, whose act leaves this world
 pub record LeavesAsMoved (w : World) (c : Call) (ms : List Move) (answer : Answer) (u : World) : Type 0 where
@@ -61,4 +62,4 @@ module _ {F : Type 0} (layout : F → Layout) (w : World) (reach : IsReached w) 
             comes = is.comes;
             answers = refl;
             blocks_after = made.live.blocks;
-          }) (sym r.world) refusal.NotRegistered (is.not_taken y.world)) is.formats made.has (run_kept layout (keeps_still layout) y r)
+          }) (sym r.world) refusal.NotRegistered (is.not_taken y.world)) is.formats made.has (run_kept keeps_still y r)

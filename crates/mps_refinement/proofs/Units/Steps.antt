@@ -25,7 +25,8 @@ use Rattle.mps_refinement.specs.StandsFor.{AreParts, IsInTime, IsReached, Past, 
 use Rattle.mps_refinement.proofs.Units.MadeSteps.{made_step_is_right}
 use Rattle.mps_refinement.proofs.Units.UnitsMade.{AreUnitsMade}
 use Rattle.mps_refinement.proofs.Worlds.RunningSteps.{still_step_runs_on}
-use Rattle.mps_refinement.proofs.Worlds.Steps.{keeps_still, moved_to_rest, run_kept, runs_on_is_right}
+use Rattle.mps_refinement.proofs.Worlds.Steps.{moved_to_rest, runs_on_is_right}
+use Rattle.mps_refinement.proofs.Worlds.TimeKept.{keeps_still, run_kept}
 use Rattle.mps_refinement.proofs.Worlds.Reached.{reached_live, reached_sound}
 
 module _ {F : Type 0} (layout : F → Layout) (w : World) (reach : IsReached w) (n : ℕ) (unclamped : is_unclamped w ≡ true) (m : Moves)
@@ -120,4 +121,4 @@ module _ {F : Type 0} (layout : F → Layout) (past : Past) (h : HeapState F) (w
         answers = refl;
         blocks_after = (reached_live w reach).blocks;
       }) (sym q.world) refusal.NotRegistered refl)
-      refl (record { past = past; timed = refl; parts = parts }) (run_kept layout (keeps_still layout) y q)
+      refl (record { past = past; timed = refl; parts = parts }) (run_kept keeps_still y q)

@@ -1,6 +1,6 @@
 -- Steps of a heap at any time: if a call's outcome and the model's act come to the same, the step is legal, and the heap represents
 -- the world after it. One lemma for calls that never make moves, and one for those with moves of the client.
-use Rattle.std.proofs.Common.{◌≡◌, ◌∙◌, ◌≤◌, ℕ, true, false, true≢false, refl, sym, ap, subst, List, [], None, Ok, Err, inl, inr, Contains, arith}
+use Rattle.std.proofs.Common.{◌≡◌, ◌∙◌, ◌≤◌, ℕ, true, false, true≢false, refl, sym, ap, subst, List, [], None, Err, Contains, arith}
 use Rattle.mps_base.specs.declared.moves.Move.{Move}
 use Rattle.mps_format.specs.Layout.{Layout}
 use Rattle.mps_model.specs.declared.call.Call.{Call}
@@ -13,7 +13,7 @@ use Rattle.mps_model.specs.Reply.{act, answer_from, world_from}
 use Rattle.mps_model.specs.History.{IsLegalStep, moved_world, remembering, world_after, with_client_remembered}
 use Rattle.mps_model.proofs.AtRest.{with_client_remembered-none}
 use Rattle.mps_changes.specs.Change.{makes_arena}
-use Rattle.mps_laws.proofs.Acts.{for_world, ForAct, accepted}
+use Rattle.mps_laws.proofs.Acts.{for_world, ForAct}
 use Rattle.mps_laws.proofs.Same as same
 use Rattle.mps_laws.proofs.Same.{Same, fits}
 use Rattle.mps_laws.proofs.QuietSteps.{IsRight as IsRightStep, quiet_step, IsSound}
@@ -21,18 +21,15 @@ use Rattle.mps_heap_spec.specs.State.{HeapState}
 use Rattle.mps_heap_spec.specs.Coming.{Outcome, Comes, answered, state_from}
 pub use Rattle.mps_refinement.specs.Answering.{answer_to}
 use Rattle.mps_refinement.specs.RightStep.{IsRight, IsRightFrom, IsRightIn, is_of_client, step_of}
-use Rattle.mps_refinement.specs.StandsFor.{Rests, AreParts, IsReached, Past, StandsFor, AreCondemnedIn, AreOfFlip, CollectorState, IsInTime, Runs, Time, collector_of, rests, runs}
+use Rattle.mps_refinement.specs.StandsFor.{Rests, AreParts, IsReached, Past, StandsFor, AreOfFlip, CollectorState, IsInTime, Runs, Time, collector_of, rests, runs}
 use Rattle.mps_refinement.proofs.Worlds.RestingActs.{LeavesSound, act_leaves_sound, may_move}
 use Rattle.mps_refinement.proofs.Worlds.RestingSteps.{IsMoving, moving_step, quiet_at_rest}
 use Rattle.mps_refinement.specs.UnitsLeft.{units_left}
 use Rattle.mps_refinement.proofs.Left.Alike.{none_at_rest, units_in_state}
 use Rattle.mps_refinement.proofs.Worlds.Reached.{reached_next, reached_sound, reached_well_formed}
-use Rattle.std.specs.Prelude.{option_map}
-use Rattle.mps_base.specs.Address.{Word, grain_of}
+use Rattle.mps_base.specs.Address.{grain_of}
 use Rattle.mps_extents.specs.Table.{bit}
 use Rattle.mps_base.specs.declared.refusal.Refusal.{Refusal}
-use Rattle.mps_trace.specs.AmcState.{tail_of}
-use Rattle.mps_trace_laws.specs.Fix.Ranks.{AreMarksRanked}
 use Rattle.mps_abstract.specs.Collecting.{Collecting, Running}
 use Rattle.mps_abstract.specs.Collecting as abstract
 use Rattle.mps_abstract.specs.ClientLaws.{IsMarkedKept, after_client, collection_without, next_without, position_taken}
@@ -43,6 +40,7 @@ use Rattle.std.specs.List.{find}
 use Rattle.std.specs.Option.{option_map_or}
 use Rattle.mps_base.specs.declared.refusal.Refusal.TheVariants as refusal
 use Rattle.mps_refinement.proofs.Worlds.CollectorKept.{IsRunKept, KeepsAll, KeepsCollector, all_kept, none_running, ranks_kept, rest_after, running_after, runs_after, time_after}
+use Rattle.mps_refinement.proofs.Worlds.TimeKept.{KeepsTime, keeps_still, none_after, run_kept}
 use Rattle.mps_laws.proofs.LeftByActs.{Leaves, act_leaves}
 use Rattle.mps_refinement.proofs.Worlds.FlipKept.{flips_kept}
 use Rattle.mps_refinement.proofs.Worlds.Known.{IsKnown, known, known_now}
@@ -50,14 +48,6 @@ use Rattle.mps_refinement.proofs.Parts.PartsByKind.{parts_of_kinds, arena_of, fi
 use Rattle.mps_refinement.proofs.Worlds.RunningSteps.{IsAnswered, IsOwnStep, own_step_runs_on, still_step_runs_on}
 use Rattle.mps_refinement.proofs.Worlds.RunningActs.{act_segments, act_tails, is_plain, marks_do_not_matter, none_kept, quiet_calls_run_on, makes_no_arena, moves_not_at_rest, takes_none}
 use Rattle.mps_refinement.specs.QuietCalls.{RunsOn, never_moves}
-
--- a call without moves begins no collection
-none_after : (c : Call) (w : World) (x : Checked Act) → ForAct (Leaves c w) x → w.collection ≡ None → (world_from w x).collection ≡ None
-none_after c w (Ok a) (accepted left) none = elim left.collection [
-  | inl e ↦ e ∙ none
-  | inr p ↦ p.1 ∙ ap (option_map (Rattle.mps_model.specs.Collecting.without_registration p.0)) none
-]
-none_after c w (Err why) f none = none
 
 module _ {F : Type 0} (layout : F → Layout) where
   -- the parts of the state represent those of the world at this time, by some numbering
@@ -378,46 +368,6 @@ module _ {F : Type 0} (layout : F → Layout) where
         (same w st.past st.parts (known_now st)) is st
 
   -- ---- calls with moves of the client alone
-
-  -- what a call keeps of what is known of a collection
-  pub record KeepsTime (t : Time) (s : CollectorState) (w : World) (s' : CollectorState) (v : World) : Type 0 where
-    pub rest : w.collection ≡ None → v.collection ≡ None
-    pub not_condemned : ((grain : ℕ) → bit s.segs.condemned grain ≡ false) → (grain : ℕ) → bit s'.segs.condemned grain ≡ false
-    pub not_kept : ((grain : ℕ) → bit s.segs.condemned grain ≡ false) → ((n : Word) → bit s.segs.marks.kept n ≡ false) → (n : Word)
-        → bit s'.segs.marks.kept n ≡ false
-    pub running : s'.running ≡ s.running
-    pub tails : (pool generation : ℕ) → tail_of s'.tails pool generation ≡ tail_of s.tails pool generation
-    pub world_tails : (pool generation : ℕ) → world.tail_of v pool generation ≡ world.tail_of w pool generation
-    pub ranked : (y : Collecting) → Runs t s w y → AreMarksRanked s.segs → AreMarksRanked s'.segs
-    pub flip : AreOfFlip t.at_flip w → AreOfFlip t.at_flip v
-    pub condemned : (y : Collecting) → y.world ≡ w → Running y → AreCondemnedIn s.segs.condemned w.segments y.running.condemned_segments
-        → AreCondemnedIn s'.segs.condemned v.segments y.running.condemned_segments
-
-  -- a call that changes nothing keeps all of it
-  pub keeps_still : {t : Time} {s : CollectorState} {w : World} → KeepsTime t s w s w
-  keeps_still = record {
-    rest = λ none. none;
-    not_condemned = λ not_condemned. not_condemned;
-    not_kept = λ not_condemned not_kept. not_kept;
-    running = refl;
-    tails = λ pool generation. refl;
-    world_tails = λ pool generation. refl;
-    ranked = λ y r ranked. ranked;
-    flip = λ of. of;
-    condemned = λ y is run marked. marked;
-  }
-
-  -- and so what a running one has
-  pub run_kept : {t : Time} {s s' : CollectorState} {w v : World} → KeepsTime t s w s' v → (y : Collecting) → Runs t s w y
-      → IsRunKept (Err refusal.NotRegistered) t s s' w v y
-  run_kept keeps y r = record {
-    running = keeps.running;
-    tails = keeps.tails;
-    world_tails = keeps.world_tails;
-    ranked = keeps.ranked y r;
-    condemned = keeps.condemned y r.world r.invariant;
-    flip = keeps.flip r.flip;
-  }
 
   -- what it must show in a world, at any time: its moves, its act and its answer, and that the state represents the world after it
   pub record MovesTo (t : Time) (s : CollectorState) (w : World) (c : Call) (ms : List Move) (answer : Answer) (after : HeapState F)
