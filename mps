@@ -1,6 +1,7 @@
 #!/usr/bin/env bash
 # Runs the program `mps` with your words, folder and streams. Where the proved program is missing or older than its
-# sources, the crates are proved and it is built first: several crates at a time, with a line on standard error for each.
+# sources, its crates are proved and it is built first: several crates at a time, with a line on standard error for each.
+# The crates of tests and of examples are no part of it, and the gate proves them.
 [ -n "${BASH_VERSION:-}" ] || exec bash "$0" "$@"
 home=$(dirname "$(readlink -f "$0")")
 crate=$home/crates/mps_cli
@@ -30,9 +31,24 @@ proofs_at_once() {
   echo "$most"
 }
 
-# Proves all crates, and then says with which status that ended.
+# The program's crate and those that it uses, one a line, by the lines of crates.txt.
+crates_of_program() {
+  awk -v top="${crate##*/}" '
+    /^[a-z]/ { name = $1; sub(/:$/, "", name); $1 = ""; uses[name] = $0 }
+    END {
+      want[1] = top
+      for (i = n = 1; i <= n; i++) {
+        if (want[i] in uses) print want[i]
+        count = split(uses[want[i]], names, " ")
+        for (j = 1; j <= count; j++)
+          if (!(names[j] in seen)) { seen[names[j]]; want[++n] = names[j] }
+      }
+    }' "$home/crates.txt"
+}
+
+# Proves the crates of the program, and then says with which status that ended.
 check_all() {
-  cd "$home" && rt all check --jobs "$1" 2>&1 </dev/null
+  cd "$crate" && rt all check --jobs "$1" 2>&1 </dev/null
   echo "status=$?"
 }
 
@@ -68,7 +84,7 @@ build() {
   local output most proofs begun left
   command -v rt >/dev/null || give_up "the command rt, which proves and builds the program, was not found"
   most=$(proofs_at_once)
-  left=$(grep -c '^[a-z]' "$home/crates.txt")
+  left=$(crates_of_program | wc -l)
   # What is edited from now on is newer than the program.
   begun=$(date +%s.%N)
   echo "mps: proving $left crates, up to $most at a time" >&2

@@ -170,7 +170,8 @@ fi
 
 mkdir -p home/bin home/crates/mps_cli home/crates/low/src
 cp "$(dirname "$example")/../mps" home/
-printf 'low:\nmps_cli: low\n' >home/crates.txt
+# The crate of tests is no part of the program.
+printf 'low:\nmps_cli: low\nlow_tests: low\n' >home/crates.txt
 touch home/crates/low/src/lib.rt
 cat >home/bin/rt <<'R'
 #!/usr/bin/env bash
@@ -198,6 +199,7 @@ PATH=$work/home/bin:$PATH
 edit() { touch home/crates/low/src/lib.rt; }
 tell "./mps, from nothing" "words: a b" "$(home/mps a b 2>lines)"
 tell "its lines" "3" "$(grep -c '^mps: prov' lines)"
+tell "its crates" "mps: proving 2 crates" "$(grep -o '^mps: proving .* crates' lines)"
 tell "./mps again" "words: a 0" "$(home/mps a 2>lines) $(stat -c %s lines)"
 tell "sh mps" "words: a" "$(cd home && sh mps a 2>&1)"
 edit
