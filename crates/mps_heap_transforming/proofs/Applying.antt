@@ -63,16 +63,6 @@ still_can {F} {layout} {was} {h} {segs} {t} {pool} same can again summed unchang
       slots = could.slots;
     })
 
--- a pool is passed over
-pub fewer_left : {F : Type 0} {layout : F → Layout} {h : HeapState F} {pool : ℕ} → CanTransformFrom layout h pool
-    → CanTransformFrom layout h (pool + 1)
-fewer_left can = record {
-  pools = can.pools;
-  summed = λ number format past has. can.summed number format (omega (arith, past)) has;
-  aligned = can.aligned;
-  slots = can.slots;
-}
-
 -- ---- outcomes
 
 pub not_applied : {F : Type 0} {layout : F → Layout} {h : HeapState F} {name : Name} {why : Refusal} → Err why ≡ check_apply h name
