@@ -2,9 +2,9 @@
 use Rattle.std.proofs.Common.{ℕ, ◌+◌, ◌-◌, ◌<◌, ◌≤◌, ◌≡◌, ◌||◌, Bool, true, false, not, Option, Some, None, List, length, Contains, refl, sym, ap, ◌∙◌, subst, inl, inr, is_some, arith}
 use Rattle.std.proofs.lemmas.Bool.{cases_Bool, both_ways, false_from_ne_true, false≢true}
 use Rattle.mps_base.proofs.Runs.{contained_bounds}
-use Rattle.mps_base.specs.Run.{Run, end_of, runs_within}
+use Rattle.mps_base.specs.Run.{Run, runs_within}
 use Rattle.mps_bits.proofs.Ranges.{clear_run_at, clear_run_from}
-use Rattle.mps_bits.proofs.Searches.{IsLowest, found, missing, lowest_cases, lowest_from_none}
+use Rattle.mps_bits.proofs.Searches.{found, missing, lowest_cases, lowest_from_none}
 use Rattle.mps_bits.specs.Table.{bit, is_clear_run, lowest_clear_run, next_set_below}
 use Rattle.mps_extents.specs.Extents.{has_word, is_covered, AreWhole}
 use Rattle.mps_extents.specs.Inside.{either, extents, length_at, AreApart, AreSoundTables}

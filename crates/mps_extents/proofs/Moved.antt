@@ -1,5 +1,5 @@
 -- The tables after a block has moved: the words where it was are free, and those where it is now are a block.
-use Rattle.std.proofs.Common.{ℕ, ◌+◌, ◌-◌, ◌<◌, ◌≤◌, ◌≡◌, Bool, true, false, List, length, Contains, set, sym, ap, ◌∙◌, subst, arith}
+use Rattle.std.proofs.Common.{ℕ, ◌+◌, ◌-◌, ◌<◌, ◌≡◌, true, false, Contains, set, sym, ap, ◌∙◌, subst, arith}
 use Rattle.mps_base.specs.Run.{Run, IsAscending, with_run, without_run}
 use Rattle.mps_bits.specs.Table.{with_range}
 use Rattle.mps_extents.specs.Extents.{ExtentLists}

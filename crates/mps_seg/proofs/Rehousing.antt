@@ -1,5 +1,5 @@
 -- What is known of the tables where a block leaves its words, and has others.
-use Rattle.std.proofs.Common.{ℕ, ◌+◌, ◌<◌, ◌≡◌, Contains, refl, sym, subst}
+use Rattle.std.proofs.Common.{ℕ, ◌<◌, ◌≡◌, Contains, refl, sym, subst}
 use Rattle.mps_base.specs.Address.{word_of}
 use Rattle.mps_base.specs.Run.{without_run}
 use Rattle.mps_marks.specs.Marks.{without_marks}

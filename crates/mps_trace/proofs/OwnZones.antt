@@ -1,5 +1,5 @@
 -- The zones to which a block leads, as its own words have them.
-use Rattle.std.proofs.Common.{ℕ, zero, suc, ◌+◌, ◌<◌, ◌≤◌, ◌≡◌, ◌∙◌, List, length, refl, ap, ap₂, subst, sym, arith}
+use Rattle.std.proofs.Common.{ℕ, zero, suc, ◌+◌, ◌<◌, ◌≤◌, ◌≡◌, ◌∙◌, List, length, refl, ap, ap₂, arith}
 use Rattle.std.proofs.lemmas.List.{get_or-drop}
 use Rattle.std.specs.Prelude.{if◌then◌else◌, slice_index, bit_or}
 use Rattle.mps_base.specs.Address.{Address, word_of}

@@ -254,7 +254,6 @@ impl Segs {
     }
 
     /// Sets the summary of the segment at `base`, as a scan of all its blocks may do that found the zones of all its references.
-    #[inline(always)]
     pub fn set_summary(&mut self, base: Addr, zones: ZoneSet)
         requires { grain_of base.0 ≤ self.old.grains }
         ensures { self.new ≡ summarizing self.old base.0 zones.0 }

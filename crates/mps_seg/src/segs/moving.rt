@@ -34,8 +34,7 @@ impl Segs {
         self.set_grey(to);
     }
 
-    /// The block of `words` words at `at` is at `to` from now on, on words that no block and no reservation covers. No mark of it is left.
-    /// The words themselves are as they were.
+    /// The block of `words` words at `at` is at `to` from now on, where nothing covers words. It has no mark, and no word changes.
     #[inline(always)]
     fn rehouse(&mut self, at: Addr, to: Addr, words: u32)
         requires nonzero { 0 < words }

@@ -1,5 +1,5 @@
-use Rattle.std.proofs.Common.{ℕ, ◌<◌, ◌≤◌, ◌+◌, ◌∙◌, length, sym, subst, arith}
-use Rattle.std.specs.Prelude.{IsTrue, slice_index}
+use Rattle.std.proofs.Common.{ℕ, ◌≤◌, ◌∙◌, length, sym, subst, arith}
+use Rattle.std.specs.Prelude.{IsTrue}
 use Rattle.mps_base.specs.Address.{word_of}
 use Rattle.mps_amc.specs.Moving.{size_at}
 use Rattle.mps_amc.proofs.PartSeen.{IsPart}
