@@ -3,3 +3,4 @@ mod Joined
 mod Once
 mod ThreeTables
 mod Beside
+mod NamedKeys

@@ -3,6 +3,8 @@ use Rattle.std.specs.Prelude.{ℕ, ◌≡◌, ◌≤◌, false, Option, Some, No
 use Rattle.std.specs.Map.{lookup}
 use Rattle.mps_base.specs.declared.names.Name.{Name}
 use Rattle.mps_base.specs.Name.{same_name}
+use Rattle.mps_names.specs.Keys.{GivenState, KeysState, stamp_at}
+use Rattle.mps_names.specs.declared.given.Stamp.{Stamp}
 use Rattle.mps_names.specs.declared.names.Thing.{Thing}
 use Rattle.mps_names.specs.declared.names.Thing.TheVariants as thing
 use Rattle.mps_names.specs.State.{NameCounts, thing_in, has_own_room, most_label_names, most_cache_names, most_transform_names}
@@ -66,6 +68,30 @@ pub record AreTables (labels caches transforms : NumbersState) : Type 0 where
 pub record AreBeside (things : List (Name × Thing)) (tables : TablesState) : Type 0 where
   pub apart : ShareNoName things tables.entries
   pub others : (name : Name) (t : Thing) → thing_in things name ≡ Some t → has_own_room t ≡ false
+
+-- each thing of a kind whose key was given out has the name that was noted with it
+abbrev pub HaveNames : (entries : List (Name × Thing)) → (kind : ℕ → Thing) → GivenState → Type 0
+HaveNames entries kind g =
+    (place : ℕ) (s : Stamp) → stamp_at g place ≡ Some s → thing_in entries s.name ≡ Some (kind place)
+
+abbrev pub table : ℕ → Thing
+table place = thing.Table place
+
+abbrev pub area : ℕ → Thing
+area place = thing.Area place
+
+abbrev pub point : ℕ → Thing
+point place = thing.Point place
+
+pub record AreKeysOf (entries : List (Name × Thing)) (k : KeysState) : Type 0 where
+  pub tables : HaveNames entries table k.tables
+  pub areas : HaveNames entries area k.areas
+  pub points : HaveNames entries point k.points
+
+-- what the type of all names keeps
+pub record AreNames (things : List (Name × Thing)) (tables : TablesState) (k : KeysState) : Type 0 where
+  pub beside : AreBeside things tables
+  pub keys : AreKeysOf (things ++ tables.entries) k
 
 -- this is found by this name in the new list, or nothing, and by every other name what is found in the old
 pub record ChangesAt {X : Type 0} (old new : List (Name × X)) (name : Name) (value : Option X) : Type 0 where

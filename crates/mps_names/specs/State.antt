@@ -5,6 +5,7 @@ use Rattle.mps_base.specs.declared.names.Name.{Name}
 use Rattle.mps_names.specs.declared.names.Thing.{Thing}
 use Rattle.mps_names.specs.declared.names.Thing.TheVariants as thing
 use Rattle.mps_base.specs.Name.{same_name}
+use Rattle.mps_names.specs.Keys.{KeysState, KeysWithout, no_keys}
 
 -- How many labels, caches and transforms have names.
 pub record NameCounts : Type 0 where
@@ -13,11 +14,12 @@ pub record NameCounts : Type 0 where
   pub transforms : ℕ
 
 -- The names that are taken, each with its thing, in an order that is open, and how many more fit without memory. Labels, caches and
--- transforms have room of their own, and are counted.
+-- transforms have room of their own, and are counted. And the keys of tables, areas and points.
 pub record NamesState : Type 0 where
   pub entries : List (Name × Thing)
   pub room : ℕ
   pub counts : NameCounts
+  pub keys : KeysState
 
 -- the thing that has a name, among these
 abbrev pub thing_in : List (Name × Thing) → Name → Option Thing
@@ -40,6 +42,10 @@ as_cache _ = None
 -- the same names represent the same things
 abbrev pub IsSameMap : NamesState → NamesState → Type 0
 IsSameMap old new = (name : Name) → thing_named new name ≡ thing_named old name
+
+-- the names are as before, and there may be other keys
+abbrev pub HasKeys : NamesState → NamesState → Type 0
+HasKeys old new = new ≡ record old { keys = new.keys }
 
 -- ---- room
 
@@ -97,11 +103,17 @@ abbrev pub counts_after : NameCounts → (before now : Option Thing) → NameCou
 counts_after c before None = counts_without c before
 counts_after c before (Some thing) = counts_with (counts_without c before) thing
 
--- this name has this thing afterwards, or none, every other name what it had, and things are counted so
+-- a name has a thing, or none any more, and then no key is good for it
+abbrev pub KeysAfter : (old new : KeysState) → Name → Option Thing → Type 0
+KeysAfter old new name None = KeysWithout old new name
+KeysAfter old new name (Some thing) = new ≡ old
+
+-- this name has this thing afterwards, or none, every other name what it had, things are counted so, and these keys are good
 pub record Updates (old new : NamesState) (name : Name) (thing : Option Thing) : Type 0 where
   pub named : thing_named new name ≡ thing
   pub others : (other : Name) → same_name name other ≡ false → thing_named new other ≡ thing_named old other
   pub counts : new.counts ≡ counts_after old.counts (thing_named old name) thing
+  pub keys : KeysAfter old.keys new.keys name thing
 
 -- ---- vectors
 
@@ -125,7 +137,7 @@ a_cache_is_no_label = refl
 
 -- two transforms have names, and the map has room for three more
 abbrev two_transforms : NamesState
-two_transforms = record { entries = []; room = 3; counts = record no_counts { transforms = 2 } }
+two_transforms = record { entries = []; room = 3; counts = record no_counts { transforms = 2 }; keys = no_keys }
 
 pub fourteen_more : room_for two_transforms (thing.Transform 5) ≡ 14
 fourteen_more = refl

@@ -1,10 +1,13 @@
 // The map from names to things.
 #![tactic(auto)]
 
-ghost use Rattle.std.specs.Prelude.{◌≡◌, ◌<◌, nat_lt, [], None, Some, option_and_then, IfErr, IfOk, OnOk, IsSome};
-ghost use Rattle.mps_names.specs.State.{NamesState, thing_named, as_cache, as_label, IsSameMap, Updates, no_counts, has_own_room, own_room, room_for};
+ghost use Rattle.std.specs.Prelude.{◌≡◌, ◌<◌, nat_lt, [], None, Some, option_and_then, IfErr, IfNone, IfOk, IfSome, OnOk, IsSome};
+ghost use Rattle.mps_names.specs.declared.names.Thing.TheVariants as thing;
+ghost use Rattle.mps_names.specs.Keys.{CannotGive, KeysGoOn, area_name, no_keys, point_name, table_name};
+ghost use Rattle.mps_names.specs.State.{NamesState, thing_named, as_cache, as_label, HasKeys, IsSameMap, Updates, no_counts, has_own_room, own_room, room_for};
 
 use crate::key::Key;
+use crate::keys::{AreaKey, Keys, PointKey, TableKey};
 use crate::tables::Tables;
 use mps_base::{Name, Refusal};
 use std::alloc::{AllocError, Global};
@@ -38,18 +41,19 @@ impl Thing {
     }
 }
 
-/// The names that are taken, and what each represents.
+/// The names that are taken, and what each represents. Tables, areas and points have keys too, by which they are found without their names.
 #[derive(Drop)]
 pub struct Names {
     things: HashMap<Key, Thing>,
     // Labels, caches and transforms.
     tables: Tables,
+    keys: Keys,
 }
 
 impl Model for Names {
     ghost use Rattle.std.specs.Prelude.{◌++◌};
     ghost use Rattle.mps_names.specs.State.{NamesState};
-    ghost use Rattle.mps_names.specs.Inside.{AreBeside};
+    ghost use Rattle.mps_names.specs.Inside.{AreNames};
     ghost use Rattle.std.specs.HashMap.{spare};
 
     ghost Value = { NamesState };
@@ -58,19 +62,22 @@ impl Model for Names {
       entries = n.things.entries ++ n.tables.entries;
       room = spare n.things;
       counts = n.tables.counts;
+      keys = n.keys;
     } };
 
-    ghost invariant = { λ n. AreBeside n.things.entries n.tables };
+    ghost invariant = { λ n. AreNames n.things.entries n.tables n.keys };
 }
 
 impl Names {
-    /// No name is taken. Room for the names of labels, caches and transforms is all that it takes.
+    /// No name is taken. Room for keys, and for the names of labels, caches and transforms is all that it takes.
     pub fn new(alloc: Global) -> Result<Names, AllocError>
         ensures empty { IfOk result (λ names. names.entries ≡ []) }
         ensures counts { IfOk result (λ names. names.counts ≡ no_counts) }
+        ensures keys { IfOk result (λ names. names.keys ≡ no_keys) }
     {
         Ok(Names {
             tables: Tables::new(alloc)?,
+            keys: Keys::new(alloc)?,
             things: HashMap::new(alloc),
         })
     }
@@ -80,6 +87,7 @@ impl Names {
         ensures fits { OnOk result (0 < self.new.room) }
         ensures unchanged { IsSameMap self.old self.new }
         ensures counts { self.new.counts ≡ self.old.counts }
+        ensures keys { self.new.keys ≡ self.old.keys }
     {
         self.things.reserve(1)
     }
@@ -150,14 +158,93 @@ impl Names {
         }
     }
 
-    /// A name is free again; what it represented.
+    /// A name is free again; what it represented. If that has a key, the key is good no more.
     pub fn drop_name(&mut self, name: Name) -> Option<Thing>
         ensures value { result ≡ thing_named self.old name }
         ensures dropped { Updates self.old self.new name None }
     {
         if let Some(thing) = self.things.remove(&Key { name }) {
+            self.keys.drop_thing(name, Some(thing));
             return Some(thing);
         }
-        self.tables.drop_name(name)
+        let dropped = self.tables.drop_name(name);
+        self.keys.drop_thing(name, dropped);
+        dropped
+    }
+
+    /// The key of the table that has a name: the same whenever it is asked for, until the table is dropped. None if no table has the
+    /// name. There is none either for a table that isn't at one of the first 256 places, or after 2^64 - 1 keys.
+    pub fn table_key(&mut self, name: Name) -> Option<TableKey>
+        ensures good { IfSome result (λ key. table_name self.new.keys key ≡ Some name) }
+        ensures given { IfSome result (λ key. key.count < self.new.keys.tables.count) }
+        ensures others { KeysGoOn self.old.keys self.new.keys }
+        ensures none { IfNone result ((place : _) → thing_named self.old name ≡ Some (thing.Table place)
+            → CannotGive self.old.keys.tables place name) }
+        ensures names { HasKeys self.old self.new }
+    {
+        let Some(Thing::Table(place)) = self.get(name) else {
+            return None;
+        };
+        let count = self.keys.give_table(place, name)?;
+        Some(TableKey { place, count })
+    }
+
+    /// The key of the area that has a name; none as for a table.
+    pub fn area_key(&mut self, name: Name) -> Option<AreaKey>
+        ensures good { IfSome result (λ key. area_name self.new.keys key ≡ Some name) }
+        ensures given { IfSome result (λ key. key.count < self.new.keys.areas.count) }
+        ensures others { KeysGoOn self.old.keys self.new.keys }
+        ensures none { IfNone result ((place : _) → thing_named self.old name ≡ Some (thing.Area place)
+            → CannotGive self.old.keys.areas place name) }
+        ensures names { HasKeys self.old self.new }
+    {
+        let Some(Thing::Area(place)) = self.get(name) else {
+            return None;
+        };
+        let count = self.keys.give_area(place, name)?;
+        Some(AreaKey { place, count })
+    }
+
+    /// The key of the point that has a name; none as for a table.
+    pub fn point_key(&mut self, name: Name) -> Option<PointKey>
+        ensures good { IfSome result (λ key. point_name self.new.keys key ≡ Some name) }
+        ensures given { IfSome result (λ key. key.count < self.new.keys.points.count) }
+        ensures others { KeysGoOn self.old.keys self.new.keys }
+        ensures none { IfNone result ((place : _) → thing_named self.old name ≡ Some (thing.Point place)
+            → CannotGive self.old.keys.points place name) }
+        ensures names { HasKeys self.old self.new }
+    {
+        let Some(Thing::Point(place)) = self.get(name) else {
+            return None;
+        };
+        let count = self.keys.give_point(place, name)?;
+        Some(PointKey { place, count })
+    }
+
+    /// The name of the table that has a key; none if the key isn't good.
+    #[inline(always)]
+    pub fn table_name(&self, key: TableKey) -> Option<Name>
+        ensures value { result ≡ table_name self.now.keys key }
+        ensures named { IfSome result (λ name. thing_named self.now name ≡ Some (thing.Table key.place)) }
+    {
+        self.keys.tables.name_by(key.place, key.count)
+    }
+
+    /// The name of the area that has a key; none if the key isn't good.
+    #[inline(always)]
+    pub fn area_name(&self, key: AreaKey) -> Option<Name>
+        ensures value { result ≡ area_name self.now.keys key }
+        ensures named { IfSome result (λ name. thing_named self.now name ≡ Some (thing.Area key.place)) }
+    {
+        self.keys.areas.name_by(key.place, key.count)
+    }
+
+    /// The name of the point that has a key; none if the key isn't good.
+    #[inline(always)]
+    pub fn point_name(&self, key: PointKey) -> Option<Name>
+        ensures value { result ≡ point_name self.now.keys key }
+        ensures named { IfSome result (λ name. thing_named self.now name ≡ Some (thing.Point key.place)) }
+    {
+        self.keys.points.name_by(key.place as usize, key.count)
     }
 }

@@ -54,3 +54,76 @@ fn takes_no_memory_for_a_label(rt: HostRuntime) -> Result<(), AllocError> {
     assert!(rt; names.refuse_taken(Name { bytes }) == Err(Refusal::NameTaken));
     Ok(())
 }
+
+// The name that has one letter.
+fn named(letter: u8) -> Name {
+    let mut bytes = [0; 16];
+    bytes[0] = letter;
+    Name { bytes }
+}
+
+// Takes a free name for the table 3.
+fn take_table(names: &mut Names, name: Name) -> Result<(), AllocError> {
+    names.make_room()?;
+    if names.get(name).is_none() {
+        names.take(name, Thing::Table(3));
+    }
+    Ok(())
+}
+
+// Takes a free name for the area of a number.
+fn take_area(names: &mut Names, name: Name, number: usize) -> Result<(), AllocError> {
+    names.make_room()?;
+    if names.get(name).is_none() {
+        names.take(name, Thing::Area(number));
+    }
+    Ok(())
+}
+
+// Takes a free name for the point of a number.
+fn take_point(names: &mut Names, name: Name, number: u32) -> Result<(), AllocError> {
+    names.make_room()?;
+    if names.get(name).is_none() {
+        names.take(name, Thing::Point(number));
+    }
+    Ok(())
+}
+
+#[test]
+fn a_key_is_good_until_its_table_is_dropped(rt: HostRuntime) -> Result<(), AllocError> {
+    let mut names = Names::new(rt.alloc())?;
+    let name = named(97);
+    assert!(rt; names.table_key(name) == None);
+    take_table(&mut names, name)?;
+    assert!(rt; names.area_key(name) == None);
+    let Some(key) = names.table_key(name) else {
+        assert!(rt; false);
+        return Ok(());
+    };
+    assert!(rt; names.table_key(name) == Some(key));
+    assert!(rt; names.table_name(key) == Some(name));
+    assert!(rt; names.drop_name(name) == Some(Thing::Table(3)));
+    assert!(rt; names.table_name(key) == None);
+    take_table(&mut names, name)?;
+    assert!(rt; names.table_name(key) == None);
+    assert!(rt; names.table_key(name) != Some(key));
+    Ok(())
+}
+
+#[test]
+fn areas_and_points_have_keys(rt: HostRuntime) -> Result<(), AllocError> {
+    let mut names = Names::new(rt.alloc())?;
+    take_area(&mut names, named(97), 0)?;
+    take_point(&mut names, named(98), 255)?;
+    take_point(&mut names, named(99), 256)?;
+    let area = names.area_key(named(97));
+    let point = names.point_key(named(98));
+    assert!(rt; names.point_key(named(99)) == None);
+    let (Some(area), Some(point)) = (area, point) else {
+        assert!(rt; false);
+        return Ok(());
+    };
+    assert!(rt; names.area_name(area) == Some(named(97)));
+    assert!(rt; names.point_name(point) == Some(named(98)));
+    Ok(())
+}

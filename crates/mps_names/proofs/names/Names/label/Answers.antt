@@ -6,5 +6,5 @@ use Rattle.mps_names.proofs.names.Names.label.Goals as goal
 
 pub returns : goal.returns
 returns c =
-    c.label.ensures ∙ sym (label_beside c.self.inside.things.entries c.self.inside.tables c.self.invariant c.args.name)
+    c.label.ensures ∙ sym (label_beside c.self.inside.things.entries c.self.inside.tables c.self.invariant.beside c.args.name)
     ∙ ap (λ (s : NamesState). option_and_then as_label (thing_named s c.args.name)) c.self.view_is
