@@ -13,7 +13,7 @@ use Rattle.mps_heap_making.specs.Made.{IsMade}
 module _ {F : Type 0} where
   -- nothing changed
   pub untouched : (h : HeapState F) → IsUntouched h h
-  untouched h = record { names = λ name. refl; counts = refl; state = refl }
+  untouched h = record { names = λ name. refl; counts = refl; keys = refl; state = refl }
 
   module _ {h : HeapState F} {checks : Checked (Unit {0})} {Makes : ℕ → HeapState F → Type 0} where
     -- the checks refuse

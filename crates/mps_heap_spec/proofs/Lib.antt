@@ -1,4 +1,7 @@
 pub mod Beginning
+pub mod ByKeys
 pub mod Following
+pub mod KeysStay
+pub mod NamesStay
 pub mod References
 pub mod Writing

@@ -1,6 +1,7 @@
 pub mod State
 pub mod Finding
 pub mod Referring
+pub mod Keyed
 pub mod Objects
 pub mod Following
 pub mod Getting
@@ -22,6 +23,7 @@ pub mod Units
 pub mod Transforming
 pub mod Polling
 pub use Rattle.mps_names.specs.State as NamesState
+pub use Rattle.mps_names.specs.Keys
 pub use Rattle.mps_neighbours.specs.Beside
 pub use Rattle.mps_model.specs.Checked
 pub use Rattle.mps_model.specs.Tagging

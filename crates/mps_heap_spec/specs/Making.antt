@@ -34,6 +34,7 @@ module _ {F : Type 0} where
   pub record IsUntouched (h after : HeapState F) : Type 0 where
     pub names : IsSameMap h.names after.names
     pub counts : after.names.counts ≡ h.names.counts
+    pub keys : after.names.keys ≡ h.names.keys
     pub state : after ≡ record h { names = after.names }
 
   -- refused if the name is taken

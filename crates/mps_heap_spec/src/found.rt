@@ -1,5 +1,7 @@
-// What a call finds by its words.
+// What a call finds by its words, and by keys.
+use mps_base::Slot;
 use mps_buffer::Point;
+use mps_names::{AreaKey, TableKey};
 
 /// Something, with the number or the key under which it is kept.
 #[derive(Clone, Copy)]
@@ -43,4 +45,25 @@ pub struct Reserving {
 pub enum Committed {
     AsBlock,
     AsFlipped,
+}
+
+/// A slot of a table, by the table's key.
+#[derive(Clone, Copy, Debug, PartialEq, Eq)]
+pub struct KeyedSlot {
+    pub table: TableKey,
+    pub index: u64,
+}
+
+/// A word of an area, by the area's key.
+#[derive(Clone, Copy, Debug, PartialEq, Eq)]
+pub struct KeyedWord {
+    pub area: AreaKey,
+    pub index: u64,
+}
+
+/// A slot, or a word of an area, and where its table or area is kept.
+#[derive(Clone, Copy)]
+pub struct Located {
+    pub slot: Slot,
+    pub place: usize,
 }

@@ -18,6 +18,8 @@ pub use cells::{
     number_cell_at, reference_cell_at, tag_of, with_tag, with_target, write_reference, write_word,
 };
 pub use checks::{may_have_point, refuse_at_limit, reservation_of};
-pub use found::{Block, CellFound, Committed, Entry, Kept, Reserving};
+pub use found::{
+    Block, CellFound, Committed, Entry, Kept, KeyedSlot, KeyedWord, Located, Reserving,
+};
 pub use items::{item, under};
 pub use registrations::running_without;

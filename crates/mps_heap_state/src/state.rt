@@ -10,6 +10,7 @@ ghost use Rattle.mps_heap_spec.specs.Arena.{new_heap};
 ghost use Rattle.mps_heap_spec.specs.Objects.{with_slot};
 
 mod finding;
+mod keyed;
 
 use mps_buffer::OpenPoints;
 use mps_final::Finals;

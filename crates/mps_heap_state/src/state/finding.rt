@@ -10,7 +10,7 @@ use super::State;
 use mps_base::{Addr, Name, Refusal, Slot};
 use mps_buffer::Point;
 use mps_format::{Format, Pool, format_of_pool};
-use mps_heap_spec::{Block, Entry, Kept, item, pool_of_segment, under};
+use mps_heap_spec::{Block, Entry, Kept, Located, item, pool_of_segment, under};
 use mps_names::Thing;
 use mps_root::Stored;
 
@@ -46,7 +46,7 @@ impl<F: Format> State<F> {
         let Some(Thing::Point(key)) = self.names.get(name) else {
             return Err(Refusal::BadName);
         };
-        under(key, self.points.get(key))
+        self.point_at(Kept { key, value: name })
     }
 
     /// A slot of a table.
@@ -55,17 +55,10 @@ impl<F: Format> State<F> {
         ensures value { result ≡ slot_in self.now slot }
         ensures fits { IfOk result (λ e. HasItem self.now.roots.tables e.key e.index) }
     {
-        let Some(Thing::Table(key)) = self.names.get(slot.name) else {
+        let Some(Thing::Table(place)) = self.names.get(slot.name) else {
             return Err(Refusal::BadName);
         };
-        let Some(slots) = self.roots.slots(key) else {
-            return Err(Refusal::BadName);
-        };
-        let index = slot.index as usize;
-        let Some(value) = item(slots, index) else {
-            return Err(Refusal::BadIndex);
-        };
-        Ok(Entry { key, index, value })
+        self.slot_at(Located { slot, place })
     }
 
     /// A word of an area.
@@ -76,14 +69,10 @@ impl<F: Format> State<F> {
         let Some(Thing::Area(key)) = self.names.get(place.name) else {
             return Err(Refusal::BadName);
         };
-        let Some(words) = self.roots.words(key) else {
-            return Err(Refusal::BadName);
-        };
-        let index = place.index as usize;
-        let Some(value) = item(words, index) else {
-            return Err(Refusal::BadIndex);
-        };
-        Ok(Entry { key, index, value })
+        self.word_at(Located {
+            slot: place,
+            place: key,
+        })
     }
 
     /// A place of a table of blocks.
