@@ -11,7 +11,7 @@ use mps_heap_state::State;
 use mps_root::Stored;
 
 /// Writes a word of an area that was found.
-fn set_area_word<F: Format>(state: &mut State<F>, at: Entry<Stored>, word: Stored)
+pub(crate) fn set_area_word<F: Format>(state: &mut State<F>, at: Entry<Stored>, word: Stored)
     requires { HasItem state.old.roots.areas at.key at.index }
     ensures { state.new ≡ with_area_word state.old at word }
 {
@@ -29,7 +29,7 @@ fn lies_in_object<F: Format>(state: &State<F>, word: u64, block: Option<u64>) ->
 }
 
 /// Whether a word holds an object from now on: one in which it lies, and which isn't white.
-fn is_hold<F: Format>(state: &State<F>, word: u64, block: Option<u64>) -> bool
+pub(crate) fn is_hold<F: Format>(state: &State<F>, word: u64, block: Option<u64>) -> bool
     ensures { result ≡ is_hold state.now word block }
 {
     let Some(at) = block else {

@@ -2,4 +2,5 @@
 #![tactic(auto)]
 
 pub mod areas;
+pub mod keyed;
 pub mod objects;

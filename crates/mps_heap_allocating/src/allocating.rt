@@ -1,10 +1,12 @@
 // The calls by which a client allocates objects.
 ghost use Rattle.std.specs.Prelude.{◌≡◌, ◌+◌, ◌*◌, ◌<◌, ◌≤◌, false, is_some, None, Ok, Some, IsTrue, IfOk};
 ghost use Rattle.mps_base.specs.Address.{max_block_words, word_of, words_of_grain};
+ghost use Rattle.mps_buffer.specs.Points.{point_at};
 ghost use Rattle.mps_buffer.specs.Tokens.{IsClosedAt};
 ghost use Rattle.mps_seg.specs.Table.{IsMarked};
 ghost use Rattle.mps_heap_spec.specs.State.{IsReady};
 ghost use Rattle.mps_heap_spec.specs.Coming.{Comes, ComesMoving};
+ghost use Rattle.mps_heap_spec.specs.Finding.{point_named};
 ghost use Rattle.mps_heap_spec.specs.Polling.{CanPoll, HasPolled, HasReserved, MayFlip, due_in, polls_for, units_of_poll};
 ghost use Rattle.mps_heap_spec.specs.Units.{CanDoUnits};
 ghost use Rattle.mps_heap_spec.specs.Allocating.{check_reserve, after_reserve, block_held, with_reserved_word, with_reserved_reference, number_initialised, reference_initialised, after_commit, keeping_new};
@@ -13,8 +15,8 @@ use mps_base::{Addr, Name, Refusal, Slot, Trail};
 use mps_buffer::{Held, Point};
 use mps_format::{Format, format_of_pool};
 use mps_heap_spec::{
-    Block, CellFound, Committed, Reserving, number_cell_at, reference_cell_at, reservation_of,
-    takes_head, write_reference, write_word,
+    Block, CellFound, Committed, Kept, Reserving, number_cell_at, reference_cell_at,
+    reservation_of, takes_head, write_reference, write_word,
 };
 use mps_heap_state::State;
 use mps_heap_state::units::{begin, do_units};
@@ -33,6 +35,24 @@ fn check_reserve<F: Format>(state: &State<F>, name: Name, head: u64) -> Result<R
     ensures at_most { IfOk result (λ r. r.words ≤ max_block_words) }
 {
     let point = state.point_named(name)?;
+    check_point(state, name, point, head)
+}
+
+/// The same for the point that has the name.
+#[inline(always)]
+pub(crate) fn check_point<F: Format>(
+    state: &State<F>,
+    name: Name,
+    point: Kept<Point>,
+    head: u64,
+) -> Result<Reserving, Refusal>
+    requires named { Ok point ≡ point_named state.now name }
+    requires there { point_at state.now.points point.key ≡ Some point.value }
+    ensures value { result ≡ check_reserve F.layout state.now name head }
+    ensures closed { IfOk result (λ r. IsClosedAt state.now.points r.point.key r.point.value) }
+    ensures nonzero { IfOk result (λ r. 0 < r.words) }
+    ensures at_most { IfOk result (λ r. r.words ≤ max_block_words) }
+{
     let Some(pool) = state.pools.get(point.value.pool) else {
         return Err(Refusal::BadName);
     };
@@ -51,7 +71,7 @@ fn check_reserve<F: Format>(state: &State<F>, name: Name, head: u64) -> Result<R
 
 /// Whether a poll may have work: a collection runs, or there is a chain.
 #[inline(always)]
-fn has_work<F: Format>(state: &State<F>) -> bool
+pub(crate) fn has_work<F: Format>(state: &State<F>) -> bool
     ensures { result ≡ false → (is_some state.now.running ≡ false) × (due_in state.now ≡ None) }
 {
     state.running.is_some() || state.pools.chain_count() != 0
@@ -95,7 +115,7 @@ fn poll<F: Format>(state: &mut State<F>, trail: &mut Trail)
 
 /// Reserves a block for which the checks passed.
 #[inline(always)]
-fn reserve_checked<F: Format>(
+pub(crate) fn reserve_checked<F: Format>(
     state: &mut State<F>,
     trail: &mut Trail,
     name: Name,
@@ -158,7 +178,7 @@ fn reserve_polling<F: Format>(
 
 /// A `reserve` that passed its checks, where a poll may have work. Not inlined, to keep a `reserve` small where none has.
 #[inline(never)]
-fn reserve_with_work<F: Format>(
+pub(crate) fn reserve_with_work<F: Format>(
     state: &mut State<F>,
     trail: &mut Trail,
     name: Name,
@@ -202,7 +222,11 @@ pub fn reserve<F: Format>(
 }
 
 /// The block that a reservation is to become.
-fn block_held<F: Format>(state: &State<F>, point: Point, held: Held) -> Result<Block<F>, Refusal>
+pub(crate) fn block_held<F: Format>(
+    state: &State<F>,
+    point: Point,
+    held: Held,
+) -> Result<Block<F>, Refusal>
     ensures value { result ≡ block_held F.layout state.now point held }
     ensures valid { IfOk result (λ b. IsTrue ((F.layout b.format).is_valid b.head)) }
 {
@@ -223,7 +247,12 @@ fn block_held<F: Format>(state: &State<F>, point: Point, held: Held) -> Result<B
 }
 
 /// Writes a word of a reservation; nothing if a flip ended it.
-fn set_reserved_word<F: Format>(state: &mut State<F>, held: Held, word: usize, value: u64)
+pub(crate) fn set_reserved_word<F: Format>(
+    state: &mut State<F>,
+    held: Held,
+    word: usize,
+    value: u64,
+)
     ensures { state.new ≡ with_reserved_word F.layout state.old held word value }
 {
     if held.flips == state.points.flips() {
@@ -233,7 +262,7 @@ fn set_reserved_word<F: Format>(state: &mut State<F>, held: Held, word: usize, v
 
 /// A reference of a reservation refers to an address, and the summary of its segment gains the zone of that, if it isn't null; nothing
 /// changes if a flip ended the reservation.
-fn set_reserved_reference<F: Format>(
+pub(crate) fn set_reserved_reference<F: Format>(
     state: &mut State<F>,
     held: Held,
     block: &Block<F>,
@@ -284,7 +313,7 @@ pub fn init_ref<F: Format>(
 
 /// A block that was made while a collection runs is kept, if it lies in a condemned segment: the collection doesn't free it.
 #[inline(always)]
-fn keep_new<F: Format>(state: &mut State<F>, at: Addr)
+pub(crate) fn keep_new<F: Format>(state: &mut State<F>, at: Addr)
     requires { word_of at.0 < words_of_grain * (state.old.segs.grains + 1) }
     ensures { state.new ≡ keeping_new state.old at.0 }
 {

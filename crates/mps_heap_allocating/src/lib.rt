@@ -2,3 +2,4 @@
 #![tactic(auto)]
 
 pub mod allocating;
+pub mod keyed;
