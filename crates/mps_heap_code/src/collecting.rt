@@ -1,5 +1,7 @@
 // A full collection, and one that is begun alone.
-ghost use Rattle.std.specs.Prelude.{◌≡◌, ◌^◌, ◌<◌, ◌≤◌, IsTrue, IfOk};
+ghost use Rattle.std.specs.Prelude.{◌≡◌, ◌+◌, ◌*◌, ◌^◌, ◌<◌, ◌≤◌, min, IsTrue, IfOk};
+ghost use Rattle.mps_base.specs.Run.{total};
+ghost use Rattle.mps_seg.specs.Segs.{held_runs};
 ghost use Rattle.mps_heap_spec.specs.Collecting.{can_collect, check_start, check_start_chain, CanCollectAll, CanStart, IsCollected, Starts};
 ghost use Rattle.mps_heap_spec.specs.Following.{Follows};
 ghost use Rattle.mps_trace.specs.Collect.{most_moves};
@@ -28,6 +30,25 @@ pub fn most_moves<F: Format>(state: &State<F>) -> u32
     ensures at_most { result ≤ 2 ^ 21 }
 {
     mps_trace::most_moves(state.segs.grains())
+}
+
+/// How many moves a collection of what there is needs room for: three for each word of a live block, two for each grain that is held, and
+/// six, but no more than `most_moves`.
+pub fn moves_needed<F: Format>(state: &State<F>) -> u32
+    ensures value { result ≡ min (3 * total state.now.segs.blocks + 2 * total (held_runs state.now.segs) + 6)
+        (most_moves state.now.segs.grains) }
+    ensures at_most { result ≤ 2 ^ 21 }
+{
+    let most = most_moves(state);
+    let words = state.segs.live_words() as u64;
+    if words >= u64::from(most) {
+        return most;
+    }
+    let needed = 3 * words + 2 * u64::from(state.segs.committed()) + 6;
+    if needed >= u64::from(most) {
+        return most;
+    }
+    needed as u32
 }
 
 /// Collects everything, from the flip to the end, parks the arena, takes all pairs from its transforms, and follows the moves.

@@ -9,6 +9,7 @@ pub mod DependencyAdded
 pub mod Areas
 pub mod Reserving
 pub mod Dumps
+pub mod InWorlds
 pub mod RightOwn
 pub mod ReserveChecks
 pub mod ReserveStep

@@ -15,6 +15,7 @@ pub mod CollectedSegments
 pub mod CollectedHeaps
 pub mod CollectRight
 pub mod CanCollect
+pub mod FewerWords
 pub mod LiveIsFew
 pub mod SegmentsAtRest
 pub mod PoolsKnown

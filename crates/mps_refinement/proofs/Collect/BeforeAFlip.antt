@@ -5,7 +5,6 @@ use Rattle.mps_format.specs.Layout.{Layout}
 use Rattle.mps_model.specs.World.{World}
 use Rattle.mps_root.specs.State.{kept}
 use Rattle.mps_seg.specs.Table.{IsMarked}
-use Rattle.mps_trace.specs.Collect.{most_moves}
 use Rattle.mps_trace.specs.Trace.{TraceState}
 use Rattle.mps_trace_laws.specs.Begin.Before.{StandsBefore}
 use Rattle.mps_pools.specs.Collecting.{IsTraceOf}
@@ -13,7 +12,7 @@ use Rattle.mps_heap_spec.specs.State.{HeapState}
 use Rattle.mps_refinement.specs.StandsFor.{AreParts, AreSlots, Past, Rests, collector_of}
 use Rattle.mps_refinement.proofs.Collect.CollectRight.{IsBefore}
 use Rattle.mps_refinement.proofs.Collect.KeysInOrder.{keys_in_order}
-use Rattle.mps_refinement.proofs.Collect.LiveIsFew.{moves_are_few}
+use Rattle.mps_refinement.proofs.Collect.LiveIsFew.{most_now, moves_are_few}
 use Rattle.mps_refinement.proofs.Collect.OpenReservations.{reservations_are_open}
 use Rattle.mps_refinement.proofs.Collect.ObjectsAtRest.{objects_at_rest}
 use Rattle.mps_refinement.proofs.Collect.PoolsKnown.{pools_known}
@@ -25,7 +24,7 @@ use Rattle.mps_refinement.proofs.Worlds.Known.{IsKnown}
 module _ {F : Type 0} (layout : F → Layout) (past : Past) (h : HeapState F) (w : World) (parts : AreParts layout past h w)
     (known : IsKnown past.time w) (none : w.graph.dependents ≡ []) (rest : Rests past.time (collector_of h) w)
     (marked : IsMarked h.segs.grains h.segs.marks h.segs.condemned h.segs.summaries)
-    (m : Moves) (room : most_moves h.segs.grains ≤ m.spare) where
+    (m : Moves) (room : most_now h.segs ≤ m.spare) where
   -- whatever words are at hand for its pools
   pub stands_before : (t : TraceState F) → IsTraceOf h.pools h.chains t → StandsBefore layout t h.segs m h.points w
   stands_before t of =

@@ -5,7 +5,7 @@ use Rattle.std.proofs.lemmas.List.{length-map}
 use Rattle.mps_base.specs.Trail.{Moves}
 use Rattle.mps_format.specs.Layout.{Layout}
 use Rattle.mps_model.specs.World.{World, live_ids}
-use Rattle.mps_trace.specs.Collect.{most_moves, most_units}
+use Rattle.mps_trace.specs.Collect.{most_units}
 use Rattle.mps_trace_laws.proofs.Units.Scanning.{scans_are_done}
 use Rattle.mps_trace_laws.proofs.Begin.Acted.{a_collection_begins}
 use Rattle.mps_trace_laws.proofs.Begin.FlipStands.{flip_stands}
@@ -15,7 +15,7 @@ use Rattle.mps_heap_spec.specs.State.{HeapState}
 use Rattle.mps_refinement.specs.StandsFor.{address_of_id}
 use Rattle.mps_refinement.proofs.Collect.BeforeAFlip.{is_before}
 use Rattle.mps_refinement.proofs.Collect.CanCollect.{can_collect_all}
-use Rattle.mps_refinement.proofs.Collect.LiveIsFew.{units_are_below}
+use Rattle.mps_refinement.proofs.Collect.LiveIsFew.{most_now, units_are_below}
 use Rattle.mps_refinement.proofs.Parts.LaidSegments.{blocks_in_order}
 use Rattle.mps_refinement.proofs.Worlds.Ready.{all_reserved}
 use Rattle.mps_refinement.proofs.Collect.CollectRight.{IsBefore, IsWholeMade, right_there}
@@ -27,7 +27,7 @@ use Rattle.mps_seg.specs.Table.{IsMarked}
 -- ---- once what ran before is finished
 
 module _ {F : Type 0} (layout : F → Layout) (h : HeapState F) (m : Moves) (w : World) (st : HasFinished layout h w)
-    (marked : IsMarked h.segs.grains h.segs.marks h.segs.condemned h.segs.summaries) (room : most_moves h.segs.grains ≤ m.spare) where
+    (marked : IsMarked h.segs.grains h.segs.marks h.segs.condemned h.segs.summaries) (room : most_now h.segs ≤ m.spare) where
   -- all that has to be known of it before
   before : IsBefore layout h m w
   before = is_before layout st.past h w st.parts st.known st.bare.none st.rest marked m room

@@ -15,7 +15,7 @@ use Rattle.mps_model.specs.WellFormed.{IsWellFormed}
 use Rattle.mps_model.specs.World.{World, Unclamped}
 use Rattle.mps_seg.specs.Table.{IsMarked}
 use Rattle.mps_trace.specs.Begin.{Begins}
-use Rattle.mps_trace.specs.Collect.{most_moves}
+use Rattle.mps_refinement.proofs.Collect.LiveIsFew.{most_now}
 use Rattle.mps_trace.specs.Flip.{zones_at_flip}
 use Rattle.mps_pools.specs.Pools.{trace_of}
 use Rattle.mps_pools.specs.Collecting.{IsTraceOf}
@@ -46,7 +46,7 @@ use Rattle.mps_refinement.proofs.Worlds.LikeReached.{IsBare, formed_in_steps}
 module _ {F : Type 0} (layout : F → Layout) (past : Past) (h : HeapState F) (w : World) (parts : AreParts layout past h w)
     (known : IsKnown past.time w) (rest : Rests past.time (collector_of h) w) (bare : IsBare w)
     (made : WereMadeBefore h.points.flips h.points) (of : IsTraceOf h.pools h.chains (trace_of h.pools h.chains h.tails))
-    (marked : IsMarked h.segs.grains h.segs.marks h.segs.condemned h.segs.summaries) (m : Moves) (room : most_moves h.segs.grains ≤ m.spare)
+    (marked : IsMarked h.segs.grains h.segs.marks h.segs.condemned h.segs.summaries) (m : Moves) (room : most_now h.segs ≤ m.spare)
     (what : Condemn) (may : MayCondemn (trace_of h.pools h.chains h.tails) h.segs w what) (h' : HeapState F) (m' : Moves) where
   abbrev c : Condemnation
   c = condemnation what

@@ -10,7 +10,7 @@ use Rattle.mps_amc.proofs.Found.{over_is_there}
 use Rattle.mps_format.specs.Layout.{Layout}
 use Rattle.mps_model.specs.Checked.{Checked, ◌>>=◌}
 use Rattle.mps_model.specs.World.{World}
-use Rattle.mps_trace.specs.Collect.{most_moves}
+use Rattle.mps_refinement.proofs.Collect.LiveIsFew.{most_now}
 use Rattle.mps_trace.specs.Trace.{Traced}
 use Rattle.mps_trace.specs.declared.running.Running.{Running as RunningState}
 use Rattle.mps_abstract.specs.Collecting.{Collecting}
@@ -87,7 +87,7 @@ module _ {F : Type 0} (layout : F → Layout) (past : Past) (h : HeapState F) (x
 
 -- ---- the call
 
-module _ {F : Type 0} (layout : F → Layout) (h : HeapState F) (m : Moves) (room : most_moves h.segs.grains ≤ m.spare) (target source : Slot)
+module _ {F : Type 0} (layout : F → Layout) (h : HeapState F) (m : Moves) (room : most_now h.segs ≤ m.spare) (target source : Slot)
     (k : ℕ) (result : Checked (Unit {0})) (after : HeapState F) (m' : Moves) where
   pub get_leaves_no_more : (w : World) → StandsFor layout h w → IsGot layout h m target source k result after m'
       → units_left after ≤ units_left h

@@ -10,7 +10,7 @@ use Rattle.mps_format.specs.Layout.{Layout}
 use Rattle.mps_model.specs.Checked.{Checked}
 use Rattle.mps_model.specs.Policy.{units_of_poll}
 use Rattle.mps_model.specs.World.{World, pairs_in}
-use Rattle.mps_trace.specs.Collect.{most_moves}
+use Rattle.mps_refinement.proofs.Collect.LiveIsFew.{most_now}
 use Rattle.mps_trace.specs.declared.running.Running.{Running as RunningState}
 use Rattle.mps_heap_spec.specs.Allocating.{check_reserve}
 use Rattle.mps_heap_spec.specs.Collecting.{IsStarted}
@@ -77,9 +77,9 @@ record IsPolledTo {F : Type 0} (layout : F → Layout) (h polled : HeapState F) 
   known : IsKnown time world
   now : IsInTime time (collector_of polled) world
 
-module _ {F : Type 0} (layout : F → Layout) (h : HeapState F) (whole : IsWhole h) (m : Moves) (room : most_moves h.segs.grains < m.spare)
+module _ {F : Type 0} (layout : F → Layout) (h : HeapState F) (whole : IsWhole h) (m : Moves) (room : most_now h.segs < m.spare)
     (w : World) (st : StandsFor layout h w) (made : WereMadeBefore h.points.flips h.points) where
-  enough : most_moves h.segs.grains ≤ m.spare
+  enough : most_now h.segs ≤ m.spare
   enough = omega (arith, room)
 
   standing : (polled : HeapState F) (v : World) → StandsFor layout polled v → ReservesWithin h.running h polled

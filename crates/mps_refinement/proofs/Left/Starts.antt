@@ -6,7 +6,7 @@ use Rattle.mps_format.specs.Layout.{Layout}
 use Rattle.mps_model.specs.declared.call.Call.{Call}
 use Rattle.mps_model.specs.Checked.{Checked}
 use Rattle.mps_model.specs.World.{World}
-use Rattle.mps_trace.specs.Collect.{most_moves}
+use Rattle.mps_refinement.proofs.Collect.LiveIsFew.{most_now}
 use Rattle.mps_trace.specs.declared.condemn.Condemn.{Condemn}
 use Rattle.mps_abstract.specs.FlipLaws.{IsNumbered}
 use Rattle.mps_trace_laws.specs.Flip.Condemned.{condemnation}
@@ -22,7 +22,7 @@ use Rattle.mps_refinement.proofs.Units.Starts.{AreChecked, accepted, may, not_ac
 use Rattle.mps_refinement.proofs.Worlds.LikeReached.{bare_of, like_reached}
 use Rattle.mps_refinement.proofs.Worlds.RunningNow.{known_bare, rests_bare}
 
-module _ {F : Type 0} (layout : F → Layout) (h : HeapState F) (whole : IsWhole h) (m : Moves) (room : most_moves h.segs.grains ≤ m.spare)
+module _ {F : Type 0} (layout : F → Layout) (h : HeapState F) (whole : IsWhole h) (m : Moves) (room : most_now h.segs ≤ m.spare)
     (w : World) (st : StandsFor layout h w) (made : WereMadeBefore h.points.flips h.points) (h' : HeapState F) (m' : Moves) where
   pub few_after_start : h.running ≡ None → (what : Condemn) → IsNumbered (condemnation what) → IsStarted layout what h m h' m'
       → units_left h' ≤ most_units_after what h

@@ -13,7 +13,7 @@ use Rattle.mps_base.specs.declared.moves.Move.{Move}
 use Rattle.mps_format.specs.Layout.{Layout}
 use Rattle.mps_seg.specs.Table.{IsMarked}
 use Rattle.mps_trace.specs.Access.{AccessesTo, CanAccess, too_many_scans}
-use Rattle.mps_trace.specs.Collect.{most_moves}
+use Rattle.mps_refinement.proofs.Collect.LiveIsFew.{most_now}
 use Rattle.mps_pools.specs.Pools.{trace_of}
 use Rattle.mps_pools.specs.Collecting.{IsTraceOf}
 use Rattle.mps_trace.specs.Trace.{TraceState, Traced, traced}
@@ -69,7 +69,7 @@ module _ {F : Type 0} (layout : F → Layout) (past : Past) (h : HeapState F) (x
     (bare : IsBare x.world) (r : Runs past.time (collector_of h) x.world x)
     (of : IsTraceOf h.pools h.chains (trace_of h.pools h.chains h.tails))
     (marked : IsMarked h.segs.grains h.segs.marks h.segs.condemned h.segs.summaries)
-    (m : Moves) (room : most_moves h.segs.grains ≤ m.spare) (s : Segment) (held : Contains h.segs.segments s) where
+    (m : Moves) (room : most_now h.segs ≤ m.spare) (s : Segment) (held : Contains h.segs.segments s) where
   abbrev w : World
   w = x.world
 

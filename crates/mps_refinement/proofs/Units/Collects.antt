@@ -17,7 +17,7 @@ use Rattle.mps_model.specs.LegalMove.{AreLegalMoves, IsLegalMove, first_move}
 use Rattle.mps_model.specs.World.{World}
 use Rattle.mps_model.proofs.Cutting.{world_after_moves-append}
 use Rattle.mps_seg.specs.Table.{IsMarked}
-use Rattle.mps_trace.specs.Collect.{most_moves}
+use Rattle.mps_refinement.proofs.Collect.LiveIsFew.{most_now}
 use Rattle.mps_heap_spec.specs.Collecting.{CanCollectAll, IsCollected}
 use Rattle.mps_heap_spec.specs.Following.{Follows, made_since, moves_followed}
 use Rattle.mps_heap_spec.specs.State.{HeapState}
@@ -101,7 +101,7 @@ pub record HasEnded {F : Type 0} (layout : F → Layout) (w : World) (m : Moves)
 module _ {F : Type 0} (layout : F → Layout) (w : World) (m : Moves) (between : HeapState F) (m_between : Moves)
     (is : HasEnded layout w m between m_between)
     (marked : IsMarked between.segs.grains between.segs.marks between.segs.condemned between.segs.summaries)
-    (room : most_moves between.segs.grains ≤ m_between.spare) where
+    (room : most_now between.segs ≤ m_between.spare) where
   abbrev w_then : World
   w_then = world_after_moves w is.moves
 

@@ -25,7 +25,7 @@ use Rattle.mps_model.specs.World.{World, is_parked, is_running}
 use Rattle.mps_model.proofs.AtRest.{is_running-none}
 use Rattle.mps_abstract.specs.FlipLaws.{IsNumbered}
 use Rattle.mps_policy.specs.Due.{due_now, held_by_generation, held_by_generations, is_of_generation, loads_from}
-use Rattle.mps_trace.specs.Collect.{most_moves}
+use Rattle.mps_refinement.proofs.Collect.LiveIsFew.{most_now}
 use Rattle.mps_trace.specs.GenState.{ChainsState}
 use Rattle.mps_trace_laws.proofs.Flip.Filtered.{filter_same}
 use Rattle.mps_trace_laws.specs.Flip.Condemned.{condemnation}
@@ -120,7 +120,7 @@ unclamped_if_it_polls h (Ok r) polling pairs = of_arena h.arena (and_parts (is_u
 -- ---- the flip
 
 module _ {F : Type 0} (layout : F → Layout) (h : HeapState F) (whole : IsWhole h) (m : Moves)
-    (room : most_moves h.segs.grains ≤ m.spare) (w : World) (st : StandsFor layout h w) (none : h.running ≡ None) (due : Due)
+    (room : most_now h.segs ≤ m.spare) (w : World) (st : StandsFor layout h w) (none : h.running ≡ None) (due : Due)
     (is : due_in h ≡ Some due) where
   pub numbered : IsNumbered (condemnation (condemned_by due))
   numbered =

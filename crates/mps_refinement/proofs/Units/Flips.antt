@@ -20,7 +20,7 @@ use Rattle.mps_model.proofs.Reaching.{list_all-contains}
 use Rattle.mps_seg.specs.Collecting.{summary_at}
 use Rattle.mps_seg.specs.Table.{IsMarked}
 use Rattle.mps_trace.specs.Begin.{Begins, EndsAtOnce, marked_at_flip}
-use Rattle.mps_trace.specs.Collect.{most_moves}
+use Rattle.mps_refinement.proofs.Collect.LiveIsFew.{most_now}
 use Rattle.mps_trace.specs.Flip.{zones_at_flip}
 use Rattle.mps_pools.specs.Pools.{trace_of}
 use Rattle.mps_pools.specs.Collecting.{IsTraceOf}
@@ -85,7 +85,7 @@ pub record IsFlipped {F : Type 0} (layout : F → Layout) (w : World) (c : Conde
 module _ {F : Type 0} (layout : F → Layout) (past : Past) (h : HeapState F) (w : World) (parts : AreParts layout past h w)
     (known : IsKnown past.time w) (rest : Rests past.time (collector_of h) w) (bare : IsBare w)
     (made : WereMadeBefore h.points.flips h.points) (of : IsTraceOf h.pools h.chains (trace_of h.pools h.chains h.tails))
-    (marked : IsMarked h.segs.grains h.segs.marks h.segs.condemned h.segs.summaries) (m : Moves) (room : most_moves h.segs.grains ≤ m.spare)
+    (marked : IsMarked h.segs.grains h.segs.marks h.segs.condemned h.segs.summaries) (m : Moves) (room : most_now h.segs ≤ m.spare)
     (what : Condemn) (may : MayCondemn (trace_of h.pools h.chains h.tails) h.segs w what) (h' : HeapState F) (m' : Moves)
     (state : h' ≡ heap_flipped h h' (zones_at_flip (map policy_of_pool h.pools) h.chains what h.segs.segments) arena.Unclamped
     h'.running) where
@@ -369,7 +369,7 @@ module _ {F : Type 0} (layout : F → Layout) (past : Past) (h : HeapState F) (w
 pub flip_is_right : {F : Type 0} (layout : F → Layout) (past : Past) (h : HeapState F) (w : World) (parts : AreParts layout past h w)
     → IsKnown past.time w → Rests past.time (collector_of h) w → IsBare w → WereMadeBefore h.points.flips h.points
     → IsTraceOf h.pools h.chains (trace_of h.pools h.chains h.tails)
-    → IsMarked h.segs.grains h.segs.marks h.segs.condemned h.segs.summaries → (m : Moves) → most_moves h.segs.grains ≤ m.spare
+    → IsMarked h.segs.grains h.segs.marks h.segs.condemned h.segs.summaries → (m : Moves) → most_now h.segs ≤ m.spare
     → (what : Condemn) → MayCondemn (trace_of h.pools h.chains h.tails) h.segs w what → (h' : HeapState F) (m' : Moves)
     → IsStarted layout what h m h' m' → IsFlipped layout w (condemnation what) m h' m'
 flip_is_right {F} layout past h w parts known rest bare made of marked m room what may h' m' started = of_running h'.running refl

@@ -9,7 +9,7 @@ use Rattle.mps_base.specs.declared.names.Slot.{Slot}
 use Rattle.mps_amc.proofs.Found.{over_is_there}
 use Rattle.mps_format.specs.Layout.{Layout}
 use Rattle.mps_trace.specs.Access.{CanAccess, too_many_scans}
-use Rattle.mps_trace.specs.Collect.{most_moves}
+use Rattle.mps_refinement.proofs.Collect.LiveIsFew.{most_now}
 use Rattle.mps_trace.specs.Trace.{Traced}
 use Rattle.mps_trace.specs.declared.running.Running.{Running as RunningState}
 use Rattle.mps_abstract.specs.Collecting.{Collecting, units_left}
@@ -40,7 +40,7 @@ use Rattle.mps_refinement.proofs.Worlds.RunningNow.{resting_now, running_now}
 use Rattle.mps_refinement.proofs.Worlds.Steps.{of_collector}
 use Rattle.mps_heap_spec.specs.Following.{moves_followed}
 
-module _ {F : Type 0} (layout : F → Layout) (h : HeapState F) (m : Moves) (room : most_moves h.segs.grains ≤ m.spare) where
+module _ {F : Type 0} (layout : F → Layout) (h : HeapState F) (m : Moves) (room : most_now h.segs ≤ m.spare) where
   -- ---- the barrier
 
   module _ (whole : IsWhole h) (past : Past) (x : Collecting) (parts : AreParts layout past (alone h) x.world) (bare : IsBare x.world)

@@ -18,7 +18,8 @@ use Rattle.mps_model.specs.Collecting.{with_state}
 use Rattle.mps_model.specs.Units.{AreUnitsToEnd}
 use Rattle.mps_model.specs.World.{World, is_parked, is_running, is_unclamped, pairs_in}
 use Rattle.mps_model.proofs.AtRest.{is_running-none}
-use Rattle.mps_trace.specs.Collect.{most_moves}
+use Rattle.mps_refinement.specs.MovesNeeded.{moves_needed}
+use Rattle.mps_refinement.proofs.Collect.LiveIsFew.{most_now, needed_is_enough}
 use Rattle.mps_pools.specs.Pools.{trace_of}
 use Rattle.mps_trace.specs.State.{FinalsState}
 use Rattle.mps_trace.specs.Trace.{TraceState, Traced}
@@ -54,6 +55,7 @@ use Rattle.mps_refinement.proofs.Units.RoomLeft.{room_then}
 use Rattle.mps_refinement.proofs.Units.UnitsDone as going
 use Rattle.mps_refinement.proofs.Worlds.InSteps.{like_by_moves, running_unparked}
 use Rattle.mps_refinement.proofs.Worlds.LikeReached.{like_reached}
+use Rattle.mps_refinement.proofs.Worlds.Known.{known_now}
 use Rattle.mps_refinement.proofs.Worlds.RunningNow.{resting_now, running_now}
 use Rattle.mps_refinement.proofs.Worlds.Steps.{of_collector}
 
@@ -98,7 +100,7 @@ running_alike (runs x r) =
 -- ---- units
 
 module _ {F : Type 0} (layout : F → Layout) (h : HeapState F) (whole : IsWhole h) (m : Moves)
-    (room : most_moves h.segs.grains ≤ m.spare) (w : World) (st : StandsFor layout h w) where
+    (room : most_now h.segs ≤ m.spare) (w : World) (st : StandsFor layout h w) where
   abbrev t : TraceState F
   t = trace_of h.pools h.chains h.tails
 
@@ -268,23 +270,23 @@ module _ {F : Type 0} (layout : F → Layout) (h : HeapState F) (whole : IsWhole
       }
 
   -- what they leave, and that there is room for another collection
-  ended_first : (between : HeapState F) (m' : Moves) → 2 * most_moves h.segs.grains ≤ m.spare → EndsFirst between m'
-      → HasEnded layout w m between m' × (most_moves between.segs.grains ≤ m'.spare)
+  ended_first : (between : HeapState F) (m' : Moves) → 2 * moves_needed h.segs ≤ m.spare → EndsFirst between m'
+      → HasEnded layout w m between m' × (most_now between.segs ≤ m'.spare)
   ended_first between m' both_fit follows =
-      subst (λ g. HasEnded layout w m g m' × (most_moves g.segs.grains ≤ m'.spare)) (sym follows.followed) (of_units follows.left)
+      subst (λ g. HasEnded layout w m g m' × (most_now g.segs ≤ m'.spare)) (sym follows.followed) (of_units follows.left)
     where
       after : HeapState F
       after = moves_followed layout follows.made (made_since m m')
 
-      grains_kept : after.segs.grains ≡ follows.made.segs.grains
-      grains_kept = ap (λ (g : HeapState F). g.segs.grains) (following_leaves layout follows.made (made_since m m'))
+      most_kept : most_now after.segs ≡ most_now follows.made.segs
+      most_kept = ap (λ (g : HeapState F). most_now g.segs) (following_leaves layout follows.made (made_since m m'))
 
       of_units : HasDoneUnits layout h m (units_to_end h) follows.made m'
-          → HasEnded layout w m after m' × (most_moves after.segs.grains ≤ m'.spare)
+          → HasEnded layout w m after m' × (most_now after.segs ≤ m'.spare)
       of_units (none_runs none is trail) =
           let same = sym is ∙ ap (moves_followed layout follows.made) (sym (since_are m m' [] (none_appended m m' trail))) in (
             subst (λ g. HasEnded layout w m g m') same (none_ends m' none trail),
-            subst (λ (g : HeapState F). most_moves g.segs.grains ≤ m'.spare) same
+            subst (λ (g : HeapState F). most_now g.segs ≤ m'.spare) same
                 (let spare = ap (λ (u : Moves). u.spare) trail in omega (arith, spare, room)),
           )
       of_units (goes_on run next is units state) =
@@ -292,7 +294,7 @@ module _ {F : Type 0} (layout : F → Layout) (h : HeapState F) (whole : IsWhole
       of_units (ends run is over state) =
           let g = running_now layout h w st run is in (
             last_ends run is after m' (last_are_made layout h whole m room w st (units_to_end h) follows.made m' run is over state),
-            subst (λ (n : ℕ). most_moves n ≤ m'.spare) (sym grains_kept)
+            subst (λ (n : ℕ). n ≤ m'.spare) (sym most_kept)
                 (room_then layout g.past (alone h) g.collecting g.parts g.bare g.runs whole.tails whole.marked m room (units_to_end h)
                 (traced_in follows.made m') follows.made.finals
                 (subst (λ q. EndsWithin layout t.formats t.chains (traced_in h m) h.finals q (units_to_end h)
@@ -304,7 +306,7 @@ module _ {F : Type 0} (layout : F → Layout) (h : HeapState F) (whole : IsWhole
       ap (λ (g : HeapState F). g.points) (follows.followed ∙ following_leaves layout follows.made (made_since m m'))
       ∙ ap (λ (g : HeapState F). g.points) (units_leave follows.left)
 
-  module _ (both_fit : 2 * most_moves h.segs.grains ≤ m.spare) (between : HeapState F) (m_between : Moves) (whole_then : IsWhole between)
+  module _ (both_fit : 2 * moves_needed h.segs ≤ m.spare) (between : HeapState F) (m_between : Moves) (whole_then : IsWhole between)
       (first : EndsFirst between m_between) where
     pub can_collect_then : CanCollectAll layout between m_between
     can_collect_then =
@@ -322,11 +324,18 @@ module _ {F : Type 0} (layout : F → Layout) (h : HeapState F) (whole : IsWhole
                 ∙ units_keep_room (units_to_end h) first.made m_between first.left,
           )
 
+-- what a heap says that it needs is enough
+pub needed_now : {F : Type 0} (layout : F → Layout) (h : HeapState F) (w : World) → StandsFor layout h w
+    → most_now h.segs ≤ moves_needed h.segs
+needed_now layout h w st = needed_is_enough layout st.past h w st.parts (known_now st).laid
+
 pub a_collect_is_right : {F : Type 0} → ACollectIsRight F
 a_collect_is_right layout h m between m_between h' m' may made first whole_then collected =
     let both_fit = may.room in
+    let needed = needed_now layout h may.world may.stands in
     let of_world = λ (w : World) (st : StandsFor layout h w).
-    collect_is_right layout h may.whole m (omega (arith, both_fit)) w st both_fit between m_between whole_then first made h' m' collected in
+    collect_is_right layout h may.whole m (omega (arith, both_fit, needed)) w st both_fit between m_between whole_then first made h' m'
+    collected in
     record {
       right =
           right_in_each layout h call.Collect refl m.moves m'.moves (Replied reply.Ok) h' (may.world, may.stands)

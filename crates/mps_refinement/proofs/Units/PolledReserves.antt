@@ -18,7 +18,7 @@ use Rattle.mps_model.specs.Collecting.{with_state}
 use Rattle.mps_model.specs.Effect.{world_after_moves}
 use Rattle.mps_model.specs.History.{asking}
 use Rattle.mps_model.specs.World.{World, is_parked, is_running, pairs_in}
-use Rattle.mps_trace.specs.Collect.{most_moves}
+use Rattle.mps_refinement.proofs.Collect.LiveIsFew.{most_now}
 use Rattle.mps_pools.specs.Pools.{trace_of}
 use Rattle.mps_trace.specs.Unit.{EndsWithin, UnitsTo}
 use Rattle.mps_trace.specs.declared.running.Running.{Running as RunningState}
@@ -108,8 +108,8 @@ module _ {F : Type 0} (layout : F → Layout) (w : World) (reach : IsReached w) 
 -- ---- at any time
 
 module _ {F : Type 0} (layout : F → Layout) (h : HeapState F) (whole : IsWhole h) (m : Moves)
-    (room : most_moves h.segs.grains < m.spare) (w : World) (st : StandsFor layout h w) where
-  enough : most_moves h.segs.grains ≤ m.spare
+    (room : most_now h.segs < m.spare) (w : World) (st : StandsFor layout h w) where
+  enough : most_now h.segs ≤ m.spare
   enough = omega (arith, room)
 
   runs_there : (run : RunningState) → h.running ≡ Some run → is_running w ≡ true

@@ -4,7 +4,7 @@ use Rattle.mps_base.specs.Trail.{Moves}
 use Rattle.mps_format.specs.Layout.{Layout}
 use Rattle.mps_seg.specs.Table.{IsMarked}
 use Rattle.mps_model.specs.World.{World}
-use Rattle.mps_trace.specs.Collect.{most_moves, most_units}
+use Rattle.mps_trace.specs.Collect.{most_units}
 use Rattle.mps_pools.specs.Pools.{trace_of}
 use Rattle.mps_pools.specs.Collecting.{IsTraceOf}
 use Rattle.mps_trace.specs.State.{FinalsState}
@@ -19,7 +19,7 @@ use Rattle.mps_trace_laws.proofs.Units.Rows.{units_run_out}
 use Rattle.mps_trace_laws.proofs.Units.Scanning.{scans_are_done}
 use Rattle.mps_heap_spec.specs.State.{HeapState}
 use Rattle.mps_refinement.specs.StandsFor.{AreParts, Past, Runs, collector_of}
-use Rattle.mps_refinement.proofs.Collect.LiveIsFew.{units_are_below}
+use Rattle.mps_refinement.proofs.Collect.LiveIsFew.{most_now, units_are_below}
 use Rattle.mps_refinement.proofs.Parts.LaidSegments.{blocks_in_order}
 use Rattle.mps_refinement.proofs.Parts.Registered.{as_many}
 use Rattle.mps_refinement.proofs.Units.ToUnits.{stands_for_units}
@@ -47,7 +47,7 @@ module _ {F : Type 0} (layout : F → Layout) (past : Past) (h : HeapState F) (x
 
   module _ (of : IsTraceOf h.pools h.chains (trace_of h.pools h.chains h.tails))
       (marked : IsMarked h.segs.grains h.segs.marks h.segs.condemned h.segs.summaries)
-      (m : Moves) (room : most_moves h.segs.grains ≤ m.spare) where
+      (m : Moves) (room : most_now h.segs ≤ m.spare) where
     abbrev t : TraceState F
     t = trace_of h.pools h.chains h.tails
 

@@ -30,7 +30,7 @@ use Rattle.mps_model.proofs.AtRest.{is_running-none}
 use Rattle.mps_abstract.specs.ClientLaws.{position_taken}
 use Rattle.mps_abstract.specs.FlipLaws.{IsNumbered}
 use Rattle.mps_pools.specs.Pools.{trace_of}
-use Rattle.mps_trace.specs.Collect.{most_moves}
+use Rattle.mps_refinement.proofs.Collect.LiveIsFew.{most_now}
 use Rattle.mps_trace.specs.declared.condemn.Condemn.{Condemn}
 use Rattle.mps_trace.specs.declared.condemn.Condemn.TheVariants as condemn
 use Rattle.mps_trace_laws.specs.Begin.Condemning.{MayCondemn}
@@ -284,7 +284,7 @@ pub record IsRightStartIn {F : Type 0} (layout : F → Layout) (w : World) (c : 
   pub room : KeepsRoom m m'
 
 module _ {F : Type 0} (layout : F → Layout) (h : HeapState F) (whole : IsWhole h) (m : Moves)
-    (room : most_moves h.segs.grains ≤ m.spare) where
+    (room : most_now h.segs ≤ m.spare) where
   module _ (w : World) (st : StandsFor layout h w) (none : h.running ≡ None) (what : Condemn) (numbered : IsNumbered (condemnation what))
     where
       -- all that a flip needs of it, without its pairs

@@ -13,7 +13,6 @@ use Rattle.mps_model.specs.WellFormed.{IsWellFormed, is_right_object}
 use Rattle.mps_model.specs.World.{World, is_copying_pool}
 use Rattle.mps_seg.specs.Table.{IsMarked}
 use Rattle.mps_laws.proofs.Positions.LegalMoves.{HasLayout}
-use Rattle.mps_trace.specs.Collect.{most_moves}
 use Rattle.mps_pools.specs.Pools.{trace_of}
 use Rattle.mps_pools.specs.Collecting.{IsTraceOf}
 use Rattle.mps_trace.specs.Trace.{TraceState, Traced, traced}
@@ -33,7 +32,7 @@ use Rattle.mps_trace_laws.proofs.Units.Entering.{held_in_order, held_inside}
 use Rattle.mps_trace_laws.proofs.Units.MovesBound.{moves_are_bounded}
 use Rattle.mps_heap_spec.specs.State.{HeapState}
 use Rattle.mps_refinement.specs.StandsFor.{AreParts, AreRegistered, Past, Runs, collector_of}
-use Rattle.mps_refinement.proofs.Collect.LiveIsFew.{moves_are_few}
+use Rattle.mps_refinement.proofs.Collect.LiveIsFew.{most_now, moves_are_few}
 use Rattle.mps_refinement.proofs.Collect.ObjectsAtRest.{registered_are_due}
 use Rattle.mps_refinement.proofs.Collect.PoolsKnown.{pools_known}
 use Rattle.mps_refinement.proofs.Collect.StrongMoving.{strong_moving}
@@ -49,7 +48,7 @@ module _ {F : Type 0} (layout : F → Layout) (past : Past) (h : HeapState F) (x
     (bare : IsBare x.world) (r : Runs past.time (collector_of h) x.world x)
     (of : IsTraceOf h.pools h.chains (trace_of h.pools h.chains h.tails))
     (marked : IsMarked h.segs.grains h.segs.marks h.segs.condemned h.segs.summaries)
-    (m : Moves) (room : most_moves h.segs.grains ≤ m.spare) where
+    (m : Moves) (room : most_now h.segs ≤ m.spare) where
   abbrev w : World
   w = x.world
 

@@ -6,7 +6,7 @@ use Rattle.mps_base.specs.Trail.{Moves}
 use Rattle.mps_format.specs.Layout.{Layout}
 use Rattle.mps_model.specs.World.{World}
 use Rattle.mps_seg.specs.Table.{IsMarked}
-use Rattle.mps_trace.specs.Collect.{most_moves}
+use Rattle.mps_refinement.proofs.Collect.LiveIsFew.{most_now}
 use Rattle.mps_pools.specs.Pools.{trace_of}
 use Rattle.mps_pools.specs.Collecting.{IsTraceOf}
 use Rattle.mps_trace.specs.State.{FinalsState}
@@ -41,7 +41,7 @@ module _ {F : Type 0} (layout : F → Layout) (past : Past) (h : HeapState F) (x
     (bare : IsBare x.world) (r : Runs past.time (collector_of h) x.world x)
     (of : IsTraceOf h.pools h.chains (trace_of h.pools h.chains h.tails))
     (marked : IsMarked h.segs.grains h.segs.marks h.segs.condemned h.segs.summaries)
-    (m : Moves) (room : most_moves h.segs.grains ≤ m.spare) (n : ℕ) (z : Traced) (f : FinalsState) (run : RunningState)
+    (m : Moves) (room : most_now h.segs ≤ m.spare) (n : ℕ) (z : Traced) (f : FinalsState) (run : RunningState)
     (units : UnitsTo layout (trace_of h.pools h.chains h.tails).formats (trace_of h.pools h.chains h.tails).chains
     (traced (trace_of h.pools h.chains h.tails) h.segs m) h.finals r.run n z f run) where
   abbrev w : World

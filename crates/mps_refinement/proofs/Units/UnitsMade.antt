@@ -13,7 +13,7 @@ use Rattle.mps_model.specs.Units.{AreUnits}
 use Rattle.mps_model.specs.World.{World, is_running}
 use Rattle.mps_model.proofs.AtRest.{is_running-none, with_collection-none}
 use Rattle.mps_seg.specs.Table.{IsMarked}
-use Rattle.mps_trace.specs.Collect.{most_moves}
+use Rattle.mps_refinement.proofs.Collect.LiveIsFew.{most_now}
 use Rattle.mps_pools.specs.Pools.{trace_of}
 use Rattle.mps_pools.specs.Collecting.{IsTraceOf}
 use Rattle.mps_trace.specs.State.{FinalsState}
@@ -65,7 +65,7 @@ module _ {F : Type 0} (layout : F → Layout) (past : Past) (h : HeapState F) (x
     (bare : IsBare x.world) (r : Runs past.time (collector_of h) x.world x)
     (of : IsTraceOf h.pools h.chains (trace_of h.pools h.chains h.tails))
     (marked : IsMarked h.segs.grains h.segs.marks h.segs.condemned h.segs.summaries)
-    (m : Moves) (room : most_moves h.segs.grains ≤ m.spare) (n : ℕ) where
+    (m : Moves) (room : most_now h.segs ≤ m.spare) (n : ℕ) where
   abbrev here : Traced
   here = traced (trace_of h.pools h.chains h.tails) h.segs m
 
@@ -219,7 +219,7 @@ module _ {F : Type 0} (layout : F → Layout) (w : World) (like : IsLikeReached 
 -- ---- of a heap
 
 module _ {F : Type 0} (layout : F → Layout) (h : HeapState F) (whole : IsWhole h) (m : Moves)
-    (room : most_moves h.segs.grains ≤ m.spare) (w : World) (st : StandsFor layout h w) where
+    (room : most_now h.segs ≤ m.spare) (w : World) (st : StandsFor layout h w) where
   abbrev like : IsLikeReached w
   like = like_reached w st.reached
 

@@ -7,11 +7,11 @@ use Rattle.mps_model.specs.declared.call.Call.TheVariants as call
 use Rattle.mps_model.specs.declared.reply.Reply.TheVariants as reply
 use Rattle.mps_model.specs.Answer.{Replied}
 use Rattle.mps_model.specs.World.{World}
-use Rattle.mps_trace.specs.Collect.{most_moves}
 use Rattle.mps_heap_spec.specs.Collecting.{IsCollected}
 use Rattle.mps_heap_spec.specs.Following.{Follows}
 use Rattle.mps_heap_spec.specs.State.{HeapState}
 use Rattle.mps_heap_spec.specs.Units.{HasDoneUnits, IsWhole, units_to_end}
+use Rattle.mps_refinement.specs.MovesNeeded.{moves_needed}
 use Rattle.mps_refinement.specs.RightMoving.{IsRightMoving, KeepsRoom}
 use Rattle.mps_refinement.specs.StandsFor.{StandsFor}
 
@@ -21,7 +21,7 @@ pub record MayCollect {F : Type 0} (layout : F → Layout) (h : HeapState F) (m 
   pub world : World
   pub stands : StandsFor layout h world
   pub whole : IsWhole h
-  pub room : 2 * most_moves h.segs.grains ≤ m.spare
+  pub room : 2 * moves_needed h.segs ≤ m.spare
 
 -- what a call `collect` is, by a heap that is this one then, with a trail that is this one
 pub record IsRightCollect {F : Type 0} (layout : F → Layout) (h : HeapState F) (m : Moves) (h' : HeapState F) (m' : Moves) : Type 0 where

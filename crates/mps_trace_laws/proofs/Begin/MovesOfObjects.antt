@@ -35,15 +35,16 @@ later_object o p os (k, within, is) = (suc k, omega (arith, within), is)
 first_object : (o : Object) (os : List Object) → Contains (o ∷ os) o
 first_object o os = (0, omega arith, refl)
 
-for_all : (is_copying : ℕ → Bool) (objects : List Object) (addresses : List (Option Address))
+-- two moves take three words of what is live
+pub moves_by_words : (is_copying : ℕ → Bool) (objects : List Object) (addresses : List (Option Address))
     → ((o : Object) → Contains objects o → IsRoomy is_copying o)
     → 2 * moves_of is_copying objects addresses ≤ 3 * total (extents_of objects addresses)
-for_all is_copying [] addresses roomy = omega arith
-for_all is_copying (o ∷ os) [] roomy = omega arith
-for_all is_copying (o ∷ os) (None ∷ addresses) roomy = for_all is_copying os addresses (λ p there. roomy p (later_object o p os there))
-for_all is_copying (o ∷ os) (Some at ∷ addresses) roomy =
+moves_by_words is_copying [] addresses roomy = omega arith
+moves_by_words is_copying (o ∷ os) [] roomy = omega arith
+moves_by_words is_copying (o ∷ os) (None ∷ addresses) roomy = moves_by_words is_copying os addresses (λ p there. roomy p (later_object o p os there))
+moves_by_words is_copying (o ∷ os) (Some at ∷ addresses) roomy =
     let one = for_one is_copying o (roomy o (first_object o os)) in
-    let rest = for_all is_copying os addresses (λ p there. roomy p (later_object o p os there)) in
+    let rest = moves_by_words is_copying os addresses (λ p there. roomy p (later_object o p os there)) in
     let cons = total-cons (extent at (size_of o)) (extents_of os addresses) in
     omega (arith, one, rest, cons)
 
@@ -51,5 +52,5 @@ pub room_is_enough : RoomIsEnough
 room_is_enough is_copying objects addresses first_word end_word ascending roomy =
     let few = total-le first_word end_word (in_order (extents_of objects addresses)) ascending in
     let same = total-in_order (extents_of objects addresses) in
-    let taken = for_all is_copying objects addresses roomy in
+    let taken = moves_by_words is_copying objects addresses roomy in
     omega (arith, few, same, taken)
