@@ -9,7 +9,6 @@ use Rattle.mps_model.specs.World.{World}
 use Rattle.mps_model.specs.declared.call.Call.TheVariants as call
 use Rattle.mps_model.specs.declared.reply.Reply.TheVariants as reply
 use Rattle.mps_heap_spec.specs.Arena.{with_arena}
-use Rattle.mps_heap_spec.specs.Collect.{most_moves}
 use Rattle.mps_heap_spec.specs.Collecting.{CanCollectAll, IsCollected, can_collect, most_flips}
 use Rattle.mps_heap_spec.specs.Following.{Follows, made_since, moves_followed}
 use Rattle.mps_heap_spec.specs.Points.{WereMadeBefore}
@@ -19,16 +18,19 @@ use Rattle.mps_heap_spec.specs.declared.arena.ArenaState.TheVariants as arena
 use Rattle.mps_heap_spec.specs.declared.arena.Progress.{Progress}
 use Rattle.mps_refinement.specs.Answering.{says_progress}
 use Rattle.mps_refinement.specs.Collect.Collecting.{IsRightCollect}
+use Rattle.mps_refinement.specs.MovesNeeded.{moves_needed}
 use Rattle.mps_refinement.specs.RightMoving.{IsRightMoving, KeepsRoom}
 use Rattle.mps_refinement.specs.StandsFor.{StandsFor}
 use Rattle.mps_refinement.specs.StandsForSome.{StandsForSome}
 use Rattle.mps_refinement.specs.UnitsLeft.{StepsDown, units_left}
+use Rattle.mps_refinement.proofs.Collect.LiveIsFew.{most_now}
 use Rattle.mps_refinement.proofs.Left.AfterUnits.{none_after_collect, none_at_rest, rests_at_the_end, steps_down}
 use Rattle.mps_refinement.proofs.Following.Made.{following_leaves}
 use Rattle.mps_refinement.proofs.Units.Followed.{units_leave}
 use Rattle.mps_refinement.proofs.Units.Outcomes as outcomes
 use Rattle.mps_refinement.proofs.Units.Outcomes.{a_collect_is_right, can_do_units, park_is_right, right_in_each, stepped_is_right, stepped_keeps_room, units_keep_room}
 use Rattle.mps_refinement.proofs.Worlds.Staying.{one_world}
+use Rattle.mps_heap.proofs.Rooms.{has_room}
 
 module _ {F : Type 0} (layout : F → Layout) (h : HeapState F) (some : StandsForSome layout h) (whole : IsWhole h) (m : Moves) where
   one : (w : World) × StandsFor layout h w
@@ -47,7 +49,10 @@ module _ {F : Type 0} (layout : F → Layout) (h : HeapState F) (some : StandsFo
       → of between ≡ of (after_units h units.made units.made.running)
   left_of of {m' = m'} units same = ap of units.followed ∙ same units.made (made_since m m') ∙ ap of (units_leave units.left)
 
-  module _ (room : most_moves h.segs.grains ≤ m.spare) where
+  module _ (fits : moves_needed h.segs ≤ m.spare) where
+    room : most_now h.segs ≤ m.spare
+    room = has_room layout h some m.spare fits
+
     -- the units to the end can be done
     pub can_end : CanDoUnits layout h m (units_to_end h)
     can_end = can_do_units layout h whole m room one.0 one.1 (units_to_end h)
@@ -86,7 +91,10 @@ module _ {F : Type 0} (layout : F → Layout) (h : HeapState F) (some : StandsFo
     stepped_down = steps_down layout h whole m room one.0 one.1
 
   -- a collection of everything after them is a `collect`, if one flip more can be counted and there is room for two collections
-  module _ (can : can_collect h ≡ true) (both_fit : 2 * most_moves h.segs.grains ≤ m.spare) where
+  module _ (can : can_collect h ≡ true) (both_fit : 2 * moves_needed h.segs ≤ m.spare) where
+    enough : most_now h.segs ≤ m.spare
+    enough = has_room layout h some m.spare (omega (arith, both_fit))
+
     pub can_end_first : CanDoUnits layout h m (units_to_end h)
     can_end_first = can_end (omega (arith, both_fit))
 
@@ -108,7 +116,7 @@ module _ {F : Type 0} (layout : F → Layout) (h : HeapState F) (some : StandsFo
       module _ (whole_then : IsWhole between) where
         pub can_collect_then : CanCollectAll layout between m_between
         can_collect_then =
-            outcomes.can_collect_then layout h whole m (omega (arith, both_fit)) one.0 one.1 both_fit between m_between whole_then
+            outcomes.can_collect_then layout h whole m enough one.0 one.1 both_fit between m_between whole_then
             units
 
         pub collected_rightly : WereMadeBefore h.points.flips h.points → (h' : HeapState F) (m' : Moves)
@@ -121,4 +129,4 @@ module _ {F : Type 0} (layout : F → Layout) (h : HeapState F) (some : StandsFo
         pub none_left : (h' : HeapState F) (m' : Moves) → Follows layout m_between (IsCollected layout between m_between) h' m'
             → units_left h' ≡ 0
         none_left h' m' collected =
-            none_after_collect layout h whole m (omega (arith, both_fit)) one.0 one.1 between m_between units h' m' collected
+            none_after_collect layout h whole m enough one.0 one.1 between m_between units h' m' collected

@@ -301,3 +301,9 @@ module _ {F : Type 0} (layout : F → Layout) (h : HeapState F) (place : Slot) w
       let b = written_is_right layout h place (Leaves r) after written in
       (b.are_stored.stored s.0 0 s.1).stands.parts.grains ∙ grains_of_stores s.0 0 place 0 b.left ∙ sym s.1.parts.grains
   written_or_refused_grains Leaves after (Err why) none some = ap (λ (x : HeapState F). x.segs.grains) none.1
+
+  pub written_or_refused_keys : {R : Type 0} (Leaves : R → List ℕ → List ℕ → Type 0) (after : HeapState F) (result : Result R Refusal)
+      → MatchResult result (λ r. IsBlockWritten h place (Leaves r) after) (λ why. IsNoBlock h place why × (after ≡ h))
+      → after.names.keys ≡ h.names.keys
+  written_or_refused_keys Leaves after (Ok r) written = ap (λ (x : HeapState F). x.names.keys) written.state
+  written_or_refused_keys Leaves after (Err why) none = ap (λ (x : HeapState F). x.names.keys) none.1

@@ -1,7 +1,10 @@
+pub mod ByKeys
 pub mod Collected
+pub mod GivingKeys
 pub mod Grains
 pub mod Lending
 pub mod NewHeaps
 pub mod Reserving
 pub mod Results
+pub mod Rooms
 pub mod Starting

@@ -7,24 +7,29 @@ use Rattle.mps_format.specs.Layout.{Layout}
 use Rattle.mps_model.specs.World.{World}
 use Rattle.mps_model.specs.declared.call.Call.TheVariants as call
 use Rattle.mps_heap_spec.specs.Checked.{Checked}
-use Rattle.mps_heap_spec.specs.Collect.{most_moves}
 use Rattle.mps_heap_spec.specs.Collecting.{can_collect, most_flips}
 use Rattle.mps_heap_spec.specs.Points.{WereMadeBefore}
 use Rattle.mps_heap_spec.specs.Polling.{CanPoll, HasReserved}
 use Rattle.mps_heap_spec.specs.State.{HeapState}
 use Rattle.mps_heap_spec.specs.Units.{IsWhole}
 use Rattle.mps_refinement.specs.Answering.{answer_to, says_ok}
+use Rattle.mps_refinement.specs.MovesNeeded.{moves_needed}
 use Rattle.mps_refinement.specs.RightMoving.{IsRightMoving, KeepsRoom}
 use Rattle.mps_refinement.specs.StandsFor.{StandsFor}
 use Rattle.mps_refinement.specs.StandsForSome.{StandsForSome}
 use Rattle.mps_refinement.specs.UnitsLeft.{ReservesWithin}
+use Rattle.mps_refinement.proofs.Collect.LiveIsFew.{most_now}
 use Rattle.mps_refinement.proofs.Left.Reserves.{reserves_within}
 use Rattle.mps_refinement.proofs.Units.Outcomes.{right_in_each}
 use Rattle.mps_refinement.proofs.Units.PolledReserves.{a_reserve_is_right, can_poll}
 use Rattle.mps_refinement.proofs.Worlds.Staying.{one_world}
+use Rattle.mps_heap.proofs.Rooms.{has_more_room}
 
 module _ {F : Type 0} (layout : F → Layout) (h : HeapState F) (some : StandsForSome layout h) (whole : IsWhole h) (m : Moves)
-    (room : most_moves h.segs.grains < m.spare) where
+    (fits : moves_needed h.segs < m.spare) where
+  room : most_now h.segs < m.spare
+  room = has_more_room layout h some m.spare fits
+
   one : (w : World) × StandsFor layout h w
   one = one_world layout h some
 

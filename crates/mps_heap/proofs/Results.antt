@@ -12,10 +12,12 @@ use Rattle.mps_heap_spec.specs.State.{HeapState}
 use Rattle.mps_refinement.specs.Answering.{answer_to}
 use Rattle.mps_refinement.specs.Making.{IsRightMaking, IsRightMakingIn}
 use Rattle.mps_refinement.specs.RightStep.{IsRight}
+use Rattle.mps_refinement.specs.InWorlds.{SaysLength}
+use Rattle.mps_refinement.proofs.Calls.InWorlds.{says_length}
 use Rattle.mps_refinement.proofs.Calls.Dumps.{dump_answers, none_there, not_dumped_is_right}
 use Rattle.mps_heap.specs.Answers.{says_words}
 use Rattle.mps_heap.specs.Results.{without_key}
-use Rattle.std.specs.Prelude.{MatchResult, false, is_some}
+use Rattle.std.specs.Prelude.{IfOk, MatchResult, false, is_some}
 
 module _ {F : Type 0} (layout : F → Layout) where
   pub making_without_key : (h after : HeapState F) (c : Call) (made : Result ℕ Refusal) (told : Result (Unit {0}) Refusal)
@@ -52,3 +54,9 @@ module _ {F : Type 0} (layout : F → Layout) where
       → IsRight layout h (call.Dump at.0) [] (answer_to (says_words h.segs.words at) result) h
   dump_is_right_of h at (Ok words) begins = dump_answers layout h at.0 (none_there h.running begins.0) words begins.1
   dump_is_right_of h at (Err why) isnt = not_dumped_is_right layout h at.0 why isnt
+
+  pub says_length_of : (h : HeapState F) (at : Addr) (result : Result ℕ Refusal)
+      → MatchResult result (λ words. (is_some h.running ≡ false) × BlockBegins h at.0 words) (λ why. IsNotDumped h at.0 why)
+      → IfOk result (λ words. SaysLength layout h at.0 words)
+  says_length_of h at (Ok words) begins = says_length layout h at.0 words begins.1
+  says_length_of h at (Err why) isnt = tt

@@ -3,4 +3,7 @@ pub mod Lending
 pub mod Results
 pub mod Right
 pub use Rattle.mps_refinement.specs.RightMoving
+pub use Rattle.mps_refinement.specs.MovesNeeded
 pub use Rattle.mps_heap_spec.specs.Collect
+pub use Rattle.mps_heap_spec.specs.Keyed
+pub use Rattle.mps_heap_spec.specs.Keys

@@ -9,6 +9,7 @@ mod collecting;
 mod depending;
 mod finalizing;
 mod framing;
+mod keyed;
 mod labelling;
 mod lending;
 mod making;
@@ -21,6 +22,7 @@ mod transforming;
 ghost use Rattle.std.specs.Prelude.{◌≡◌, ◌≤◌, ◌<◌, slice_get, IfOk};
 ghost use Rattle.mps_base.specs.Address.{max_grains};
 ghost use Rattle.mps_heap.specs.Right.{IsNewHeap};
+ghost use Rattle.mps_refinement.specs.InWorlds.{SaysWord};
 
 use mps_format::Format;
 use mps_heap_state::State;
@@ -59,7 +61,8 @@ impl<F: Format> Heap<F> {
 
     /// The word of a number, which is its address divided by 8; none if the arena has no such word.
     pub fn word(&self, number: usize) -> Option<u64>
-        ensures { result ≡ slice_get self.now.segs.words number }
+        ensures value { result ≡ slice_get self.now.segs.words number }
+        ensures right { SaysWord F.layout self.now number result }
     {
         self.state.item(number)
     }

@@ -6,4 +6,5 @@ mod heap;
 
 pub use heap::Heap;
 pub use mps_heap_code::steps::Steps;
-pub use mps_heap_spec::{Committed, Progress};
+pub use mps_heap_spec::{Committed, KeyedSlot, KeyedWord, Progress};
+pub use mps_names::{AreaKey, PointKey, TableKey};

@@ -5,8 +5,8 @@ ghost use Rattle.std.specs.Prelude.{[], ◌≡◌, ◌<◌, IsTrue};
 ghost use Rattle.mps_model.specs.declared.call.Call.TheVariants as call;
 ghost use Rattle.mps_refinement.specs.RightStep.{IsRight};
 ghost use Rattle.mps_refinement.specs.Answering.{answer_to, says_committed, says_ok};
-ghost use Rattle.mps_heap_spec.specs.Collect.{most_moves};
 ghost use Rattle.mps_heap_spec.specs.Collecting.{can_collect};
+ghost use Rattle.mps_refinement.specs.MovesNeeded.{moves_needed};
 ghost use Rattle.mps_refinement.specs.RightMoving.{IsRightMoving, KeepsRoom};
 ghost use Rattle.mps_refinement.specs.UnitsLeft.{ReservesWithin};
 
@@ -21,16 +21,17 @@ impl<F: Format> Heap<F> {
     /// Reserves a block with this head at a point. Its numbers are 0 and its references null. Refuses `BadHead` if the pool takes no
     /// such block, `Open` if the point has an open reservation, and `CommitLimit` and `NoRun` if there is no room. If nothing that is held
     /// has a place for the block and the arena is unclamped, it polls first: a collection in progress does 64 units, and if none is one of
-    /// the generation that is due begins. So one flip more can be counted, and the trail has room for more than `most_moves`.
+    /// the generation that is due begins. So one flip more can be counted, and the trail has room for more than `moves_needed`.
     #[inline(always)]
     pub fn reserve(&mut self, trail: &mut Trail, x: Name, head: u64) -> Result<(), Refusal>
         requires few_flips { IsTrue (can_collect self.old) }
-        requires fits { most_moves self.old.segs.grains < trail.old.spare }
+        requires fits { moves_needed self.old.segs < trail.old.spare }
         ensures right { IsRightMoving F.layout self.old (call.Reserve x head) trail.old.moves trail.new.moves
             (answer_to says_ok result) self.new }
         ensures units { ReservesWithin self.old.running self.old self.new }
         ensures room { KeepsRoom trail.old trail.new }
         ensures grains { self.new.segs.grains ≡ self.old.segs.grains }
+        ensures keys { self.new.names.keys ≡ self.old.names.keys }
     {
         units::is_whole(&self.state);
         allocating::reserve(&mut self.state, trail, x, head)
@@ -40,6 +41,7 @@ impl<F: Format> Heap<F> {
     pub fn init_num(&mut self, x: Name, cell: u64, n: u64) -> Result<(), Refusal>
         ensures right { IsRight F.layout self.old (call.InitNumber x cell n) [] (answer_to says_ok result) self.new }
         ensures grains { self.new.segs.grains ≡ self.old.segs.grains }
+        ensures keys { self.new.names.keys ≡ self.old.names.keys }
     {
         allocating::init_num(&mut self.state, x, cell, n)
     }
@@ -48,6 +50,7 @@ impl<F: Format> Heap<F> {
     pub fn init_ref(&mut self, x: Name, cell: u64, source: Slot) -> Result<(), Refusal>
         ensures right { IsRight F.layout self.old (call.InitReference x cell source) [] (answer_to says_ok result) self.new }
         ensures grains { self.new.segs.grains ≡ self.old.segs.grains }
+        ensures keys { self.new.names.keys ≡ self.old.names.keys }
     {
         allocating::init_ref(&mut self.state, x, cell, source)
     }
@@ -61,6 +64,7 @@ impl<F: Format> Heap<F> {
             (answer_to says_committed result) self.new }
         ensures room { KeepsRoom trail.old trail.new }
         ensures grains { self.new.segs.grains ≡ self.old.segs.grains }
+        ensures keys { self.new.names.keys ≡ self.old.names.keys }
     {
         allocating::commit(&mut self.state, trail, x, target)
     }

@@ -16,6 +16,7 @@ impl<F: Format> Heap<F> {
     pub fn poke(&mut self, place: Slot, word: u64) -> Result<bool, Refusal>
         ensures right { IsRight F.layout self.old (call.Poke place word) [] (answer_to says_block result) self.new }
         ensures grains { self.new.segs.grains ≡ self.old.segs.grains }
+        ensures keys { self.new.names.keys ≡ self.old.names.keys }
     {
         areas::poke(&mut self.state, place, word)
     }
@@ -31,6 +32,7 @@ impl<F: Format> Heap<F> {
     pub fn pin(&mut self, place: Slot, slot: Slot) -> Result<(), Refusal>
         ensures right { IsRight F.layout self.old (call.Pin place slot) [] (answer_to says_ok result) self.new }
         ensures grains { self.new.segs.grains ≡ self.old.segs.grains }
+        ensures keys { self.new.names.keys ≡ self.old.names.keys }
     {
         areas::pin(&mut self.state, place, slot)
     }
@@ -39,6 +41,7 @@ impl<F: Format> Heap<F> {
     pub fn take(&mut self, slot: Slot, place: Slot) -> Result<(), Refusal>
         ensures right { IsRight F.layout self.old (call.Take slot place) [] (answer_to says_ok result) self.new }
         ensures grains { self.new.segs.grains ≡ self.old.segs.grains }
+        ensures keys { self.new.names.keys ≡ self.old.names.keys }
     {
         areas::take(&mut self.state, slot, place)
     }

@@ -1,9 +1,10 @@
 // The arena, and what lives in it.
 #![tactic(auto)]
 
-ghost use Rattle.std.specs.Prelude.{[], ◌≡◌};
+ghost use Rattle.std.specs.Prelude.{[], ◌≡◌, IfOk};
 ghost use Rattle.mps_model.specs.declared.call.Call.TheVariants as call;
 ghost use Rattle.mps_refinement.specs.RightStep.{IsRight};
+ghost use Rattle.mps_refinement.specs.InWorlds.{SaysLength};
 ghost use Rattle.mps_refinement.specs.Answering.{answer_to, says_number, says_ok, says_pair};
 ghost use Rattle.mps_heap.specs.Answers.{says_words};
 ghost use Rattle.mps_model.specs.declared.reply.Reply.TheVariants as reply;
@@ -19,6 +20,7 @@ impl<F: Format> Heap<F> {
     pub fn limit(&mut self, n: u32) -> Result<(), Refusal>
         ensures right { IsRight F.layout self.old (call.Limit n) [] (answer_to says_ok result) self.new }
         ensures grains { self.new.segs.grains ≡ self.old.segs.grains }
+        ensures keys { self.new.names.keys ≡ self.old.names.keys }
     {
         arena::limit(&mut self.state, n)
     }
@@ -34,6 +36,7 @@ impl<F: Format> Heap<F> {
     pub fn clamp(&mut self)
         ensures right { IsRight F.layout self.old call.Clamp [] (Replied reply.Ok) self.new }
         ensures grains { self.new.segs.grains ≡ self.old.segs.grains }
+        ensures keys { self.new.names.keys ≡ self.old.names.keys }
     {
         arena::clamp(&mut self.state);
     }
@@ -42,6 +45,7 @@ impl<F: Format> Heap<F> {
     pub fn release(&mut self)
         ensures right { IsRight F.layout self.old call.Release [] (Replied reply.Ok) self.new }
         ensures grains { self.new.segs.grains ≡ self.old.segs.grains }
+        ensures keys { self.new.names.keys ≡ self.old.names.keys }
     {
         arena::release(&mut self.state);
     }
@@ -57,6 +61,7 @@ impl<F: Format> Heap<F> {
     /// runs, and `NotABlock` if none begins there.
     pub fn dump(&self, at: Addr) -> Result<u32, Refusal>
         ensures right { IsRight F.layout self.now (call.Dump at.0) [] (answer_to (says_words self.now.segs.words at) result) self.now }
+        ensures image { IfOk result (λ words. SaysLength F.layout self.now at.0 words) }
     {
         arena::dump(&self.state, at.0)
     }

@@ -28,6 +28,7 @@ impl<F: Format> Heap<F> {
             → take (length classes.now) limits ≡ map (λ c. c.limit) classes.now
             → IsRight F.layout self.old (call.Cache name pool (length classes.now) sizes limits) [] (answer_to says_ok result) self.new }
         ensures grains { self.new.segs.grains ≡ self.old.segs.grains }
+        ensures keys { self.new.names.keys ≡ self.old.names.keys }
     {
         caching::cache(&mut self.state, name, pool, classes)
     }
@@ -46,6 +47,7 @@ impl<F: Format> Heap<F> {
             (answer_to says_ok result) self.new }
         ensures room { KeepsRoom trail.old trail.new }
         ensures grains { self.new.segs.grains ≡ self.old.segs.grains }
+        ensures keys { self.new.names.keys ≡ self.old.names.keys }
     {
         caching::calloc(&mut self.state, trail, cache, words, place)
     }
@@ -58,6 +60,7 @@ impl<F: Format> Heap<F> {
             (answer_to says_ok result) self.new }
         ensures room { KeepsRoom trail.old trail.new }
         ensures grains { self.new.segs.grains ≡ self.old.segs.grains }
+        ensures keys { self.new.names.keys ≡ self.old.names.keys }
     {
         caching::cfree(&mut self.state, trail, cache, place)
     }
@@ -79,6 +82,7 @@ impl<F: Format> Heap<F> {
             (answer_to says_ok result) self.new }
         ensures room { KeepsRoom trail.old trail.new }
         ensures grains { self.new.segs.grains ≡ self.old.segs.grains }
+        ensures keys { self.new.names.keys ≡ self.old.names.keys }
     {
         caching::cflush(&mut self.state, trail, cache)
     }

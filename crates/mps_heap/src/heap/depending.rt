@@ -19,6 +19,7 @@ impl<F: Format> Heap<F> {
     pub fn ld(&mut self, name: Name) -> Result<(), Refusal>
         ensures right { IsRightMaking F.layout self.old (call.Dependency name) result self.new }
         ensures grains { self.new.segs.grains ≡ self.old.segs.grains }
+        ensures keys { self.new.names.keys ≡ self.old.names.keys }
     {
         without_key(making::ld(&mut self.state, name))
     }
@@ -27,6 +28,7 @@ impl<F: Format> Heap<F> {
     pub fn ld_reset(&mut self, name: Name) -> Result<(), Refusal>
         ensures right { IsRight F.layout self.old (call.DependencyReset name) [] (answer_to says_ok result) self.new }
         ensures grains { self.new.segs.grains ≡ self.old.segs.grains }
+        ensures keys { self.new.names.keys ≡ self.old.names.keys }
     {
         depending::ld_reset(&mut self.state, name)
     }
@@ -35,6 +37,7 @@ impl<F: Format> Heap<F> {
     pub fn ld_add(&mut self, name: Name, slot: Slot) -> Result<(), Refusal>
         ensures right { IsRight F.layout self.old (call.DependencyAdd name slot) [] (answer_to says_ok result) self.new }
         ensures grains { self.new.segs.grains ≡ self.old.segs.grains }
+        ensures keys { self.new.names.keys ≡ self.old.names.keys }
     {
         depending::ld_add(&mut self.state, name, slot)
     }
@@ -43,6 +46,7 @@ impl<F: Format> Heap<F> {
     pub fn ld_merge(&mut self, name: Name, source: Name) -> Result<(), Refusal>
         ensures right { IsRight F.layout self.old (call.DependencyMerge name source) [] (answer_to says_ok result) self.new }
         ensures grains { self.new.segs.grains ≡ self.old.segs.grains }
+        ensures keys { self.new.names.keys ≡ self.old.names.keys }
     {
         depending::ld_merge(&mut self.state, name, source)
     }

@@ -16,6 +16,7 @@ impl<F: Format> Heap<F> {
     pub fn finalize(&mut self, slot: Slot) -> Result<(), Refusal>
         ensures right { IsRight F.layout self.old (call.Finalize slot) [] (answer_to says_ok result) self.new }
         ensures grains { self.new.segs.grains ≡ self.old.segs.grains }
+        ensures keys { self.new.names.keys ≡ self.old.names.keys }
     {
         finalizing::finalize(&mut self.state, slot)
     }
@@ -24,6 +25,7 @@ impl<F: Format> Heap<F> {
     pub fn definalize(&mut self, slot: Slot) -> Result<(), Refusal>
         ensures right { IsRight F.layout self.old (call.Definalize slot) [] (answer_to says_ok result) self.new }
         ensures grains { self.new.segs.grains ≡ self.old.segs.grains }
+        ensures keys { self.new.names.keys ≡ self.old.names.keys }
     {
         finalizing::definalize(&mut self.state, slot)
     }
@@ -32,6 +34,7 @@ impl<F: Format> Heap<F> {
     pub fn message(&mut self, slot: Slot) -> Result<bool, Refusal>
         ensures right { IsRight F.layout self.old (call.Message slot) [] (answer_to says_message result) self.new }
         ensures grains { self.new.segs.grains ≡ self.old.segs.grains }
+        ensures keys { self.new.names.keys ≡ self.old.names.keys }
     {
         finalizing::message(&mut self.state, slot)
     }

@@ -24,6 +24,7 @@ impl<F: Format> Heap<F> {
     pub fn pool_snc(&mut self, name: Name) -> Result<(), Refusal>
         ensures right { IsRightMaking F.layout self.old (call.PoolFrames name) result self.new }
         ensures grains { self.new.segs.grains ≡ self.old.segs.grains }
+        ensures keys { self.new.names.keys ≡ self.old.names.keys }
     {
         without_key(making::pool_snc(&mut self.state, name))
     }
@@ -33,6 +34,7 @@ impl<F: Format> Heap<F> {
     pub fn push(&mut self, pool: Name) -> Result<u32, Refusal>
         ensures right { IsRight F.layout self.old (call.Push pool) [] (answer_to says_number result) self.new }
         ensures grains { self.new.segs.grains ≡ self.old.segs.grains }
+        ensures keys { self.new.names.keys ≡ self.old.names.keys }
     {
         framing::push(&mut self.state, pool)
     }
@@ -46,15 +48,6 @@ impl<F: Format> Heap<F> {
         framing::most_moves_of_pop(&self.state, pool, frame)
     }
 
-    /// Does nothing: a caller knows that closing a frame needs room for no more than `most_moves` moves.
-    #[inline(always)]
-    pub fn moves_of_pop_are_few(&self, pool: Name, frame: u64)
-        ensures { moves_of_pop self.now pool frame ≤ most_moves self.now.segs.grains }
-    {
-        let _ = &self.state;
-        let _ = (pool, frame);
-    }
-
     /// Closes a frame of a pool and those above it. All blocks that were made since it was opened are freed, the latest first, and their
     /// places are empty then. The segment of a block is given back directly after the free that empties it. A frame has the number that
     /// `push` returned. Refuses `BadName` if there is no such pool, `WrongPool` if it isn't one of frames, and `BadIndex` if no such frame
@@ -65,6 +58,7 @@ impl<F: Format> Heap<F> {
             (answer_to says_ok result) self.new }
         ensures room { KeepsRoom trail.old trail.new }
         ensures grains { self.new.segs.grains ≡ self.old.segs.grains }
+        ensures keys { self.new.names.keys ≡ self.old.names.keys }
     {
         framing::pop(&mut self.state, trail, pool, frame)
     }

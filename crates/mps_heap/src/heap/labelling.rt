@@ -17,6 +17,7 @@ impl<F: Format> Heap<F> {
     pub fn intern(&mut self, name: Name) -> Result<u32, Refusal>
         ensures right { IsRight F.layout self.old (call.Intern name) [] (answer_to says_interned result) self.new }
         ensures grains { self.new.segs.grains ≡ self.old.segs.grains }
+        ensures keys { self.new.names.keys ≡ self.old.names.keys }
     {
         labelling::intern(&mut self.state, name)
     }

@@ -34,6 +34,7 @@ impl<F: Format> Heap<F> {
             (λ r. IsBorrowedAndWritten F.layout self.old place (λ words left. FnOnceReturnsAtMut W.FnOnce write words r left) self.new)
             (λ why. IsNotBorrowed F.layout self.old place why self.new) }
         ensures grains { self.new.segs.grains ≡ self.old.segs.grains }
+        ensures keys { self.new.names.keys ≡ self.old.names.keys }
     {
         lending::lend_mut(&mut self.state, place, write)
     }

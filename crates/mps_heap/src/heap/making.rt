@@ -8,6 +8,7 @@ ghost use Rattle.mps_refinement.specs.Answering.{answer_to, says_ok};
 ghost use Rattle.std.specs.Prelude.{◌≡◌, ◌<◌, ◌≤◌, ℕ, IsTrue, List, length, take};
 ghost use Rattle.mps_model.specs.World.{Collected, is_copying_kind};
 ghost use Rattle.mps_refinement.specs.Making.{IsRightMaking, IsRightMakingIn, MeansLayout};
+ghost use Rattle.mps_heap_spec.specs.Keyed.{DropsKeys};
 
 use super::Heap;
 use super::results::without_key;
@@ -24,6 +25,7 @@ impl<F: Format> Heap<F> {
         ensures right { (numbers : List ℕ) → take (length capacities.now) numbers ≡ capacities.now
             → IsRightMaking F.layout self.old (call.Chain name (length capacities.now) numbers) result self.new }
         ensures grains { self.new.segs.grains ≡ self.old.segs.grains }
+        ensures keys { self.new.names.keys ≡ self.old.names.keys }
     {
         without_key(making::chain(&mut self.state, name, capacities))
     }
@@ -34,6 +36,7 @@ impl<F: Format> Heap<F> {
         ensures right { (number : ℕ) → IsRightMakingIn F.layout (MeansLayout number (F.layout format)) self.old (call.Pool name kind number)
             result self.new }
         ensures grains { self.new.segs.grains ≡ self.old.segs.grains }
+        ensures keys { self.new.names.keys ≡ self.old.names.keys }
     {
         without_key(making::pool(&mut self.state, name, kind, format))
     }
@@ -51,6 +54,7 @@ impl<F: Format> Heap<F> {
         ensures right { (number : ℕ) → IsRightMakingIn F.layout (MeansLayout number (F.layout format)) self.old
             (call.PoolOnChain name kind number chain) result self.new }
         ensures grains { self.new.segs.grains ≡ self.old.segs.grains }
+        ensures keys { self.new.names.keys ≡ self.old.names.keys }
     {
         without_key(making::pool_on_chain(&mut self.state, name, kind, format, chain))
     }
@@ -59,6 +63,7 @@ impl<F: Format> Heap<F> {
     pub fn pool_mfs(&mut self, name: Name, words: u64) -> Result<(), Refusal>
         ensures right { IsRightMaking F.layout self.old (call.PoolMfs name words) result self.new }
         ensures grains { self.new.segs.grains ≡ self.old.segs.grains }
+        ensures keys { self.new.names.keys ≡ self.old.names.keys }
     {
         without_key(making::pool_mfs(&mut self.state, name, words))
     }
@@ -67,6 +72,7 @@ impl<F: Format> Heap<F> {
     pub fn pool_mvff(&mut self, name: Name) -> Result<(), Refusal>
         ensures right { IsRightMaking F.layout self.old (call.PoolMvff name) result self.new }
         ensures grains { self.new.segs.grains ≡ self.old.segs.grains }
+        ensures keys { self.new.names.keys ≡ self.old.names.keys }
     {
         without_key(making::pool_mvff(&mut self.state, name))
     }
@@ -76,6 +82,7 @@ impl<F: Format> Heap<F> {
     pub fn table(&mut self, name: Name, n: u32) -> Result<(), Refusal>
         ensures right { IsRightMaking F.layout self.old (call.Table name n) result self.new }
         ensures grains { self.new.segs.grains ≡ self.old.segs.grains }
+        ensures keys { self.new.names.keys ≡ self.old.names.keys }
     {
         without_key(making::table(&mut self.state, name, n))
     }
@@ -84,6 +91,7 @@ impl<F: Format> Heap<F> {
     pub fn area(&mut self, name: Name, n: u32) -> Result<(), Refusal>
         ensures right { IsRightMaking F.layout self.old (call.Area name n) result self.new }
         ensures grains { self.new.segs.grains ≡ self.old.segs.grains }
+        ensures keys { self.new.names.keys ≡ self.old.names.keys }
     {
         without_key(making::area(&mut self.state, name, n))
     }
@@ -92,6 +100,7 @@ impl<F: Format> Heap<F> {
     pub fn blocks(&mut self, name: Name, n: u32) -> Result<(), Refusal>
         ensures right { IsRightMaking F.layout self.old (call.Blocks name n) result self.new }
         ensures grains { self.new.segs.grains ≡ self.old.segs.grains }
+        ensures keys { self.new.names.keys ≡ self.old.names.keys }
     {
         without_key(making::blocks(&mut self.state, name, n))
     }
@@ -100,6 +109,7 @@ impl<F: Format> Heap<F> {
     pub fn drop_root(&mut self, name: Name) -> Result<(), Refusal>
         ensures right { IsRight F.layout self.old (call.DropRoot name) [] (answer_to says_ok result) self.new }
         ensures grains { self.new.segs.grains ≡ self.old.segs.grains }
+        ensures keys { DropsKeys self.old.names.keys self.new.names.keys name result }
     {
         making::drop_root(&mut self.state, name)
     }
@@ -109,6 +119,7 @@ impl<F: Format> Heap<F> {
     pub fn point(&mut self, name: Name, pool: Name, rank: Rank) -> Result<(), Refusal>
         ensures right { IsRightMaking F.layout self.old (call.Point name pool rank) result self.new }
         ensures grains { self.new.segs.grains ≡ self.old.segs.grains }
+        ensures keys { self.new.names.keys ≡ self.old.names.keys }
     {
         without_key(making::point(&mut self.state, name, pool, rank))
     }
@@ -117,6 +128,7 @@ impl<F: Format> Heap<F> {
     pub fn drop_point(&mut self, name: Name) -> Result<(), Refusal>
         ensures right { IsRight F.layout self.old (call.DropPoint name) [] (answer_to says_ok result) self.new }
         ensures grains { self.new.segs.grains ≡ self.old.segs.grains }
+        ensures keys { DropsKeys self.old.names.keys self.new.names.keys name result }
     {
         making::drop_point(&mut self.state, name)
     }

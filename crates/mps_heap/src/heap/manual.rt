@@ -27,6 +27,7 @@ impl<F: Format> Heap<F> {
             (answer_to says_ok result) self.new }
         ensures room { KeepsRoom trail.old trail.new }
         ensures grains { self.new.segs.grains ≡ self.old.segs.grains }
+        ensures keys { self.new.names.keys ≡ self.old.names.keys }
     {
         manual::alloc(&mut self.state, trail, pool, words, place)
     }
@@ -39,6 +40,7 @@ impl<F: Format> Heap<F> {
             (answer_to says_ok result) self.new }
         ensures room { KeepsRoom trail.old trail.new }
         ensures grains { self.new.segs.grains ≡ self.old.segs.grains }
+        ensures keys { self.new.names.keys ≡ self.old.names.keys }
     {
         manual::free(&mut self.state, trail, place)
     }
@@ -54,6 +56,7 @@ impl<F: Format> Heap<F> {
     pub fn store(&mut self, place: Slot, word: u64, n: u64) -> Result<(), Refusal>
         ensures right { IsRight F.layout self.old (call.Store place word n) [] (answer_to says_ok result) self.new }
         ensures grains { self.new.segs.grains ≡ self.old.segs.grains }
+        ensures keys { self.new.names.keys ≡ self.old.names.keys }
     {
         manual::store(&mut self.state, place, word, n)
     }

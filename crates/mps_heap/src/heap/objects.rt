@@ -4,11 +4,11 @@
 ghost use Rattle.std.specs.Prelude.{[], ◌≡◌, ◌<◌, ◌≤◌};
 ghost use Rattle.mps_model.specs.Tagging.{tag_count};
 ghost use Rattle.mps_model.specs.declared.call.Call.TheVariants as call;
+ghost use Rattle.mps_refinement.specs.MovesNeeded.{moves_needed};
 ghost use Rattle.mps_refinement.specs.RightMoving.{IsRightMoving, KeepsRoom};
 ghost use Rattle.mps_refinement.specs.UnitsLeft.{units_left};
 ghost use Rattle.mps_refinement.specs.RightStep.{IsRight};
 ghost use Rattle.mps_refinement.specs.Answering.{answer_to, says_bool, says_head, says_number, says_ok};
-ghost use Rattle.mps_heap_spec.specs.Collect.{most_moves};
 ghost use Rattle.mps_heap.specs.Answers.{says_address};
 
 use super::Heap;
@@ -22,6 +22,7 @@ impl<F: Format> Heap<F> {
     pub fn copy(&mut self, target: Slot, source: Slot) -> Result<(), Refusal>
         ensures right { IsRight F.layout self.old (call.Copy target source) [] (answer_to says_ok result) self.new }
         ensures grains { self.new.segs.grains ≡ self.old.segs.grains }
+        ensures keys { self.new.names.keys ≡ self.old.names.keys }
     {
         objects::copy(&mut self.state, target, source)
     }
@@ -30,6 +31,7 @@ impl<F: Format> Heap<F> {
     pub fn clear(&mut self, slot: Slot) -> Result<(), Refusal>
         ensures right { IsRight F.layout self.old (call.Clear slot) [] (answer_to says_ok result) self.new }
         ensures grains { self.new.segs.grains ≡ self.old.segs.grains }
+        ensures keys { self.new.names.keys ≡ self.old.names.keys }
     {
         objects::clear(&mut self.state, slot)
     }
@@ -79,12 +81,13 @@ impl<F: Format> Heap<F> {
     pub fn set_num(&mut self, slot: Slot, cell: u64, n: u64) -> Result<(), Refusal>
         ensures right { IsRight F.layout self.old (call.SetNumber slot cell n) [] (answer_to says_ok result) self.new }
         ensures grains { self.new.segs.grains ≡ self.old.segs.grains }
+        ensures keys { self.new.names.keys ≡ self.old.names.keys }
     {
         objects::set_num(&mut self.state, slot, cell, n)
     }
 
     /// A slot becomes what a cell of the object in another slot refers to. If a collection runs, its read barrier comes first: it scans
-    /// what is still to be scanned in the segment of the object, and objects may move in that. The trail has room for `most_moves`.
+    /// what is still to be scanned in the segment of the object, and objects may move in that. The trail has room for `moves_needed`.
     /// Refuses `NullRef`, `BadIndex`, and `NotARef` if the cell is no reference.
     pub fn get(
         &mut self,
@@ -93,12 +96,13 @@ impl<F: Format> Heap<F> {
         source: Slot,
         cell: u64,
     ) -> Result<(), Refusal>
-        requires fits { most_moves self.old.segs.grains ≤ trail.old.spare }
+        requires fits { moves_needed self.old.segs ≤ trail.old.spare }
         ensures right { IsRightMoving F.layout self.old (call.Get target source cell) trail.old.moves trail.new.moves
             (answer_to says_ok result) self.new }
         ensures units { units_left self.new ≤ units_left self.old }
         ensures room { KeepsRoom trail.old trail.new }
         ensures grains { self.new.segs.grains ≡ self.old.segs.grains }
+        ensures keys { self.new.names.keys ≡ self.old.names.keys }
     {
         objects::get(&mut self.state, trail, target, source, cell)
     }
@@ -107,6 +111,7 @@ impl<F: Format> Heap<F> {
     pub fn put(&mut self, target: Slot, cell: u64, source: Slot) -> Result<(), Refusal>
         ensures right { IsRight F.layout self.old (call.Put target cell source) [] (answer_to says_ok result) self.new }
         ensures grains { self.new.segs.grains ≡ self.old.segs.grains }
+        ensures keys { self.new.names.keys ≡ self.old.names.keys }
     {
         objects::put(&mut self.state, target, cell, source)
     }
@@ -124,6 +129,7 @@ impl<F: Format> Heap<F> {
         requires fits { tag < tag_count }
         ensures right { IsRight F.layout self.old (call.SetTag slot cell tag) [] (answer_to says_ok result) self.new }
         ensures grains { self.new.segs.grains ≡ self.old.segs.grains }
+        ensures keys { self.new.names.keys ≡ self.old.names.keys }
     {
         objects::set_tag(&mut self.state, slot, cell, tag)
     }

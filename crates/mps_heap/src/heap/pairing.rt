@@ -20,6 +20,7 @@ impl<F: Format> Heap<F> {
     pub fn depend(&mut self, holder: Slot, dependent: Slot) -> Result<(), Refusal>
         ensures right { IsRight F.layout self.old (call.Depend holder dependent) [] (answer_to says_ok result) self.new }
         ensures grains { self.new.segs.grains ≡ self.old.segs.grains }
+        ensures keys { self.new.names.keys ≡ self.old.names.keys }
     {
         pairing::depend(&mut self.state, holder, dependent)
     }
@@ -28,6 +29,7 @@ impl<F: Format> Heap<F> {
     pub fn undepend(&mut self, holder: Slot) -> Result<(), Refusal>
         ensures right { IsRight F.layout self.old (call.Undepend holder) [] (answer_to says_ok result) self.new }
         ensures grains { self.new.segs.grains ≡ self.old.segs.grains }
+        ensures keys { self.new.names.keys ≡ self.old.names.keys }
     {
         pairing::undepend(&mut self.state, holder)
     }

@@ -5,6 +5,7 @@ ghost use Rattle.std.specs.Prelude.{[], ◌≡◌};
 ghost use Rattle.mps_model.specs.declared.call.Call.TheVariants as call;
 ghost use Rattle.mps_refinement.specs.RightStep.{IsRight};
 ghost use Rattle.mps_refinement.specs.Answering.{answer_to, says_bool, says_ok};
+ghost use Rattle.mps_heap_spec.specs.Keyed.{AppliesKeys, DropsKeys};
 
 use super::Heap;
 use mps_base::{Name, Refusal, Slot};
@@ -16,6 +17,7 @@ impl<F: Format> Heap<F> {
     pub fn transform(&mut self, x: Name) -> Result<(), Refusal>
         ensures right { IsRight F.layout self.old (call.Transform x) [] (answer_to says_ok result) self.new }
         ensures grains { self.new.segs.grains ≡ self.old.segs.grains }
+        ensures keys { self.new.names.keys ≡ self.old.names.keys }
     {
         transforming::transform(&mut self.state, x)
     }
@@ -27,6 +29,7 @@ impl<F: Format> Heap<F> {
     pub fn transadd(&mut self, x: Name, s: Slot, t: Slot) -> Result<(), Refusal>
         ensures right { IsRight F.layout self.old (call.TransformAdd x s t) [] (answer_to says_ok result) self.new }
         ensures grains { self.new.segs.grains ≡ self.old.segs.grains }
+        ensures keys { self.new.names.keys ≡ self.old.names.keys }
     {
         transforming::transadd(&mut self.state, x, s, t)
     }
@@ -35,6 +38,7 @@ impl<F: Format> Heap<F> {
     pub fn transdrop(&mut self, x: Name) -> Result<(), Refusal>
         ensures right { IsRight F.layout self.old (call.TransformDrop x) [] (answer_to says_ok result) self.new }
         ensures grains { self.new.segs.grains ≡ self.old.segs.grains }
+        ensures keys { DropsKeys self.old.names.keys self.new.names.keys x result }
     {
         transforming::transdrop(&mut self.state, x)
     }
@@ -47,6 +51,7 @@ impl<F: Format> Heap<F> {
     pub fn transapply(&mut self, x: Name) -> Result<bool, Refusal>
         ensures right { IsRight F.layout self.old (call.TransformApply x) [] (answer_to says_bool result) self.new }
         ensures grains { self.new.segs.grains ≡ self.old.segs.grains }
+        ensures keys { AppliesKeys self.old.names.keys self.new.names.keys x result }
     {
         transforming::transapply(&mut self.state, x)
     }

@@ -1,3 +1,4 @@
+use Rattle.std.proofs.Common.{arith}
 use Rattle.mps_session.proofs.Answering.{answered_moving, answered_still}
 use Rattle.mps_session.proofs.manual.answer.Goals as goal
 
@@ -23,6 +24,13 @@ returns-in-CacheFlush-clause-right c =
 
 pub returns-in-Push-clause-right : goal.returns-in-Push-clause-right
 returns-in-Push-clause-right c = answered_still c.in-Push.is c.requires.empty c.count.ensures c.push.ensures.right
+
+pub pop-requires : goal.pop-requires
+pop-requires c =
+    let few = c.most_moves.ensures.pops c.in-Pop.pool c.in-Pop.frame in
+    let value = c.most_moves.ensures.value in
+    let fits = c.requires.fits in
+    record { fits = omega (arith, few, value, fits) }
 
 pub returns-in-Pop-clause-right : goal.returns-in-Pop-clause-right
 returns-in-Pop-clause-right c =

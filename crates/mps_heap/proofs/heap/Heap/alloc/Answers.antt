@@ -6,6 +6,7 @@ use Rattle.mps_refinement.specs.RightMoving.{IsRightMoving}
 use Rattle.mps_refinement.proofs.Worlds.Appending.{alloc_is_right_after}
 use Rattle.mps_refinement.proofs.Worlds.Room.{keeps_room, alloc_keeps_room}
 use Rattle.mps_refinement.proofs.Worlds.Staying.{stays, grains_stay}
+use Rattle.mps_heap_spec.proofs.NamesStay.{allocates, keys_stay_moving}
 use Rattle.mps_heap.proofs.heap.Heap.alloc.Goals as goal
 
 pub invariant_of-self : goal.invariant_of-self
@@ -33,4 +34,7 @@ returns g c = record {
       c.alloc.new.state c.alloc.new.trail c.alloc.ensures).moves (answer_to says_ok c.alloc.result) c.self.invariant (alloc_is_right_after
       g.F.Format.layout c.self.inside.state c.args.trail.now c.args.pool c.args.words c.args.place c.alloc.result c.alloc.new.state
       c.alloc.new.trail c.alloc.ensures).right refl);
+  keys = subst (λ x. c.alloc.new.state.names.keys ≡ x.names.keys) c.self.view_is
+      (keys_stay_moving c.self.inside.state c.args.trail.now _ c.alloc.ensures (allocates c.self.inside.state c.args.trail.now c.args.pool
+      c.args.words c.args.place));
 }

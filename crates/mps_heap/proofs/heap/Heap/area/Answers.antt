@@ -5,6 +5,7 @@ use Rattle.mps_refinement.proofs.Calls.MakingRoots.{area_is_right}
 use Rattle.mps_refinement.proofs.Worlds.Staying.{making_stays}
 use Rattle.mps_heap.proofs.Grains.{making_grains_stay}
 use Rattle.mps_heap.proofs.Results.{making_without_key}
+use Rattle.mps_heap_spec.proofs.KeysStay.{making}
 use Rattle.mps_heap.proofs.heap.Heap.area.Goals as goal
 
 pub invariant_of-self : goal.invariant_of-self
@@ -25,4 +26,6 @@ returns g c = record {
       c.self.invariant (making_without_key g.F.Format.layout c.self.inside.state c.area.new.state (call.Area c.args.name c.args.n)
       c.area.result c.without_key.result c.without_key.ensures.value (area_is_right g.F.Format.layout c.self.inside.state c.args.name
       c.args.n c.area.result c.area.new.state c.area.ensures)) refl);
+  keys = subst (λ x. c.area.new.state.names.keys ≡ x.names.keys) c.self.view_is
+      (making c.area.ensures (λ key x makes. makes.names.keys));
 }

@@ -5,6 +5,7 @@ use Rattle.mps_refinement.proofs.Calls.MakingRoots.{blocks_is_right}
 use Rattle.mps_refinement.proofs.Worlds.Staying.{making_stays}
 use Rattle.mps_heap.proofs.Grains.{making_grains_stay}
 use Rattle.mps_heap.proofs.Results.{making_without_key}
+use Rattle.mps_heap_spec.proofs.KeysStay.{making}
 use Rattle.mps_heap.proofs.heap.Heap.blocks.Goals as goal
 
 pub invariant_of-self : goal.invariant_of-self
@@ -27,4 +28,6 @@ returns g c = record {
       c.without_key.result c.self.invariant (making_without_key g.F.Format.layout c.self.inside.state c.blocks-2.new.state (call.Blocks
       c.args.name c.args.n) c.blocks-2.result c.without_key.result c.without_key.ensures.value (blocks_is_right g.F.Format.layout
       c.self.inside.state c.args.name c.args.n c.blocks-2.result c.blocks-2.new.state c.blocks-2.ensures)) refl);
+  keys = subst (λ x. c.blocks-2.new.state.names.keys ≡ x.names.keys) c.self.view_is
+      (making c.blocks-2.ensures (λ key x makes. makes.names.keys));
 }

@@ -6,6 +6,7 @@ use Rattle.mps_refinement.specs.Answering.{answer_to, says_ok}
 use Rattle.mps_refinement.specs.RightStep.{IsRight}
 use Rattle.mps_refinement.proofs.Calls.CacheMaking.{cache_is_right, own_numbers}
 use Rattle.mps_refinement.proofs.Worlds.Staying.{grains_stay, stays}
+use Rattle.mps_heap_spec.proofs.KeysStay.{caching}
 use Rattle.mps_heap.proofs.heap.Heap.cache.Goals as goal
 
 pub invariant_of-self : goal.invariant_of-self
@@ -36,4 +37,6 @@ returns g c = record {
       (cache_is_right g.F.Format.layout c.self.inside.state c.args.name c.args.pool given sizes limits
       (own_numbers (λ (k : ClassSize). k.words) given) (own_numbers (λ (k : ClassSize). k.limit) given) c.cache.result c.cache.new.state
       c.cache.ensures.outcome) refl);
+  keys = subst (λ x. c.cache.new.state.names.keys ≡ x.names.keys) c.self.view_is
+      (caching c.cache.ensures.outcome);
 }

@@ -6,6 +6,7 @@ use Rattle.mps_refinement.specs.RightMoving.{IsRightMoving}
 use Rattle.mps_refinement.proofs.Worlds.CachingTrails.{calloc_is_right_after, calloc_keeps_room}
 use Rattle.mps_refinement.proofs.Worlds.Room.{keeps_room}
 use Rattle.mps_refinement.proofs.Worlds.Staying.{stays, grains_stay}
+use Rattle.mps_heap_spec.proofs.NamesStay.{comes_from_cache, keys_stay_moving}
 use Rattle.mps_heap.proofs.heap.Heap.calloc.Goals as goal
 
 pub invariant_of-self : goal.invariant_of-self
@@ -33,4 +34,7 @@ returns g c = record {
       c.calloc.new.state c.calloc.new.trail c.calloc.ensures).moves (answer_to says_ok c.calloc.result) c.self.invariant
       (calloc_is_right_after g.F.Format.layout c.self.inside.state c.args.trail.now c.args.cache c.args.words c.args.place c.calloc.result
       c.calloc.new.state c.calloc.new.trail c.calloc.ensures).right refl);
+  keys = subst (λ x. c.calloc.new.state.names.keys ≡ x.names.keys) c.self.view_is
+      (keys_stay_moving c.self.inside.state c.args.trail.now _ c.calloc.ensures (comes_from_cache c.self.inside.state c.args.trail.now
+      c.args.cache c.args.words c.args.place));
 }

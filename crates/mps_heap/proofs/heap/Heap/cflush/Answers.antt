@@ -6,6 +6,7 @@ use Rattle.mps_refinement.specs.RightMoving.{IsRightMoving}
 use Rattle.mps_refinement.proofs.Worlds.FlushTrails.{cflush_is_right_after, cflush_keeps_room}
 use Rattle.mps_refinement.proofs.Worlds.Room.{keeps_room}
 use Rattle.mps_refinement.proofs.Worlds.Staying.{stays, grains_stay}
+use Rattle.mps_heap_spec.proofs.NamesStay.{flushes, keys_stay_moving}
 use Rattle.mps_heap.proofs.heap.Heap.cflush.Goals as goal
 
 pub invariant_of-self : goal.invariant_of-self
@@ -33,4 +34,7 @@ returns g c = record {
       c.cflush.ensures.outcome).moves (answer_to says_ok c.cflush.result) c.self.invariant (cflush_is_right_after g.F.Format.layout
       c.self.inside.state c.args.trail.now c.args.cache c.cflush.result c.cflush.new.state c.cflush.new.trail
       c.cflush.ensures.outcome).right refl);
+  keys = subst (λ x. c.cflush.new.state.names.keys ≡ x.names.keys) c.self.view_is
+      (keys_stay_moving c.self.inside.state c.args.trail.now _ c.cflush.ensures.outcome (flushes c.self.inside.state c.args.trail.now
+      c.args.cache));
 }

@@ -6,6 +6,7 @@ use Rattle.mps_refinement.specs.RightMoving.{IsRightMoving}
 use Rattle.mps_refinement.proofs.Worlds.CachingTrails.{cfree_is_right_after, cfree_keeps_room}
 use Rattle.mps_refinement.proofs.Worlds.Room.{keeps_room}
 use Rattle.mps_refinement.proofs.Worlds.Staying.{stays, grains_stay}
+use Rattle.mps_heap_spec.proofs.NamesStay.{goes_to_cache, keys_stay_moving}
 use Rattle.mps_heap.proofs.heap.Heap.cfree.Goals as goal
 
 pub invariant_of-self : goal.invariant_of-self
@@ -33,4 +34,7 @@ returns g c = record {
       c.cfree.new.state c.cfree.new.trail c.cfree.ensures.outcome).moves (answer_to says_ok c.cfree.result) c.self.invariant
       (cfree_is_right_after g.F.Format.layout c.self.inside.state c.args.trail.now c.args.cache c.args.place c.cfree.result
       c.cfree.new.state c.cfree.new.trail c.cfree.ensures.outcome).right refl);
+  keys = subst (λ x. c.cfree.new.state.names.keys ≡ x.names.keys) c.self.view_is
+      (keys_stay_moving c.self.inside.state c.args.trail.now _ c.cfree.ensures.outcome.comes (goes_to_cache c.self.inside.state
+      c.args.trail.now c.args.cache c.args.place c.cfree.ensures.outcome.words));
 }

@@ -6,6 +6,7 @@ use Rattle.mps_refinement.proofs.Calls.MakingChains.{chain_is_right}
 use Rattle.mps_refinement.proofs.Worlds.Staying.{making_stays}
 use Rattle.mps_heap.proofs.Grains.{making_grains_stay}
 use Rattle.mps_heap.proofs.Results.{making_without_key}
+use Rattle.mps_heap_spec.proofs.KeysStay.{making}
 use Rattle.mps_heap.proofs.heap.Heap.chain.Goals as goal
 
 pub invariant_of-self : goal.invariant_of-self
@@ -33,4 +34,6 @@ returns g c = record {
       c.chain.result c.self.invariant
       (chain_is_right g.F.Format.layout c.self.inside.state c.args.name given (length given) given (take-length given) c.chain.result
       c.chain.new.state c.chain.ensures) refl);
+  keys = subst (λ x. c.chain.new.state.names.keys ≡ x.names.keys) c.self.view_is
+      (making c.chain.ensures (λ key x makes. makes.names.keys));
 }

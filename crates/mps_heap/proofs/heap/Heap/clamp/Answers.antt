@@ -5,6 +5,7 @@ use Rattle.mps_model.specs.Answer.{Replied}
 use Rattle.mps_refinement.specs.RightStep.{IsRight}
 use Rattle.mps_refinement.proofs.Calls.ArenaCalls.{clamp_is_right}
 use Rattle.mps_refinement.proofs.Worlds.Staying.{stays, grains_stay}
+use Rattle.mps_heap_spec.proofs.KeysStay.{same_heap}
 use Rattle.mps_heap.proofs.heap.Heap.clamp.Goals as goal
 
 pub invariant_of-self : goal.invariant_of-self
@@ -19,4 +20,6 @@ returns g c = record {
   grains = subst (λ x. c.clamp.new.state.segs.grains ≡ x.segs.grains) c.self.view_is
       (grains_stay g.F.Format.layout c.self.inside.state c.clamp.new.state call.Clamp [] (Replied reply.Ok) c.self.invariant
       (clamp_is_right g.F.Format.layout c.self.inside.state c.clamp.new.state c.clamp.ensures) refl);
+  keys = subst (λ x. c.clamp.new.state.names.keys ≡ x.names.keys) c.self.view_is
+      (same_heap c.clamp.ensures);
 }

@@ -4,6 +4,7 @@ use Rattle.mps_refinement.specs.Answering.{answer_to, says_ok}
 use Rattle.mps_refinement.specs.RightStep.{IsRight}
 use Rattle.mps_refinement.proofs.Calls.Slots.{cleared_right}
 use Rattle.mps_refinement.proofs.Worlds.Staying.{stays, grains_stay}
+use Rattle.mps_heap_spec.proofs.NamesStay.{clears, keys_stay}
 use Rattle.mps_heap.proofs.heap.Heap.clear.Goals as goal
 
 pub invariant_of-self : goal.invariant_of-self
@@ -21,4 +22,6 @@ returns g c = record {
       (grains_stay g.F.Format.layout c.self.inside.state c.clear.new.state (call.Clear c.args.slot) [] (answer_to says_ok c.clear.result)
       c.self.invariant (cleared_right g.F.Format.layout c.self.inside.state c.args.slot c.clear.result c.clear.new.state c.clear.ensures)
       refl);
+  keys = subst (λ x. c.clear.new.state.names.keys ≡ x.names.keys) c.self.view_is
+      (keys_stay c.self.inside.state _ c.clear.ensures (clears c.self.inside.state c.args.slot));
 }

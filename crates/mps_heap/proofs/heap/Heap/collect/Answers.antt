@@ -1,24 +1,25 @@
-use Rattle.std.proofs.Common.{◌≡◌, ◌*◌, ◌≤◌, true, sym, subst, refl}
+use Rattle.std.proofs.Common.{◌≡◌, ◌*◌, ◌≤◌, true, sym, subst, refl, ◌∙◌}
 use Rattle.mps_model.specs.declared.call.Call.TheVariants as call
 use Rattle.mps_model.specs.declared.reply.Reply.TheVariants as reply
 use Rattle.mps_model.specs.Answer.{Replied}
 use Rattle.mps_heap_spec.specs.Collecting.{can_collect}
-use Rattle.mps_heap_spec.specs.Collect.{most_moves}
+use Rattle.mps_refinement.specs.MovesNeeded.{moves_needed}
 use Rattle.mps_refinement.specs.RightMoving.{IsRightMoving}
 use Rattle.mps_refinement.proofs.Worlds.Staying.{stays, grains_stay}
 use Rattle.mps_heap.proofs.Collected.{can_collect_then, can_count, can_end_first, collected_rightly, few_epochs, none_left}
+use Rattle.mps_heap_spec.proofs.KeysStay.{collect_follows, units_follow}
 use Rattle.mps_heap.proofs.heap.Heap.collect.Goals as goal
 
 pub end_collection-requires : goal.end_collection-requires
 end_collection-requires g c =
     let can = subst (λ x. can_collect x ≡ true) (sym c.self.view_is) c.requires.built in
-    let room = subst (λ x. 2 * most_moves x.segs.grains ≤ c.args.trail.now.spare) (sym c.self.view_is) c.requires.fits in
+    let room = subst (λ x. 2 * moves_needed x.segs ≤ c.args.trail.now.spare) (sym c.self.view_is) c.requires.fits in
     can_end_first g.F.Format.layout c.self.inside.state c.self.invariant c.is_whole.ensures.whole c.args.trail.now can room
 
 pub collect-requires : goal.collect-requires
 collect-requires g c =
     let can = subst (λ x. can_collect x ≡ true) (sym c.self.view_is) c.requires.built in
-    let room = subst (λ x. 2 * most_moves x.segs.grains ≤ c.args.trail.now.spare) (sym c.self.view_is) c.requires.fits in
+    let room = subst (λ x. 2 * moves_needed x.segs ≤ c.args.trail.now.spare) (sym c.self.view_is) c.requires.fits in
     let layout = g.F.Format.layout in
     let h = c.self.inside.state in
     record {
@@ -33,7 +34,7 @@ collect-requires g c =
 pub invariant_of-self : goal.invariant_of-self
 invariant_of-self g c =
     let can = subst (λ x. can_collect x ≡ true) (sym c.self.view_is) c.requires.built in
-    let room = subst (λ x. 2 * most_moves x.segs.grains ≤ c.args.trail.now.spare) (sym c.self.view_is) c.requires.fits in
+    let room = subst (λ x. 2 * moves_needed x.segs ≤ c.args.trail.now.spare) (sym c.self.view_is) c.requires.fits in
     let layout = g.F.Format.layout in
     let h = c.self.inside.state in
     let moved = (collected_rightly layout h c.self.invariant c.is_whole.ensures.whole c.args.trail.now can room c.end_collection.new.state
@@ -44,7 +45,7 @@ invariant_of-self g c =
 pub returns : goal.returns
 returns g c =
     let can = subst (λ x. can_collect x ≡ true) (sym c.self.view_is) c.requires.built in
-    let room = subst (λ x. 2 * most_moves x.segs.grains ≤ c.args.trail.now.spare) (sym c.self.view_is) c.requires.fits in
+    let room = subst (λ x. 2 * moves_needed x.segs ≤ c.args.trail.now.spare) (sym c.self.view_is) c.requires.fits in
     let layout = g.F.Format.layout in
     let h = c.self.inside.state in
     let right = collected_rightly layout h c.self.invariant c.is_whole.ensures.whole c.args.trail.now can room c.end_collection.new.state
@@ -62,4 +63,6 @@ returns g c =
       grains = subst (λ x. c.collect.new.state.segs.grains ≡ x.segs.grains) c.self.view_is
           (grains_stay layout c.self.inside.state c.collect.new.state call.Collect right.right.moves (Replied reply.Ok) c.self.invariant
           right.right.right refl);
+      keys = subst (λ x. c.collect.new.state.names.keys ≡ x.names.keys) c.self.view_is
+          (collect_follows g.F.Format.layout c.collect.ensures.collected ∙ units_follow g.F.Format.layout c.end_collection.ensures);
     }

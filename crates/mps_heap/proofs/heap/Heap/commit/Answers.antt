@@ -6,6 +6,7 @@ use Rattle.mps_refinement.specs.RightMoving.{IsRightMoving}
 use Rattle.mps_refinement.proofs.Worlds.Appending.{commit_is_right_after}
 use Rattle.mps_refinement.proofs.Worlds.Room.{keeps_room, commit_keeps_room}
 use Rattle.mps_refinement.proofs.Worlds.Staying.{grains_stay, is_ready, stays}
+use Rattle.mps_heap_spec.proofs.NamesStay.{commits, keys_stay_moving}
 use Rattle.mps_heap.proofs.heap.Heap.commit.Goals as goal
 
 pub commit-requires : goal.commit-requires
@@ -34,4 +35,7 @@ returns g c =
       room = keeps_room c.args.trail.now h (after_commit h c.args.trail.now c.args.x c.args.target) c.commit.result c.commit.new.state
           c.commit.new.trail c.commit.ensures.came (commit_keeps_room g.F.Format.layout h c.args.trail.now c.args.x c.args.target
           c.requires.fits);
+      keys = subst (λ x. c.commit.new.state.names.keys ≡ x.names.keys) c.self.view_is
+          (keys_stay_moving c.self.inside.state c.args.trail.now _ c.commit.ensures.came (commits c.self.inside.state c.args.trail.now
+          c.args.x c.args.target));
     }

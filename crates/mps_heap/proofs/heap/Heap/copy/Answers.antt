@@ -4,6 +4,7 @@ use Rattle.mps_refinement.specs.Answering.{answer_to, says_ok}
 use Rattle.mps_refinement.specs.RightStep.{IsRight}
 use Rattle.mps_refinement.proofs.Calls.Slots.{copied_right}
 use Rattle.mps_refinement.proofs.Worlds.Staying.{grains_stay, stays}
+use Rattle.mps_heap_spec.proofs.NamesStay.{copies, keys_stay}
 use Rattle.mps_heap.proofs.heap.Heap.copy.Goals as goal
 
 pub invariant_of-self : goal.invariant_of-self
@@ -21,4 +22,6 @@ returns g c = record {
       (grains_stay g.F.Format.layout c.self.inside.state c.copy.new.state (call.Copy c.args.target c.args.source) [] (answer_to says_ok
       c.copy.result) c.self.invariant
       (copied_right g.F.Format.layout c.self.inside.state c.args.target c.args.source c.copy.result c.copy.new.state c.copy.ensures) refl);
+  keys = subst (λ x. c.copy.new.state.names.keys ≡ x.names.keys) c.self.view_is
+      (keys_stay c.self.inside.state _ c.copy.ensures (copies c.self.inside.state c.args.target c.args.source));
 }

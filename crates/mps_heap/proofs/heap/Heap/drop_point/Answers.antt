@@ -4,6 +4,8 @@ use Rattle.mps_refinement.specs.Answering.{answer_to, says_ok}
 use Rattle.mps_refinement.specs.RightStep.{IsRight}
 use Rattle.mps_refinement.proofs.Calls.MakingPoints.{droppoint_is_right}
 use Rattle.mps_refinement.proofs.Worlds.Staying.{stays, grains_stay}
+use Rattle.mps_heap_spec.specs.Keyed.{DropsKeys}
+use Rattle.mps_heap_spec.proofs.KeysStay.{dropping}
 use Rattle.mps_heap.proofs.heap.Heap.drop_point.Goals as goal
 
 pub invariant_of-self : goal.invariant_of-self
@@ -22,4 +24,6 @@ returns g c = record {
       (grains_stay g.F.Format.layout c.self.inside.state c.drop_point.new.state (call.DropPoint c.args.name) [] (answer_to says_ok
       c.drop_point.result) c.self.invariant (droppoint_is_right g.F.Format.layout c.self.inside.state c.args.name c.drop_point.result
       c.drop_point.new.state c.drop_point.ensures) refl);
+  keys = subst (λ x. DropsKeys x.names.keys c.drop_point.new.state.names.keys c.args.name c.drop_point.result) c.self.view_is
+      (dropping c.drop_point.ensures);
 }

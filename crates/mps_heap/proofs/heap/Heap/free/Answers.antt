@@ -6,6 +6,7 @@ use Rattle.mps_refinement.specs.RightMoving.{IsRightMoving}
 use Rattle.mps_refinement.proofs.Worlds.Appending.{free_is_right_after}
 use Rattle.mps_refinement.proofs.Worlds.Room.{keeps_room, free_keeps_room}
 use Rattle.mps_refinement.proofs.Worlds.Staying.{stays, grains_stay}
+use Rattle.mps_heap_spec.proofs.NamesStay.{frees, keys_stay_moving}
 use Rattle.mps_heap.proofs.heap.Heap.free.Goals as goal
 
 pub invariant_of-self : goal.invariant_of-self
@@ -32,4 +33,6 @@ returns g c = record {
       c.self.inside.state c.args.trail.now c.args.place c.free.result c.free.new.state c.free.new.trail c.free.ensures).moves (answer_to
       says_ok c.free.result) c.self.invariant (free_is_right_after g.F.Format.layout c.self.inside.state c.args.trail.now c.args.place
       c.free.result c.free.new.state c.free.new.trail c.free.ensures).right refl);
+  keys = subst (λ x. c.free.new.state.names.keys ≡ x.names.keys) c.self.view_is
+      (keys_stay_moving c.self.inside.state c.args.trail.now _ c.free.ensures (frees c.self.inside.state c.args.trail.now c.args.place));
 }

@@ -5,6 +5,7 @@ use Rattle.mps_refinement.proofs.Calls.Dependencies.{dependency_is_right}
 use Rattle.mps_refinement.proofs.Worlds.Staying.{making_stays}
 use Rattle.mps_heap.proofs.Grains.{making_grains_stay}
 use Rattle.mps_heap.proofs.Results.{making_without_key}
+use Rattle.mps_heap_spec.proofs.KeysStay.{making}
 use Rattle.mps_heap.proofs.heap.Heap.ld.Goals as goal
 
 pub invariant_of-self : goal.invariant_of-self
@@ -24,4 +25,6 @@ returns g c = record {
       c.self.invariant (making_without_key g.F.Format.layout c.self.inside.state c.ld.new.state (call.Dependency c.args.name) c.ld.result
       c.without_key.result c.without_key.ensures.value (dependency_is_right g.F.Format.layout c.self.inside.state c.args.name c.ld.result
       c.ld.new.state c.ld.ensures)) refl);
+  keys = subst (λ x. c.ld.new.state.names.keys ≡ x.names.keys) c.self.view_is
+      (making c.ld.ensures (λ key x makes. makes.names.keys));
 }

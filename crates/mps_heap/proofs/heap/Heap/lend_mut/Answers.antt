@@ -2,7 +2,7 @@ use Rattle.std.proofs.Common.{◌≡◌, subst}
 use Rattle.std.specs.Fn.{FnOnceReturnsAtMut}
 use Rattle.std.specs.Prelude.{MatchResult}
 use Rattle.mps_heap.specs.Lending.{IsBorrowedAndWritten, IsNotBorrowed}
-use Rattle.mps_heap.proofs.Lending.{written_or_refused, written_or_refused_grains, written_or_refused_stays}
+use Rattle.mps_heap.proofs.Lending.{written_or_refused, written_or_refused_grains, written_or_refused_stays, written_or_refused_keys}
 use Rattle.mps_heap.proofs.heap.Heap.lend_mut.Goals as goal
 
 pub invariant_of-self : goal.invariant_of-self
@@ -27,4 +27,7 @@ returns g c = record {
       (written_or_refused_grains g.F.Format.layout c.self.inside.state c.args.place
       (λ r words left. FnOnceReturnsAtMut g.W.FnOnce c.args.write words r left) c.lend_mut.new.state c.lend_mut.result
       c.lend_mut.ensures c.self.invariant);
+  keys = subst (λ x. c.lend_mut.new.state.names.keys ≡ x.names.keys) c.self.view_is
+      (written_or_refused_keys g.F.Format.layout c.self.inside.state c.args.place
+      (λ r words left. FnOnceReturnsAtMut g.W.FnOnce c.args.write words r left) c.lend_mut.new.state c.lend_mut.result c.lend_mut.ensures);
 }

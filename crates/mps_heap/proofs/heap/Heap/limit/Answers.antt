@@ -4,6 +4,7 @@ use Rattle.mps_refinement.specs.Answering.{answer_to, says_ok}
 use Rattle.mps_refinement.specs.RightStep.{IsRight}
 use Rattle.mps_refinement.proofs.Calls.ArenaCalls.{limit_is_right}
 use Rattle.mps_refinement.proofs.Worlds.Staying.{stays, grains_stay}
+use Rattle.mps_heap_spec.proofs.NamesStay.{limits, keys_stay}
 use Rattle.mps_heap.proofs.heap.Heap.limit.Goals as goal
 
 pub invariant_of-self : goal.invariant_of-self
@@ -21,4 +22,6 @@ returns g c = record {
       (grains_stay g.F.Format.layout c.self.inside.state c.limit.new.state (call.Limit c.args.n) [] (answer_to says_ok c.limit.result)
       c.self.invariant (limit_is_right g.F.Format.layout c.self.inside.state c.args.n c.limit.result c.limit.new.state c.limit.ensures)
       refl);
+  keys = subst (λ x. c.limit.new.state.names.keys ≡ x.names.keys) c.self.view_is
+      (keys_stay c.self.inside.state _ c.limit.ensures (limits c.self.inside.state c.args.n));
 }

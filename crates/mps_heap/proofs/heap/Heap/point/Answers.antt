@@ -5,6 +5,7 @@ use Rattle.mps_refinement.proofs.Calls.MakingPoints.{point_is_right}
 use Rattle.mps_refinement.proofs.Worlds.Staying.{making_stays}
 use Rattle.mps_heap.proofs.Grains.{making_grains_stay}
 use Rattle.mps_heap.proofs.Results.{making_without_key}
+use Rattle.mps_heap_spec.proofs.KeysStay.{making}
 use Rattle.mps_heap.proofs.heap.Heap.point.Goals as goal
 
 pub invariant_of-self : goal.invariant_of-self
@@ -28,4 +29,6 @@ returns g c = record {
       c.without_key.result c.self.invariant (making_without_key g.F.Format.layout c.self.inside.state c.point.new.state (call.Point
       c.args.name c.args.pool c.args.rank) c.point.result c.without_key.result c.without_key.ensures.value (point_is_right
       g.F.Format.layout c.self.inside.state c.args.name c.args.pool c.args.rank c.point.result c.point.new.state c.point.ensures)) refl);
+  keys = subst (λ x. c.point.new.state.names.keys ≡ x.names.keys) c.self.view_is
+      (making c.point.ensures (λ key x makes. makes.makes.names.keys));
 }

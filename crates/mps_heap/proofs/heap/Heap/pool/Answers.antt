@@ -5,6 +5,7 @@ use Rattle.mps_refinement.proofs.Calls.MakingPools.{pool_is_right}
 use Rattle.mps_refinement.proofs.Worlds.Staying.{pool_stays}
 use Rattle.mps_heap.proofs.Grains.{pool_grains_stay}
 use Rattle.mps_heap.proofs.Results.{making_in_without_key}
+use Rattle.mps_heap_spec.proofs.KeysStay.{making}
 use Rattle.mps_heap.proofs.heap.Heap.pool.Goals as goal
 
 pub invariant_of-self : goal.invariant_of-self
@@ -24,4 +25,6 @@ returns g c = record {
       (pool_is_right g.F.Format.layout c.self.inside.state c.args.name c.args.kind c.args.format number c.pool.result c.pool.new.state
       c.pool.ensures));
   grains = subst (λ x. c.pool.new.state.segs.grains ≡ x.segs.grains) c.self.view_is (pool_grains_stay c.pool.ensures);
+  keys = subst (λ x. c.pool.new.state.names.keys ≡ x.names.keys) c.self.view_is
+      (making c.pool.ensures (λ key x makes. makes.names.keys));
 }

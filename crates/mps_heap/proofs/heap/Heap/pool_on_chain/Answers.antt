@@ -5,6 +5,7 @@ use Rattle.mps_refinement.proofs.Calls.MakingPools.{pool_on_chain_is_right}
 use Rattle.mps_refinement.proofs.Worlds.Staying.{pool_stays}
 use Rattle.mps_heap.proofs.Grains.{pool_on_chain_grains_stay}
 use Rattle.mps_heap.proofs.Results.{making_in_without_key}
+use Rattle.mps_heap_spec.proofs.KeysStay.{making}
 use Rattle.mps_heap.proofs.heap.Heap.pool_on_chain.Goals as goal
 
 pub invariant_of-self : goal.invariant_of-self
@@ -27,4 +28,6 @@ returns g c = record {
       c.pool_on_chain.result c.pool_on_chain.new.state c.pool_on_chain.ensures));
   grains = subst (λ x. c.pool_on_chain.new.state.segs.grains ≡ x.segs.grains) c.self.view_is
       (pool_on_chain_grains_stay c.pool_on_chain.ensures);
+  keys = subst (λ x. c.pool_on_chain.new.state.names.keys ≡ x.names.keys) c.self.view_is
+      (making c.pool_on_chain.ensures (λ key x makes. makes.makes.names.keys));
 }

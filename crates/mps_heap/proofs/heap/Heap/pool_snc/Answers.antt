@@ -1,10 +1,11 @@
-use Rattle.std.proofs.Common.{subst, ◌≡◌, refl}
+use Rattle.std.proofs.Common.{subst, ◌≡◌, refl, ◌∙◌}
 use Rattle.mps_model.specs.declared.call.Call.TheVariants as call
 use Rattle.mps_refinement.specs.Making.{IsRightMaking}
 use Rattle.mps_refinement.proofs.Calls.FramedPools.{pool_snc_is_right}
 use Rattle.mps_refinement.proofs.Worlds.Staying.{making_stays}
 use Rattle.mps_heap.proofs.Grains.{making_grains_stay}
 use Rattle.mps_heap.proofs.Results.{making_without_key}
+use Rattle.mps_heap_spec.proofs.KeysStay.{making, same_heap}
 use Rattle.mps_heap.proofs.heap.Heap.pool_snc.Goals as goal
 
 pub invariant_of-self : goal.invariant_of-self
@@ -26,4 +27,6 @@ returns g c = record {
       c.self.invariant (making_without_key g.F.Format.layout c.self.inside.state c.pool_snc.new.state (call.PoolFrames c.args.name)
       c.pool_snc.result c.without_key.result c.without_key.ensures.value (pool_snc_is_right g.F.Format.layout c.self.inside.state
       c.args.name c.pool_snc.result c.pool_snc.new.state c.pool_snc.ensures)) refl);
+  keys = subst (λ x. c.pool_snc.new.state.names.keys ≡ x.names.keys) c.self.view_is
+      (making c.pool_snc.ensures (λ key x makes. same_heap makes.state ∙ makes.makes.names.keys));
 }

@@ -6,6 +6,7 @@ use Rattle.mps_refinement.specs.RightMoving.{IsRightMoving}
 use Rattle.mps_refinement.proofs.Worlds.PopTrails.{pop_is_right_after, pop_keeps_room}
 use Rattle.mps_refinement.proofs.Worlds.Room.{keeps_room}
 use Rattle.mps_refinement.proofs.Worlds.Staying.{grains_stay, stays}
+use Rattle.mps_heap_spec.proofs.NamesStay.{pops, keys_stay_moving}
 use Rattle.mps_heap.proofs.heap.Heap.pop.Goals as goal
 
 pub invariant_of-self : goal.invariant_of-self
@@ -32,4 +33,7 @@ returns g c =
       grains = subst (λ x. c.pop.new.state.segs.grains ≡ x.segs.grains) c.self.view_is
           (grains_stay g.F.Format.layout h c.pop.new.state (call.Pop c.args.pool c.args.frame) came.moves (answer_to says_ok
           c.pop.result) c.self.invariant came.right refl);
+      keys = subst (λ x. c.pop.new.state.names.keys ≡ x.names.keys) c.self.view_is
+          (keys_stay_moving c.self.inside.state c.args.trail.now _ c.pop.ensures.outcome (pops c.self.inside.state c.args.trail.now
+          c.args.pool c.args.frame));
     }

@@ -1,12 +1,13 @@
 use Rattle.std.proofs.Common.{◌≡◌, ◌<◌, true, refl, sym, subst}
 use Rattle.mps_model.specs.declared.call.Call.TheVariants as call
-use Rattle.mps_heap_spec.specs.Collect.{most_moves}
 use Rattle.mps_heap_spec.specs.Collecting.{can_collect}
+use Rattle.mps_refinement.specs.MovesNeeded.{moves_needed}
 use Rattle.mps_refinement.specs.Answering.{answer_to, says_ok}
 use Rattle.mps_refinement.specs.RightMoving.{IsRightMoving}
 use Rattle.mps_refinement.specs.UnitsLeft.{ReservesWithin}
 use Rattle.mps_refinement.proofs.Worlds.Staying.{grains_stay, is_ready, stays}
 use Rattle.mps_heap.proofs.Reserving.{can_poll_here, reserved_rightly, reserved_within, some_room}
+use Rattle.mps_heap_spec.proofs.KeysStay.{reserving}
 use Rattle.mps_heap.proofs.heap.Heap.reserve.Goals as goal
 
 pub reserve-requires : goal.reserve-requires
@@ -14,7 +15,7 @@ reserve-requires g c =
     let layout = g.F.Format.layout in
     let h = c.self.inside.state in
     let m = c.args.trail.now in
-    let room = subst (λ x. most_moves x.segs.grains < c.args.trail.now.spare) (sym c.self.view_is) c.requires.fits in
+    let room = subst (λ x. moves_needed x.segs < c.args.trail.now.spare) (sym c.self.view_is) c.requires.fits in
     record {
       ready = is_ready layout h c.self.invariant;
       fits = some_room layout h c.self.invariant c.is_whole.ensures.whole m room;
@@ -26,7 +27,7 @@ pub invariant_of-self : goal.invariant_of-self
 invariant_of-self g c =
     let layout = g.F.Format.layout in
     let h = c.self.inside.state in
-    let room = subst (λ x. most_moves x.segs.grains < c.args.trail.now.spare) (sym c.self.view_is) c.requires.fits in
+    let room = subst (λ x. moves_needed x.segs < c.args.trail.now.spare) (sym c.self.view_is) c.requires.fits in
     let moved = (reserved_rightly layout h c.self.invariant c.is_whole.ensures.whole c.args.trail.now room c.is_whole.ensures.made_before
     c.args.x c.args.head
     c.reserve.result c.reserve.new.state c.reserve.new.trail c.reserve.ensures).0 in
@@ -37,7 +38,7 @@ pub returns : goal.returns
 returns g c =
     let layout = g.F.Format.layout in
     let h = c.self.inside.state in
-    let room = subst (λ x. most_moves x.segs.grains < c.args.trail.now.spare) (sym c.self.view_is) c.requires.fits in
+    let room = subst (λ x. moves_needed x.segs < c.args.trail.now.spare) (sym c.self.view_is) c.requires.fits in
     let came = reserved_rightly layout h c.self.invariant c.is_whole.ensures.whole c.args.trail.now room c.is_whole.ensures.made_before
     c.args.x c.args.head
     c.reserve.result c.reserve.new.state c.reserve.new.trail c.reserve.ensures in
@@ -53,4 +54,6 @@ returns g c =
       grains = subst (λ x. c.reserve.new.state.segs.grains ≡ x.segs.grains) c.self.view_is
           (grains_stay layout h c.reserve.new.state (call.Reserve c.args.x c.args.head) came.0.moves (answer_to says_ok c.reserve.result)
           c.self.invariant came.0.right refl);
+      keys = subst (λ x. c.reserve.new.state.names.keys ≡ x.names.keys) c.self.view_is
+          (reserving g.F.Format.layout c.reserve.ensures);
     }

@@ -1,24 +1,25 @@
 use Rattle.std.proofs.Common.{◌≤◌, sym, subst, ◌≡◌, refl}
 use Rattle.mps_model.specs.declared.call.Call.TheVariants as call
-use Rattle.mps_heap_spec.specs.Collect.{most_moves}
 use Rattle.mps_heap_code.specs.Ticks.{HasTicked}
+use Rattle.mps_refinement.specs.MovesNeeded.{moves_needed}
 use Rattle.mps_refinement.specs.Answering.{says_progress}
 use Rattle.mps_refinement.specs.RightMoving.{IsRightMoving}
 use Rattle.mps_refinement.specs.UnitsLeft.{StepsDown}
 use Rattle.mps_refinement.proofs.Worlds.Staying.{stays, grains_stay}
 use Rattle.mps_heap.proofs.Collected.{can_step, stepped_down, stepped_rightly}
+use Rattle.mps_heap_spec.proofs.KeysStay.{steps}
 use Rattle.mps_heap.proofs.heap.Heap.step.Goals as goal
 
 pub step-requires : goal.step-requires
 step-requires g c =
-    let room = subst (λ x. most_moves x.segs.grains ≤ c.args.trail.now.spare) (sym c.self.view_is) c.requires.fits in
+    let room = subst (λ x. moves_needed x.segs ≤ c.args.trail.now.spare) (sym c.self.view_is) c.requires.fits in
     can_step g.F.Format.layout c.self.inside.state c.self.invariant c.is_whole.ensures.whole c.args.trail.now room c.args.n
 
 pub invariant_of-self : goal.invariant_of-self
 invariant_of-self g c =
     let layout = g.F.Format.layout in
     let h = c.self.inside.state in
-    let room = subst (λ x. most_moves x.segs.grains ≤ c.args.trail.now.spare) (sym c.self.view_is) c.requires.fits in
+    let room = subst (λ x. moves_needed x.segs ≤ c.args.trail.now.spare) (sym c.self.view_is) c.requires.fits in
     let moved = (stepped_rightly layout h c.self.invariant c.is_whole.ensures.whole c.args.trail.now room c.args.n c.step.new.state
     c.step.new.trail c.step.result c.step.ensures.stepped).0 in
     stays layout h c.step.new.state (call.Step c.args.n) moved.moves (says_progress c.step.result) c.self.invariant moved.right
@@ -27,7 +28,7 @@ pub returns : goal.returns
 returns g c =
     let layout = g.F.Format.layout in
     let h = c.self.inside.state in
-    let room = subst (λ x. most_moves x.segs.grains ≤ c.args.trail.now.spare) (sym c.self.view_is) c.requires.fits in
+    let room = subst (λ x. moves_needed x.segs ≤ c.args.trail.now.spare) (sym c.self.view_is) c.requires.fits in
     let stepped = stepped_rightly layout h c.self.invariant c.is_whole.ensures.whole c.args.trail.now room c.args.n c.step.new.state
     c.step.new.trail c.step.result c.step.ensures.stepped in
     record {
@@ -43,4 +44,6 @@ returns g c =
       grains = subst (λ x. c.step.new.state.segs.grains ≡ x.segs.grains) c.self.view_is
           (grains_stay layout c.self.inside.state c.step.new.state (call.Step c.args.n) stepped.0.moves (says_progress c.step.result)
           c.self.invariant stepped.0.right refl);
+      keys = subst (λ x. c.step.new.state.names.keys ≡ x.names.keys) c.self.view_is
+          (steps g.F.Format.layout c.step.ensures.stepped);
     }

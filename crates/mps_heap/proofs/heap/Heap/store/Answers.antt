@@ -4,6 +4,7 @@ use Rattle.mps_refinement.specs.Answering.{answer_to, says_ok}
 use Rattle.mps_refinement.specs.RightStep.{IsRight}
 use Rattle.mps_refinement.proofs.Lookups.BlockWords.{store_is_right}
 use Rattle.mps_refinement.proofs.Worlds.Staying.{stays, grains_stay}
+use Rattle.mps_heap_spec.proofs.NamesStay.{stores, keys_stay}
 use Rattle.mps_heap.proofs.heap.Heap.store.Goals as goal
 
 pub invariant_of-self : goal.invariant_of-self
@@ -23,4 +24,6 @@ returns g c = record {
       (grains_stay g.F.Format.layout c.self.inside.state c.store.new.state (call.Store c.args.place c.args.word c.args.n) [] (answer_to
       says_ok c.store.result) c.self.invariant (store_is_right g.F.Format.layout c.self.inside.state c.args.place c.args.word c.args.n
       c.store.result c.store.new.state c.store.ensures) refl);
+  keys = subst (λ x. c.store.new.state.names.keys ≡ x.names.keys) c.self.view_is
+      (keys_stay c.self.inside.state _ c.store.ensures (stores c.self.inside.state c.args.place c.args.word c.args.n));
 }

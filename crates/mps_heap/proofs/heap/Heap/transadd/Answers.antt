@@ -5,6 +5,7 @@ use Rattle.mps_refinement.specs.RightStep.{IsRight}
 use Rattle.mps_refinement.proofs.Calls.TransformPairs.{transadd_is_right}
 use Rattle.mps_refinement.proofs.Calls.Transforming.{some_transforms_there}
 use Rattle.mps_refinement.proofs.Worlds.Staying.{stays, grains_stay}
+use Rattle.mps_heap_spec.proofs.NamesStay.{pairs, keys_stay}
 use Rattle.mps_heap.proofs.heap.Heap.transadd.Goals as goal
 
 pub transadd-requires : goal.transadd-requires
@@ -28,4 +29,6 @@ returns g c = record {
       (grains_stay g.F.Format.layout c.self.inside.state c.transadd.new.state (call.TransformAdd c.args.x c.args.s c.args.t) [] (answer_to
       says_ok c.transadd.result) c.self.invariant (transadd_is_right g.F.Format.layout c.self.inside.state c.args.x c.args.s c.args.t
       c.transadd.result c.transadd.new.state c.transadd.ensures) refl);
+  keys = subst (λ x. c.transadd.new.state.names.keys ≡ x.names.keys) c.self.view_is
+      (keys_stay c.self.inside.state _ c.transadd.ensures (pairs c.self.inside.state g.F.Format.layout c.args.x c.args.s c.args.t));
 }

@@ -5,6 +5,8 @@ use Rattle.mps_refinement.specs.RightStep.{IsRight}
 use Rattle.mps_refinement.proofs.Calls.Applying.{some_can_transform, transapply_is_right}
 use Rattle.mps_refinement.proofs.Calls.Transforming.{some_transforms_there}
 use Rattle.mps_refinement.proofs.Worlds.Staying.{stays, grains_stay}
+use Rattle.mps_heap_spec.specs.Keyed.{AppliesKeys}
+use Rattle.mps_heap_spec.proofs.KeysStay.{applying}
 use Rattle.mps_heap.proofs.heap.Heap.transapply.Goals as goal
 
 pub transapply-requires-clause-there : goal.transapply-requires-clause-there
@@ -31,4 +33,6 @@ returns g c = record {
       (grains_stay g.F.Format.layout c.self.inside.state c.transapply.new.state (call.TransformApply c.args.x) [] (answer_to says_bool
       c.transapply.result) c.self.invariant (transapply_is_right g.F.Format.layout c.self.inside.state c.args.x c.transapply.result
       c.transapply.new.state c.transapply.ensures.outcome) refl);
+  keys = subst (λ x. AppliesKeys x.names.keys c.transapply.new.state.names.keys c.args.x c.transapply.result) c.self.view_is
+      (applying g.F.Format.layout c.transapply.ensures.outcome);
 }
