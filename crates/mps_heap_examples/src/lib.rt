@@ -4,7 +4,7 @@
 mod list;
 mod tail;
 
-pub use list::{HEAD, collect, collect_often, make, mark_new, pop, push, sum};
+pub use list::{HEAD, collect, collect_often, make, mark_new, pop, push, sum, sum_by_key};
 pub use tail::Tail;
 
 #[cfg(test)]

@@ -1,11 +1,12 @@
 // A list of numbers in a heap.
 ghost use Rattle.std.specs.Prelude.{◌≡◌, ◌+◌, ◌*◌, ◌<◌, ◌≤◌, length};
 ghost use Rattle.mps_heap.specs.Collect.{most_moves};
+ghost use Rattle.mps_heap.specs.Keys.{table_name};
 ghost use Rattle.mps_heap.specs.RightMoving.{KeepsRoom};
 
 use crate::Tail;
 use mps_base::{Kind, Name, Rank, Refusal, Slot, Trail};
-use mps_heap::Heap;
+use mps_heap::{Heap, KeyedSlot, TableKey};
 use std::alloc::{AllocError, Global};
 
 /// The head of an item: four words, of which cell 1 is its number, cell 2 the next item, and cell 3 null.
@@ -102,14 +103,14 @@ pub fn mark_new(heap: &mut Heap<Tail>, trail: &mut Trail, most: u64) -> Result<u
     Ok(most)
 }
 
-/// Collects all that was dropped, if that can be done, with a trail that has room for it. Returns whether it was done.
+/// Collects all that was dropped, if that can be done, with a trail that has room for what is there. Returns whether it was done.
 pub fn collect(alloc: Global, heap: &mut Heap<Tail>) -> Result<bool, AllocError>
     ensures grains { heap.new.segs.grains ≡ heap.old.segs.grains }
 {
     if !heap.can_collect() {
         return Ok(false);
     }
-    let mut trail = Trail::new(alloc, 2 * heap.most_moves())?;
+    let mut trail = Trail::new(alloc, 2 * heap.moves_needed())?;
     heap.collect(&mut trail);
     Ok(true)
 }
@@ -147,6 +148,34 @@ pub fn sum(heap: &mut Heap<Tail>, trail: &mut Trail, most: u64) -> Result<u64, R
         total = total.wrapping_add(heap.num(cursor(), NUMBER)?);
         trail.clear();
         heap.get(trail, cursor(), cursor(), NEXT)?;
+    }
+    Ok(total)
+}
+
+/// `sum` by the key of the list's table: no name is looked for in it. As no call in it makes the key stale, it is as good at the end as
+/// it was.
+pub fn sum_by_key(
+    heap: &mut Heap<Tail>,
+    trail: &mut Trail,
+    table: TableKey,
+    most: u64,
+) -> Result<u64, Refusal>
+    requires room { most_moves heap.old.segs.grains ≤ trail.old.spare + length trail.old.moves }
+    ensures room { KeepsRoom trail.old trail.new }
+    ensures grains { heap.new.segs.grains ≡ heap.old.segs.grains }
+    ensures good { table_name heap.new.names.keys table ≡ table_name heap.old.names.keys table }
+{
+    let first = KeyedSlot { table, index: 0 };
+    let cursor = KeyedSlot { table, index: 1 };
+    let mut total = 0u64;
+    heap.copy_by_key(cursor, first)?;
+    for _ in 0..most {
+        if heap.is_null_by_key(cursor)? {
+            break;
+        }
+        total = total.wrapping_add(heap.num_by_key(cursor, NUMBER)?);
+        trail.clear();
+        heap.get_by_key(trail, cursor, cursor, NEXT)?;
     }
     Ok(total)
 }

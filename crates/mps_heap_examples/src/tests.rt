@@ -3,10 +3,10 @@ ghost use Rattle.std.specs.Prelude.{◌≡◌, ◌+◌, IfOk, []};
 ghost use Rattle.mps_heap.specs.Collect.{most_moves};
 
 use crate::list::named;
-use crate::{HEAD, Tail, collect, collect_often, make, mark_new, pop, push, sum};
+use crate::{HEAD, Tail, collect, collect_often, make, mark_new, pop, push, sum, sum_by_key};
 use mps_base::{Addr, Kind, Rank, Refusal, Slot, Trail};
 use mps_format::{Format, Leaf};
-use mps_heap::Heap;
+use mps_heap::{Heap, KeyedSlot, KeyedWord, TableKey};
 use std::alloc::{AllocError, Global};
 use std::process::Abort;
 
@@ -43,6 +43,38 @@ fn trail_for<F: Format>(alloc: Global, heap: &Heap<F>) -> Result<Trail, Refusal>
 fn sum_of(alloc: Global, heap: &mut Heap<Tail>, most: u64) -> Result<u64, Refusal> {
     let mut trail = trail_for(alloc, heap)?;
     sum(heap, &mut trail, most)
+}
+
+/// The same by the key of the list's table.
+fn sum_with(
+    alloc: Global,
+    heap: &mut Heap<Tail>,
+    table: TableKey,
+    most: u64,
+) -> Result<u64, Refusal> {
+    let mut trail = trail_for(alloc, heap)?;
+    sum_by_key(heap, &mut trail, table, most)
+}
+
+/// Pushes a number by the keys of the list's table and point, with a trail of its own.
+fn push_by_key(alloc: Global, heap: &mut Heap<Tail>, number: u64) -> Result<bool, Refusal> {
+    let mut trail = trail_for(alloc, heap)?;
+    let Some(table) = heap.table_key(named(b't')) else {
+        return Ok(false);
+    };
+    let Some(point) = heap.point_key(named(b'x')) else {
+        return Ok(false);
+    };
+    if !heap.can_collect() {
+        return Ok(false);
+    }
+    let first = KeyedSlot { table, index: 0 };
+    heap.reserve_by_key(&mut trail, point, HEAD)?;
+    heap.init_num_by_key(point, 1, number)?;
+    heap.init_ref_by_key(point, 2, first)?;
+    trail.clear();
+    let _ = heap.commit_by_key(&mut trail, point, first)?;
+    Ok(true)
 }
 
 /// Drops the first item, with a trail of its own.
@@ -197,6 +229,74 @@ fn collect_list(rt: &impl Abort, alloc: Global, heap: &mut Heap<Tail>) {
     assert!(rt; mark(alloc, heap, 10) == Ok(1));
     assert!(rt; live_with_one_trail(alloc, heap) == Ok(136));
     assert!(rt; heap.live() == (6, 24));
+}
+
+/// The list is summed by the key of its table, until that is dropped.
+fn sum_by_keys(rt: &impl Abort, alloc: Global, heap: &mut Heap<Tail>) {
+    assert!(rt; heap.table_key(named(b't')).is_none());
+    assert!(rt; make(heap).is_ok());
+    assert!(rt; push_five(alloc, heap) == Ok(true));
+    let Some(table) = heap.table_key(named(b't')) else {
+        assert!(rt; false);
+        return;
+    };
+    assert!(rt; sum_with(alloc, heap, table, 10) == Ok(15));
+    assert!(rt; matches!(collect(alloc, heap), Ok(true)));
+    assert!(rt; sum_with(alloc, heap, table, 2) == Ok(9));
+    assert!(rt; heap.drop_root(named(b't')) == Ok(()));
+    assert!(rt; sum_with(alloc, heap, table, 10) == Err(Refusal::BadName));
+    assert!(rt; heap.table(named(b't'), 2) == Ok(()));
+    assert!(rt; sum_with(alloc, heap, table, 10) == Err(Refusal::BadName));
+    assert!(rt; heap.table_key(named(b'x')).is_none());
+}
+
+/// What an object has is written and read by keys.
+fn write_by_keys(rt: &impl Abort, alloc: Global, heap: &mut Heap<Tail>) {
+    assert!(rt; make(heap).is_ok());
+    assert!(rt; push_by_key(alloc, heap, 20) == Ok(true));
+    let Some(table) = heap.table_key(named(b't')) else {
+        assert!(rt; false);
+        return;
+    };
+    let first = KeyedSlot { table, index: 0 };
+    let second = KeyedSlot { table, index: 1 };
+    assert!(rt; heap.head_by_key(first) == Ok(HEAD));
+    assert!(rt; heap.addr_by_key(first) == heap.addr(slot(0)));
+    assert!(rt; heap.set_num_by_key(first, 1, 30) == Ok(()));
+    assert!(rt; heap.put_by_key(first, 3, first) == Ok(()));
+    assert!(rt; heap.num_by_key(first, 1) == Ok(30));
+    assert!(rt; heap.same_by_key(first, second) == Ok(false));
+    assert!(rt; heap.copy_by_key(second, first) == Ok(()));
+    assert!(rt; heap.same_by_key(first, second) == Ok(true));
+    assert!(rt; heap.clear_by_key(second) == Ok(()));
+    assert!(rt; heap.is_null_by_key(second) == Ok(true));
+    assert!(rt; heap.num_by_key(second, 1) == Err(Refusal::NullRef));
+}
+
+/// A word of an area is stored and read by a key.
+fn poke_by_key(rt: &impl Abort, heap: &mut Heap<Tail>) {
+    assert!(rt; heap.area(named(b'a'), 1) == Ok(()));
+    let Some(area) = heap.area_key(named(b'a')) else {
+        assert!(rt; false);
+        return;
+    };
+    let place = KeyedWord { area, index: 0 };
+    assert!(rt; heap.poke_by_key(place, 7) == Ok(false));
+    assert!(rt; heap.peek_by_key(place) == Ok(7));
+    assert!(rt; heap.drop_root(named(b'a')) == Ok(()));
+    assert!(rt; heap.peek_by_key(place) == Err(Refusal::BadName));
+}
+
+#[test]
+fn a_list_by_keys(rt: HostRuntime) -> Result<(), AllocError> {
+    let mut heap = Heap::<Tail>::new(rt.alloc(), 8, 8)?;
+    sum_by_keys(&rt, rt.alloc(), &mut heap);
+    heap.finish();
+    let mut other = Heap::<Tail>::new(rt.alloc(), 8, 8)?;
+    write_by_keys(&rt, rt.alloc(), &mut other);
+    poke_by_key(&rt, &mut other);
+    other.finish();
+    Ok(())
 }
 
 #[test]
