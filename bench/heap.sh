@@ -2,7 +2,7 @@
 # Measures how long calls of the library's heap take, by a runtime that holds the heap itself, with no script and no log: `put`, `get` and
 # `num` on objects of 8 words; objects of 8 words reserved and committed until the arena is full; manual blocks of 17 words allocated
 # until it is full, and freed; 1,000 and 50,000 of them made in a frame of a pool, which is closed; a block allocated and freed again and
-# again, and taken from a cache and put back; and a word of a block loaded, beside a loan of the block.
+# again, and taken from a cache and put back; a word of a block loaded, beside a loan of the block; and `num`, `reserve` and `commit` by keys.
 # It makes a program over a copy of the crates, proves it, and runs it.
 home=$(cd "$(dirname "$0")/.." && pwd)
 folder=$(mktemp -d)
@@ -38,7 +38,7 @@ cat > $program/src/main.rt <<'P'
 
 use mps_base::{Kind, Name, Rank, Refusal, Slot, Trail};
 use mps_format::Front;
-use mps_heap::Heap;
+use mps_heap::{Heap, KeyedSlot, PointKey, TableKey};
 use mps_sac::ClassSize;
 use std::alloc::{AllocError, Global};
 use std::io;
@@ -108,6 +108,21 @@ impl Moves {
     fn commit(&mut self, heap: &mut Heap<Front>, into: Slot) -> Result<(), Refusal> {
         self.trail.clear();
         let _ = heap.commit(&mut self.trail, named(b'x'), into)?;
+        Ok(())
+    }
+
+    fn reserve_by_key(&mut self, heap: &mut Heap<Front>, point: PointKey) -> Result<(), Refusal> {
+        self.trail.clear();
+        let _ = heap.most_moves(); // at most 2^21
+        if !heap.can_collect() {
+            return Err(Refusal::Running);
+        }
+        heap.reserve_by_key(&mut self.trail, point, HEAD)
+    }
+
+    fn commit_by_key(&mut self, heap: &mut Heap<Front>, point: PointKey, into: KeyedSlot) -> Result<(), Refusal> {
+        self.trail.clear();
+        let _ = heap.commit_by_key(&mut self.trail, point, into)?;
         Ok(())
     }
 
@@ -187,6 +202,16 @@ fn numbers(heap: &Heap<Front>, times: u64) -> u64 {
     sum
 }
 
+fn numbers_by_key(heap: &Heap<Front>, table: TableKey, times: u64) -> u64 {
+    let mut sum = 0u64;
+    for i in 0..times {
+        if let Ok(n) = heap.num_by_key(KeyedSlot { table, index: i % 2 }, 4 + i % 4) {
+            sum = sum.wrapping_add(n).wrapping_add(1);
+        }
+    }
+    sum
+}
+
 fn loads(heap: &Heap<Front>, times: u64) -> u64 {
     let mut sum = 0u64;
     for i in 0..times {
@@ -222,6 +247,15 @@ fn writes(heap: &mut Heap<Front>, times: u64) -> u64 {
 fn fill_objects(heap: &mut Heap<Front>, moves: &mut Moves, most: u64) -> u64 {
     for i in 0..most {
         if object(heap, moves, slot(3)).is_err() {
+            return i;
+        }
+    }
+    most
+}
+
+fn fill_by_key(heap: &mut Heap<Front>, moves: &mut Moves, point: PointKey, into: KeyedSlot, most: u64) -> u64 {
+    for i in 0..most {
+        if moves.reserve_by_key(heap, point).is_err() || moves.commit_by_key(heap, point, into).is_err() {
             return i;
         }
     }
@@ -333,10 +367,32 @@ fn time_all(rt: &HostRuntime, heap: &mut Heap<Front>) -> io::Result<()> {
     show(rt, "reserve and commit until the arena is full", fill_objects(heap, &mut moves, 1_000_000), &began)
 }
 
+fn time_keys(rt: &HostRuntime, heap: &mut Heap<Front>) -> io::Result<()> {
+    let mut moves = Moves::new(rt.alloc())?;
+    if make(heap).is_err() || object(heap, &mut moves, slot(0)).is_err() || object(heap, &mut moves, slot(1)).is_err() {
+        return println!(rt; "refused");
+    }
+    let Some(table) = heap.table_key(named(b't')) else {
+        return println!(rt; "refused");
+    };
+    let Some(point) = heap.point_key(named(b'x')) else {
+        return println!(rt; "refused");
+    };
+    let began = Instant::now(rt)?;
+    show(rt, "num by key", numbers_by_key(heap, table, 1_000_000), &began)?;
+    let into = KeyedSlot { table, index: 3 };
+    let began = Instant::now(rt)?;
+    show(rt, "reserve and commit by key until the arena is full", fill_by_key(heap, &mut moves, point, into, 1_000_000), &began)
+}
+
 fn main(rt: HostRuntime) -> io::Result<()> {
     let mut heap = Heap::<Front>::new(rt.alloc(), 2048, 2048)?;
     let done = time_all(&rt, &mut heap);
     heap.finish();
+    done?;
+    let mut other = Heap::<Front>::new(rt.alloc(), 2048, 2048)?;
+    let done = time_keys(&rt, &mut other);
+    other.finish();
     done
 }
 P
