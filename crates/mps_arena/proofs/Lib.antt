@@ -1,3 +1,4 @@
+pub mod Below
 pub mod Held
 pub mod Loans
 pub mod Padded

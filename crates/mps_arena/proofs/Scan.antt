@@ -96,7 +96,7 @@ scan_found table need grain low most some scan within none fits =
     )
 
 -- the runs after a run
-run_step : (table : List ℕ) (grain : ℕ) → IsAscending grain (length table) (rest table grain) → grain < length table
+pub run_step : (table : List ℕ) (grain : ℕ) → IsAscending grain (length table) (rest table grain) → grain < length table
     → 0 < get_or table grain 0
     → (rest table grain ≡ record { from = grain; count = get_or table grain 0 } ∷ rest table (grain + get_or table grain 0))
     × IsAscending (grain + get_or table grain 0) (length table) (rest table (grain + get_or table grain 0))

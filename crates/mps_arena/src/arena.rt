@@ -8,7 +8,7 @@ ghost use Rattle.mps_arena.specs.Arena.{ArenaMemory, AreHeldWords, new_arena, pl
 ghost use Rattle.std.specs.Borrow.{sem};
 ghost use Rattle.mps_arena.specs.Lending.{LendsArenaWords, LendsHeldWords};
 
-use crate::grains::lowest_free;
+use crate::grains::{FreeRun, lowest_free};
 use crate::memory::Memory;
 use mps_base::{Addr, BYTES_OF_GRAIN, BYTES_OF_WORD, Refusal, WORDS_OF_GRAIN};
 use std::alloc::{AllocError, Global};
@@ -19,6 +19,8 @@ use std::marker::Model;
 pub struct Arena {
     memory: Memory,
     runs: Vec<u32>,
+    // All grains below this one are held, so a search for free ones begins at it.
+    held_below: u32,
     committed: u32,
     limit: u32,
 }
@@ -27,14 +29,14 @@ impl Model for Arena {
     ghost use Rattle.mps_arena.specs.Arena.{ArenaMemory};
     ghost use Rattle.std.specs.Prelude.{length};
     ghost use Rattle.mps_arena.specs.Grains.{runs_in};
-    ghost use Rattle.mps_arena.specs.Inside.{memory_of, IsSoundArena, AreStored};
+    ghost use Rattle.mps_arena.specs.Inside.{memory_of, IsSoundArena, AreStored, AreHeldBelow};
 
     ghost Value = { ArenaMemory };
 
     ghost view = { λ a. memory_of a.memory.words a.runs.items a.limit };
 
     ghost invariant = { λ a. IsSoundArena a.memory.words a.runs.items a.committed a.limit
-        × AreStored (runs_in a.runs.items) (length a.memory.words) a.memory.stored };
+        × AreStored (runs_in a.runs.items) (length a.memory.words) a.memory.stored × AreHeldBelow a.runs.items a.held_below };
 }
 
 impl Arena {
@@ -49,6 +51,7 @@ impl Arena {
         Ok(Arena {
             memory,
             runs,
+            held_below: 1,
             committed: 0,
             limit,
         })
@@ -69,11 +72,12 @@ impl Arena {
                 limit: self.limit,
             });
         }
-        match lowest_free(&self.runs, grains) {
-            Ok(grain) => {
+        match lowest_free(&self.runs, self.held_below, grains) {
+            Ok(FreeRun { grain, held_below }) => {
                 self.memory
                     .store_run(WORDS_OF_GRAIN * (grain as usize + grains as usize));
                 self.runs[grain as usize] = grains;
+                self.held_below = held_below;
                 self.committed += grains;
                 Ok(Addr(BYTES_OF_GRAIN * grain as u64))
             }
@@ -90,7 +94,9 @@ impl Arena {
         requires held { Contains self.old.held (record { from = grain_of base.0; count = grains }) }
         ensures { self.new ≡ record self.old { held = without_run (grain_of base.0) self.old.held } }
     {
-        self.runs[(base.0 / BYTES_OF_GRAIN) as usize] = 0;
+        let grain = (base.0 / BYTES_OF_GRAIN) as usize;
+        self.runs[grain] = 0;
+        self.held_below = self.held_below.min(grain as u32);
         self.committed -= grains;
     }
 

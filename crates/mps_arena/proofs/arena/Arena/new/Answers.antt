@@ -1,7 +1,8 @@
 use Rattle.std.proofs.Common.{ℕ, ◌+◌, ◌*◌, ◌≡◌, List, length, replicate, sym, ap, ◌∙◌, subst}
 use Rattle.mps_arena.specs.Grains.{runs_in}
-use Rattle.mps_arena.specs.Inside.{AreStored, IsSoundArena, memory_of}
+use Rattle.mps_arena.specs.Inside.{AreHeldBelow, AreStored, IsSoundArena, memory_of}
 use Rattle.mps_arena.specs.Memory.{StoredWords}
+use Rattle.mps_arena.proofs.Below.{none_held_below}
 use Rattle.mps_arena.proofs.Held.{none_are_stored}
 use Rattle.mps_arena.proofs.Scan.{new_is_sound, new_state}
 use Rattle.mps_arena.proofs.arena.Arena.new.Goals as goal
@@ -12,12 +13,13 @@ invariant_of-result c =
     let all = words_of_grain * (c.args.grains + 1) in
     let runs : c.in_ok-runs.runs.items ≡ replicate (c.args.grains + 1) 0 = c.in_ok-runs.ensures.items_if_clones_equal (λ y h. h) in
     let P : StoredWords → List ℕ → Type 0 = λ m t.
-    IsSoundArena m.words t 0 c.args.limit × AreStored (runs_in t) (length m.words) m.stored in
+    IsSoundArena m.words t 0 c.args.limit × AreStored (runs_in t) (length m.words) m.stored × AreHeldBelow t 1 in
     let fresh : StoredWords = record { words = replicate all 0; stored = 0 } in
     subst (λ (m : StoredWords). P m c.in_ok-runs.runs.items) (sym c.in_ok-memory.ensures)
     (subst (λ (t : List ℕ). P fresh t) (sym runs) (
       new_is_sound c.args.grains c.args.limit c.requires.nonzero c.requires.at_most,
       none_are_stored (c.args.grains + 1) (length (replicate {A = ℕ} all 0)) 0,
+      none_held_below (replicate (c.args.grains + 1) 0),
     ))
 
 pub returns : goal.returns

@@ -33,6 +33,7 @@ invariant_of-self-lent c w =
         within_limit = sound.within_limit;
       },
       λ r there. omega (arith, long, c.self.invariant.1 r there),
+      c.self.invariant.2,
     )
 
 pub returns : goal.returns
