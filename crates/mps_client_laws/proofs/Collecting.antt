@@ -191,7 +191,7 @@ legal_move_leaves_lasting w before (moves.Splat holder cell) next id k strong fr
     splat_leaves_lasting w id k cell w.collection (id_at w holder.0) strong free legal
 legal_move_leaves_lasting w before _ next id k strong free legal = refl
 
-legal_moves_leave_lasting : (w : World) (before : Option Move) (ms : List Move) (id k : ℕ) → object_is is_weak_object w id ≡ false
+pub legal_moves_leave_lasting : (w : World) (before : Option Move) (ms : List Move) (id k : ℕ) → object_is is_weak_object w id ≡ false
     → is_dependent w.graph id ≡ false → AreLegalMoves w before ms → moves_leave_cell w ms id k ≡ true
 legal_moves_leave_lasting w before [] id k strong free legal = refl
 legal_moves_leave_lasting w before (m ∷ ms) id k strong free legal =

@@ -16,6 +16,7 @@ pub mod SlotsOfCalls
 pub mod SlotsStay
 pub mod Contained
 pub mod Collecting
+pub mod LastingCells
 pub mod Gone
 pub mod SoundlyReached
 pub mod Automatic

@@ -13,9 +13,9 @@ use Rattle.mps_model.specs.WellFormed.{is_live_automatic}
 use Rattle.mps_model.specs.Effect.{Everything}
 use Rattle.mps_model.specs.Flip.{world_at_flip}
 use Rattle.mps_model.specs.Posts.{IsWidelyReachableWith}
-use Rattle.mps_model.specs.History.{IsLegalHistoryOf, world_after}
+use Rattle.mps_model.specs.History.{IsLegalHistoryOf, IsLegalStep, world_after}
 use Rattle.mps_laws.specs.Replay.{reached}
-use Rattle.mps_client_laws.specs.Objects.{cell_at, two_objects, with_a_dependent}
+use Rattle.mps_client_laws.specs.Objects.{cell_at, two_objects, with_a_dependent, writes_cell}
 
 -- the objects in slots, area words and messages
 abbrev pub held_ids : Graph → List Id
@@ -44,6 +44,13 @@ pub record IsLeft (before after : World) (id : Id) : Type 0 where
   pub cells :
       (k : ℕ) (cell : Cell) → object_is is_weak_object before id ≡ false → is_dependent before.graph id ≡ false
       → cell_at before.graph id k ≡ Some cell → cell_at after.graph id k ≡ Some cell
+
+-- A cell of an object that is neither weak nor a dependent stays what it is over a legal step whose call doesn't write it: no move can.
+abbrev pub LastingCellsStay : Type 0
+LastingCellsStay =
+    (w : World) (s : Step) (id k : ℕ) (cell : Cell) → IsLegalStep w s → object_is is_weak_object w id ≡ false
+    → is_dependent w.graph id ≡ false → writes_cell w s.call id k ≡ false → cell_at w.graph id k ≡ Some cell
+    → cell_at (world_after w s).graph id k ≡ Some cell
 
 -- What can be reached before an accepted `collect` is live after it with its cells.
 abbrev pub CollectLeavesWhatIsReached : Type 0

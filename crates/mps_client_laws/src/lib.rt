@@ -4,7 +4,7 @@
 
 ghost use Rattle.mps_client_laws.specs.Objects.{ObjectsKeepTheirIdentity, CellsStay, WordsStay};
 ghost use Rattle.mps_client_laws.specs.Addresses.{ObjectsLiveOn, AddressesStay, NoTwoHaveOneAddress, ManualBlocksStay};
-ghost use Rattle.mps_client_laws.specs.Collecting.{CollectLeavesWhatIsReached, WhatDependentsReachStays, WhatIsNotReachedIsGone};
+ghost use Rattle.mps_client_laws.specs.Collecting.{CollectLeavesWhatIsReached, LastingCellsStay, WhatDependentsReachStays, WhatIsNotReachedIsGone};
 ghost use Rattle.mps_client_laws.specs.Complete.{LiveObjectsAreReached, OthersWereKeptByMoves, PinnedObjectsStay, ReachedObjectsAreLive, RegisteredObjectsAreLive, SegmentsHaveLiveBlocks, StillReachedObjectsAreLive, TargetsAreLive};
 ghost use Rattle.mps_client_laws.specs.Committing.{CommitMakesTheObject, FlippedMakesNone};
 ghost use Rattle.mps_client_laws.specs.Dependents.{ValuesGoWithTheirKeys};
@@ -21,9 +21,11 @@ ghost use Rattle.mps_client_laws.specs.Slots.{SlotsStay, CopyGivesTheSameObject,
 /// No object is lost. Over any steps an object keeps its pool, its kind, its size, its head and its weakness. A cell is
 /// what it was, unless a `put`, `setnum` or `settag` of this cell or a splat writes it; a word of a manual block, unless
 /// a `store` of this word does. A splat writes a reference of a weak object, and that in the same cell of its dependent.
+/// So over a legal step no move writes a cell of an object that is neither.
 pub fn no_object_is_lost()
     ensures identity { ObjectsKeepTheirIdentity }
     ensures cells { CellsStay }
+    ensures lasting { LastingCellsStay }
     ensures words { WordsStay }
 {}
 
