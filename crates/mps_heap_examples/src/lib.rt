@@ -4,7 +4,9 @@
 mod list;
 mod tail;
 
-pub use list::{HEAD, collect, collect_often, make, mark_new, pop, push, sum, sum_by_key};
+pub use list::{
+    HEAD, collect, collect_often, make, mark_new, pop, push, sum, sum_by_key, sum_of_two,
+};
 pub use tail::Tail;
 
 #[cfg(test)]

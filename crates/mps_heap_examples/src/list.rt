@@ -1,8 +1,11 @@
 // A list of numbers in a heap.
-ghost use Rattle.std.specs.Prelude.{◌≡◌, ◌+◌, ◌*◌, ◌<◌, ◌≤◌, length};
+ghost use Rattle.std.specs.Prelude.{◌≡◌, ◌+◌, ◌*◌, ◌%◌, ◌^◌, ◌<◌, ◌≤◌, if◌then◌else◌, IfOk, IfSome, Some, ℕ, List, [], ◌∷◌, length, take};
+ghost use Rattle.std.specs.List.{sum};
 ghost use Rattle.mps_heap.specs.Collect.{most_moves};
 ghost use Rattle.mps_heap.specs.Keys.{table_name};
 ghost use Rattle.mps_heap.specs.RightMoving.{KeepsRoom};
+ghost use Rattle.mps_heap_examples.specs.Listed.{HasNumbers, MayHaveNumbers};
+ghost use Rattle.mps_laws.specs.Held.{letter, slot_of_t};
 
 use crate::Tail;
 use mps_base::{Kind, Name, Rank, Refusal, Slot, Trail};
@@ -22,14 +25,18 @@ const NEXT: u64 = 2;
 const MARKED: u8 = 1;
 
 /// The name that has one letter.
-pub const fn named(letter: u8) -> Name {
+pub const fn named(code: u8) -> Name
+    ensures { result ≡ letter code }
+{
     Name {
-        bytes: [letter, 0, 0, 0, 0, 0, 0, 0, 0, 0, 0, 0, 0, 0, 0, 0],
+        bytes: [code, 0, 0, 0, 0, 0, 0, 0, 0, 0, 0, 0, 0, 0, 0, 0],
     }
 }
 
 /// The slot that refers to the first item of the list.
-fn first() -> Slot {
+fn first() -> Slot
+    ensures { result ≡ slot_of_t 0 }
+{
     Slot {
         name: named(b't'),
         index: 0,
@@ -37,7 +44,9 @@ fn first() -> Slot {
 }
 
 /// The slot that goes along the list.
-fn cursor() -> Slot {
+fn cursor() -> Slot
+    ensures { result ≡ slot_of_t 1 }
+{
     Slot {
         name: named(b't'),
         index: 1,
@@ -47,6 +56,7 @@ fn cursor() -> Slot {
 /// Makes what the list needs, which is empty: a pool of its items, two slots, and a point.
 pub fn make(heap: &mut Heap<Tail>) -> Result<(), Refusal>
     ensures grains { heap.new.segs.grains ≡ heap.old.segs.grains }
+    ensures empty { MayHaveNumbers heap.old → IfOk result (λ done. HasNumbers heap.new []) }
 {
     heap.pool(named(b'p'), Kind::Amc, Tail)?;
     heap.table(named(b't'), 2)?;
@@ -59,6 +69,8 @@ pub fn push(heap: &mut Heap<Tail>, trail: &mut Trail, number: u64) -> Result<boo
     requires room { most_moves heap.old.segs.grains < trail.old.spare + length trail.old.moves }
     ensures room { KeepsRoom trail.old trail.new }
     ensures grains { heap.new.segs.grains ≡ heap.old.segs.grains }
+    ensures pushed { (numbers : List ℕ) → HasNumbers heap.old numbers → IfOk result (λ done.
+        HasNumbers heap.new (if done then number ∷ numbers else numbers)) }
 {
     if !heap.can_collect() {
         return Ok(false);
@@ -78,6 +90,8 @@ pub fn pop(heap: &mut Heap<Tail>, trail: &mut Trail) -> Result<(), Refusal>
     requires room { most_moves heap.old.segs.grains ≤ trail.old.spare + length trail.old.moves }
     ensures room { KeepsRoom trail.old trail.new }
     ensures grains { heap.new.segs.grains ≡ heap.old.segs.grains }
+    ensures popped { (number : ℕ) (numbers : List ℕ) → HasNumbers heap.old (number ∷ numbers) → IfOk result (λ done.
+        HasNumbers heap.new numbers) }
 {
     trail.clear();
     heap.get(trail, first(), first(), NEXT)
@@ -106,6 +120,7 @@ pub fn mark_new(heap: &mut Heap<Tail>, trail: &mut Trail, most: u64) -> Result<u
 /// Collects all that was dropped, if that can be done, with a trail that has room for what is there. Returns whether it was done.
 pub fn collect(alloc: Global, heap: &mut Heap<Tail>) -> Result<bool, AllocError>
     ensures grains { heap.new.segs.grains ≡ heap.old.segs.grains }
+    ensures kept { (numbers : List ℕ) → HasNumbers heap.old numbers → HasNumbers heap.new numbers }
 {
     if !heap.can_collect() {
         return Ok(false);
@@ -121,6 +136,7 @@ pub fn collect_often(heap: &mut Heap<Tail>, trail: &mut Trail, times: u64) -> u6
     requires room { 2 * most_moves heap.old.segs.grains ≤ trail.old.spare + length trail.old.moves }
     ensures room { KeepsRoom trail.old trail.new }
     ensures grains { heap.new.segs.grains ≡ heap.old.segs.grains }
+    ensures kept { (numbers : List ℕ) → HasNumbers heap.old numbers → HasNumbers heap.new numbers }
 {
     for done in 0..times {
         if !heap.can_collect() {
@@ -138,16 +154,19 @@ pub fn sum(heap: &mut Heap<Tail>, trail: &mut Trail, most: u64) -> Result<u64, R
     requires room { most_moves heap.old.segs.grains ≤ trail.old.spare + length trail.old.moves }
     ensures room { KeepsRoom trail.old trail.new }
     ensures grains { heap.new.segs.grains ≡ heap.old.segs.grains }
+    ensures summed { (numbers : List ℕ) → HasNumbers heap.old numbers → IfOk result (λ total.
+        (total ≡ sum (take most numbers) % 2 ^ 64) × HasNumbers heap.new numbers) }
 {
+    let cursor = cursor();
     let mut total = 0u64;
-    heap.copy(cursor(), first())?;
-    for _ in 0..most {
-        if heap.is_null(cursor())? {
-            break;
+    heap.copy(cursor, first())?;
+    for count in 0..most {
+        if heap.is_null(cursor)? {
+            return Ok(total);
         }
-        total = total.wrapping_add(heap.num(cursor(), NUMBER)?);
+        total = total.wrapping_add(heap.num(cursor, NUMBER)?);
         trail.clear();
-        heap.get(trail, cursor(), cursor(), NEXT)?;
+        heap.get(trail, cursor, cursor, NEXT)?;
     }
     Ok(total)
 }
@@ -164,18 +183,48 @@ pub fn sum_by_key(
     ensures room { KeepsRoom trail.old trail.new }
     ensures grains { heap.new.segs.grains ≡ heap.old.segs.grains }
     ensures good { table_name heap.new.names.keys table ≡ table_name heap.old.names.keys table }
+    ensures summed { table_name heap.old.names.keys table ≡ Some (letter 116) → (numbers : List ℕ) → HasNumbers heap.old numbers
+        → IfOk result (λ total. (total ≡ sum (take most numbers) % 2 ^ 64) × HasNumbers heap.new numbers) }
 {
     let first = KeyedSlot { table, index: 0 };
     let cursor = KeyedSlot { table, index: 1 };
     let mut total = 0u64;
     heap.copy_by_key(cursor, first)?;
-    for _ in 0..most {
+    for count in 0..most {
         if heap.is_null_by_key(cursor)? {
-            break;
+            return Ok(total);
         }
         total = total.wrapping_add(heap.num_by_key(cursor, NUMBER)?);
         trail.clear();
         heap.get_by_key(trail, cursor, cursor, NEXT)?;
     }
     Ok(total)
+}
+
+/// Puts two numbers into the list, with up to a hundred collections after each, and returns the sum of the first two; none if the heap
+/// can't count the flips of that. One trail serves for all of it.
+pub fn sum_of_two(
+    heap: &mut Heap<Tail>,
+    trail: &mut Trail,
+    one: u64,
+    other: u64,
+) -> Result<Option<u64>, Refusal>
+    requires room { 2 * most_moves heap.old.segs.grains < trail.old.spare + length trail.old.moves }
+    ensures room { KeepsRoom trail.old trail.new }
+    ensures grains { heap.new.segs.grains ≡ heap.old.segs.grains }
+    ensures summed { (numbers : List ℕ) → HasNumbers heap.old numbers → IfOk result (λ found. IfSome found (λ total.
+        total ≡ (one + other) % 2 ^ 64)) }
+    ensures pushed { (numbers : List ℕ) → HasNumbers heap.old numbers → IfOk result (λ found. IfSome found (λ total.
+        HasNumbers heap.new (other ∷ one ∷ numbers))) }
+{
+    if !push(heap, trail, one)? {
+        return Ok(None);
+    }
+    collect_often(heap, trail, 100);
+    if !push(heap, trail, other)? {
+        return Ok(None);
+    }
+    collect_often(heap, trail, 100);
+    let total = sum(heap, trail, 2)?;
+    Ok(Some(total))
 }

@@ -3,7 +3,9 @@ ghost use Rattle.std.specs.Prelude.{◌≡◌, ◌+◌, IfOk, []};
 ghost use Rattle.mps_heap.specs.Collect.{most_moves};
 
 use crate::list::named;
-use crate::{HEAD, Tail, collect, collect_often, make, mark_new, pop, push, sum, sum_by_key};
+use crate::{
+    HEAD, Tail, collect, collect_often, make, mark_new, pop, push, sum, sum_by_key, sum_of_two,
+};
 use mps_base::{Addr, Kind, Rank, Refusal, Slot, Trail};
 use mps_format::{Format, Leaf};
 use mps_heap::{Heap, KeyedSlot, KeyedWord, TableKey};
@@ -212,6 +214,12 @@ fn live_with_one_trail(alloc: Global, heap: &mut Heap<Tail>) -> Result<u64, Refu
     sum(heap, &mut trail, 10)
 }
 
+/// Two numbers are pushed, collected often, and added.
+fn push_two(alloc: Global, heap: &mut Heap<Tail>) -> Result<Option<u64>, Refusal> {
+    let mut trail = Trail::new(alloc, 2 * heap.most_moves() + 1).map_err(|_| Refusal::OutOfMemory)?;
+    sum_of_two(heap, &mut trail, 20, 30)
+}
+
 /// A runtime collects: what is in the list stays, and what was dropped is gone.
 fn collect_list(rt: &impl Abort, alloc: Global, heap: &mut Heap<Tail>) {
     assert!(rt; make(heap).is_ok());
@@ -229,6 +237,8 @@ fn collect_list(rt: &impl Abort, alloc: Global, heap: &mut Heap<Tail>) {
     assert!(rt; mark(alloc, heap, 10) == Ok(1));
     assert!(rt; live_with_one_trail(alloc, heap) == Ok(136));
     assert!(rt; heap.live() == (6, 24));
+    assert!(rt; push_two(alloc, heap) == Ok(Some(50)));
+    assert!(rt; heap.live() == (8, 32));
 }
 
 /// The list is summed by the key of its table, until that is dropped.

@@ -1,10 +1,18 @@
-use Rattle.std.proofs.Common.{◌≡◌, ◌+◌, ◌≤◌, length}
+use Rattle.std.proofs.Common.{◌≡◌, ℕ, List, Some, ◌+◌, ◌≤◌, length}
 use Rattle.mps_heap.specs.Collect.{most_moves}
+use Rattle.mps_heap.specs.Keys.{table_name}
 use Rattle.mps_heap.specs.RightMoving.{KeepsRoom}
+use Rattle.mps_format.specs.TailExample.{tail_layout}
+use Rattle.mps_laws.specs.Held.{letter}
+use Rattle.mps_heap_examples.specs.Listed.{HasNumbers}
+use Rattle.mps_heap_examples.proofs.Sums.{IsSummed}
 use Rattle.mps_heap_examples.proofs.list.sum_by_key.Given as goal
 
--- the whole room of the trail stays enough, the arena as large, and each key as good
-abbrev pub invariant-loop : goal.invariant-loop
-invariant-loop l =
+-- the whole room of the trail stays enough, the arena as large, and each key as good; and of each list that the heap had some numbers
+-- were added, if the key is that of its table
+abbrev pub invariant-loop-count : goal.invariant-loop-count
+invariant-loop-count l =
     (most_moves l.heap.segs.grains ≤ l.trail.spare + length l.trail.moves) × KeepsRoom l.fn.trail l.trail
     × (l.heap.segs.grains ≡ l.fn.heap.segs.grains) × (l.heap.names.keys ≡ l.fn.heap.names.keys)
+    × (table_name l.fn.heap.names.keys l.fn.table ≡ Some (letter 116) → (numbers : List ℕ) → HasNumbers l.fn.heap numbers
+    → IsSummed (λ _. tail_layout) l.heap numbers l.count l.total)
