@@ -101,6 +101,56 @@ impl Bits {
         words::end_run(&mut self.words, from, to);
     }
 
+    /// Clears the `count` bits from `from` on, and then sets as many from `to` on. In `ends` the last of these is set, and the others are
+    /// cleared. If both runs lie in one word each, that takes three short steps.
+    #[inline(always)]
+    pub fn move_run(&mut self, ends: &mut Bits, from: usize, to: usize, count: usize)
+        requires nonempty { 0 < count }
+        requires from_in_table { from + count ≤ length self.old }
+        requires to_in_table { to + count ≤ length self.old }
+        requires to_in_ends { to + count ≤ length ends.old }
+        ensures state { self.new ≡ with_range (with_range self.old from (from + count) false) to (to + count) true }
+        ensures ends { ends.new ≡ slice_set (with_range ends.old to (to + count) false) (to + count - 1) true }
+    {
+        let _ = self.len();
+        if from % 64 + count <= 64 && to % 64 + count <= 64 {
+            self.write_in_word(from, count, false);
+            self.write_in_word(to, count, true);
+            ends.end_run(to, to + count);
+        } else {
+            self.move_long_run(ends, from, to, count);
+        }
+    }
+
+    /// The same, 64 bits a step.
+    #[cold]
+    #[inline(never)]
+    fn move_long_run(&mut self, ends: &mut Bits, from: usize, to: usize, count: usize)
+        requires nonempty { 0 < count }
+        requires from_in_table { from + count ≤ length self.old }
+        requires to_in_table { to + count ≤ length self.old }
+        requires to_in_ends { to + count ≤ length ends.old }
+        ensures state { self.new ≡ with_range (with_range self.old from (from + count) false) to (to + count) true }
+        ensures ends { ends.new ≡ slice_set (with_range ends.old to (to + count) false) (to + count - 1) true }
+    {
+        let _ = self.len();
+        self.clear_range(from, from + count);
+        self.set_range(to, to + count);
+        ends.end_run(to, to + count);
+    }
+
+    /// Writes `value` into the `count` bits from `from` on, which lie in one word.
+    #[inline(always)]
+    fn write_in_word(&mut self, from: usize, count: usize, value: bool)
+        requires nonempty { 0 < count }
+        requires in_word { from % 64 + count ≤ 64 }
+        requires in_table { from + count ≤ length self.old }
+        ensures state { self.new ≡ with_range self.old from (from + count) value }
+        ensures len { length self.new ≡ length self.old }
+    {
+        words::write_in_word(&mut self.words, from, count, value);
+    }
+
     /// Writes `value` into the bit at `at`.
     fn write(&mut self, at: usize, value: bool)
         requires { at < length self.old }

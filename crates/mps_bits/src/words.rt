@@ -63,6 +63,18 @@ pub(crate) fn write_range(words: &mut [u64], from: usize, to: usize, value: bool
     }
 }
 
+/// Writes `value` into the `count` bits from `from` on, which lie in one word.
+#[inline(always)]
+pub(crate) fn write_in_word(words: &mut [u64], from: usize, count: usize, value: bool)
+    requires nonempty { 0 < count }
+    requires in_word { from % 64 + count ≤ 64 }
+    requires in_row { from + count ≤ 64 * length words.old }
+    ensures inside { (i : ℕ) → from ≤ i → i < from + count → bit_in words.new i ≡ (if value then 1 else 0) }
+    ensures unchanged { (i : ℕ) → (i < from) ⊎ (from + count ≤ i) → bit_in words.new i ≡ bit_in words.old i }
+{
+    words[from / 64] = with_bits(words[from / 64], from % 64, count, value);
+}
+
 /// Sets the last of the bits from `from` up to `to`, and clears the others of these. Bits of one word are written in one step.
 #[inline(always)]
 pub(crate) fn end_run(words: &mut [u64], from: usize, to: usize)
@@ -81,6 +93,8 @@ pub(crate) fn end_run(words: &mut [u64], from: usize, to: usize)
 }
 
 /// The same as `write_range`, 64 bits a step.
+#[cold]
+#[inline(never)]
 fn write_words(words: &mut [u64], from: usize, to: usize, value: bool)
     requires { to ≤ 64 * length words.old }
     ensures inside { (i : ℕ) → from ≤ i → i < to → bit_in words.new i ≡ (if value then 1 else 0) }
