@@ -179,11 +179,11 @@ impl GreyBlocks {
         ensures sound { IfSome result (λ word. bit self.old word ≡ true) }
         ensures complete { IfNone result ((word : ℕ) → bit self.old word ≡ false) }
     {
-        if self.count == 0 {
-            return None;
-        }
         if let Some(word) = self.hinted() {
             return Some(word);
+        }
+        if self.count == 0 {
+            return None;
         }
         self.cursor = self.search()?;
         Some(self.cursor)
