@@ -55,6 +55,7 @@ impl Extents {
     }
 
     /// Covers `words` words from `at` on by a reservation.
+    #[inline(always)]
     pub fn cover(&mut self, at: usize, words: usize)
         requires nonzero { 0 < words }
         requires free { IsAscending 0 self.old.size (with_run (record { from = at; count = words }) self.old.covered) }
@@ -99,6 +100,7 @@ impl Extents {
     }
 
     /// The reservation of `words` words that begins at `at` becomes a block.
+    #[inline(always)]
     pub fn commit(&mut self, at: usize, words: usize)
         requires { Contains self.old.reservations (record { from = at; count = words }) }
         ensures state { self.new ≡ record self.old {
@@ -141,10 +143,8 @@ impl Extents {
           blocks = with_run (record { from = to; count = words }) (without_run from self.old.blocks);
         } }
     {
-        self.covered.clear_range(from, from + words);
+        self.covered.move_run(&mut self.ends, from, to, words);
         self.blocks.clear(from);
-        self.covered.set_range(to, to + words);
-        self.ends.end_run(to, to + words); // its only end
         self.blocks.set(to);
     }
 

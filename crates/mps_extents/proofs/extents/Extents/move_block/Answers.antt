@@ -1,16 +1,10 @@
-use Rattle.std.proofs.Common.{Bool, List, length, ap, arith}
+use Rattle.std.proofs.Common.{◌+◌, Bool, false, List, length, ap, arith}
+use Rattle.mps_bits.proofs.Ranges.{length-with_range}
 use Rattle.mps_extents.proofs.Moved.{old_fits, new_fits, moved_sound, moved_apart, moved_lists, moved_tally}
 use Rattle.mps_extents.proofs.extents.Extents.move_block.Goals as goal
 
-pub overflow_add-from : goal.overflow_add-from
-overflow_add-from c =
-    let old =
-    old_fits c.self.inside c.args.self.now c.args.from c.args.words c.self.invariant.0 c.self.invariant.1 c.self.view_is c.requires.block
-    in
-    omega (arith, old.fits.at_most)
-
-pub clear_range-requires-clause-in_table : goal.clear_range-requires-clause-in_table
-clear_range-requires-clause-in_table c =
+pub move_run-requires-clause-from_in_table : goal.move_run-requires-clause-from_in_table
+move_run-requires-clause-from_in_table c =
     let old =
     old_fits c.self.inside c.args.self.now c.args.from c.args.words c.self.invariant.0 c.self.invariant.1 c.self.view_is c.requires.block
     in
@@ -23,32 +17,24 @@ clear-requires c =
     in
     omega (arith, old.fits.in_blocks, old.fits.nonzero)
 
-pub overflow_add-to : goal.overflow_add-to
-overflow_add-to c =
+pub move_run-requires-clause-to_in_table : goal.move_run-requires-clause-to_in_table
+move_run-requires-clause-to_in_table c =
+    let old =
+    old_fits c.self.inside c.args.self.now c.args.from c.args.words c.self.invariant.0 c.self.invariant.1 c.self.view_is c.requires.block
+    in
     let new =
     new_fits c.self.inside c.args.self.now c.args.from c.args.words c.self.invariant.0 c.self.invariant.1 c.self.view_is c.requires.block
     c.args.to c.requires.nonzero c.requires.free
     in
-    omega (arith, new.at_most)
+    omega (
+      arith,
+      new.in_covered,
+      length-with_range c.self.inside.covered c.args.from (c.args.from + c.args.words) false (omega arith)
+          (omega (arith, old.fits.in_covered)),
+    )
 
-pub overflow_add-to-2 : goal.overflow_add-to-2
-overflow_add-to-2 c =
-    let new =
-    new_fits c.self.inside c.args.self.now c.args.from c.args.words c.self.invariant.0 c.self.invariant.1 c.self.view_is c.requires.block
-    c.args.to c.requires.nonzero c.requires.free
-    in
-    omega (arith, new.at_most)
-
-pub set_range-requires-clause-in_table : goal.set_range-requires-clause-in_table
-set_range-requires-clause-in_table c =
-    let new =
-    new_fits c.self.inside c.args.self.now c.args.from c.args.words c.self.invariant.0 c.self.invariant.1 c.self.view_is c.requires.block
-    c.args.to c.requires.nonzero c.requires.free
-    in
-    omega (arith, new.in_covered, ap (λ (bits : List Bool). length bits) c.clear_range.ensures.state)
-
-pub end_run-requires-clause-in_table : goal.end_run-requires-clause-in_table
-end_run-requires-clause-in_table c =
+pub move_run-requires-clause-to_in_ends : goal.move_run-requires-clause-to_in_ends
+move_run-requires-clause-to_in_ends c =
     let new =
     new_fits c.self.inside c.args.self.now c.args.from c.args.words c.self.invariant.0 c.self.invariant.1 c.self.view_is c.requires.block
     c.args.to c.requires.nonzero c.requires.free
@@ -67,9 +53,8 @@ pub invariant_of-self : goal.invariant_of-self
 invariant_of-self c =
     let t = c.self.inside in
     rw (
-      c.set_range.ensures.state,
-      c.clear_range.ensures.state,
-      c.end_run.ensures.state,
+      c.move_run.ensures.state,
+      c.move_run.ensures.ends,
       c.set.ensures.state,
       c.clear.ensures.state,
     ) (
@@ -83,6 +68,6 @@ invariant_of-self c =
 
 pub returns : goal.returns
 returns c =
-    rw (c.end_run.ensures.state, c.set.ensures.state, c.clear.ensures.state)
+    rw (c.move_run.ensures.ends, c.set.ensures.state, c.clear.ensures.state)
     (moved_lists c.self.inside c.args.self.now c.args.from c.args.words c.self.invariant.0 c.self.invariant.1 c.self.view_is
     c.requires.block c.args.to c.requires.nonzero c.requires.free)
