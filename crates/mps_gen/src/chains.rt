@@ -142,6 +142,9 @@ impl Chains {
         requires { pool < length self.now.of_pool }
         ensures { result ≡ target_generation (generations_of self.now pool) generation }
     {
+        let Some(_) = self.of_pool[pool as usize] else {
+            return 0; // so of a pool on no chain nothing else is read
+        };
         let Some(count) = self.generations_of(pool) else {
             return 0;
         };
