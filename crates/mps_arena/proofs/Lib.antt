@@ -1,4 +1,7 @@
 pub mod Below
+pub mod BothEnds
+pub mod CellWritten
+pub mod FewWords
 pub mod Held
 pub mod Loans
 pub mod Padded

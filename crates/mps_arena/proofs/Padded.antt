@@ -309,6 +309,15 @@ state_copied size stored from to n from_in to_in =
     )
     ∙ ap (λ (ws : List ℕ). seen ws (max (length stored) (max from to + n))) (sym (padded_copied size stored from to n from_in to_in))
 
+-- the same, of words that are stored already
+pub state_copied_stored : (size : ℕ) (stored : List ℕ) (from to n : ℕ) → from + n ≤ length stored → to + n ≤ length stored
+    → memory_with size (copied_words stored from to n)
+    ≡ record (memory_with size stored) { words = copied_words (padded_words size stored) from to n }
+state_copied_stored size stored from to n from_in to_in =
+    state_copied size stored from to n from_in to_in
+    ∙ ap (λ (k : ℕ). seen (copied_words (padded_words size stored) from to n) k)
+    (let e : max (length stored) (max from to + n) ≡ length stored = omega (arith, from_in, to_in) in e)
+
 pub state_cleared : (size : ℕ) (stored : List ℕ) (from n m : ℕ) → length stored ≤ size → from + n ≤ size
     → from + m ≡ min (length stored) (from + n)
     → memory_with size (cleared_words stored from m)

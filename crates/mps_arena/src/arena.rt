@@ -156,6 +156,18 @@ impl Arena {
         self.memory.words_from_mut(at.word())
     }
 
+    /// Writes a word, a number of words from a held one on. It touches no memory but that word.
+    #[inline(always)]
+    pub fn set_word_from(&mut self, at: Addr, cell: u32, word: u64)
+        requires held { AreHeldWords self.old.held (word_of at.0) 1 }
+        requires at_most { cell < max_block_words }
+        requires inside { word_of at.0 + cell < length self.old.words }
+        ensures { self.new ≡ record self.old { words = slice_set self.old.words (word_of at.0 + cell) word } }
+    {
+        let memory = self.words_from_mut(at);
+        memory[cell as usize] = word;
+    }
+
     /// The `words` words from `at` on, which are held.
     pub fn lend(&self, at: Addr, words: u32) -> &[u64]
         requires aligned { at.0 % bytes_of_word ≡ 0 }
@@ -213,6 +225,7 @@ impl Arena {
     }
 
     /// Writes 0 in the `words` words from `at` on.
+    #[inline(always)]
     pub fn clear(&mut self, at: Addr, words: u32)
         requires { word_of at.0 + words ≤ length self.old.words }
         ensures { self.new ≡ record self.old { words = cleared_words self.old.words (word_of at.0) words } }
@@ -227,5 +240,16 @@ impl Arena {
         ensures { self.new ≡ record self.old { words = copied_words self.old.words (word_of from.0) (word_of to.0) words } }
     {
         self.memory.copy(from.word(), to.word(), words as usize);
+    }
+
+    /// Copies the `words` words from `from` on to `to` and the words after it. All of them are held. The two may overlap.
+    #[inline(always)]
+    pub fn copy_held(&mut self, from: Addr, to: Addr, words: u32)
+        requires from_held { AreHeldWords self.old.held (word_of from.0) words }
+        requires to_held { AreHeldWords self.old.held (word_of to.0) words }
+        ensures { self.new ≡ record self.old { words = copied_words self.old.words (word_of from.0) (word_of to.0) words } }
+    {
+        self.memory
+            .copy_stored(from.word(), to.word(), words as usize);
     }
 }

@@ -4,7 +4,7 @@
 ghost use Rattle.std.specs.Prelude.{◌≡◌, ℕ, ◌+◌, ◌<◌, ◌≤◌, length, take, drop, replicate, min, max, IfOk, slice_get, slice_index, slice_range, slice_set};
 ghost use Rattle.std.specs.Borrow.{sem};
 ghost use Rattle.mps_base.specs.Address.{max_block_words};
-ghost use Rattle.mps_arena.specs.Arena.{cleared_words};
+ghost use Rattle.mps_arena.specs.Arena.{cleared_words, copied_words};
 ghost use Rattle.mps_arena.specs.Memory.{with_stored_word, with_copy};
 ghost use Rattle.mps_arena.specs.MemoryLending.{LendsMemoryWords, LendsStoredWords};
 
@@ -135,6 +135,7 @@ impl Memory {
     }
 
     /// Writes 0 in the `count` words from a word on. The words that aren't stored are 0 already.
+    #[inline(always)]
     pub(crate) fn clear(&mut self, from: usize, count: usize)
         requires { from + count ≤ length self.old.words }
         ensures { self.new ≡ record self.old { words = cleared_words self.old.words from count } }
@@ -152,6 +153,31 @@ impl Memory {
         ensures { self.new ≡ with_copy self.old from to count }
     {
         self.grow(from.max(to), count);
+        self.copy_many(from, to, count);
+    }
+
+    /// Copies the `count` stored words from `from` on to other stored words, from `to` on. The two may overlap. A few are copied without
+    /// a loop.
+    #[inline(always)]
+    pub(crate) fn copy_stored(&mut self, from: usize, to: usize, count: usize)
+        requires from_stored { from + count ≤ self.old.stored }
+        requires to_stored { to + count ≤ self.old.stored }
+        ensures { self.new ≡ record self.old { words = copied_words self.old.words from to count } }
+    {
+        if count < 2 || count > 4 {
+            self.copy_many(from, to, count);
+        } else {
+            copy_few(&mut self.stored, from, to, count);
+        }
+    }
+
+    /// The same, for any number of words.
+    #[inline(never)]
+    fn copy_many(&mut self, from: usize, to: usize, count: usize)
+        requires from_stored { from + count ≤ self.old.stored }
+        requires to_stored { to + count ≤ self.old.stored }
+        ensures { self.new ≡ record self.old { words = copied_words self.old.words from to count } }
+    {
         self.stored.copy_within(from..from + count, to);
     }
 
@@ -196,12 +222,57 @@ impl Memory {
     }
 }
 
-/// Writes 0 in `count` words from the word `from` on.
+/// Writes 0 in `count` words from the word `from` on. Where they are few they are written from both ends, without a loop.
+#[inline(always)]
 pub(crate) fn write_zeros(words: &mut [u64], from: usize, count: usize)
+    requires { from + count ≤ length words.old }
+    ensures { words.new ≡ cleared_words words.old from count }
+{
+    match count {
+        2..=3 => write_both_ends(words, from, count, 2),
+        4..=8 => write_both_ends(words, from, count, 4),
+        _ => write_run(words, from, count),
+    }
+}
+
+/// Writes 0 in the first `part` words of a run of words and in the last.
+#[inline(always)]
+fn write_both_ends(words: &mut [u64], from: usize, count: usize, part: usize)
+    requires within { from + count ≤ length words.old }
+    requires at_most { part ≤ count }
+    requires meet { count ≤ part + part }
+    ensures { words.new ≡ cleared_words words.old from count }
+{
+    write_run(words, from, part);
+    write_run(words, from + (count - part), part);
+}
+
+/// Writes 0 in a run of words, one after the other.
+#[inline(always)]
+fn write_run(words: &mut [u64], from: usize, count: usize)
     requires { from + count ≤ length words.old }
     ensures { words.new ≡ cleared_words words.old from count }
 {
     for i in 0..count {
         words[from + i] = 0;
     }
+}
+
+/// Copies two to four words: the first two, and the last two, of which some may be the same. All are read before one is written.
+#[inline(always)]
+fn copy_few(words: &mut [u64], from: usize, to: usize, count: usize)
+    requires at_least { 2 ≤ count }
+    requires at_most { count ≤ 4 }
+    requires from_within { from + count ≤ length words.old }
+    requires to_within { to + count ≤ length words.old }
+    ensures { words.new ≡ copied_words words.old from to count }
+{
+    let first = words[from];
+    let second = words[from + 1];
+    let third = words[from + (count - 2)];
+    let last = words[from + (count - 1)];
+    words[to] = first;
+    words[to + 1] = second;
+    words[to + (count - 2)] = third;
+    words[to + (count - 1)] = last;
 }
