@@ -254,7 +254,7 @@ bounded_after_take arena table ex firsts firsts' bounds need grain held bounded 
     }
 
 -- where a run is taken out, none begins any longer
-begins_elsewhere : (low high : ℕ) (rs : List Run) (r t : Run) → IsAscending low high rs → Contains rs r
+pub begins_elsewhere : (low high : ℕ) (rs : List Run) (r t : Run) → IsAscending low high rs → Contains rs r
     → Contains (without_run r.from rs) t → t.from ≢ r.from
 begins_elsewhere low high rs r t ascending listed there same =
     let P : List Run → Type 0 = λ xs. IsAscending low high xs in

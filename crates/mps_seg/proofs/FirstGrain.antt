@@ -3,7 +3,7 @@ use Rattle.std.proofs.Common.{ℕ, suc, ◌+◌, ◌<◌, ◌≤◌, ◌≡◌, 
 use Rattle.std.proofs.lemmas.Bool.{cases_Bool, cond-true, cond-false}
 use Rattle.std.proofs.lemmas.List.{get_or_read}
 use Rattle.mps_base.proofs.Runs.{contained_bounds}
-use Rattle.mps_base.specs.Address.{grain_of}
+use Rattle.mps_base.specs.Address.{grain_of, address_of_grain}
 use Rattle.mps_base.specs.declared.address.Addr.{Addr}
 use Rattle.mps_base.specs.declared.names.Rank.TheVariants.{Exact}
 use Rattle.mps_seg.specs.declared.segment_info.SegmentInfo.{SegmentInfo}
@@ -23,6 +23,10 @@ first_of o = option_map (λ t. grain_of t.base) o
 pub no_first_grain : (o : Option Segment) → None ≡ option_map base_address o → None ≡ first_of o
 no_first_grain None is = refl
 no_first_grain (Some t) is = let never : None ≡ Some (base_address t) = is in cc
+
+pub no_base : (o : Option Segment) → None ≡ first_of o → None ≡ option_map base_address o
+no_base None is = refl
+no_base (Some t) is = let never : None ≡ Some (grain_of t.base) = is in cc
 
 pub first_grain_is : (o : Option Segment) (x : ℕ) → Some (base_of_grain x) ≡ option_map base_address o → Some x ≡ first_of o
 first_grain_is None x is = let never : Some (base_of_grain x) ≡ None = is in cc
@@ -81,6 +85,18 @@ entry_over s seen at grain is given = go (segment_over seen.segments at) refl gi
         let entry = entry_at_seen_base s seen t.base t is (over_contains seen.segments at t over) refl in
         let P : ℕ → Type 0 = λ g. EntryOver s.table.items t g in
         (t, over, subst P first (record { within = entry.within; is = entry.is }))
+
+-- the segment over an address begins where its first grain does
+pub base_over : (s : Inside) (seen : SegsState) (at grain : ℕ) → seen_by s ≡ seen
+    → Some grain ≡ first_of (segment_over seen.segments at)
+    → Some (base_of_grain grain) ≡ option_map base_address (segment_over seen.segments at)
+base_over s seen at grain is given =
+    let over = entry_over s seen at grain is given in
+    let entry = entry_at_seen_base s seen over.0.base over.0 is (over_contains seen.segments at over.0 over.1) refl in
+    let both : Some grain ≡ Some (grain_of over.0.base) = given ∙ ap (λ (o : Option Segment). first_of o) over.1 in
+    let first : grain ≡ grain_of over.0.base = cc in
+    let base : address_of_grain grain ≡ over.0.base = omega (arith, first, entry.aligned) in
+    ap (λ (b : ℕ). Some (record { 0 = b })) base ∙ sym (ap (λ (o : Option Segment). option_map base_address o) over.1)
 
 -- what an entry of the table says of its segment
 abbrev pub info_of_entry : Bool → Entry → SegmentInfo

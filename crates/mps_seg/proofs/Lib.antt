@@ -1,7 +1,10 @@
+pub mod AskedNoted
+pub mod AskedOver
 pub mod BlockOver
 pub mod BoundedGaps
 pub mod CondemnedGrains
 pub mod CondemnedOver
+pub mod Condemning
 pub mod Counted
 pub mod Covering
 pub mod EmptySegments
@@ -11,6 +14,7 @@ pub mod Found
 pub mod FullSegments
 pub mod GapSegment
 pub mod Giving
+pub mod HeldGrain
 pub mod HeldSegments
 pub mod HeldWords
 pub mod Lost

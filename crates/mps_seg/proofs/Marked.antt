@@ -1,5 +1,5 @@
 -- The tables of marks, of condemned segments and of summaries keep their sizes.
-use Rattle.std.proofs.Common.{ℕ, zero, suc, ◌+◌, ◌-◌, ◌*◌, ◌<◌, ◌≤◌, ◌≡◌, Some, None, inl, inr, sym, Bool, true, false, List, [], ◌∷◌, refl, set, replicate, ◌∙◌, length-set, arith}
+use Rattle.std.proofs.Common.{ℕ, zero, suc, ◌+◌, ◌-◌, ◌*◌, ◌<◌, ◌≤◌, ◌≡◌, Some, None, inl, inr, sym, Bool, true, false, List, [], ◌∷◌, refl, length, set, replicate, ◌∙◌, length-set, arith}
 use Rattle.std.proofs.lemmas.Bool.{cases_Bool, cond-true, cond-false}
 use Rattle.std.proofs.lemmas.List.{length-replicate}
 use Rattle.mps_base.specs.Address.{words_of_grain}
@@ -48,6 +48,16 @@ module _ (grains : ℕ) (marks : MarkTables) (condemned : List Bool) (summaries 
       exact_size = marked.exact_size;
       weak_size = length-set marks.weak word true ∙ marked.weak_size;
       condemned_size = marked.condemned_size;
+      summaries_size = marked.summaries_size;
+    }
+
+    -- where a collection ends
+    pub marked_collected : IsMarked grains (no_marks (length marks.kept)) (replicate (grains + 1) false) summaries
+    marked_collected = record {
+      kept_size = length-replicate (length marks.kept) false ∙ marked.kept_size;
+      exact_size = length-replicate (length marks.kept) false ∙ marked.kept_size;
+      weak_size = length-replicate (length marks.kept) false ∙ marked.kept_size;
+      condemned_size = length-replicate (grains + 1) false;
       summaries_size = marked.summaries_size;
     }
 

@@ -231,6 +231,7 @@ module _
               (covered, own)),
           marked_unmarked s.arena.grains lost s.marks s.condemned s.summaries.items sound.2,
           sound.3,
+          sound.4,
         )
 
     -- ---- what a caller sees

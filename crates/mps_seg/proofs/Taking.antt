@@ -11,7 +11,8 @@ use Rattle.mps_seg.specs.declared.entry.Entry.{Entry}
 use Rattle.mps_seg.specs.declared.entry.Entry.TheVariants.{First}
 use Rattle.mps_seg.specs.declared.segs.Segs.TheInside.{Inside}
 use Rattle.mps_seg.specs.Segs.{placement_for, segments_after, noted_for, IsOpenRun}
-use Rattle.mps_seg.specs.Table.{segments_in, IsHeld, AreGapsBounded}
+use Rattle.mps_seg.specs.Table.{segments_in, IsHeld, AreGapsBounded, AreAskedNoted}
+use Rattle.mps_seg.proofs.AskedNoted.{noted_after_take}
 use Rattle.mps_seg.proofs.BoundedGaps.{Noted, bounded_after_take}
 use Rattle.mps_seg.proofs.HeldSegments.{free_entry, new_is_free, segments_after_take, held_after_take}
 use Rattle.mps_seg.proofs.Placements.{taken_at}
@@ -54,6 +55,9 @@ pub record Taking (s : Inside) (base words pool generation : ℕ) (rank : Rank) 
   pub counted :
       IsCounted (counting_on pool generation (grains_needed words) s.counts)
       (segments_in (set s.table.items (grain_of base) (new_entry words pool generation rank)))
+  pub asked : (firsts : List ℕ) → Noted s.firsts.items firsts (new_run base words) (grain_of base)
+      → AreAskedNoted (s.arena.grains + 1) firsts (set s.table.items (grain_of base) (new_entry words pool generation rank))
+      (set s.condemned (grain_of base) false) s.white.items
   pub can_cover :
       IsOpenRun s.arena.grains
       (map grains_of_segment (segments_in (set s.table.items (grain_of base) (new_entry words pool generation rank)))) s.extents.covered
@@ -108,6 +112,11 @@ taking s base words pool generation rank sound nonzero answer =
       counted =
           counted_after_take s.counts s.table.items sound.3 grain need pool generation rank (omega (arith, gap.below, some, sound.0.size))
           (free_entry arena s.table.items s.extents sound.0 need grain some lowest);
+      asked = λ firsts noted.
+          noted_after_take (arena.grains + 1) arena.held s.firsts.items s.bounds s.extents.covered s.table.items s.condemned s.white.items
+          sound.0.ascending sound.1 sound.4 (record { from = grain; count = need }) entry some gap.ascending
+          (free_entry arena s.table.items s.extents sound.0 need grain some lowest)
+          (omega (arith, gap.below, some, sound.2.condemned_size)) firsts noted;
       can_cover =
           subst (R words) first
           (new_is_free arena s.table.items s.extents sound.0 need grain pool generation words rank some nonzero (omega arith) lowest);

@@ -12,6 +12,7 @@ use Rattle.mps_marks.specs.Marks.{MarkTables, no_marks, grey_of, with_grey, afte
 use Rattle.mps_seg.specs.Segs.{SegsState, new_segments, at_word}
 use Rattle.mps_seg.specs.declared.segment_info.SegmentInfo.{SegmentInfo}
 use Rattle.mps_seg.specs.declared.segment_info.Owner.{Owner}
+use Rattle.mps_seg.specs.declared.entry.CondemnedSegment.{CondemnedSegment}
 
 -- the first grain of the segment in which an address lies
 abbrev pub first_grain_over : SegsState → Address → Option Grain
@@ -73,6 +74,15 @@ owner_if_condemned s (Some t) = if bit s.condemned (grain_of t.base) then Some (
 -- the pool and the generation of the condemned segment in which an address lies
 abbrev pub condemned_owner_at : SegsState → Address → Option Owner
 condemned_owner_at s at = owner_if_condemned s (segment_over s.segments at)
+
+-- what a fix asks of a segment
+abbrev pub asked_of : Segment → CondemnedSegment
+asked_of t = record { owner = owner_of t; rank = t.rank }
+
+-- the same of one that is condemned
+abbrev pub asked_if_condemned : SegsState → Option Segment → Option CondemnedSegment
+asked_if_condemned s None = None
+asked_if_condemned s (Some t) = if bit s.condemned (grain_of t.base) then Some (asked_of t) else None
 
 -- the lowest grey block of a segment
 abbrev pub lowest_grey_in : SegsState → Segment → Option Addr

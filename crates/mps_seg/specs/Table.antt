@@ -1,5 +1,5 @@
 -- How the tables by grain represent the segments.
-use Rattle.std.specs.Prelude.{ℕ, suc, ◌==◌, ◌&&◌, if◌then◌else◌, ◌+◌, ◌-◌, ◌*◌, ◌^◌, ◌≤◌, ◌<◌, ◌≡◌, ◌≢◌, ◌⊎◌, Bool, true, false, Option, Some, None, List, [], ◌∷◌, length, get_or, slice_set, map, Contains}
+use Rattle.std.specs.Prelude.{ℕ, zero, suc, ◌==◌, ◌&&◌, if◌then◌else◌, ◌+◌, ◌-◌, ◌*◌, ◌^◌, ◌≤◌, ◌<◌, ◌≡◌, ◌≢◌, ◌⊎◌, Bool, true, false, Option, Some, None, List, [], ◌∷◌, length, get_or, slice_set, map, Contains}
 use Rattle.mps_base.specs.declared.names.Rank.{Rank}
 use Rattle.mps_base.specs.Run.{Run, end_of, gaps, IsAscending, runs_within}
 use Rattle.mps_base.specs.Address.{Address, Grain, words_of_grain, grain_of, address_of_grain, max_grains}
@@ -7,8 +7,8 @@ use Rattle.mps_base.specs.Segment.{Segment, grains_of_segment, same_rank}
 use Rattle.mps_bits.specs.Table.{bit}
 use Rattle.mps_arena.specs.Arena.{ArenaMemory}
 use Rattle.mps_marks.specs.Marks.{MarkTables}
+use Rattle.mps_seg.specs.declared.entry.CondemnedSegment.{CondemnedSegment}
 use Rattle.mps_seg.specs.declared.entry.Entry.{Entry}
-use Rattle.mps_seg.specs.declared.segment_info.Owner.{Owner}
 use Rattle.mps_seg.specs.declared.entry.Entry.TheVariants.{Free, First}
 use Rattle.mps_seg.specs.Segs.{SegsState, LiesIn}
 use Rattle.mps_extents.specs.Extents.{ExtentLists, run_over, AreWhole}
@@ -126,10 +126,21 @@ any_gap = 2 ^ 32 - 1
 abbrev pub with_any_gap : (firsts bounds : List ℕ) → Address → List ℕ
 with_any_gap firsts bounds at = slice_set bounds (first_at firsts at) any_gap
 
--- the pool and the generation that an entry has
-abbrev pub owner_of_entry : Entry → Option Owner
-owner_of_entry Free = None
-owner_of_entry (First grains pool generation rank) = Some (record { pool = pool; generation = generation })
+-- what a fix asks of a segment with this entry
+abbrev pub asked_of_entry : Entry → Option CondemnedSegment
+asked_of_entry Free = None
+asked_of_entry (First grains pool generation rank) = Some (record { owner = record { pool = pool; generation = generation }; rank = rank })
+
+-- the same of a grain whose segment begins at a first grain, none if it isn't condemned, or if that grain is 0
+abbrev pub asked_of_first : List Entry → (condemned : List Bool) → (first : Grain) → Option CondemnedSegment
+asked_of_first table condemned zero = None
+asked_of_first table condemned (suc k) = if bit condemned (suc k) then asked_of_entry (get_or table (suc k) Free) else None
+
+-- a table by grain has what a fix asks of the condemned segment in which the grain lies, none where it lies in no condemned segment
+pub record AreAskedNoted (size : ℕ) (firsts : List ℕ) (table : List Entry) (condemned : List Bool) (white : List (Option CondemnedSegment))
+    : Type 0 where
+  pub white_size : length white ≡ size
+  pub white_are : (grain : Grain) → grain < size → get_or white grain None ≡ asked_of_first table condemned (get_or firsts grain 0)
 
 -- of the grains from one on and below another none is the first of a condemned segment
 abbrev pub NoneCondemnedFirst : List Entry → (condemned : List Bool) → (from to : Grain) → Type 0

@@ -1,12 +1,15 @@
-// The entries of the table of segments.
+// What the tables by grain have: entries, first grains, bounds of gaps, and what a fix asks.
 #![tactic(auto)]
 
-ghost use Rattle.std.specs.Prelude.{◌≡◌, ◌≢◌, ◌^◌, ◌<◌, ◌≤◌, true, false, length, drop, IfSome, IfNone};
+ghost use Rattle.std.specs.Prelude.{◌≡◌, ◌≢◌, ℕ, ◌+◌, ◌^◌, ◌<◌, ◌≤◌, ◌⊎◌, true, false, length, get_or, drop, IfSome, IfNone};
+ghost use Rattle.mps_base.specs.Address.{grain_of};
 ghost use Rattle.mps_seg.specs.declared.entry.Entry.TheVariants.{Free};
-ghost use Rattle.mps_seg.specs.Table.{first_entry, IsCondemnedFirst, NoneCondemnedFirst};
+ghost use Rattle.mps_seg.specs.Table.{first_entry, first_at, with_any_gap, IsCondemnedFirst, NoneCondemnedFirst};
 
-use mps_base::Rank;
+use crate::Owner;
+use mps_base::{Addr, Rank};
 use mps_bits::Bits;
+use mps_gaps::GapBounds;
 
 /// What the table of segments has for a grain.
 #[derive(Clone, Copy)]
@@ -20,6 +23,13 @@ pub(crate) enum Entry {
         generation: u32,
         rank: Rank,
     },
+}
+
+/// What a fix asks of the condemned segment in which a grain lies.
+#[derive(Clone, Copy)]
+pub(crate) struct CondemnedSegment {
+    pub(crate) owner: Owner,
+    pub(crate) rank: Rank,
 }
 
 /// The first grain from `start` on at which a segment begins.
@@ -57,8 +67,29 @@ fn is_first(entry: Entry) -> bool
     ensures sound { result ≡ true → entry ≢ Free }
     ensures complete { result ≡ false → entry ≡ Free }
 {
-    match entry {
-        Entry::First { .. } => true,
-        Entry::Free => false,
+    matches!(entry, Entry::First { .. })
+}
+
+/// Writes the same for `grains` grains from `grain` on, as all that lie in one segment have it.
+pub(crate) fn note_grains<T: Copy>(table: &mut [T], grain: usize, grains: usize, value: T)
+    requires { grain + grains ≤ length table.old }
+    ensures size { length table.new ≡ length table.old }
+    ensures written { (g : ℕ) (d : T) → grain ≤ g → g < grain + grains → get_or table.new g d ≡ value }
+    ensures unchanged { (g : ℕ) (d : T) → (g < grain) ⊎ (grain + grains ≤ g) → get_or table.new g d ≡ get_or table.old g d }
+{
+    for at in grain..grain + grains {
+        table[at] = value;
+    }
+}
+
+/// From now on the segment in which an address lies may have a gap of any length.
+pub(crate) fn allow_any_gap(firsts: &[u32], bounds: &mut GapBounds, at: Addr)
+    requires in_firsts { grain_of at.0 < length firsts.now }
+    requires in_bounds { first_at firsts.now at.0 < length bounds.old }
+    ensures { bounds.new ≡ with_any_gap firsts.now bounds.old at.0 }
+{
+    let first = firsts[at.grain()] as usize;
+    if bounds.at(first) != u32::MAX {
+        bounds.set(first, u32::MAX);
     }
 }

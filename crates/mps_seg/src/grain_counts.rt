@@ -9,8 +9,7 @@ use mps_gen::{MAX_GENERATIONS, MAX_POOLS};
 use std::alloc::{AllocError, Global};
 use std::marker::Model;
 
-/// A number of grains for each generation of each pool. Clauses see the list of these numbers. Pools and generations that no arena has
-/// are ignored.
+/// A number of grains for each generation of each pool, in clauses a list. Pools and generations that no arena has are ignored.
 #[derive(Drop)]
 pub(crate) struct GrainCounts {
     counts: Vec<u32>,

@@ -3,9 +3,7 @@
 
 mod buffer;
 mod entry;
-mod first_grains;
 mod grain_counts;
-mod placing;
 mod segment_info;
 mod segs;
 

@@ -1,7 +1,7 @@
 // The segments: an arena, a table by grain, and the extents of their words.
 #![tactic(auto)]
 
-ghost use Rattle.std.specs.Prelude.{◌≡◌, ℕ, true, false, ◌+◌, ◌*◌, ◌<◌, ◌≤◌, IfOk, IfErr, OnOk, MatchResult, Contains, option_map, length, replicate, []};
+ghost use Rattle.std.specs.Prelude.{◌≡◌, ℕ, true, false, ◌+◌, ◌*◌, ◌<◌, ◌≤◌, IfOk, IfErr, OnOk, MatchResult, Contains, option_map, length};
 ghost use Rattle.mps_base.specs.Run.{Run, IsAscending, with_run, without_run, total};
 ghost use Rattle.mps_base.specs.Address.{words_of_grain, word_of, grains_needed, max_grains, max_block_words};
 ghost use Rattle.mps_base.specs.Segment.{Segment, end_of_segment, segment_over, without_segment};
@@ -12,8 +12,7 @@ ghost use Rattle.mps_marks.specs.Marks.{without_marks};
 ghost use Rattle.mps_seg.specs.Segs.{new_segments, placement_for, segments_after, noted_for, moves_after, held_runs, at_word, base_address, IsEmptyAt, IsUsed, CanCover, LiesIn};
 ghost use Rattle.mps_seg.specs.Table.{IsMarked};
 ghost use Rattle.mps_gen.specs.State.{max_pools, max_generations};
-ghost use Rattle.mps_seg.specs.Counting.{IsCounted, grains_held_by};
-ghost use Rattle.mps_seg.specs.declared.entry.Entry.TheVariants.{Free};
+ghost use Rattle.mps_seg.specs.Counting.{grains_held_by};
 
 mod collecting;
 mod freeing;
@@ -22,8 +21,7 @@ mod moving;
 mod words;
 
 use crate::SegmentInfo;
-use crate::entry::Entry;
-use crate::first_grains::{allow_any_gap, note_first};
+use crate::entry::{CondemnedSegment, Entry, allow_any_gap, note_grains};
 use crate::grain_counts::GrainCounts;
 pub use freeing::Block;
 use mps_arena::Arena;
@@ -44,6 +42,8 @@ pub struct Segs {
     // For the first grain of each segment a number than which no gap of the segment is longer.
     bounds: GapBounds,
     counts: GrainCounts,
+    // For each grain of a condemned segment what a fix asks of it.
+    white: Vec<Option<CondemnedSegment>>,
     extents: Extents,
     marks: Marks,
     condemned: Bits,
@@ -53,7 +53,7 @@ pub struct Segs {
 impl Model for Segs {
     ghost use Rattle.mps_seg.specs.Segs.{SegsState};
     ghost use Rattle.std.specs.Prelude.{◌+◌};
-    ghost use Rattle.mps_seg.specs.Table.{segs_state, segments_in, IsHeld, AreGapsBounded, IsMarked};
+    ghost use Rattle.mps_seg.specs.Table.{segs_state, segments_in, IsHeld, AreGapsBounded, IsMarked, AreAskedNoted};
     ghost use Rattle.mps_seg.specs.Counting.{IsCounted};
 
     ghost Value = { SegsState };
@@ -63,31 +63,8 @@ impl Model for Segs {
     ghost invariant = { λ s. IsHeld s.arena s.table.items s.extents
         × AreGapsBounded s.arena.held (s.arena.grains + 1) s.firsts.items s.bounds s.extents.covered
         × IsMarked s.arena.grains s.marks s.condemned s.summaries.items
-        × IsCounted s.counts (segments_in s.table.items) };
-}
-
-/// The tables that aren't of bits.
-#[derive(Drop)]
-struct Tables {
-    table: Vec<Entry>,
-    firsts: Vec<u32>,
-    summaries: Vec<u64>,
-    counts: GrainCounts,
-}
-
-/// Tables of n grains where no segment is held.
-fn empty_tables(alloc: Global, n: usize) -> Result<Tables, AllocError>
-    ensures table { IfOk result (λ t. t.table.items ≡ replicate n Free) }
-    ensures firsts { IfOk result (λ t. t.firsts.items ≡ replicate n 0) }
-    ensures summaries { IfOk result (λ t. t.summaries.items ≡ replicate n 0) }
-    ensures counts { IfOk result (λ t. IsCounted t.counts []) }
-{
-    Ok(Tables {
-        table: vec![in alloc; Entry::Free; n]?,
-        firsts: vec![in alloc; 0u32; n]?,
-        summaries: vec![in alloc; 0u64; n]?,
-        counts: GrainCounts::new(alloc)?,
-    })
+        × IsCounted s.counts (segments_in s.table.items)
+        × AreAskedNoted (s.arena.grains + 1) s.firsts.items s.table.items s.condemned s.white.items };
 }
 
 impl Segs {
@@ -98,17 +75,12 @@ impl Segs {
         ensures { IfOk result (λ segs. segs ≡ new_segments grains limit) }
     {
         let size = grains as usize + 1;
-        let Tables {
-            table,
-            firsts,
-            summaries,
-            counts,
-        } = empty_tables(alloc, size)?;
         Ok(Segs {
-            table,
-            firsts,
-            summaries,
-            counts,
+            table: vec![in alloc; Entry::Free; size]?,
+            firsts: vec![in alloc; 0u32; size]?,
+            summaries: vec![in alloc; 0u64; size]?,
+            white: vec![in alloc; None; size]?,
+            counts: GrainCounts::new(alloc)?,
             condemned: Bits::new(alloc, size)?,
             bounds: GapBounds::new(alloc, size)?,
             arena: Arena::new(alloc, grains, limit)?,
@@ -117,8 +89,7 @@ impl Segs {
         })
     }
 
-    /// Takes a new segment for `words` words and returns its base. It isn't condemned, and its summary is empty. Refuses `CommitLimit` and
-    /// `NoRun` as the arena does.
+    /// Takes a new segment for `words` words, not condemned and with an empty summary, and returns its base. Refuses as the arena does.
     #[inline(always)]
     pub fn take(
         &mut self,
@@ -154,7 +125,7 @@ impl Segs {
         self.bounds.set(first, WORDS_OF_GRAIN as u32 * grains);
         self.condemned.clear(first);
         self.summaries[first] = 0;
-        note_first(&mut self.firsts, first, grains as usize, first as u32);
+        note_grains(&mut self.firsts, first, grains as usize, first as u32);
         self.counts.add(pool, generation, grains);
         trail.push(Move::Seg {
             base,
@@ -185,7 +156,8 @@ impl Segs {
         self.arena.give_run(base, grains);
         self.table[grain] = Entry::Free;
         self.bounds.set(grain, 0);
-        note_first(&mut self.firsts, grain, grains as usize, 0);
+        note_grains(&mut self.firsts, grain, grains as usize, 0);
+        note_grains(&mut self.white, grain, grains as usize, None);
         self.counts.subtract(pool, generation, grains);
         trail.push(Move::Unseg { base });
     }
@@ -203,6 +175,7 @@ impl Segs {
     }
 
     /// Covers `words` words from `at` on, which no block and no reservation covers, by a reservation.
+    #[inline(always)]
     pub fn cover(&mut self, at: Addr, words: u32)
         requires nonzero { 0 < words }
         requires free { CanCover self.old (record { from = word_of at.0; count = words }) }
@@ -237,16 +210,9 @@ impl Segs {
     pub fn segment_of(&self, at: Addr) -> Option<Addr>
         ensures { result ≡ option_map base_address (segment_over self.now.segments at.0) }
     {
-        let grain = (at.0 / BYTES_OF_GRAIN) as usize;
-        if grain >= self.firsts.len() {
-            return None;
-        }
-        let first = self.firsts[grain];
-        if first == 0 {
-            None
-        } else {
-            Some(Addr(BYTES_OF_GRAIN * first as u64))
-        }
+        let _ = &self.table; // each segment begins where a grain does
+        let first = self.first_grain(at)?;
+        Some(Addr(BYTES_OF_GRAIN * first as u64))
     }
 
     /// The block that covers the byte at address `n`.
@@ -286,6 +252,7 @@ impl Segs {
     }
 
     /// The reservation of `words` words that begins at `at` becomes a block. The words stay covered.
+    #[inline(always)]
     pub fn commit(&mut self, at: Addr, words: u32)
         requires { Contains self.old.reservations (record { from = word_of at.0; count = words }) }
         ensures { self.new ≡ record self.old {

@@ -1,21 +1,20 @@
 // What a collection asks of the segments: condemned segments, kept and grey blocks, and summaries.
 #![tactic(auto)]
 
-ghost use Rattle.std.specs.Prelude.{◌≡◌, ℕ, true, false, ◌+◌, ◌*◌, ◌^◌, ◌<◌, ◌≤◌, length, nat_lt, Some, IfSome, IfNone, Contains, option_map};
-ghost use Rattle.mps_base.specs.Address.{words_of_grain, word_of, grain_of, address_of_grain};
+ghost use Rattle.std.specs.Prelude.{◌≡◌, ℕ, true, false, ◌+◌, ◌*◌, ◌^◌, ◌<◌, ◌≤◌, length, nat_lt, slice_set, Some, IfSome, IfNone, Contains, option_map};
+ghost use Rattle.mps_base.specs.Address.{words_of_grain, word_of, grain_of, address_of_grain, max_block_words};
 ghost use Rattle.mps_base.specs.Segment.{Segment, segment_over};
 ghost use Rattle.mps_base.specs.Run.{runs_within};
 ghost use Rattle.mps_base.specs.Zones.{zones_meet};
 ghost use Rattle.mps_bits.specs.Table.{bit};
 ghost use Rattle.mps_marks.specs.Marks.{grey_of};
 ghost use Rattle.mps_seg.specs.Segs.{base_address, segment_from};
-ghost use Rattle.mps_seg.specs.Table.{owner_of_entry};
 ghost use Rattle.mps_seg.specs.Condemned.{IsNextCondemned, NoneLeft};
 ghost use Rattle.mps_seg.specs.Moving.{kept_in_place, nailed};
-ghost use Rattle.mps_seg.specs.Collecting.{info_of, owner_of, condemned_owner_at, is_condemned_at, lowest_grey_in, first_grain_over, is_white_at, is_kept_at, is_grey_at, rank_at, condemning, collected, keeping, greying, greying_all, all_grey, blackening, summary_at, summarizing, noting};
+ghost use Rattle.mps_seg.specs.Collecting.{info_of, owner_of, asked_if_condemned, condemned_owner_at, is_condemned_at, lowest_grey_in, first_grain_over, is_white_at, is_kept_at, is_grey_at, rank_at, condemning, collected, keeping, greying, greying_all, all_grey, blackening, summary_at, summarizing, noting};
 
 use super::Segs;
-use crate::entry::{Entry, condemned_entry_from, first_entry_from};
+use crate::entry::{CondemnedSegment, Entry, condemned_entry_from, first_entry_from, note_grains};
 use crate::{Owner, SegmentInfo};
 use mps_base::{Addr, BYTES_OF_GRAIN, BYTES_OF_WORD, Rank, WORDS_OF_GRAIN, ZoneSet};
 use mps_extents::Extents;
@@ -24,7 +23,7 @@ use mps_marks::Marks;
 impl Segs {
     /// The first grain of the segment in which an address lies.
     #[inline(always)]
-    fn first_grain(&self, at: Addr) -> Option<usize>
+    pub(super) fn first_grain(&self, at: Addr) -> Option<usize>
         ensures value { result ≡ first_grain_over self.now at.0 }
         ensures in_arena { IfSome result (λ grain. grain ≤ self.now.grains) }
         ensures within { IfSome result (λ grain. word_of at.0 < words_of_grain * (self.now.grains + 1)) }
@@ -39,6 +38,27 @@ impl Segs {
         } else {
             Some(first as usize)
         }
+    }
+
+    /// The same of an address that lies in one.
+    #[inline(always)]
+    fn held_grain(&self, at: Addr) -> usize
+        requires { (t : Segment) × (segment_over self.now.segments at.0 ≡ Some t) }
+        ensures { Some result ≡ first_grain_over self.now at.0 }
+    {
+        self.firsts[at.grain()] as usize
+    }
+
+    /// The pool of the segment in which an address lies.
+    #[inline(always)]
+    pub fn pool_over(&self, at: Addr) -> u32
+        requires held { (t : Segment) × (segment_over self.now.segments at.0 ≡ Some t) }
+        ensures pool { (t : Segment) → segment_over self.now.segments at.0 ≡ Some t → result ≡ t.pool }
+    {
+        let Entry::First { pool, .. } = self.table[self.held_grain(at)] else {
+            unreachable!()
+        };
+        pool
     }
 
     /// What is known of the segment at `base`.
@@ -74,11 +94,20 @@ impl Segs {
         ensures condemned { IfSome result (λ owner. is_condemned_at self.now at.0 ≡ true) }
         ensures none { IfNone result (is_condemned_at self.now at.0 ≡ false) }
     {
-        let grain = self.first_grain(at)?;
-        if !self.condemned.test(grain) {
+        let asked = self.condemned_segment(at)?;
+        Some(asked.owner)
+    }
+
+    /// What a fix asks of the condemned segment in which an address lies.
+    #[inline(always)]
+    fn condemned_segment(&self, at: Addr) -> Option<CondemnedSegment>
+        ensures { result ≡ asked_if_condemned self.now (segment_over self.now.segments at.0) }
+    {
+        let grain = at.grain();
+        if grain >= self.white.len() {
             return None;
         }
-        owner_in(self.table[grain])
+        self.white[grain]
     }
 
     /// The base of the lowest segment that begins at `from` or above.
@@ -117,7 +146,16 @@ impl Segs {
         requires { (s : Segment) × Contains self.old.segments s × (s.base ≡ base.0) }
         ensures { self.new ≡ condemning self.old base.0 }
     {
-        self.condemned.set(base.grain());
+        let info = self.segment(base);
+        let owner = Owner {
+            pool: info.pool,
+            generation: info.generation,
+        };
+        let rank = info.rank;
+        let asked = CondemnedSegment { owner, rank };
+        let grain = base.grain();
+        self.condemned.set(grain);
+        note_grains(&mut self.white, grain, info.grains as usize, Some(asked));
     }
 
     /// Ends a collection: no segment is condemned, and no block is kept or grey.
@@ -126,6 +164,7 @@ impl Segs {
     {
         let grains = self.condemned.len();
         self.condemned.clear_range(0, grains);
+        self.white.fill(None);
         self.marks.clear_all();
     }
 
@@ -186,6 +225,17 @@ impl Segs {
         }
     }
 
+    /// The same, in one look-up if the segment is condemned.
+    #[inline(always)]
+    fn rank_of_white(&self, at: Addr) -> Rank
+        ensures { result ≡ rank_at self.now at.0 }
+    {
+        let Some(asked) = self.condemned_segment(at) else {
+            return self.rank_at(at);
+        };
+        asked.rank
+    }
+
     /// The block at `at` becomes grey.
     #[inline(always)]
     pub fn set_grey(&mut self, at: Addr)
@@ -202,8 +252,9 @@ impl Segs {
         requires { word_of at.0 < words_of_grain * (self.old.grains + 1) }
         ensures { self.new ≡ kept_in_place self.old at.0 }
     {
-        self.keep(at);
-        self.set_grey(at);
+        let rank = self.rank_of_white(at);
+        self.marks.keep(at.word());
+        self.marks.set_grey(at.word(), rank);
     }
 
     /// Keeps the block at `at` where it lies. A block that is kept already is left as it is.
@@ -271,6 +322,21 @@ impl Segs {
         }
     }
 
+    /// Writes a reference to `target` in a cell of the block at `holder`, a number of words from there, and notes it.
+    #[inline(always)]
+    pub fn set_reference(&mut self, holder: Addr, cell: u32, word: u64, target: Addr)
+        requires held { (t : Segment) × (segment_over self.old.segments holder.0 ≡ Some t) }
+        requires at_most { cell < max_block_words }
+        requires inside { word_of holder.0 + cell < length self.old.words }
+        ensures state { self.new ≡ noting (record self.old {
+          words = slice_set self.old.words (word_of holder.0 + cell) word;
+        }) holder.0 target.0 }
+    {
+        let grain = self.held_grain(holder);
+        self.summaries[grain] |= 1 << (target.grain() % 64);
+        self.arena.set_word_from(holder, cell, word);
+    }
+
     /// A grey block of a segment of a rank; None if there is none. Which one it is is open.
     #[inline(always)]
     pub fn next_grey(&mut self, rank: Rank) -> Option<Addr>
@@ -280,21 +346,6 @@ impl Segs {
     {
         let word = self.marks.next_grey(rank)?;
         Some(Addr(BYTES_OF_WORD * word as u64))
-    }
-}
-
-/// The pool and the generation that an entry has; None if no segment begins there.
-#[inline(always)]
-fn owner_in(entry: Entry) -> Option<Owner>
-    ensures { result ≡ owner_of_entry entry }
-{
-    match entry {
-        Entry::First {
-            pool,
-            generation,
-            ..
-        } => Some(Owner { pool, generation }),
-        Entry::Free => None,
     }
 }
 

@@ -15,7 +15,7 @@ ghost use Rattle.mps_seg.specs.Unmarking.{unmarked};
 
 use super::Segs;
 use crate::SegmentInfo;
-use crate::first_grains::allow_any_gap;
+use crate::entry::allow_any_gap;
 use mps_base::{Addr, Trail, WORDS_OF_GRAIN};
 use mps_extents::Extents;
 use mps_marks::Marks;
@@ -28,8 +28,7 @@ pub struct Block {
 }
 
 impl Segs {
-    /// Frees the blocks of the segment at `base` that the collection didn't keep, in ascending order, with a Free for each. It goes over
-    /// 64 words a step.
+    /// Frees the blocks of the segment at `base` that the collection didn't keep, in ascending order, each with a Free: 64 words a step.
     pub fn drop_lost(&mut self, trail: &mut Trail, base: Addr)
         requires { CanReclaim self.old base.0 trail.old.spare }
         ensures state { (t : Segment) → segment_over self.old.segments base.0 ≡ Some t → self.new ≡ freed_in self.old t }
@@ -76,8 +75,7 @@ impl Segs {
     }
 }
 
-/// Clears the marks of the blocks that begin from the word `low` on and below `high` and aren't kept. They have none unless a block is
-/// grey.
+/// Clears the marks of the blocks from the word `low` on and below `high` that aren't kept. Only grey blocks have such marks.
 fn clear_lost(extents: &Extents, marks: &mut Marks, low: usize, high: usize)
     requires in_table { high ≤ extents.now.size }
     requires small { extents.now.size < 2 ^ 32 }

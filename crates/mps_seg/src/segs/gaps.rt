@@ -1,17 +1,18 @@
-// The lowest gap that fits.
+// The lowest gap that fits, and where a block or a reservation is placed.
 #![tactic(auto)]
 
-ghost use Rattle.std.specs.Prelude.{◌≡◌, ℕ, ◌+◌, ◌^◌, ◌<◌, ◌≤◌, List, IfSome, map, option_map};
+ghost use Rattle.std.specs.Prelude.{◌≡◌, ℕ, ◌+◌, ◌^◌, ◌<◌, ◌≤◌, false, List, IfSome, IfOk, map, option_map};
 ghost use Rattle.mps_base.specs.Run.{IsAscending, lowest_fitting};
-ghost use Rattle.mps_base.specs.Address.{word_of, max_grains};
+ghost use Rattle.mps_base.specs.Address.{word_of, max_grains, max_block_words};
 ghost use Rattle.mps_base.specs.Segment.{same_rank, gaps_of, grains_of_segment};
-ghost use Rattle.mps_arena.specs.Arena.{ArenaMemory};
+ghost use Rattle.mps_arena.specs.Arena.{ArenaMemory, answer_of_placement};
 ghost use Rattle.mps_seg.specs.Table.{segments_in, is_open_entry, IsHeld, AreGapsBounded, IsWholeAt, gaps_at};
-ghost use Rattle.mps_seg.specs.Segs.{at_word, CanCover, IsOpenRun, LiesInOpen};
+ghost use Rattle.mps_seg.specs.Segs.{at_word, segments_after, noted_for, moves_after, CanCover, IsOpenRun, LiesInOpen};
+ghost use Rattle.mps_seg.specs.Placing.{placement_in_gaps};
 
 use super::Segs;
 use crate::entry::Entry;
-use mps_base::{Addr, BYTES_OF_WORD, Rank, WORDS_OF_GRAIN};
+use mps_base::{Addr, BYTES_OF_WORD, Rank, Refusal, Trail, WORDS_OF_GRAIN};
 use mps_extents::Extents;
 use mps_gaps::GapBounds;
 
@@ -36,7 +37,7 @@ impl Segs {
     }
 
     /// The same. Besides, from now on it is known of each segment that was searched in vain that its gaps are shorter.
-    pub(crate) fn note_lowest_gap(&mut self, pool: u32, rank: Rank, words: u32) -> Option<Addr>
+    fn note_lowest_gap(&mut self, pool: u32, rank: Rank, words: u32) -> Option<Addr>
         requires { 0 < words }
         ensures value { result ≡ option_map at_word (lowest_fitting words (gaps_of self.old.covered self.old.segments pool rank)) }
         ensures free { IfSome result (λ at. CanCover self.old (record { from = word_of at.0; count = words })) }
@@ -51,6 +52,33 @@ impl Segs {
             words,
         )?;
         Some(Addr(BYTES_OF_WORD * word as u64))
+    }
+
+    /// Finds `words` words in the lowest gap of a pool and a rank that fits, else at the base of a new segment, and returns where they
+    /// begin. Nothing covers them yet. Refuses `CommitLimit` and `NoRun` as `take` does.
+    pub fn place(
+        &mut self,
+        trail: &mut Trail,
+        pool: u32,
+        rank: Rank,
+        words: u32,
+    ) -> Result<Addr, Refusal>
+        requires nonzero { 0 < words }
+        requires at_most { words ≤ max_block_words }
+        requires fits { 0 < trail.old.spare }
+        ensures value { result ≡ answer_of_placement (placement_in_gaps self.old pool rank words) }
+        ensures state { self.new ≡ record self.old {
+          segments = segments_after (placement_in_gaps self.old pool rank words) pool 0 rank self.old.segments;
+          condemned = noted_for (placement_in_gaps self.old pool rank words) false self.old.condemned;
+          summaries = noted_for (placement_in_gaps self.old pool rank words) 0 self.old.summaries;
+        } }
+        ensures moves { trail.new ≡ moves_after (placement_in_gaps self.old pool rank words) pool 0 trail.old }
+        ensures free { IfOk result (λ at. CanCover self.new (record { from = word_of at.0; count = words })) }
+    {
+        match self.note_lowest_gap(pool, rank, words) {
+            Some(at) => Ok(at),
+            None => self.take(trail, pool, words, 0, rank),
+        }
     }
 }
 
@@ -114,8 +142,7 @@ fn is_same_rank(a: Rank, b: Rank) -> bool
     }
 }
 
-/// Where the lowest gap of at least `words` words begins in the segment that begins at a grain. There is none if no segment begins
-/// there, and if the segment is of another pool or rank.
+/// Where the lowest gap of at least `words` words begins in the segment at a grain; None also where it is of another pool or rank.
 fn gap_after(
     extents: &Extents,
     grain: usize,
@@ -132,19 +159,10 @@ fn gap_after(
     ensures at_most { IfSome result (λ word. word < 2 ^ 32) }
 {
     match entry {
-        Entry::First {
-            grains,
-            pool: of,
-            rank: at,
-            ..
-        } => {
-            if of == pool && is_same_rank(at, rank) {
-                let low = WORDS_OF_GRAIN * grain;
-                extents.lowest_gap(low, low + WORDS_OF_GRAIN * grains as usize, words as usize)
-            } else {
-                None
-            }
+        Entry::First { grains, .. } if is_open(entry, pool, rank) => {
+            let low = WORDS_OF_GRAIN * grain;
+            extents.lowest_gap(low, low + WORDS_OF_GRAIN * grains as usize, words as usize)
         }
-        Entry::Free => None,
+        _ => None,
     }
 }

@@ -75,6 +75,7 @@ impl Segs {
     }
 
     /// Writes 0 in the `words` words from `at` on.
+    #[inline(always)]
     pub fn clear(&mut self, at: Addr, words: u32)
         requires { word_of at.0 + words ≤ length self.old.words }
         ensures { self.new ≡ record self.old { words = cleared_words self.old.words (word_of at.0) words } }

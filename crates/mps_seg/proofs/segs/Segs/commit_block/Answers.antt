@@ -16,4 +16,5 @@ invariant_of-self c =
       facts.bounded,
       c.self.invariant.2,
       c.self.invariant.3,
+      c.self.invariant.4,
     )

@@ -39,6 +39,7 @@ invariant_of-self c =
       facts.bounded,
       marked_without s.arena.grains s.marks s.condemned s.summaries.items c.self.invariant.2 _,
       c.self.invariant.3,
+      c.self.invariant.4,
     )
 
 pub returns-clause-free : goal.returns-clause-free

@@ -38,6 +38,7 @@ invariant_of-self c =
       subst P (sym c.grey_blocks.ensures)
           (marked_all_grey s.arena.grains s.marks s.condemned s.summaries.items c.segment-grains.result.rank runs c.self.invariant.2),
       c.self.invariant.3,
+      c.self.invariant.4,
     )
 
 pub returns : goal.returns

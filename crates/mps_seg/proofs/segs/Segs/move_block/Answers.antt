@@ -1,4 +1,4 @@
-use Rattle.std.proofs.Common.{ℕ, ◌≡◌, ◌+◌, ◌-◌, length, sym, ap, subst, arith}
+use Rattle.std.proofs.Common.{ℕ, ◌≡◌, ◌+◌, ◌-◌, sym, ap, subst, arith}
 use Rattle.mps_base.specs.Address.{word_of}
 use Rattle.mps_base.specs.Run.{with_run, without_run}
 use Rattle.mps_seg.specs.Moving.{run_at}
@@ -21,25 +21,11 @@ returns-clause-rest c = λ rest some free.
     λ k. IsOpenRun s.grains (held_runs s) (with_run (run_at c.args.to.0 n) covered) (record { from = word_of c.args.to.0 + n; count = k })
     in
     let R : SegsState → Type 0 = λ x. CanCover x (record { from = word_of c.args.to.0 + n; count = rest }) in
-    subst R (sym c.set_grey.ensures) (subst R (sym c.copy.ensures) (subst R (sym c.rehouse.ensures.state) (subst Q counted open_rest)))
-
-pub copy-requires-clause-from_in_arena : goal.copy-requires-clause-from_in_arena
-copy-requires-clause-from_in_arena c =
-    let long = ap (λ (y : SegsState). length y.words) c.rehouse.ensures.state in
-    let same = ap (λ (y : SegsState). y.grains) c.rehouse.ensures.state in
-    omega (arith, c.rehouse.ensures.within, long, same, c.grains.ensures.size)
-
-pub copy-requires-clause-to_in_arena : goal.copy-requires-clause-to_in_arena
-copy-requires-clause-to_in_arena c =
-    let s = c.args.self.now in
-    let bounds = open_bounds s.grains (held_runs s) s.covered (run_at c.args.to.0 c.args.words) c.requires.free in
-    let long = ap (λ (y : SegsState). length y.words) c.rehouse.ensures.state in
-    omega (arith, bounds, long, c.grains.ensures.size)
+    subst R (sym c.set_grey.ensures) (subst R (sym c.rehouse.ensures.state) (subst Q counted open_rest))
 
 pub set_grey-requires : goal.set_grey-requires
 set_grey-requires c =
     let s = c.args.self.now in
     let bounds = open_bounds s.grains (held_runs s) s.covered (run_at c.args.to.0 c.args.words) c.requires.free in
-    let same = ap (λ (x : SegsState). x.grains) c.copy.ensures in
-    let same' = ap (λ (x : SegsState). x.grains) c.rehouse.ensures.state in
-    omega (arith, bounds, same, same', c.requires.nonzero)
+    let same = ap (λ (x : SegsState). x.grains) c.rehouse.ensures.state in
+    omega (arith, bounds, same, c.requires.nonzero)

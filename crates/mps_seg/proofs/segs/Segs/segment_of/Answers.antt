@@ -1,25 +1,17 @@
-use Rattle.std.proofs.Common.{◌<◌, length, arith}
-use Rattle.mps_base.specs.Address.{grain_of}
-use Rattle.mps_seg.proofs.SegmentOver.{no_segment_past, segment_of_first}
+use Rattle.std.proofs.Common.{ap, ◌∙◌, arith}
+use Rattle.mps_base.specs.Segment.{segment_over}
+use Rattle.mps_seg.specs.Segs.{SegsState}
+use Rattle.mps_seg.proofs.FirstGrain.{no_base, base_over}
 use Rattle.mps_seg.proofs.segs.Segs.segment_of.Goals as goal
 
-pub returns-then-grain-len : goal.returns-then-grain-len
-returns-then-grain-len c =
-    no_segment_past c.self.inside c.args.self.now c.args.at.0 c.self.invariant c.self.view_is
-    (omega (arith, c.if-grain-len.true, c.len.ensures, c.self.inside.firsts.ok.0))
+pub overflow_mul-result : goal.overflow_mul-result
+overflow_mul-result c =
+    let grains = ap (λ (x : SegsState). x.grains) c.self.view_is in
+    omega (arith, c.in_ok-first.ensures.in_arena, grains, c.self.invariant.0.at_most)
 
-pub returns-then-first-eq0 : goal.returns-then-first-eq0
-returns-then-first-eq0 c =
-    let s = c.self.inside in
-    let within : grain_of c.args.at.0 < length s.firsts.items = omega (arith, c.if-grain-len.false, c.len.ensures, s.firsts.ok.0) in
-    (segment_of_first s c.args.self.now c.args.at.0 c.self.invariant c.self.view_is c.index-first.result.now within
-    c.index-first.ensures).0
-    c.if-first-eq0.true
+pub returns-in_err-first : goal.returns-in_err-first
+returns-in_err-first c =
+    c.from_residual.ensures ∙ no_base (segment_over c.args.self.now.segments c.args.at.0) c.in_err-first.ensures.value
 
-pub returns-else-first-eq0 : goal.returns-else-first-eq0
-returns-else-first-eq0 c =
-    let s = c.self.inside in
-    let within : grain_of c.args.at.0 < length s.firsts.items = omega (arith, c.if-grain-len.false, c.len.ensures, s.firsts.ok.0) in
-    (segment_of_first s c.args.self.now c.args.at.0 c.self.invariant c.self.view_is c.index-first.result.now within
-    c.index-first.ensures).1
-    c.if-first-eq0.false
+pub returns : goal.returns
+returns c = base_over c.self.inside c.args.self.now c.args.at.0 c.in_ok-first.first c.self.view_is c.in_ok-first.ensures.value

@@ -59,8 +59,8 @@ overflow_cast-first c =
     in
     omega (arith, facts.at_most)
 
-pub note_first-requires : goal.note_first-requires
-note_first-requires c =
+pub note_grains-requires : goal.note_grains-requires
+note_grains-requires c =
     let s = c.self.inside in
     let a = c.args in
     let facts =
@@ -91,12 +91,12 @@ invariant_of-self-2 c =
     let facts =
     taking s c.in_ok-base.base a.words a.pool a.generation a.rank c.self.invariant c.requires.nonzero c.in_ok-base.ensures.value
     in
-    let now = with_items_is s.firsts c.note_first.new.firsts (omega (arith, c.note_first.auto.firsts, c.deref_mut.ensures.len)) in
-    let noted : Noted s.firsts.items c.note_first.new.firsts (new_run c.in_ok-base.base.0 a.words)
+    let now = with_items_is s.firsts c.note_grains.new.table (omega (arith, c.note_grains.auto.table, c.deref_mut.ensures.len)) in
+    let noted : Noted s.firsts.items c.note_grains.new.table (new_run c.in_ok-base.base.0 a.words)
     (grain_of c.in_ok-base.base.0) = record {
-      size = c.note_first.ensures.size ∙ ap (λ (fs : List ℕ). length fs) c.deref_mut.ensures.value;
-      inside = c.note_first.ensures.written;
-      outside = λ g out. c.note_first.ensures.unchanged g out ∙ ap (λ (fs : List ℕ). get_or fs g 0) c.deref_mut.ensures.value;
+      size = c.note_grains.ensures.size ∙ ap (λ (fs : List ℕ). length fs) c.deref_mut.ensures.value;
+      inside = λ g. c.note_grains.ensures.written g 0;
+      outside = λ g out. c.note_grains.ensures.unchanged g 0 out ∙ ap (λ (fs : List ℕ). get_or fs g 0) c.deref_mut.ensures.value;
     } in
     let marked =
     marked_taken s.arena.grains s.marks s.condemned s.summaries.items c.self.invariant.2 (grain_of c.in_ok-base.base.0)
@@ -104,9 +104,10 @@ invariant_of-self-2 c =
     rw (c.take_run.ensures.state, facts.held_is, now, c.set.ensures, c.clear.ensures.state, c.add.ensures) (
       facts.held,
       facts.bounded
-          c.note_first.new.firsts noted,
+          c.note_grains.new.table noted,
       marked,
       facts.counted,
+      facts.asked c.note_grains.new.table noted,
     )
 
 pub returns-clause-state : goal.returns-clause-state

@@ -31,6 +31,7 @@ invariant_of-self c =
       facts.bounded,
       c.self.invariant.2,
       c.self.invariant.3,
+      c.self.invariant.4,
     )
 
 pub returns-clause-free : goal.returns-clause-free
