@@ -13,8 +13,7 @@ use Rattle.mps_buffer.specs.declared.point.Point.{Point}
 use Rattle.mps_buffer.specs.Points.{PointsState, point_at, with_point, with_block, new_point, IsMade, after_open, after_close, without_free_words, after_end_at, IsReservedAt, AreReserved}
 use Rattle.mps_seg.specs.Buffer.{IsAtHand}
 use Rattle.mps_buffer.specs.Tokens.{NoneIsOpen, IsReady, HasOpen}
-use Rattle.mps_buffer.proofs.TokenLists.{token_emptied}
-use Rattle.mps_buffer.proofs.OpenTokens.{HasNoToken, some_within}
+use Rattle.mps_buffer.proofs.OpenTokens.{HasNoToken, some_within, token_emptied}
 
 pub none_open : (n : ℕ) → NoneIsOpen (replicate n None)
 unfolding NoneIsOpen

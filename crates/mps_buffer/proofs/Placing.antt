@@ -6,7 +6,6 @@ use Rattle.mps_base.specs.declared.refusal.Refusal.{Refusal}
 use Rattle.mps_seg.specs.Segs.{SegsState, held_runs, CanCover}
 use Rattle.mps_seg.specs.declared.buffer.Placed.{Placed}
 use Rattle.mps_seg.proofs.PartCovered.{rest_is_open}
-use Rattle.mps_seg.proofs.Placements.{placed}
 use Rattle.mps_buffer.specs.Points.{CanCoverAfter}
 use Rattle.mps_seg.specs.Buffer.{run_of}
 

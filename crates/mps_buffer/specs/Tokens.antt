@@ -1,5 +1,5 @@
--- Points with the tokens of their open reservations.
-use Rattle.std.specs.Prelude.{ℕ, suc, ◌≡◌, true, false, Option, Some, None, option_map, List, [], ◌∷◌, refl}
+-- Points by their keys, and the tokens of their open reservations.
+use Rattle.std.specs.Prelude.{ℕ, ◌≡◌, true, false, Option, Some, None, option_map, List, [], ◌∷◌, refl}
 use Rattle.mps_seg.specs.Segs.{SegsState}
 use Rattle.mps_buffer.specs.declared.point.Held.{Held}
 use Rattle.mps_buffer.specs.declared.point.Point.{Point}
@@ -12,11 +12,6 @@ use Rattle.mps_seg.specs.Buffer.{IsAtHand}
 abbrev pub token_of : (key : ℕ) → Option Point → Option Reserved
 token_of key None = None
 token_of key (Some p) = option_map (λ h. record { point = key; held = h }) p.reservation
-
--- the tokens of points, the first of which is under a key
-unfoldable pub tokens_from : (key : ℕ) → List (Option Point) → List (Option Reserved)
-tokens_from key [] = []
-tokens_from key (p ∷ ps) = token_of key p ∷ tokens_from (suc key) ps
 
 -- under a key there is this point, with this open reservation
 pub record HasOpen (s : PointsState) (key : ℕ) (p : Point) (h : Held) : Type 0 where
@@ -56,7 +51,5 @@ open_point = record free_point { reservation = Some held }
 pub a_point_without_a_reservation_has_no_token : token_of 7 (Some free_point) ≡ None
 a_point_without_a_reservation_has_no_token = refl
 
-pub a_token_has_the_key_of_its_point :
-    tokens_from 0 (None ∷ Some free_point ∷ Some open_point ∷ []) ≡ None ∷ None ∷ Some (record { point = 2; held = held }) ∷ []
-unfolding tokens_from
+pub a_token_has_the_key_of_its_point : token_of 2 (Some open_point) ≡ Some (record { point = 2; held = held })
 a_token_has_the_key_of_its_point = refl

@@ -5,6 +5,7 @@ mod open_points;
 mod place;
 mod point;
 mod points;
+mod reserving;
 
 pub use open_points::OpenPoints;
 pub use point::{Held, Point, Reserved};

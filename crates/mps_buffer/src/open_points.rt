@@ -1,7 +1,7 @@
-// Points with the tokens of their open reservations.
+// Points for a client that knows them by their keys.
 #![tactic(auto)]
 
-ghost use Rattle.std.specs.Prelude.{◌≡◌, ◌≢◌, ℕ, ◌+◌, ◌^◌, ◌<◌, ◌≤◌, true, Ok, Err, Some, None, List, Option, option_map, map, length, get_or, slice_set, replicate, All, IfOk, IfErr, MatchResult};
+ghost use Rattle.std.specs.Prelude.{◌≡◌, ◌≢◌, ℕ, ◌+◌, ◌^◌, ◌<◌, ◌≤◌, true, Ok, Err, Some, None, option_map, length, IfOk, IfErr, MatchResult};
 ghost use Rattle.mps_base.specs.Address.{word_of, max_block_words};
 ghost use Rattle.mps_base.specs.Trail.{with_move};
 ghost use Rattle.mps_base.specs.declared.moves.Move.TheVariants.{Commit};
@@ -15,32 +15,25 @@ ghost use Rattle.mps_buffer.specs.Points.{no_points, point_at, with_point, place
 ghost use Rattle.mps_seg.specs.Buffer.{IsAtHand};
 ghost use Rattle.mps_buffer.specs.Tokens.{HasOpen, IsClosedAt};
 
-use crate::point::{Point, Reserved};
-use crate::points::{MAX_POINTS, Points};
+use crate::point::Point;
+use crate::points::Points;
 use mps_base::{Addr, Flipped, Rank, Refusal, Trail};
 use mps_seg::Segs;
 use std::alloc::{AllocError, Global};
 use std::marker::Model;
-use std::mem::replace;
 
-/// Points that keep the tokens of their open reservations, for a client that knows points by their keys. `new` is the only call that
-/// allocates, and `finish` ends its use: like a token, it can't be let go.
+/// Points for a client that knows them by their keys and has no place for tokens. A token has what the point has under its key, so it is
+/// made when its reservation ends. `new` is the only call that allocates, and `finish` ends its use: like a token, it can't be let go.
 pub struct OpenPoints {
     points: Points,
-    tokens: Vec<Option<Reserved>>,
 }
 
 impl Model for OpenPoints {
-    ghost use Rattle.std.specs.Prelude.{◌≡◌};
     ghost use Rattle.mps_buffer.specs.Points.{PointsState};
 
     ghost Value = { PointsState };
 
-    ghost use Rattle.mps_buffer.specs.Tokens.{tokens_from};
-
     ghost view = { λ o. o.points };
-
-    ghost invariant = { λ o. o.tokens.items ≡ tokens_from 0 o.points.points };
 }
 
 impl OpenPoints {
@@ -50,7 +43,6 @@ impl OpenPoints {
     {
         Ok(OpenPoints {
             points: Points::new(alloc)?,
-            tokens: no_tokens(alloc)?,
         })
     }
 
@@ -111,6 +103,7 @@ impl OpenPoints {
 
     /// Reserves `words` words at a point that has no open reservation, for a block with this head, and returns where they lie. They are
     /// 0 but for the head. Refuses `CommitLimit` and `NoRun` as `Segs::take` does; a refusal changes nothing.
+    #[inline(always)]
     pub fn reserve(
         &mut self,
         segs: &mut Segs,
@@ -145,9 +138,8 @@ impl OpenPoints {
             → AreApart r (record { from = word_of at.0; count = words }) → CanCover segs.new r) }
     {
         let token = self.points.reserve_words(segs, trail, key, head, words)?;
-        let at = token.at();
-        put_token(&mut self.tokens, key, token);
-        Ok(at)
+        let (_, held) = token.spend();
+        Ok(held.at)
     }
 
     /// The open reservation of a point becomes a block, whose address is returned. `Flipped` if a flip came since the reserve. The
@@ -165,7 +157,7 @@ impl OpenPoints {
         ensures moves { (p : Point) → (h : Held) → HasOpen self.old key p h
             → MatchResult result (λ at. trail.new ≡ with_move trail.old (Commit at h.words p.pool)) (λ _. trail.new ≡ trail.old) }
     {
-        let Some(token) = self.tokens[key as usize].take() else {
+        let Some(token) = self.points.token(key) else {
             unreachable!()
         };
         self.points.commit(segs, trail, token)
@@ -179,7 +171,9 @@ impl OpenPoints {
         ensures points { self.new ≡ with_point self.old key (option_map after_close (point_at self.old key)) }
         ensures state { segs.new ≡ after_end_at self.old.flips (point_at self.old key) segs.old }
     {
-        self.abandon_at(segs, key as usize);
+        if let Some(token) = self.points.token(key) {
+            self.points.abandon(segs, token);
+        }
     }
 
     /// A flip comes: all reservations end, and the buffer of each point is empty.
@@ -197,75 +191,7 @@ impl OpenPoints {
         requires { AreReserved self.flips self.points segs.old }
         ensures { segs.new ≡ after_all_end self.flips self.points segs.old }
     {
-        let mut all = self;
-        all.abandon_all(segs);
-        let OpenPoints { points: _, tokens } = all;
-        let_go(tokens);
+        let OpenPoints { points } = self;
+        points.end_all(segs);
     }
-
-    /// Gives up each open reservation.
-    fn abandon_all(&mut self, segs: &mut Segs)
-        requires { AreReserved self.old.flips self.old.points segs.old }
-        ensures points { self.new ≡ record self.old { points = map (option_map after_close) self.old.points } }
-        ensures state { segs.new ≡ after_all_end self.old.flips self.old.points segs.old }
-    {
-        for key in 0..self.count() {
-            self.abandon_at(segs, key);
-        }
-    }
-
-    /// Gives up the open reservation of the point at an index, if there is one.
-    fn abandon_at(&mut self, segs: &mut Segs, key: usize)
-        requires within { key < length self.old.points }
-        requires reserved { IsReservedAt self.old.flips (point_at self.old key) segs.old }
-        ensures points { self.new ≡ with_point self.old key (option_map after_close (point_at self.old key)) }
-        ensures state { segs.new ≡ after_end_at self.old.flips (point_at self.old key) segs.old }
-    {
-        if let Some(token) = self.tokens[key].take() {
-            self.points.abandon(segs, token);
-        }
-    }
-
-    /// How many keys there are.
-    fn count(&self) -> usize
-        ensures { result ≡ length self.now.points }
-    {
-        self.tokens.len()
-    }
-}
-
-/// A place without a token for each key.
-fn no_tokens(alloc: Global) -> Result<Vec<Option<Reserved>>, AllocError>
-    ensures { IfOk result (λ tokens. tokens.items ≡ replicate 256 None) }
-{
-    let mut tokens = Vec::with_capacity(alloc, MAX_POINTS)?;
-    for _ in 0..MAX_POINTS {
-        tokens.push_reserved(None);
-    }
-    Ok(tokens)
-}
-
-/// Puts the token of a point in its place, which has none.
-fn put_token(tokens: &mut Vec<Option<Reserved>>, key: u32, token: Reserved)
-    requires within { key < length tokens.old.items }
-    requires none { get_or tokens.old.items key None ≡ None }
-    ensures { tokens.new.items ≡ slice_set tokens.old.items key (Some token) }
-{
-    match replace(&mut tokens[key as usize], Some(token)) {
-        None => {}
-        Some(_) => unreachable!(),
-    }
-}
-
-/// Lets go of places that have no token.
-fn let_go(mut tokens: Vec<Option<Reserved>>)
-    requires { All (λ token. token ≡ None) tokens.items }
-{
-    while let Some(slot) = tokens.pop() {
-        match slot {
-            None => {}
-            Some(_) => unreachable!(),
-        }
-    }
-    tokens.destroy_empty();
 }

@@ -12,10 +12,11 @@ ghost use Rattle.mps_seg.specs.Segs.{SegsState, CanCover, moves_after};
 ghost use Rattle.mps_buffer.specs.declared.point.Point.{Point};
 ghost use Rattle.mps_buffer.specs.declared.point.Held.{Held};
 ghost use Rattle.mps_buffer.specs.Points.{no_points, point_at, with_point, placement_at, buffer_after, AreApart, with_place, with_reservation, with_block, without_reservation, run_of_held, after_close, after_open, IsOpenAt, after_all_end, AreReserved, without_free_words, points_after_flip, after_end_at, IsReservedAt, new_point, IsMade, AllTaken, is_place, is_reserved_now, has_live_reservation, WereMadeBefore};
+ghost use Rattle.mps_buffer.specs.Tokens.{token_of};
 ghost use Rattle.mps_seg.specs.Buffer.{IsAtHand};
 
-use crate::place::place;
-use crate::point::{Held, Point, Reserved};
+use crate::point::{Point, Reserved};
+use crate::reserving::reserve_at;
 use mps_base::{Addr, Flipped, Move, Rank, Refusal, Trail};
 use mps_format::Format;
 use mps_seg::{Buffer, Segs};
@@ -23,7 +24,7 @@ use std::alloc::{AllocError, Global};
 use std::marker::Model;
 
 /// How many points there may be.
-pub(crate) const MAX_POINTS: usize = 256;
+const MAX_POINTS: usize = 256;
 
 /// The points of an arena. `new` is the only call that allocates.
 #[derive(Drop)]
@@ -133,6 +134,7 @@ impl Points {
     /// Reserves `words` words at a point that has no open reservation, for a block with this head. The words are 0 but for the head.
     /// Refuses `CommitLimit` and `NoRun` as `Segs::take` does; a refusal changes nothing. The rest of the buffer can be covered, and so can
     /// other words that could be and lie apart from the reservation.
+    #[inline(always)]
     pub fn reserve_words(
         &mut self,
         segs: &mut Segs,
@@ -218,6 +220,15 @@ impl Points {
         self.reserve_words(segs, trail, point, head, words)
     }
 
+    /// The token of the open reservation of a point, if there is a point under the key and it has one.
+    #[inline(always)]
+    pub(crate) fn token(&self, key: u32) -> Option<Reserved>
+        ensures { result ≡ token_of key (point_at self.now key) }
+    {
+        let held = self.get(key)?.reservation?;
+        Some(Reserved::new(key, held))
+    }
+
     /// The reservation becomes a block, whose address is returned. `Flipped` if a flip came since the reserve.
     #[inline(always)]
     pub fn commit(
@@ -273,9 +284,17 @@ impl Points {
         ensures points { self.new ≡ points_after_flip self.old }
         ensures state { segs.new ≡ after_all_end self.old.flips self.old.points segs.old }
     {
-        end_all(&self.points, self.flips, segs);
+        self.end_all(segs);
         empty_all(&mut self.points);
         self.flips += 1;
+    }
+
+    /// Ends all reservations that no flip has ended.
+    pub(crate) fn end_all(&self, segs: &mut Segs)
+        requires { AreReserved self.now.flips self.now.points segs.old }
+        ensures { segs.new ≡ after_all_end self.now.flips self.now.points segs.old }
+    {
+        end_all(&self.points, self.flips, segs);
     }
 }
 
@@ -327,50 +346,6 @@ fn close(place: &mut Option<Point>) -> u32
     let Some(p) = place else { unreachable!() };
     p.reservation = None;
     p.pool
-}
-
-/// Reserves words at a point, which has the reservation from then on.
-fn reserve_at(
-    segs: &mut Segs,
-    trail: &mut Trail,
-    p: &mut Point,
-    flips: u64,
-    head: u64,
-    words: u32,
-) -> Result<Held, Refusal>
-    requires nonzero { 0 < words }
-    requires at_most { words ≤ max_block_words }
-    requires fits { 0 < trail.old.spare }
-    requires at_hand { IsAtHand segs.old p.old.buffer }
-    ensures value { MatchResult result
-        (λ held. (answer_of_placement (placement_at p.old segs.old words) ≡ Ok held.at)
-        × (held ≡ record { at = held.at; head = head; words = words; flips = flips }))
-        (λ why. answer_of_placement (placement_at p.old segs.old words) ≡ Err why) }
-    ensures state { MatchResult result
-        (λ held. segs.new ≡ with_reservation (with_place segs.old p.old (placement_at p.old segs.old words)) held)
-        (λ _. segs.new ≡ segs.old) }
-    ensures point { MatchResult result (λ held. p.new ≡ after_open p.old (placement_at p.old segs.old words) held) (λ _. p.new ≡ p.old) }
-    ensures moves { MatchResult result (λ _. trail.new ≡ moves_after (placement_at p.old segs.old words) p.old.pool 0 trail.old)
-        (λ _. trail.new ≡ trail.old) }
-    ensures at_hand { p.old.is_copying ≡ true
-        → IfOk result (λ _. IsAtHand segs.new (buffer_after p.old (placement_at p.old segs.old words) words)) }
-    ensures others { IfOk result (λ held. (r : Run) → CanCover segs.old r → AreApart r (run_of_held held) → CanCover segs.new r) }
-{
-    let placed = place(segs, trail, p, words)?;
-    segs.cover(placed.at, words);
-    let _ = segs.grains(); // its words have the reservation
-    segs.clear(placed.at, words);
-    let _ = segs.grains();
-    segs.set_word(placed.at, head);
-    let held = Held {
-        at: placed.at,
-        head,
-        words,
-        flips,
-    };
-    p.buffer = placed.rest;
-    p.reservation = Some(held);
-    Ok(held)
 }
 
 /// Ends the reservations of these points that no flip has ended.
