@@ -1,9 +1,10 @@
 -- Segments that are held stay so where blocks are scanned: a scan takes segments, and gives none back.
-use Rattle.std.proofs.Common.{ℕ, ◌≡◌, zero, suc, ◌+◌, true, false, refl, sym, subst, List, [], ◌∷◌, Contains, Option, Some, None, Result, Ok, Err, arith}
+use Rattle.std.proofs.Common.{ℕ, ◌≡◌, ◌∙◌, zero, suc, ◌+◌, true, false, refl, sym, subst, inl, inr, List, [], ◌∷◌, Contains, Option, Some, None, Result, Ok, Err, arith}
 use Rattle.std.specs.Prelude.{if◌then◌else◌, nat_lt, slice_set}
+use Rattle.std.proofs.lemmas.Bool.{cases_Bool, cond-true, cond-false}
 use Rattle.mps_base.specs.Address.{Grain, Address, word_of, address_of_grain}
 use Rattle.mps_base.specs.Placement.{Placement, Place, NewSegment, OverLimit, NoFreeRun}
-use Rattle.mps_base.specs.Segment.{Segment, with_segment}
+use Rattle.mps_base.specs.Segment.{Segment, segment_over, is_in_segment, with_segment}
 use Rattle.mps_base.specs.declared.address.Addr.{Addr}
 use Rattle.mps_base.specs.declared.names.Rank.TheVariants.{Exact}
 use Rattle.mps_base.specs.declared.refusal.Refusal.{Refusal}
@@ -14,6 +15,7 @@ use Rattle.mps_seg.specs.Segs.{SegsState, segments_after}
 use Rattle.mps_seg.specs.Collecting.{first_grain_over, noting_in}
 use Rattle.mps_amc.specs.Moving.{size_at}
 use Rattle.mps_amc.specs.Amc.{placement_of_copy, segs_fixed, with_place}
+use Rattle.mps_amc.proofs.Found.{over_is_there}
 use Rattle.mps_gen.specs.State.{ChainsState}
 use Rattle.mps_trace.specs.Trace.{Traced, KeepsTo, FixesTo, moves, marks, finds, keeps, target_of}
 use Rattle.mps_trace.specs.Scan.{FixesCell, is_null, leads, ScansTo, begins, goes_on, Scanned, word_at}
@@ -52,6 +54,35 @@ same_fixed (Err why) s at size = refl
 same_noted : (s : SegsState) (o : Option Grain) (target : Address) → (noting_in s o target).segments ≡ s.segments
 same_noted s None target = refl
 same_noted s (Some grain) target = refl
+
+-- an address that lies in a segment lies in one as long as that is held
+over_inside : (ss : List Segment) (at : Address) (t : Segment) → segment_over ss at ≡ Some t → is_in_segment t at ≡ true
+over_inside [] at t is = let never : None ≡ Some t = is in cc
+over_inside (s ∷ ss) at t is =
+    elim (cases_Bool (is_in_segment s at)) [
+      | inl has ↦
+          let both : Some s ≡ Some t = sym (cond-true (is_in_segment s at) (Some s) (segment_over ss at) has) ∙ is in
+          let same : s ≡ t = cc in
+          subst (λ (u : Segment). is_in_segment u at ≡ true) same has
+      | inr other ↦ over_inside ss at t (sym (cond-false (is_in_segment s at) (Some s) (segment_over ss at) other) ∙ is)
+    ]
+
+over_some : (ss : List Segment) (at : Address) (t : Segment) → Contains ss t → is_in_segment t at ≡ true
+    → (u : Segment) × (segment_over ss at ≡ Some u)
+over_some [] at t (k, within, is) inside = absurd (omega (arith, within))
+over_some (s ∷ ss) at t (zero, within, is) inside =
+    (s, cond-true (is_in_segment s at) (Some s) (segment_over ss at) (subst (λ (u : Segment). is_in_segment u at ≡ true) (sym is) inside))
+over_some (s ∷ ss) at t (suc k, within, is) inside =
+    elim (cases_Bool (is_in_segment s at)) [
+      | inl has ↦ (s, cond-true (is_in_segment s at) (Some s) (segment_over ss at) has)
+      | inr other ↦
+          let later = over_some ss at t (k, omega (arith, within), is) inside in
+          (later.0, cond-false (is_in_segment s at) (Some s) (segment_over ss at) other ∙ later.1)
+    ]
+
+still_over : (ss ss' : List Segment) (at : Address) → ((t : Segment) → Contains ss t → Contains ss' t)
+    → (t : Segment) × (segment_over ss at ≡ Some t) → (t : Segment) × (segment_over ss' at ≡ Some t)
+still_over ss ss' at still (t, over) = over_some ss' at t (still t (over_is_there ss at t over)) (over_inside ss at t over)
 
 module _ {F : Type 0} (layout : F → Layout) (formats : List (Option (Policy F))) (of : ChainsState) (t : Segment) where
   abbrev IsHeld : Traced → Type 0
@@ -108,3 +139,17 @@ module _ {F : Type 0} (layout : F → Layout) (formats : List (Option (Policy F)
 
   pub held_splatted : (x z : Traced) (at : Addr) → Splatted layout formats x at z → IsHeld x → IsHeld z
   held_splatted x z at is there = subst IsHeld (sym is.black) (splat_run (layout is.format.format) _ at is.all.run there)
+
+-- the block that is scanned stays in a segment
+module _ {F : Type 0} (layout : F → Layout) (formats : List (Option (Policy F))) (of : ChainsState) (at : Address) where
+  abbrev IsOver : Traced → Type 0
+  IsOver x = (t : Segment) × (segment_over x.segs.segments at ≡ Some t)
+
+  pub over_fixed : {x z : Traced} {target answer : Addr} → FixesTo layout formats of x target z answer → IsOver x → IsOver z
+  over_fixed {x} {z} fixed over =
+      still_over x.segs.segments z.segs.segments at (λ t there. held_fixed layout formats of t fixed there) over
+
+  pub over_run : (f : Layout) (head : ℕ) (holder : Addr) {x z : Traced} {from : ℕ} → ScansTo layout f formats of head holder x from z
+      → IsOver x → IsOver z
+  over_run f head holder {x} {z} run over =
+      still_over x.segs.segments z.segs.segments at (λ t there. held_run layout formats of t f head holder run there) over

@@ -3,6 +3,7 @@ pub mod AreaWords
 pub mod Beginning
 pub mod Collected
 pub mod CellZones
+pub mod Cells
 pub mod Condemning
 pub mod Ending
 pub mod FirstGrains

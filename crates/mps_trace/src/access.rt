@@ -15,8 +15,7 @@ use mps_seg::Segs;
 impl<F: Format> Trace<F> {
     /// The read barrier for a block at `at`, before a reference in it is read. The grey blocks of its segment are scanned until none of
     /// them is grey, those too that a scan moves into it. In the bands `Exact` and `Final` a weak block is scanned like any other. In
-    /// `Weak` its references to white blocks become null. In `Reclaim` nothing is grey, and nothing is done. An address in no segment
-    /// changes nothing.
+    /// `Weak` its references to white blocks become null. In `Reclaim`, and at an address in no segment, nothing is done.
     pub fn access(&mut self, segs: &mut Segs, trail: &mut Trail, band: Band, at: Addr)
         requires { (t : Segment) → segment_over segs.old.segments at.0 ≡ Some t
             → CanAccess F.layout band self.old segs.old trail.old t }

@@ -26,9 +26,8 @@ use mps_root::Roots;
 use mps_seg::Segs;
 
 impl<F: Format> Trace<F> {
-    /// Begins a collection of what is to be condemned: the flip, then the blocks that area words pin are nailed, those that aren't
-    /// condemned and may refer to what is become grey, and slots and messages are fixed. None if nothing is condemned: the
-    /// collection has ended.
+    /// Begins a collection: the flip, then the blocks that area words pin are nailed, those that aren't condemned and may refer to what
+    /// is become grey, and slots and messages are fixed. None if nothing is condemned: the collection has ended.
     pub fn begin(
         &mut self,
         segs: &mut Segs,

@@ -65,6 +65,27 @@ impl<F: Format> Trace<F> {
         if self.scan_next(segs, trail) {
             return true;
         }
+        self.advance_once_drained(segs, trail, finals, running)
+    }
+
+    /// As `advance`, once no block is grey but weak ones.
+    #[cold]
+    #[inline(never)]
+    fn advance_once_drained(
+        &mut self,
+        segs: &mut Segs,
+        trail: &mut Trail,
+        finals: &mut Finals,
+        running: &mut Running,
+    ) -> bool
+        requires drained { IsDrained segs.old }
+        requires can { CanUnit F.layout self.old segs.old trail.old finals.old running.old }
+        ensures goes_on { result ≡ true → UnitTo F.layout self.old.formats self.old.chains (traced self.old segs.old trail.old)
+            finals.old running.old (traced self.new segs.new trail.new) finals.new running.new }
+        ensures ended { result ≡ false → LastUnitTo F.layout self.old.formats (traced self.old segs.old trail.old) running.old
+            (traced self.new segs.new trail.new) × (finals.new ≡ finals.old) }
+        ensures unchanged { self.new ≡ record self.old { amc = self.new.amc } }
+    {
         match self.unit_once_drained(segs, trail, finals, *running) {
             Some(next) => {
                 *running = next;
@@ -75,8 +96,6 @@ impl<F: Format> Trace<F> {
     }
 
     /// One unit once no block is grey but weak ones.
-    #[cold]
-    #[inline(never)]
     fn unit_once_drained(
         &mut self,
         segs: &mut Segs,
@@ -104,8 +123,7 @@ impl<F: Format> Trace<F> {
         self.reclaim_next(segs, trail, running)
     }
 
-    /// Reclaims the lowest condemned segment from the cursor on, once nothing is grey and no registration is due. None if that was the
-    /// last one: the collection has ended.
+    /// Reclaims the lowest condemned segment from the cursor on, once nothing else is due; None if that ends the collection.
     fn reclaim_next(&self, segs: &mut Segs, trail: &mut Trail, running: Running) -> Option<Running>
         requires scanned { HasNoMark segs.old }
         requires examined { IsNoneDue running }

@@ -15,8 +15,7 @@ use mps_format::Format;
 use mps_seg::Segs;
 
 impl<F: Format> Trace<F> {
-    /// Examines the next registration. If its block is found the registration has the address where it lies now. If it is white it is
-    /// kept, and the registration becomes a message.
+    /// Examines the next registration. If its block is found it has the address where that lies now, else that is kept, with a message.
     pub(crate) fn examine_next(
         &mut self,
         segs: &mut Segs,

@@ -197,8 +197,7 @@ impl<F: Format> Trace<F> {
         }
     }
 
-    /// Whether a word that lies in the block at `at` pins it: the block is condemned, and either its pool moves its blocks or the
-    /// word is its address.
+    /// Whether a word in the block at `at` pins it: the block is condemned, and its pool moves its blocks or the word is its address.
     fn pins(&self, segs: &Segs, word: u64, at: Addr) -> bool
         ensures value { result ≡ pins self.now.formats segs.now word at.0 }
     {

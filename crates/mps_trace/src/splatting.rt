@@ -13,8 +13,7 @@ use mps_format::Format;
 use mps_seg::Segs;
 
 impl<F: Format> Trace<F> {
-    /// Splats the reference in a cell of the weak block at `at` if the block to which it leads is white: it becomes null, and keeps its
-    /// tag. If that block has moved the cell leads to where it lies now.
+    /// Splats the reference in a cell of the weak block at `at`. If its block is white it is null then, with its tag, else it is mended.
     fn splat_cell(&self, segs: &mut Segs, trail: &mut Trail, format: &F, at: Addr, cell: u32)
         requires aligned { at.0 % bytes_of_word ≡ 0 }
         requires inside { word_of at.0 + cell < length segs.old.words }
@@ -59,8 +58,7 @@ impl<F: Format> Trace<F> {
         }
     }
 
-    /// Scans the weak block at `at`: its references to white blocks become null, the others lead to where their blocks lie now, and it is
-    /// grey no longer.
+    /// Scans the weak block at `at`: each of its references is splatted, and it is grey no longer.
     pub(crate) fn splat(&self, segs: &mut Segs, trail: &mut Trail, at: Addr)
         requires { CanSplat F.layout self.now segs.old trail.old at }
         ensures { Splatted F.layout self.now.formats (traced self.now segs.old trail.old) at (traced self.now segs.new trail.new) }

@@ -3,7 +3,7 @@
 
 ghost use Rattle.std.specs.Prelude.{◌≡◌, ℕ, ◌+◌, ◌*◌, ◌%◌, ◌<◌, ◌≤◌, true, false, IsTrue, Some, length, slice_index, slice_get, MatchResult, IfErr, IfSome, IsOk};
 ghost use Rattle.std.specs.Option.{ForSome};
-ghost use Rattle.mps_base.specs.Address.{word_of, bytes_of_word, words_of_grain};
+ghost use Rattle.mps_base.specs.Address.{word_of, bytes_of_word, words_of_grain, max_block_words};
 ghost use Rattle.mps_base.specs.Segment.{Segment, segment_over};
 ghost use Rattle.mps_seg.specs.Collecting.{is_condemned_at, owner_of};
 ghost use Rattle.mps_format.specs.declared.pool.Policy.{Policy};
@@ -76,8 +76,7 @@ impl<F: Format> Trace<F> {
         &self.chains
     }
 
-    /// One more pool, on a chain or on none, with an empty tail for each of n generations. `format` is that of its objects, None if the
-    /// pool isn't collected.
+    /// One more pool, on a chain or on none, with an empty tail for each of n generations. `format` is None if it isn't collected.
     pub fn add_pool(
         &mut self,
         alloc: Global,
@@ -141,8 +140,7 @@ impl<F: Format> Trace<F> {
         self.amc.nail(segs, at);
     }
 
-    /// Where the block lies now to which an address leads; None if it is white. A block in a segment that isn't condemned is where it
-    /// was.
+    /// Where the block lies now to which an address leads; None if it is white. One in a segment that isn't condemned is where it was.
     pub fn find(&self, segs: &Segs, at: Addr) -> Option<Addr>
         requires { CanFind F.layout self.now.formats segs.now at }
         ensures found { FindsTo F.layout self.now.formats segs.now at result }
@@ -184,7 +182,7 @@ impl<F: Format> Trace<F> {
     }
 
     /// Keeps the white block at `at` of a segment with this owner, as the policy of the pool says.
-    #[inline(never)]
+    #[inline(always)]
     fn keep_as(
         &mut self,
         segs: &mut Segs,
@@ -202,11 +200,34 @@ impl<F: Format> Trace<F> {
         ensures aligned { result.0 % bytes_of_word ≡ 0 }
         ensures size { length segs.new.words ≡ length segs.old.words }
     {
-        if !policy.moves {
-            let _ = segs.grains(); // its words are those of the marks
-            segs.keep_in_place(at);
-            return at;
+        if policy.moves {
+            return self.keep_moving(segs, trail, policy, owner, at);
         }
+        let _ = segs.grains(); // its words are those of the marks
+        segs.keep_in_place(at);
+        at
+    }
+
+    /// Keeps the white block at `at` of a segment with this owner, whose pool moves its blocks.
+    #[inline(never)]
+    fn keep_moving(
+        &mut self,
+        segs: &mut Segs,
+        trail: &mut Trail,
+        policy: Policy<F>,
+        owner: Owner,
+        at: Addr,
+    ) -> Addr
+        requires moves { policy.moves ≡ true }
+        requires can { CanKeep F.layout self.old.formats self.old.chains (traced self.old segs.old trail.old) at }
+        requires owned { (t : Segment) → segment_over segs.old.segments at.0 ≡ Some t → owner ≡ owner_of t }
+        requires known { slice_get self.old.formats owner.pool ≡ Some (Some policy) }
+        ensures kept { KeepsTo F.layout self.old.formats self.old.chains (traced self.old segs.old trail.old) at
+            (traced self.new segs.new trail.new) result }
+        ensures unchanged { self.new ≡ record self.old { amc = self.new.amc } }
+        ensures aligned { result.0 % bytes_of_word ≡ 0 }
+        ensures size { length segs.new.words ≡ length segs.old.words }
+    {
         let generation = self.chains.target(owner.pool, owner.generation);
         let to = self
             .amc
@@ -215,8 +236,7 @@ impl<F: Format> Trace<F> {
         to
     }
 
-    /// Fixes a reference: returns the new address of the block at `at`. A block in a segment that isn't condemned stays; any other
-    /// is fixed as its pool does.
+    /// Fixes a reference: returns where the block at `at` lies then. It stays in a segment that isn't condemned, else its pool decides.
     #[inline(always)]
     pub fn fix(&mut self, segs: &mut Segs, trail: &mut Trail, at: Addr) -> Addr
         requires { CanFix F.layout self.old segs.old trail.old at }
@@ -239,11 +259,12 @@ impl<F: Format> Trace<F> {
         }
     }
 
-    /// Fixes the reference in a cell of the block at `at`: the block to which it leads is fixed, and the cell leads to where that then
-    /// lies. A null reference is left as it is.
+    /// Fixes the reference in a cell of the block at `at`: its block is fixed, and it leads to where that then lies. Null stays null.
     #[inline(always)]
     fn fix_cell(&mut self, segs: &mut Segs, trail: &mut Trail, format: &F, at: Addr, cell: u32)
         requires aligned { at.0 % bytes_of_word ≡ 0 }
+        requires held { (t : Segment) × (segment_over segs.old.segments at.0 ≡ Some t) }
+        requires at_most { cell < max_block_words }
         requires inside { word_of at.0 + cell < length segs.old.words }
         requires can { CanFixCell F.layout (F.layout format.now) self.old segs.old trail.old at cell }
         ensures fixed { FixesCell F.layout (F.layout format.now) self.old.formats self.old.chains at cell
@@ -251,22 +272,21 @@ impl<F: Format> Trace<F> {
         ensures unchanged { self.new ≡ record self.old { amc = self.new.amc } }
         ensures size { length segs.new.words ≡ length segs.old.words }
     {
-        let _ = segs.grains(); // so few that the address of a word fits
-        let place = Addr(at.0 + BYTES_OF_WORD * u64::from(cell));
-        let word = segs.word(place);
+        let words = segs.words_from(at);
+        let word = words[cell as usize];
         let target = format.target(word);
         if target.0 == 0 {
             return;
         }
         let to = self.fix(segs, trail, target);
-        segs.set_word(place, format.retarget(word, to));
-        segs.note_write(at, to);
+        segs.set_reference(at, cell, format.retarget(word, to), to);
     }
 
     /// Fixes the references of the block at `at` with this head, in ascending order.
     #[inline(always)]
     fn fix_cells(&mut self, segs: &mut Segs, trail: &mut Trail, format: &F, head: u64, at: Addr)
         requires aligned { at.0 % bytes_of_word ≡ 0 }
+        requires held { (t : Segment) × (segment_over segs.old.segments at.0 ≡ Some t) }
         requires valid { IsTrue ((F.layout format.now).is_valid head) }
         requires inside { word_of at.0 + (F.layout format.now).size head ≤ length segs.old.words }
         requires ready { AreReadyIn F.layout (F.layout format.now) self.old segs.old trail.old head at }
@@ -290,17 +310,14 @@ impl<F: Format> Trace<F> {
         ensures { (t : Segment) (format : Policy F) → segment_over segs.now.segments at.0 ≡ Some t
             → slice_get self.now.formats t.pool ≡ Some (Some format) → result ≡ format.format }
     {
-        let Some(segment) = segment_at(segs, at) else {
-            unreachable!()
-        };
-        let Some(format) = self.formats[segment.pool as usize] else {
+        let pool = segs.pool_over(at);
+        let Some(format) = self.formats[pool as usize] else {
             unreachable!()
         };
         format.format
     }
 
-    /// Scans the block at `at`: each block to which it refers is fixed, its references lead to where these then lie, and it is grey no
-    /// longer.
+    /// Scans the block at `at`: each of its references is fixed, and it is grey no longer.
     #[inline(always)]
     pub fn scan(&mut self, segs: &mut Segs, trail: &mut Trail, at: Addr)
         requires { CanScan F.layout self.old segs.old trail.old at }
@@ -333,8 +350,7 @@ impl<F: Format> Trace<F> {
         true
     }
 
-    /// Reclaims the segment at `base` as its pool does: what a collection didn't keep is freed, and the segment is given back if nothing
-    /// is left in it.
+    /// Reclaims the segment at `base` as its pool does: what wasn't kept is freed, and if nothing is left the segment is given back.
     pub fn reclaim(&self, segs: &mut Segs, trail: &mut Trail, base: Addr)
         requires { CanReclaimAt F.layout self.now segs.old trail.old base }
         ensures { Reclaims F.layout self.now.formats segs.old trail.old base segs.new trail.new }

@@ -1,6 +1,7 @@
-use Rattle.std.proofs.Common.{refl, ap, ◌∙◌}
+use Rattle.std.proofs.Common.{refl, ap, ◌∙◌, arith}
 use Rattle.mps_trace.specs.Trace.{TraceState, traced}
 use Rattle.mps_trace.specs.Scan.{begins, goes_on}
+use Rattle.mps_trace.proofs.Held.{over_run}
 use Rattle.mps_trace.proofs.Scanned.{can_still, fixes_still}
 use Rattle.mps_trace.proofs.trace.Trace.fix_cells.Goals as goal
 
@@ -24,3 +25,14 @@ loop-cell-preserved g c =
       c.fix_cell.ensures.unchanged ∙ ap Q c.loop-cell.invariant.1,
       c.fix_cell.ensures.size ∙ c.loop-cell.invariant.2,
     )
+
+pub fix_cell-requires-clause-held : goal.fix_cell-requires-clause-held
+fix_cell-requires-clause-held g c =
+    over_run g.F.Format.layout c.args.self.now.formats c.args.self.now.chains c.args.at.0 (g.F.Format.layout c.args.format.now) c.args.head
+    c.args.at c.loop-cell.invariant.0 c.requires.held
+
+pub fix_cell-requires-clause-at_most : goal.fix_cell-requires-clause-at_most
+fix_cell-requires-clause-at_most g c =
+    let laws = g.met.F.Format.lawful c.args.format.now in
+    let within = (laws.references c.args.head c.in-Some.cell c.requires.valid c.in-Some.ensures.sound.reference).1 in
+    omega (arith, within, (laws.sizes c.args.head c.requires.valid).1)
