@@ -85,12 +85,13 @@ fn is_idle<F: Format>(state: &State<F>) -> bool
 }
 
 /// Whether a `reserve` that passed its checks polls: in an unclamped arena, if nothing that is held has a place for the block.
-fn polls<F: Format>(state: &State<F>, r: Reserving) -> bool
-    requires there { IsClosedAt state.now.points r.point.key r.point.value }
-    requires nonzero { 0 < r.words }
-    ensures { result ≡ polls_for state.now (Ok r) }
+fn polls<F: Format>(state: &State<F>, key: u32, words: u32) -> bool
+    requires there { (p : Point) × IsClosedAt state.now.points key p }
+    requires nonzero { 0 < words }
+    ensures { (p : Point) → point_at state.now.points key ≡ Some p
+        → result ≡ polls_for state.now (Ok (record { point = record { key = key; value = p }; words = words })) }
 {
-    state.arena.is_unclamped() && !state.points.fits(&state.segs, r.point.key, r.words)
+    state.arena.is_unclamped() && !state.points.fits(&state.segs, key, words)
 }
 
 /// A poll: the collection that runs does 64 units, or fewer if it ends in them, and their moves are followed. If none runs, one of the
@@ -120,19 +121,20 @@ pub(crate) fn reserve_checked<F: Format>(
     trail: &mut Trail,
     name: Name,
     head: u64,
-    r: Reserving,
+    key: u32,
+    words: u32,
 ) -> Result<(), Refusal>
-    requires checked { check_reserve F.layout state.old name head ≡ Ok r }
-    requires there { IsClosedAt state.old.points r.point.key r.point.value }
-    requires nonzero { 0 < r.words }
-    requires at_most { r.words ≤ max_block_words }
+    requires checked { (p : Point) × IsClosedAt state.old.points key p
+        × (check_reserve F.layout state.old name head ≡ Ok (record { point = record { key = key; value = p }; words = words })) }
+    requires nonzero { 0 < words }
+    requires at_most { words ≤ max_block_words }
     requires ready { IsReady state.old }
     requires fits { 0 < trail.old.spare }
     ensures { ComesMoving state.old trail.old (after_reserve F.layout state.old trail.old name head) result state.new trail.new }
 {
     state
         .points
-        .reserve(&mut state.segs, trail, r.point.key, head, r.words)?;
+        .reserve(&mut state.segs, trail, key, head, words)?;
     Ok(())
 }
 
@@ -149,7 +151,7 @@ fn reserve_after_poll<F: Format>(
 {
     poll(state, trail);
     let r = check_reserve(state, name, head)?;
-    reserve_checked(state, trail, name, head, r)
+    reserve_checked(state, trail, name, head, r.point.key, r.words)
 }
 
 /// A `reserve` that passed its checks and polls. Where the poll does nothing the checks need not be made again.
@@ -158,20 +160,21 @@ fn reserve_polling<F: Format>(
     trail: &mut Trail,
     name: Name,
     head: u64,
-    r: Reserving,
+    key: u32,
+    words: u32,
 ) -> Result<(), Refusal>
-    requires checked { check_reserve F.layout state.old name head ≡ Ok r }
-    requires polls { IsTrue (polls_for state.old (Ok r)) }
-    requires there { IsClosedAt state.old.points r.point.key r.point.value }
-    requires nonzero { 0 < r.words }
-    requires at_most { r.words ≤ max_block_words }
+    requires checked { (p : Point) × IsClosedAt state.old.points key p
+        × (check_reserve F.layout state.old name head ≡ Ok (record { point = record { key = key; value = p }; words = words })) }
+    requires polls { IsTrue (polls_for state.old (check_reserve F.layout state.old name head)) }
+    requires nonzero { 0 < words }
+    requires at_most { words ≤ max_block_words }
     requires ready { IsReady state.old }
     requires fits { 0 < trail.old.spare }
     requires can { CanPoll F.layout state.old trail.old }
     ensures { HasReserved F.layout state.old trail.old name head result state.new trail.new }
 {
     if is_idle(state) {
-        return reserve_checked(state, trail, name, head, r);
+        return reserve_checked(state, trail, name, head, key, words);
     }
     reserve_after_poll(state, trail, name, head)
 }
@@ -183,21 +186,22 @@ pub(crate) fn reserve_with_work<F: Format>(
     trail: &mut Trail,
     name: Name,
     head: u64,
-    r: Reserving,
+    key: u32,
+    words: u32,
 ) -> Result<(), Refusal>
-    requires checked { check_reserve F.layout state.old name head ≡ Ok r }
-    requires there { IsClosedAt state.old.points r.point.key r.point.value }
-    requires nonzero { 0 < r.words }
-    requires at_most { r.words ≤ max_block_words }
+    requires checked { (p : Point) × IsClosedAt state.old.points key p
+        × (check_reserve F.layout state.old name head ≡ Ok (record { point = record { key = key; value = p }; words = words })) }
+    requires nonzero { 0 < words }
+    requires at_most { words ≤ max_block_words }
     requires ready { IsReady state.old }
     requires fits { 0 < trail.old.spare }
     requires can { CanPoll F.layout state.old trail.old }
     ensures { HasReserved F.layout state.old trail.old name head result state.new trail.new }
 {
-    if polls(state, r) {
-        return reserve_polling(state, trail, name, head, r);
+    if polls(state, key, words) {
+        return reserve_polling(state, trail, name, head, key, words);
     }
-    reserve_checked(state, trail, name, head, r)
+    reserve_checked(state, trail, name, head, key, words)
 }
 
 /// Reserves a block with this head at a point. Refuses `BadHead` if the pool takes no such block, `Open` if the point has an
@@ -216,9 +220,9 @@ pub fn reserve<F: Format>(
 {
     let r = check_reserve(state, name, head)?;
     if has_work(state) {
-        return reserve_with_work(state, trail, name, head, r);
+        return reserve_with_work(state, trail, name, head, r.point.key, r.words);
     }
-    reserve_checked(state, trail, name, head, r)
+    reserve_checked(state, trail, name, head, r.point.key, r.words)
 }
 
 /// The block that a reservation is to become.

@@ -53,9 +53,9 @@ pub fn reserve<F: Format>(
 {
     let r = check_reserve(state, x, head)?;
     if has_work(state) {
-        return reserve_with_work(state, trail, x.value, head, r);
+        return reserve_with_work(state, trail, x.value, head, r.point.key, r.words);
     }
-    reserve_checked(state, trail, x.value, head, r)
+    reserve_checked(state, trail, x.value, head, r.point.key, r.words)
 }
 
 /// Writes the number in cell `k` of the reservation of a point. Refuses `NotOpen` if it has none.

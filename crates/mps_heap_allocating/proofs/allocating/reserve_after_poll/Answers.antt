@@ -18,3 +18,6 @@ returns-in_err-r g c =
       comes = refused_after layout h m c.poll.new.state c.poll.new.trail c.args.name c.args.head c.in_err-r.field-0.0
           (sym c.in_err-r.ensures.value) c.from_residual.result (given.1 ∙ ap Err given.2);
     }
+
+pub reserve_checked-requires-clause-checked : goal.reserve_checked-requires-clause-checked
+reserve_checked-requires-clause-checked g c = (c.in_ok-r.r.point.value, c.in_ok-r.ensures.closed, sym c.in_ok-r.ensures.value)

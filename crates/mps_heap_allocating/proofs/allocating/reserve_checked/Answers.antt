@@ -5,6 +5,6 @@ use Rattle.mps_heap_allocating.proofs.allocating.reserve_checked.Goals as goal
 
 pub reserve-requires-clause-there : goal.reserve-requires-clause-there
 reserve-requires-clause-there g c =
-    let point = c.args.r.point in
-    let P : HeapState g.row.F.Denot → Type 0 = λ h. MayReserve h point.key in
-    subst P (sym c.state.view_is) (may_reserve c.args.state.now point.key point.value c.requires.ready c.requires.there)
+    let passed = c.requires.checked in
+    let P : HeapState g.row.F.Denot → Type 0 = λ h. MayReserve h c.args.key in
+    subst P (sym c.state.view_is) (may_reserve c.args.state.now c.args.key passed.0 c.requires.ready passed.1)

@@ -1,5 +1,4 @@
-use Rattle.std.proofs.Common.{◌∙◌, Ok, sym, ap, subst}
-use Rattle.mps_heap_spec.specs.Polling.{IsPolled, polls_for}
+use Rattle.mps_heap_spec.specs.Allocating.{check_reserve}
 use Rattle.mps_heap_allocating.proofs.Polling.{nothing_polled, polled_so}
 use Rattle.mps_heap_allocating.proofs.allocating.reserve_polling.Goals as goal
 
@@ -12,10 +11,7 @@ returns-then-is_idle g c =
     record {
       polled = h;
       trail_polled = m;
-      poll = subst (λ x. IsPolled layout h m x h m) (sym c.requires.checked)
-          (polled_so layout h m h m (Ok c.args.r) c.requires.polls (nothing_polled layout h m idle.0 idle.1));
+      poll = polled_so layout h m h m (check_reserve layout h c.args.name c.args.head) c.requires.polls
+          (nothing_polled layout h m idle.0 idle.1);
       comes = c.reserve_checked.ensures;
     }
-
-pub reserve_after_poll-requires-clause-polls : goal.reserve_after_poll-requires-clause-polls
-reserve_after_poll-requires-clause-polls g c = ap (polls_for c.args.state.now) c.requires.checked ∙ c.requires.polls

@@ -23,3 +23,9 @@ returns g c =
           (unpolled_so layout h m (Ok c.in_ok-r.r) (λ polling. nothing_polled layout h m idle.0 idle.1));
       comes = c.reserve_checked.ensures;
     }
+
+pub reserve_with_work-requires-clause-checked : goal.reserve_with_work-requires-clause-checked
+reserve_with_work-requires-clause-checked g c = (c.in_ok-r.r.point.value, c.in_ok-r.ensures.closed, sym c.in_ok-r.ensures.value)
+
+pub reserve_checked-requires-clause-checked : goal.reserve_checked-requires-clause-checked
+reserve_checked-requires-clause-checked g c = (c.in_ok-r.r.point.value, c.in_ok-r.ensures.closed, sym c.in_ok-r.ensures.value)
