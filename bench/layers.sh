@@ -6,13 +6,13 @@ home=$(cd "$(dirname "$0")/.." && pwd)
 folder=$(mktemp -d)
 cd "$folder" || exit 1
 mkdir crates
-for crate in mps_base mps_names mps_final; do
+for crate in mps_base mps_keys mps_names mps_final; do
     mkdir "crates/$crate"
     for part in src specs proofs; do
         [ -d "$home/crates/$crate/$part" ] && cp -r "$home/crates/$crate/$part" "crates/$crate/$part"
     done
 done
-grep -E '^mps_(base|names|final):' "$home/crates.txt" > crates.txt
+grep -E '^mps_(base|keys|names|final):' "$home/crates.txt" > crates.txt
 echo 'layer_times: mps_base mps_names mps_final' >> crates.txt
 program=crates/layer_times
 mkdir -p $program/src

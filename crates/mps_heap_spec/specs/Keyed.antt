@@ -5,7 +5,7 @@ use Rattle.mps_base.specs.declared.names.Slot.{Slot}
 use Rattle.mps_model.specs.Checked.{Checked}
 use Rattle.mps_names.specs.Keys.{KeysState, KeysWithout, area_name, no_keys, point_name, table_name}
 use Rattle.mps_names.specs.State.{thing_named}
-use Rattle.mps_names.specs.declared.keys.PointKey.{PointKey}
+use Rattle.mps_keys.specs.declared.keys.PointKey.{PointKey}
 use Rattle.mps_names.specs.declared.names.Thing.TheVariants as thing
 use Rattle.mps_heap_spec.specs.State.{HeapState}
 use Rattle.mps_heap_spec.specs.declared.found.KeyedSlot.{KeyedSlot}

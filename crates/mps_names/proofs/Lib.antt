@@ -1,4 +1,3 @@
-mod Bytes
 mod Joined
 mod Once
 mod ThreeTables

@@ -3,8 +3,8 @@ use Rattle.std.specs.Prelude.{ℕ, ◌≡◌, ◌≤◌, false, Option, Some, No
 use Rattle.std.specs.Map.{lookup}
 use Rattle.mps_base.specs.declared.names.Name.{Name}
 use Rattle.mps_base.specs.Name.{same_name}
-use Rattle.mps_names.specs.Keys.{GivenState, KeysState, stamp_at}
-use Rattle.mps_names.specs.declared.given.Stamp.{Stamp}
+use Rattle.mps_keys.specs.Keys.{GivenState, KeysState, stamp_at, without_name}
+use Rattle.mps_keys.specs.declared.given.Stamp.{Stamp}
 use Rattle.mps_names.specs.declared.names.Thing.{Thing}
 use Rattle.mps_names.specs.declared.names.Thing.TheVariants as thing
 use Rattle.mps_names.specs.State.{NameCounts, thing_in, has_own_room, most_label_names, most_cache_names, most_transform_names}
@@ -87,6 +87,13 @@ pub record AreKeysOf (entries : List (Name × Thing)) (k : KeysState) : Type 0 w
   pub tables : HaveNames entries table k.tables
   pub areas : HaveNames entries area k.areas
   pub points : HaveNames entries point k.points
+
+-- the keys where that of a thing which had a name, if it was one, is good no more
+abbrev pub keys_without : KeysState → Name → Option Thing → KeysState
+keys_without k name (Some (thing.Table place)) = record k { tables = without_name k.tables place name }
+keys_without k name (Some (thing.Area place)) = record k { areas = without_name k.areas place name }
+keys_without k name (Some (thing.Point place)) = record k { points = without_name k.points place name }
+keys_without k name _ = k
 
 -- what the type of all names keeps
 pub record AreNames (things : List (Name × Thing)) (tables : TablesState) (k : KeysState) : Type 0 where

@@ -5,7 +5,7 @@ use Rattle.mps_base.specs.declared.names.Name.{Name}
 use Rattle.mps_names.specs.declared.names.Thing.{Thing}
 use Rattle.mps_names.specs.declared.names.Thing.TheVariants as thing
 use Rattle.mps_base.specs.Name.{same_name}
-use Rattle.mps_names.specs.Keys.{KeysState, KeysWithout, no_keys}
+use Rattle.mps_keys.specs.Keys.{KeysState, KeysWithout, no_keys}
 
 -- How many labels, caches and transforms have names.
 pub record NameCounts : Type 0 where

@@ -1,12 +1,11 @@
 // A name as the key of a map.
-ghost use Rattle.std.specs.Prelude.{◌≡◌, [], ◌∷◌, length};
-ghost use Rattle.std.specs.Int.{w64, from_le_bytes, to_le_bytes};
-ghost use Rattle.std.specs.Str.{bytes_eq};
+ghost use Rattle.std.specs.Prelude.{[], ◌∷◌};
 ghost use Rattle.std.proofs.Common.{rules};
 ghost use Rattle.std.specs.Cmp.Rules.{comparing, hashing};
 ghost use Rattle.mps_base.specs.Name.{same_name};
 
 use mps_base::Name;
+use mps_keys::are_same;
 use std::hash::{Hash, Hasher};
 use std::marker::Model;
 
@@ -46,25 +45,4 @@ impl Hash for Key {
     fn hash<H: Hasher>(&self, state: &mut H) {
         state.write(&self.name.bytes);
     }
-}
-
-/// Whether the bytes of two names are the same. They are compared as two numbers.
-#[inline(always)]
-pub(crate) fn are_same(these: &[u8; 16], those: &[u8; 16]) -> bool
-    ensures { result ≡ bytes_eq these.now those.now }
-{
-    number_of(&these[..8]) == number_of(&those[..8])
-        && number_of(&these[8..]) == number_of(&those[8..])
-}
-
-/// Eight bytes as a number, the lowest first.
-#[inline(always)]
-fn number_of(bytes: &[u8]) -> u64
-    requires { length bytes.now ≡ 8 }
-    ensures value { result ≡ from_le_bytes w64 bytes.now }
-    ensures bytes { to_le_bytes w64 result ≡ bytes.now }
-{
-    u64::from_le_bytes([
-        bytes[0], bytes[1], bytes[2], bytes[3], bytes[4], bytes[5], bytes[6], bytes[7],
-    ])
 }

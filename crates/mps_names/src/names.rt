@@ -3,13 +3,14 @@
 
 ghost use Rattle.std.specs.Prelude.{◌≡◌, ◌<◌, nat_lt, [], None, Some, option_and_then, IfErr, IfNone, IfOk, IfSome, OnOk, IsSome};
 ghost use Rattle.mps_names.specs.declared.names.Thing.TheVariants as thing;
-ghost use Rattle.mps_names.specs.Keys.{CannotGive, KeysGoOn, area_name, no_keys, point_name, table_name};
+ghost use Rattle.mps_keys.specs.Keys.{CannotGive, KeysGoOn, area_name, no_keys, point_name, table_name};
+ghost use Rattle.mps_names.specs.Inside.{keys_without};
 ghost use Rattle.mps_names.specs.State.{NamesState, thing_named, as_cache, as_label, HasKeys, IsSameMap, Updates, no_counts, has_own_room, own_room, room_for};
 
 use crate::key::Key;
-use crate::keys::{AreaKey, Keys, PointKey, TableKey};
 use crate::tables::Tables;
 use mps_base::{Name, Refusal};
+use mps_keys::{AreaKey, Keys, PointKey, TableKey};
 use std::alloc::{AllocError, Global};
 use std::collections::HashMap;
 use std::marker::Model;
@@ -164,11 +165,11 @@ impl Names {
         ensures dropped { Updates self.old self.new name None }
     {
         if let Some(thing) = self.things.remove(&Key { name }) {
-            self.keys.drop_thing(name, Some(thing));
+            drop_key(&mut self.keys, name, Some(thing));
             return Some(thing);
         }
         let dropped = self.tables.drop_name(name);
-        self.keys.drop_thing(name, dropped);
+        drop_key(&mut self.keys, name, dropped);
         dropped
     }
 
@@ -227,7 +228,7 @@ impl Names {
         ensures value { result ≡ table_name self.now.keys key }
         ensures named { IfSome result (λ name. thing_named self.now name ≡ Some (thing.Table key.place)) }
     {
-        self.keys.tables.name_by(key.place, key.count)
+        self.keys.table_name(key)
     }
 
     /// The name of the area that has a key; none if the key isn't good.
@@ -236,7 +237,7 @@ impl Names {
         ensures value { result ≡ area_name self.now.keys key }
         ensures named { IfSome result (λ name. thing_named self.now name ≡ Some (thing.Area key.place)) }
     {
-        self.keys.areas.name_by(key.place, key.count)
+        self.keys.area_name(key)
     }
 
     /// The name of the point that has a key; none if the key isn't good.
@@ -245,6 +246,18 @@ impl Names {
         ensures value { result ≡ point_name self.now.keys key }
         ensures named { IfSome result (λ name. thing_named self.now name ≡ Some (thing.Point key.place)) }
     {
-        self.keys.points.name_by(key.place as usize, key.count)
+        self.keys.point_name(key)
+    }
+}
+
+/// The key of what had a name, if it has one, is good no more.
+fn drop_key(keys: &mut Keys, name: Name, thing: Option<Thing>)
+    ensures gone { keys.new ≡ keys_without keys.old name thing }
+{
+    match thing {
+        Some(Thing::Table(place)) => keys.drop_table(place, name),
+        Some(Thing::Area(place)) => keys.drop_area(place, name),
+        Some(Thing::Point(place)) => keys.drop_point(place, name),
+        _ => {}
     }
 }

@@ -6,8 +6,8 @@ ghost use Rattle.std.specs.List.{position};
 ghost use Rattle.mps_base.specs.Name.{same_name};
 ghost use Rattle.mps_names.specs.Inside.{ChangesAt, found_in};
 
-use crate::key::are_same;
 use mps_base::Name;
+use mps_keys::are_same;
 use std::alloc::{AllocError, Global};
 use std::marker::Model;
 

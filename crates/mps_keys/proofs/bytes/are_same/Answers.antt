@@ -1,6 +1,6 @@
 use Rattle.std.proofs.Common.{rules}
-use Rattle.mps_names.proofs.Bytes.{last_half}
-use Rattle.mps_names.proofs.key.are_same.Goals as goal
+use Rattle.mps_keys.proofs.Halves.{last_half}
+use Rattle.mps_keys.proofs.bytes.are_same.Goals as goal
 
 pub returns-then-number_of : goal.returns-then-number_of
 returns-then-number_of c =

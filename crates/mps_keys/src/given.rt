@@ -3,9 +3,9 @@
 
 ghost use Rattle.std.specs.Prelude.{◌≡◌, ◌<◌, true, false, None, IfOk, IfSome, IfNone, length};
 ghost use Rattle.mps_base.specs.Name.{same_name};
-ghost use Rattle.mps_names.specs.Keys.{AreAllBelow, none_given, stamp_at, name_by, without_name, without_stamp, IsOneMore, CannotGive, most_places};
+ghost use Rattle.mps_keys.specs.Keys.{AreAllBelow, none_given, stamp_at, name_by, without_name, without_stamp, IsOneMore, CannotGive, most_places};
 
-use crate::key::are_same;
+use crate::bytes::are_same;
 use mps_base::Name;
 use std::alloc::{AllocError, Global};
 use std::marker::Model;
@@ -29,7 +29,7 @@ pub(crate) struct Given {
 }
 
 impl Model for Given {
-    ghost use Rattle.mps_names.specs.Keys.{GivenState, AreCounted};
+    ghost use Rattle.mps_keys.specs.Keys.{GivenState, AreCounted};
 
     ghost Value = { GivenState };
 

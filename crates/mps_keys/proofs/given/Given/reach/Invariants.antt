@@ -1,7 +1,7 @@
 use Rattle.std.proofs.Common.{◌≡◌, ◌-◌, ◌+◌, ◌≤◌, ℕ, None, get_or, length}
 use Rattle.std.specs.Vec.{vec_capacity}
-use Rattle.mps_names.specs.Keys.{most_places, stamp_at}
-use Rattle.mps_names.proofs.given.Given.reach.Given as goal
+use Rattle.mps_keys.specs.Keys.{most_places, stamp_at}
+use Rattle.mps_keys.proofs.given.Given.reach.Given as goal
 
 -- nothing is noted at the places that were added
 abbrev pub invariant-loop-self : goal.invariant-loop-self

@@ -4,12 +4,10 @@ use Rattle.std.specs.Global.{Vec}
 use Rattle.std.specs.Vec.{vec_capacity}
 use Rattle.mps_base.specs.declared.names.Name.{Name}
 use Rattle.mps_base.specs.Name.{same_name}
-use Rattle.mps_names.specs.declared.given.Stamp.{Stamp}
-use Rattle.mps_names.specs.declared.keys.TableKey.{TableKey}
-use Rattle.mps_names.specs.declared.keys.AreaKey.{AreaKey}
-use Rattle.mps_names.specs.declared.keys.PointKey.{PointKey}
-use Rattle.mps_names.specs.declared.names.Thing.{Thing}
-use Rattle.mps_names.specs.declared.names.Thing.TheVariants as thing
+use Rattle.mps_keys.specs.declared.given.Stamp.{Stamp}
+use Rattle.mps_keys.specs.declared.keys.TableKey.{TableKey}
+use Rattle.mps_keys.specs.declared.keys.AreaKey.{AreaKey}
+use Rattle.mps_keys.specs.declared.keys.PointKey.{PointKey}
 
 -- Keys of things of one kind: by place the count and the name of the one that was given out, and how many ever were.
 pub record GivenState : Type 0 where
@@ -76,13 +74,6 @@ area_name k key = name_by k.areas key.place key.count
 
 abbrev pub point_name : KeysState → PointKey → Option Name
 point_name k key = name_by k.points key.place key.count
-
--- the keys where that of a thing which had a name, if it was one, is good no more
-abbrev pub keys_without : KeysState → Name → Option Thing → KeysState
-keys_without k name (Some (thing.Table place)) = record k { tables = without_name k.tables place name }
-keys_without k name (Some (thing.Area place)) = record k { areas = without_name k.areas place name }
-keys_without k name (Some (thing.Point place)) = record k { points = without_name k.points place name }
-keys_without k name _ = k
 
 -- a name, if it isn't this one
 abbrev pub unless_named : Name → Option Name → Option Name

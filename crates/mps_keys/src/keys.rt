@@ -2,10 +2,9 @@
 #![tactic(auto)]
 
 ghost use Rattle.std.specs.Prelude.{◌≡◌, IfNone, IfOk, IfSome};
-ghost use Rattle.mps_names.specs.Keys.{CannotGive, IsOneMore, no_keys, keys_without};
+ghost use Rattle.mps_keys.specs.Keys.{CannotGive, IsOneMore, area_name, no_keys, point_name, table_name, without_name};
 
 use crate::given::Given;
-use crate::names::Thing;
 use mps_base::Name;
 use std::alloc::{AllocError, Global};
 use std::marker::Model;
@@ -39,14 +38,14 @@ pub struct PointKey {
 
 /// The keys that were given out. `new` is the only call that allocates.
 #[derive(Drop)]
-pub(crate) struct Keys {
-    pub(crate) tables: Given,
-    pub(crate) areas: Given,
-    pub(crate) points: Given,
+pub struct Keys {
+    tables: Given,
+    areas: Given,
+    points: Given,
 }
 
 impl Model for Keys {
-    ghost use Rattle.mps_names.specs.Keys.{KeysState};
+    ghost use Rattle.mps_keys.specs.Keys.{KeysState};
 
     ghost Value = { KeysState };
 
@@ -55,7 +54,7 @@ impl Model for Keys {
 
 impl Keys {
     /// No key was given out.
-    pub(crate) fn new(alloc: Global) -> Result<Keys, AllocError>
+    pub fn new(alloc: Global) -> Result<Keys, AllocError>
         ensures { IfOk result (λ keys. keys ≡ no_keys) }
     {
         Ok(Keys {
@@ -65,20 +64,8 @@ impl Keys {
         })
     }
 
-    /// The thing that has a name is dropped, and its key, if it has one, is good no more.
-    pub(crate) fn drop_thing(&mut self, name: Name, thing: Option<Thing>)
-        ensures gone { self.new ≡ keys_without self.old name thing }
-    {
-        match thing {
-            Some(Thing::Table(place)) => self.tables.take_back(place, name),
-            Some(Thing::Area(place)) => self.areas.take_back(place, name),
-            Some(Thing::Point(place)) => self.points.take_back(place as usize, name),
-            _ => {}
-        }
-    }
-
     /// The count of the key of the table at a place, which has this name.
-    pub(crate) fn give_table(&mut self, place: usize, name: Name) -> Option<u64>
+    pub fn give_table(&mut self, place: usize, name: Name) -> Option<u64>
         ensures given { IfSome result (λ count. IsOneMore self.old.tables self.new.tables place name count) }
         ensures none { IfNone result (CannotGive self.old.tables place name) }
         ensures unchanged { IfNone result (self.new ≡ self.old) }
@@ -89,7 +76,7 @@ impl Keys {
     }
 
     /// The count of the key of the area at a place, which has this name.
-    pub(crate) fn give_area(&mut self, place: usize, name: Name) -> Option<u64>
+    pub fn give_area(&mut self, place: usize, name: Name) -> Option<u64>
         ensures given { IfSome result (λ count. IsOneMore self.old.areas self.new.areas place name count) }
         ensures none { IfNone result (CannotGive self.old.areas place name) }
         ensures unchanged { IfNone result (self.new ≡ self.old) }
@@ -100,7 +87,7 @@ impl Keys {
     }
 
     /// The count of the key of the point at a place, which has this name.
-    pub(crate) fn give_point(&mut self, place: u32, name: Name) -> Option<u64>
+    pub fn give_point(&mut self, place: u32, name: Name) -> Option<u64>
         ensures given { IfSome result (λ count. IsOneMore self.old.points self.new.points place name count) }
         ensures none { IfNone result (CannotGive self.old.points place name) }
         ensures unchanged { IfNone result (self.new ≡ self.old) }
@@ -108,5 +95,50 @@ impl Keys {
         ensures areas { self.new.areas ≡ self.old.areas }
     {
         self.points.give(place as usize, name)
+    }
+
+    /// The key of the table at a place, if it was given out for this name, is good no more.
+    pub fn drop_table(&mut self, place: usize, name: Name)
+        ensures { self.new ≡ record self.old { tables = without_name self.old.tables place name } }
+    {
+        self.tables.take_back(place, name)
+    }
+
+    /// The key of the area at a place, if it was given out for this name, is good no more.
+    pub fn drop_area(&mut self, place: usize, name: Name)
+        ensures { self.new ≡ record self.old { areas = without_name self.old.areas place name } }
+    {
+        self.areas.take_back(place, name)
+    }
+
+    /// The key of the point at a place, if it was given out for this name, is good no more.
+    pub fn drop_point(&mut self, place: u32, name: Name)
+        ensures { self.new ≡ record self.old { points = without_name self.old.points place name } }
+    {
+        self.points.take_back(place as usize, name)
+    }
+
+    /// The name of the table that has a key; none if the key isn't good.
+    #[inline(always)]
+    pub fn table_name(&self, key: TableKey) -> Option<Name>
+        ensures { result ≡ table_name self.now key }
+    {
+        self.tables.name_by(key.place, key.count)
+    }
+
+    /// The name of the area that has a key; none if the key isn't good.
+    #[inline(always)]
+    pub fn area_name(&self, key: AreaKey) -> Option<Name>
+        ensures { result ≡ area_name self.now key }
+    {
+        self.areas.name_by(key.place, key.count)
+    }
+
+    /// The name of the point that has a key; none if the key isn't good.
+    #[inline(always)]
+    pub fn point_name(&self, key: PointKey) -> Option<Name>
+        ensures { result ≡ point_name self.now key }
+    {
+        self.points.name_by(key.place as usize, key.count)
     }
 }

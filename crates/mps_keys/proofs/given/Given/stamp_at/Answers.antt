@@ -1,6 +1,6 @@
 use Rattle.std.proofs.Common.{subst}
-use Rattle.mps_names.specs.Keys.{AreAllBelow}
-use Rattle.mps_names.proofs.given.Given.stamp_at.Goals as goal
+use Rattle.mps_keys.specs.Keys.{AreAllBelow}
+use Rattle.mps_keys.proofs.given.Given.stamp_at.Goals as goal
 
 pub returns-in-Some-clause-counted : goal.returns-in-Some-clause-counted
 returns-in-Some-clause-counted c = subst AreAllBelow c.self.view_is c.self.invariant.below
