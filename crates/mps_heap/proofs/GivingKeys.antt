@@ -13,7 +13,8 @@ use Rattle.mps_refinement.specs.StandsForSome.{StandsForSome}
 use Rattle.mps_refinement.proofs.Parts.PartsMade.{untouched_parts}
 
 -- a thing of a kind gets no key only if there is none for its place
-abbrev pub GivesNone : {K : Type 0} → (given : NamesState → GivenState) (kind : ℕ → Thing) → NamesState → Name → (result : Option K) → Type 0
+abbrev pub GivesNone : {K : Type 0} → (given : NamesState → GivenState) (kind : ℕ → Thing) → NamesState → Name → (result : Option K)
+    → Type 0
 GivesNone given kind names name result =
     IfNone result ((place : ℕ) → thing_named names name ≡ Some (kind place) → CannotGive (given names) place name)
 

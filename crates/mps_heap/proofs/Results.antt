@@ -1,5 +1,5 @@
 -- What was right of a result is right of what is made of it.
-use Rattle.std.proofs.Common.{◌≡◌, ℕ, refl, sym, subst, [], Result, Ok, Err}
+use Rattle.std.proofs.Common.{◌≡◌, ℕ, refl, sym, ap, subst, [], Result, Ok, Err}
 use Rattle.mps_base.specs.declared.address.Addr.{Addr}
 use Rattle.mps_base.specs.declared.refusal.Refusal.{Refusal}
 use Rattle.mps_base.specs.declared.refusal.Refusal.TheVariants as refusal
@@ -9,14 +9,14 @@ use Rattle.mps_model.specs.declared.call.Call.TheVariants as call
 use Rattle.mps_model.specs.World.{World}
 use Rattle.mps_heap_spec.specs.Arena.{BlockBegins, IsNotDumped}
 use Rattle.mps_heap_spec.specs.State.{HeapState}
-use Rattle.mps_refinement.specs.Answering.{answer_to}
+use Rattle.mps_refinement.specs.Answering.{answer_to, says_word}
 use Rattle.mps_refinement.specs.Making.{IsRightMaking, IsRightMakingIn}
 use Rattle.mps_refinement.specs.RightStep.{IsRight}
 use Rattle.mps_refinement.specs.InWorlds.{SaysLength}
 use Rattle.mps_refinement.proofs.Calls.InWorlds.{says_length}
 use Rattle.mps_refinement.proofs.Calls.Dumps.{dump_answers, none_there, not_dumped_is_right}
-use Rattle.mps_heap.specs.Answers.{says_words}
-use Rattle.mps_heap.specs.Results.{without_key}
+use Rattle.mps_heap.specs.Answers.{says_address, says_words}
+use Rattle.mps_heap_making.specs.Results.{without_key}
 use Rattle.std.specs.Prelude.{IfOk, MatchResult, false, is_some}
 
 module _ {F : Type 0} (layout : F → Layout) where
@@ -48,6 +48,12 @@ module _ {F : Type 0} (layout : F → Layout) where
             right.out_of_memory refl;
       }
       of_made (Err _) right = record { answered = λ other. right.answered (λ e. absurd cc); out_of_memory = λ e. absurd cc }
+
+  pub address_is_said : (at : Result ℕ Refusal) (result : Result Addr Refusal)
+      → MatchResult result (λ address. at ≡ Ok address.0) (λ why. at ≡ Err why)
+      → answer_to says_address result ≡ answer_to says_word at
+  address_is_said at (Ok address) is = sym (ap (answer_to says_word) is)
+  address_is_said at (Err why) is = sym (ap (answer_to says_word) is)
 
   pub dump_is_right_of : (h : HeapState F) (at : Addr) (result : Result ℕ Refusal)
       → MatchResult result (λ words. (is_some h.running ≡ false) × BlockBegins h at.0 words) (λ why. IsNotDumped h at.0 why)

@@ -1,12 +1,7 @@
 -- What is said of a result.
-use Rattle.std.specs.Prelude.{ℕ, ◌≡◌, Option, IfNone, Result, Ok, Err}
+use Rattle.std.specs.Prelude.{◌≡◌, Option, IfNone, Result, Err}
 use Rattle.mps_base.specs.declared.refusal.Refusal.{Refusal}
 use Rattle.mps_base.specs.declared.refusal.Refusal.TheVariants as refusal
-
--- without the key under which a thing was made
-abbrev pub without_key : Result ℕ Refusal → Result (Unit {0}) Refusal
-without_key (Ok key) = Ok tt
-without_key (Err why) = Err why
 
 -- a call by keys is refused if they stand for nothing, and changes nothing
 abbrev pub RefusesStale : {X A S : Type 0} → (found : Option X) → Result A Refusal → (before after : S) → Type 0

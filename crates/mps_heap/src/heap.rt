@@ -16,7 +16,6 @@ mod making;
 mod manual;
 mod objects;
 mod pairing;
-mod results;
 mod transforming;
 
 ghost use Rattle.std.specs.Prelude.{◌≡◌, ◌≤◌, ◌<◌, slice_get, IfOk};

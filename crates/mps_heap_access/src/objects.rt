@@ -1,5 +1,5 @@
 // The calls on slots and objects.
-ghost use Rattle.std.specs.Prelude.{◌≡◌, ◌<◌, Some, Err, OnOk, IfErr};
+ghost use Rattle.std.specs.Prelude.{◌≡◌, ◌<◌, Some, Ok, Err, OnOk, IfErr, MatchResult};
 ghost use Rattle.mps_heap_spec.specs.Tagging.{tag_count};
 ghost use Rattle.mps_heap_spec.specs.Coming.{Comes};
 ghost use Rattle.mps_trace.specs.Trace.{Traced};
@@ -71,6 +71,13 @@ pub fn addr<F: Format>(state: &State<F>, slot: Slot) -> Result<u64, Refusal>
 {
     let object = state.object_in(slot)?;
     Ok(object.at)
+}
+
+/// An address, as a type of its own.
+pub fn as_address(at: Result<u64, Refusal>) -> Result<Addr, Refusal>
+    ensures same { MatchResult result (λ address. at ≡ Ok address.0) (λ why. at ≡ Err why) }
+{
+    Ok(Addr(at?))
 }
 
 /// The number in cell `k` of the object in a slot. Refuses `BadIndex` past the last cell, and `NotANumber` if the cell is a

@@ -8,11 +8,11 @@ ghost use Rattle.mps_refinement.specs.Answering.{answer_to, says_bool, says_ok};
 ghost use Rattle.mps_refinement.specs.Making.{IsRightMaking};
 
 use super::Heap;
-use super::results::without_key;
 use mps_base::{Name, Refusal, Slot};
 use mps_format::Format;
 use mps_heap_labelling::depending;
 use mps_heap_making::making;
+use mps_heap_making::results::without_key;
 
 impl<F: Format> Heap<F> {
     /// Makes a dependency on nothing. Refuses `NameTaken`, `TooMany` if there are 256, and `OutOfMemory`.

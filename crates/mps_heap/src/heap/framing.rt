@@ -11,11 +11,11 @@ ghost use Rattle.mps_refinement.specs.RightMoving.{IsRightMoving, KeepsRoom};
 ghost use Rattle.mps_refinement.specs.RightStep.{IsRight};
 
 use super::Heap;
-use super::results::without_key;
 use mps_base::{Name, Refusal, Trail};
 use mps_format::Format;
 use mps_heap_framing::framing;
 use mps_heap_making::making;
+use mps_heap_making::results::without_key;
 
 impl<F: Format> Heap<F> {
     /// Makes a manual pool of blocks of any sizes that are freed frame by frame: of stack-like frames. A block that is made while no frame

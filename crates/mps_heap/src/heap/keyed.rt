@@ -20,10 +20,10 @@ ghost use Rattle.mps_heap.specs.Answers.{says_address};
 ghost use Rattle.mps_heap.specs.Results.{RefusesStale};
 
 use super::Heap;
-use super::results::as_address;
 use mps_base::{Addr, Name, Refusal, Trail};
 use mps_format::Format;
 use mps_heap_access::keyed;
+use mps_heap_access::objects::as_address;
 use mps_heap_allocating::keyed as allocating;
 use mps_heap_spec::{Committed, KeyedSlot, KeyedWord};
 use mps_heap_state::units;

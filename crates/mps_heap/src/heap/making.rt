@@ -11,10 +11,10 @@ ghost use Rattle.mps_refinement.specs.Making.{IsRightMaking, IsRightMakingIn, Me
 ghost use Rattle.mps_heap_spec.specs.Keyed.{DropsKeys};
 
 use super::Heap;
-use super::results::without_key;
 use mps_base::{Kind, Name, Rank, Refusal};
 use mps_format::Format;
 use mps_heap_making::making;
+use mps_heap_making::results::without_key;
 
 impl<F: Format> Heap<F> {
     /// Makes a chain whose generations have these capacities, in grains. Refuses `NameTaken`, `TooMany` if there are 16, and

@@ -12,10 +12,9 @@ ghost use Rattle.mps_refinement.specs.Answering.{answer_to, says_bool, says_head
 ghost use Rattle.mps_heap.specs.Answers.{says_address};
 
 use super::Heap;
-use super::results::as_address;
 use mps_base::{Addr, Refusal, Slot, Trail};
 use mps_format::Format;
-use mps_heap_access::objects;
+use mps_heap_access::objects::{self, as_address};
 
 impl<F: Format> Heap<F> {
     /// A slot becomes what another is.
