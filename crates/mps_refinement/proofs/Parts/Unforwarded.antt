@@ -2,25 +2,19 @@
 use Rattle.std.proofs.Common.{◌≡◌, ◌∙◌, ℕ, ◌+◌, ◌<◌, Bool, true, false, sym, ap, Option, Some, List, length}
 use Rattle.std.proofs.lemmas.Bool.{false≢true}
 use Rattle.std.proofs.lemmas.Option.{none-some, same_Some}
-use Rattle.std.specs.Prelude.{slice_get}
 use Rattle.std.specs.Option.{option_map_or}
-use Rattle.mps_base.specs.Address.{Address, Id, word_of}
+use Rattle.mps_base.specs.Address.{Address, word_of}
 use Rattle.mps_model.specs.Graph.{Object, entry_at}
 use Rattle.mps_model.specs.World.{World, is_copying_pool}
 use Rattle.mps_abstract.specs.Colours.{Colours}
 use Rattle.mps_trace_laws.specs.Image.Memory.{Setting, Memory}
 use Rattle.mps_trace_laws.specs.Image.Image.{CellSet, ImageStands}
 use Rattle.mps_trace_laws.specs.Image.Changes.{IsOfNoMovedBlock, AreHome}
+use Rattle.mps_trace_laws.specs.Fix.Tracing.{AreStill}
 use Rattle.mps_refinement.specs.StandsFor.{AreOfFlip, CollectorState, IsInTime, Time, rests, runs}
 
--- only the blocks of moving pools have moved
-abbrev pub AreStillIn : Setting → List (Option Address) → (moves : ℕ → Bool) → Type 0
-AreStillIn s addresses moves =
-    (id : Id) (from to : Address) (o : Object) → slice_get s.objects id ≡ Some o → moves o.pool ≡ false
-    → entry_at s.at_flip id ≡ Some from → entry_at addresses id ≡ Some to → from ≡ to
-
 module _ (s : Setting) (m : Memory) (addresses : List (Option Address)) (k : Colours) (done : CellSet) (moves : ℕ → Bool)
-    (at : Address) (size pool : ℕ) (st : ImageStands s m addresses k done) (still : AreStillIn s addresses moves)
+    (at : Address) (size pool : ℕ) (st : ImageStands s m addresses k done) (still : AreStill s.objects moves s.at_flip addresses)
     (home : AreHome s at size pool) where
   pub unmoved : moves pool ≡ false → (i : ℕ) → i < size → IsOfNoMovedBlock s addresses (word_of at + i)
   unmoved here i lt = record {
@@ -28,7 +22,7 @@ module _ (s : Setting) (m : Memory) (addresses : List (Option Address)) (k : Col
         let f = st.words.forwarded id from to o was now apart object in
         let same : Some pool ≡ Some o.pool =
         sym (home.over i lt) ∙ ap s.pool_over e ∙ f.home q inside in
-        apart (still id from to o object (ap moves (sym (same_Some pool o.pool same)) ∙ here) was now);
+        apart (still id o from to object (ap moves (sym (same_Some pool o.pool same)) ∙ here) was now);
   }
 
   pub uncondemned_place : s.is_condemned_over (word_of at) ≡ false → (i : ℕ) → i < size → IsOfNoMovedBlock s addresses (word_of at + i)
@@ -46,8 +40,7 @@ flip_known t s w (rests rest) = record {
 }
 flip_known t s w (runs x r) = r.flip
 
-pub still_in : (at_flip : List (Option Address)) (w : World) → AreOfFlip at_flip w → (id : Id) (from to : Address) (o : Object)
-    → slice_get w.graph.objects id ≡ Some o → is_copying_pool w o.pool ≡ false → entry_at at_flip id ≡ Some from
-    → entry_at w.addresses id ≡ Some to → from ≡ to
-still_in at_flip w of id from to o there moves was now =
+pub still_in : (at_flip : List (Option Address)) (w : World) → AreOfFlip at_flip w
+    → AreStill w.graph.objects (is_copying_pool w) at_flip w.addresses
+still_in at_flip w of id o from to there moves was now =
     of.still id from to (ap (λ x. option_map_or (λ (y : Object). is_copying_pool w y.pool) x false) there ∙ moves) was now

@@ -41,7 +41,8 @@ pub moves_by_words : (is_copying : ℕ → Bool) (objects : List Object) (addres
     → 2 * moves_of is_copying objects addresses ≤ 3 * total (extents_of objects addresses)
 moves_by_words is_copying [] addresses roomy = omega arith
 moves_by_words is_copying (o ∷ os) [] roomy = omega arith
-moves_by_words is_copying (o ∷ os) (None ∷ addresses) roomy = moves_by_words is_copying os addresses (λ p there. roomy p (later_object o p os there))
+moves_by_words is_copying (o ∷ os) (None ∷ addresses) roomy =
+    moves_by_words is_copying os addresses (λ p there. roomy p (later_object o p os there))
 moves_by_words is_copying (o ∷ os) (Some at ∷ addresses) roomy =
     let one = for_one is_copying o (roomy o (first_object o os)) in
     let rest = moves_by_words is_copying os addresses (λ p there. roomy p (later_object o p os there)) in
