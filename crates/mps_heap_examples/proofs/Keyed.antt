@@ -8,8 +8,8 @@ use Rattle.mps_format.specs.Layout.{Layout}
 use Rattle.mps_model.specs.declared.call.Call.TheVariants as call
 use Rattle.mps_model.specs.Answer.{Answer}
 use Rattle.mps_laws.specs.Held.{letter, slot_of_t}
-use Rattle.mps_names.specs.Keys.{KeysState, table_name}
-use Rattle.mps_names.specs.declared.keys.TableKey.{TableKey}
+use Rattle.mps_keys.specs.Keys.{KeysState, table_name}
+use Rattle.mps_keys.specs.declared.keys.TableKey.{TableKey}
 use Rattle.mps_heap_spec.specs.Keyed.{both, keyed_slot, keyed_slots}
 use Rattle.mps_heap_spec.specs.State.{HeapState}
 use Rattle.mps_heap_spec.specs.declared.found.KeyedSlot.{KeyedSlot}

@@ -5,3 +5,9 @@ pub mod Pushing
 pub mod Made
 pub mod Popped
 pub mod Keyed
+pub mod Dependencies
+pub mod Located
+pub mod Refused
+pub mod Setting
+pub mod ReadBack
+pub mod Live

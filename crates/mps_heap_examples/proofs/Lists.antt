@@ -90,7 +90,7 @@ pub nothing_around : (before after : Graph) → after.dependents ≡ before.depe
     → ranks after ≡ ranks before → LeavesAround before after
 nothing_around before after dependents names same = around_is before after dependents (record { names = names; same = same })
 
-strong_object : (o : Option Object) (is : Identity) → option_map identity_of o ≡ Some is → is.is_weak ≡ false
+pub strong_object : (o : Option Object) (is : Identity) → option_map identity_of o ≡ Some is → is.is_weak ≡ false
     → option_map_or is_weak_object o false ≡ false
 strong_object None is there strong = refl
 strong_object (Some o) is there strong =

@@ -70,7 +70,7 @@ number_is_quiet : (source : Slot) (k : ℕ) → IsQuiet (call.Number source k)
 number_is_quiet source k = record { none = λ w a ms e. e; world = λ w a. refl; reply = λ m w. refl }
 
 -- a call that writes slot 1 leaves slot 0
-other_slot : (b : Bool) → ((b && false) || (false || false)) ≡ false
+pub other_slot : (b : Bool) → ((b && false) || (false || false)) ≡ false
 other_slot true = refl
 other_slot false = refl
 

@@ -1,8 +1,8 @@
 -- A list of numbers in a world of the model, and in a heap.
-use Rattle.std.proofs.Common.{◌∙◌, ap}
+use Rattle.std.proofs.Common.{◌∙◌, ap, sym}
 use Rattle.std.proofs.lemmas.Bool.{true≢false}
 use Rattle.std.proofs.lemmas.Option.{same_Some}
-use Rattle.std.specs.Prelude.{◌≡◌, ℕ, true, false, option_map, List, [], ◌∷◌, Option, Some, None, Ok, Err, refl}
+use Rattle.std.specs.Prelude.{◌≡◌, ℕ, IsTrue, true, false, option_map, List, [], ◌∷◌, Option, Some, None, Ok, Err, refl}
 use Rattle.mps_base.specs.Address.{Id}
 use Rattle.mps_base.specs.declared.names.Rank.{Rank}
 use Rattle.mps_base.specs.declared.names.Rank.TheVariants.{Exact}
@@ -10,7 +10,8 @@ use Rattle.mps_format.specs.Layout.{Layout}
 use Rattle.mps_format.specs.TailExample.{tail_layout}
 use Rattle.mps_model.specs.Checked.{Checked, Numbered, point_named}
 use Rattle.mps_model.specs.Graph.{Automatic, Graph, HeadCell, NumberCell, Point, PointThing, ReferenceCell, TableThing, empty_graph}
-use Rattle.mps_model.specs.World.{World, empty_world}
+use Rattle.mps_model.specs.LegalMove.{target_in_cell}
+use Rattle.mps_model.specs.World.{World, empty_world, is_live}
 use Rattle.mps_laws.specs.Held.{letter, slot_of_t}
 use Rattle.mps_client_laws.specs.Collecting.{is_dependent}
 use Rattle.mps_client_laws.specs.Objects.{Identity, cell_at, identity_at}
@@ -48,11 +49,23 @@ pub record HasListIn (w : World) (numbers : List ℕ) : Type 0 where
   pub exact : rank_found (point_named w (letter 120)) ≡ Some Exact
   pub alone : (id : Id) → is_dependent w.graph id ≡ false
 
+-- whether each item of such a list is live
+abbrev pub AreLive : World → (first : Option Id) → (numbers : List ℕ) → Type 0
+AreLive w (Some id) (number ∷ numbers) = IsTrue (is_live w id) × AreLive w (target_in_cell w id 2) numbers
+AreLive w _ _ = Unit {0}
+
 -- the list of a heap: that of a world which the heap represents
 pub record HasList {F : Type 0} (layout : F → Layout) (h : HeapState F) (numbers : List ℕ) : Type 0 where
   pub world : World
   pub stands : StandsFor layout h world
   pub has : HasListIn world numbers
+
+-- the same, where each item is live
+pub record HasLiveList {F : Type 0} (layout : F → Layout) (h : HeapState F) (numbers : List ℕ) : Type 0 where
+  pub world : World
+  pub stands : StandsFor layout h world
+  pub has : HasListIn world numbers
+  pub live : AreLive world has.first numbers
 
 -- a heap in which a list may be made: in a world that it represents a number means this layout, and no object is the dependent of another
 pub record MayHaveList {F : Type 0} (layout : F → Layout) (items : Layout) (h : HeapState F) : Type 0 where
@@ -70,10 +83,14 @@ MayHaveNumbers h = MayHaveList (λ _. tail_layout) tail_layout h
 abbrev pub HasNumbers : HeapState Tail → (numbers : List ℕ) → Type 0
 HasNumbers h numbers = HasList (λ _. tail_layout) h numbers
 
+-- the same, where each item is live
+abbrev pub HasLiveNumbers : HeapState Tail → (numbers : List ℕ) → Type 0
+HasLiveNumbers h numbers = HasLiveList (λ _. tail_layout) h numbers
+
 -- ---- vectors
 
 -- slot 0 of t refers to the object 0, an item of the number 7. The object 1 comes after it, an item of 5, and the object 2 is weak
-abbrev two_items : World
+abbrev pub two_items : World
 two_items = record empty_world {
   graph = record empty_graph {
     objects =
@@ -106,6 +123,16 @@ a_list_of_two = record {
   exact = refl;
   alone = λ id. refl;
 }
+
+-- the object 1 is gone
+abbrev first_live : World
+first_live = record two_items { addresses = Some 0x1000 ∷ None ∷ [] }
+
+pub the_first_item_is_live : AreLive first_live (Some 0) (7 ∷ [])
+the_first_item_is_live = (refl, tt)
+
+pub the_second_item_is_gone : AreLive first_live (Some 0) (7 ∷ 5 ∷ []) → ⊥
+the_second_item_is_gone live = true≢false (sym live.1.0)
 
 pub an_item_of_another_number : (next : Option Id) → IsItem two_items.graph 0 8 next → ⊥
 an_item_of_another_number next item = absurd cc

@@ -1,10 +1,10 @@
 // A list of numbers in a heap.
-ghost use Rattle.std.specs.Prelude.{◌≡◌, ◌+◌, ◌*◌, ◌%◌, ◌^◌, ◌<◌, ◌≤◌, if◌then◌else◌, IfOk, IfSome, Some, ℕ, List, [], ◌∷◌, length, take};
+ghost use Rattle.std.specs.Prelude.{◌≡◌, ◌+◌, ◌*◌, ◌%◌, ◌^◌, ◌<◌, ◌≤◌, if◌then◌else◌, IfOk, IfSome, IsTrue, Some, ℕ, List, [], ◌∷◌, length, take};
 ghost use Rattle.std.specs.List.{sum};
 ghost use Rattle.mps_heap.specs.Collect.{most_moves};
 ghost use Rattle.mps_heap.specs.Keys.{table_name};
 ghost use Rattle.mps_heap.specs.RightMoving.{KeepsRoom};
-ghost use Rattle.mps_heap_examples.specs.Listed.{HasNumbers, MayHaveNumbers};
+ghost use Rattle.mps_heap_examples.specs.Listed.{HasLiveNumbers, HasNumbers, MayHaveNumbers};
 ghost use Rattle.mps_laws.specs.Held.{letter, slot_of_t};
 
 use crate::Tail;
@@ -16,10 +16,10 @@ use std::alloc::{AllocError, Global};
 pub const HEAD: u64 = 33;
 
 /// The cell of an item's number.
-const NUMBER: u64 = 1;
+pub const NUMBER: u64 = 1;
 
 /// The cell of the next item.
-const NEXT: u64 = 2;
+pub const NEXT: u64 = 2;
 
 /// The tag of the reference to the next item in an item that is marked.
 const MARKED: u8 = 1;
@@ -34,7 +34,7 @@ pub const fn named(code: u8) -> Name
 }
 
 /// The slot that refers to the first item of the list.
-fn first() -> Slot
+pub fn first() -> Slot
     ensures { result ≡ slot_of_t 0 }
 {
     Slot {
@@ -44,7 +44,7 @@ fn first() -> Slot
 }
 
 /// The slot that goes along the list.
-fn cursor() -> Slot
+pub fn cursor() -> Slot
     ensures { result ≡ slot_of_t 1 }
 {
     Slot {
@@ -117,10 +117,12 @@ pub fn mark_new(heap: &mut Heap<Tail>, trail: &mut Trail, most: u64) -> Result<u
     Ok(most)
 }
 
-/// Collects all that was dropped, if that can be done, with a trail that has room for what is there. Returns whether it was done.
+/// Collects all that was dropped, if that can be done, with a trail that has room for what is there. Returns whether it was done. Each
+/// item of the list is live then.
 pub fn collect(alloc: Global, heap: &mut Heap<Tail>) -> Result<bool, AllocError>
     ensures grains { heap.new.segs.grains ≡ heap.old.segs.grains }
     ensures kept { (numbers : List ℕ) → HasNumbers heap.old numbers → HasNumbers heap.new numbers }
+    ensures live { (numbers : List ℕ) → HasNumbers heap.old numbers → IfOk result (λ done. IsTrue done → HasLiveNumbers heap.new numbers) }
 {
     if !heap.can_collect() {
         return Ok(false);

@@ -4,7 +4,8 @@ ghost use Rattle.mps_heap.specs.Collect.{most_moves};
 
 use crate::list::named;
 use crate::{
-    HEAD, Tail, collect, collect_often, make, mark_new, pop, push, sum, sum_by_key, sum_of_two,
+    HEAD, Tail, add_to_first, collect, collect_often, find_again, is_where_noted, make, mark_new,
+    note_first, pop, push, read_second, set_and_collect, set_first, sum, sum_by_key, sum_of_two,
 };
 use mps_base::{Addr, Kind, Rank, Refusal, Slot, Trail};
 use mps_format::{Format, Leaf};
@@ -314,6 +315,64 @@ fn what_was_dropped_is_collected(rt: HostRuntime) -> Result<(), AllocError> {
     let mut heap = Heap::<Tail>::new(rt.alloc(), 8, 8)?;
     collect_list(&rt, rt.alloc(), &mut heap);
     heap.finish();
+    Ok(())
+}
+
+/// Reads the second item, with a trail of its own.
+fn read_one(alloc: Global, heap: &mut Heap<Tail>) -> Result<Addr, Refusal> {
+    let mut trail = trail_for(alloc, heap)?;
+    read_second(heap, &mut trail)
+}
+
+/// Writes the first number and reads it after a collection, with a trail of its own.
+fn set_one(alloc: Global, heap: &mut Heap<Tail>, number: u64) -> Result<u64, Refusal> {
+    let mut trail = Trail::new(alloc, 2 * heap.most_moves() + 1).map_err(|_| Refusal::OutOfMemory)?;
+    set_and_collect(heap, &mut trail, number)
+}
+
+/// Finds the first item again after a collection, with a trail of its own.
+fn find_one(alloc: Global, heap: &mut Heap<Tail>) -> Result<Option<Addr>, Refusal> {
+    let mut trail = Trail::new(alloc, 2 * heap.most_moves() + 1).map_err(|_| Refusal::OutOfMemory)?;
+    find_again(heap, &mut trail)
+}
+
+/// The first item is written where it lies, and its address is trusted until it may have moved.
+fn use_addresses(rt: &impl Abort, alloc: Global, heap: &mut Heap<Tail>) {
+    assert!(rt; make(heap).is_ok());
+    assert!(rt; set_first(heap, 20) == Err(Refusal::NullRef));
+    assert!(rt; push_five(alloc, heap) == Ok(true));
+    assert!(rt; set_first(heap, 20) == Ok(()));
+    assert!(rt; add_to_first(heap, 3) == heap.addr(slot(0)));
+    assert!(rt; heap.num(slot(0), 1) == Ok(23));
+    assert!(rt; read_one(alloc, heap) == heap.addr(slot(0)));
+    assert!(rt; heap.num(slot(1), 1) == Ok(4));
+    assert!(rt; set_one(alloc, heap, 30) == Ok(30));
+    assert!(rt; note_first(heap) == Err(Refusal::BadName));
+    assert!(rt; heap.ld(named(b'd')) == Ok(()));
+    assert!(rt; note_first(heap) == heap.addr(slot(0)));
+    assert!(rt; is_where_noted(heap) == Ok(true));
+    assert!(rt; find_one(alloc, heap) == Ok(None));
+    assert!(rt; is_where_noted(heap) == Ok(false));
+}
+
+/// An item of a pool that doesn't move is found again.
+fn find_still(rt: &impl Abort, alloc: Global, heap: &mut Heap<Tail>) {
+    assert!(rt; heap.pool(named(b'p'), Kind::Ams, Tail) == Ok(()));
+    assert!(rt; heap.table(named(b't'), 2) == Ok(()));
+    assert!(rt; heap.point(named(b'x'), named(b'p'), Rank::Exact) == Ok(()));
+    assert!(rt; heap.ld(named(b'd')) == Ok(()));
+    assert!(rt; push_five(alloc, heap) == Ok(true));
+    assert!(rt; find_one(alloc, heap) == Ok(Some(Addr(0x1080))));
+}
+
+#[test]
+fn addresses_of_the_first_item(rt: HostRuntime) -> Result<(), AllocError> {
+    let mut heap = Heap::<Tail>::new(rt.alloc(), 8, 8)?;
+    use_addresses(&rt, rt.alloc(), &mut heap);
+    heap.finish();
+    let mut still = Heap::<Tail>::new(rt.alloc(), 8, 8)?;
+    find_still(&rt, rt.alloc(), &mut still);
+    still.finish();
     Ok(())
 }
 
