@@ -298,6 +298,16 @@ fn keep_and_take(heap: &mut Heap<Front>, moves: &mut Moves, times: u64) -> u64 {
     times
 }
 
+/// Frees all objects but those that slots refer to; false, and nothing is done, if the heap can't count one flip more.
+fn collected(alloc: Global, heap: &mut Heap<Front>) -> io::Result<bool> {
+    if !heap.can_collect() {
+        return Ok(false);
+    }
+    let mut trail = Trail::new(alloc, 2 * heap.moves_needed())?;
+    heap.collect(&mut trail);
+    Ok(true)
+}
+
 fn show(rt: &HostRuntime, what: &str, count: u64, began: &Instant) -> io::Result<()> {
     let took = began.elapsed(rt)?.as_nanos();
     let count = u128::from(count.max(1));
@@ -382,7 +392,12 @@ fn time_keys(rt: &HostRuntime, heap: &mut Heap<Front>) -> io::Result<()> {
     show(rt, "num by key", numbers_by_key(heap, table, 1_000_000), &began)?;
     let into = KeyedSlot { table, index: 3 };
     let began = Instant::now(rt)?;
-    show(rt, "reserve and commit by key until the arena is full", fill_by_key(heap, &mut moves, point, into, 1_000_000), &began)
+    show(rt, "reserve and commit by key until the arena is full", fill_by_key(heap, &mut moves, point, into, 1_000_000), &began)?;
+    if !collected(rt.alloc(), heap)? {
+        return println!(rt; "refused");
+    }
+    let began = Instant::now(rt)?;
+    show(rt, "the same again, in the grains that a collection freed", fill_by_key(heap, &mut moves, point, into, 1_000_000), &began)
 }
 
 fn main(rt: HostRuntime) -> io::Result<()> {
