@@ -1,4 +1,5 @@
 pub mod Adding
+pub mod AllSet
 pub mod Clearing
 pub mod OneWord
 pub mod Searches

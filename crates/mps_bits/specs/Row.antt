@@ -15,6 +15,10 @@ sum_over f from (suc n) = f from + sum_over f (suc from) n
 abbrev pub IsClear : List ℕ → ℕ → ℕ → Type 0
 IsClear words from to = (i : ℕ) → from ≤ i → i < to → bit_in words i ≡ 0
 
+-- the bits from `from` up to `to` are set
+abbrev pub IsSet : List ℕ → ℕ → ℕ → Type 0
+IsSet words from to = (i : ℕ) → from ≤ i → i < to → bit_in words i ≡ 1
+
 -- the lowest set bit from `from` up to `to`
 pub record IsLowestSet (words : List ℕ) (from to index : ℕ) : Type 0 where
   pub above : from ≤ index

@@ -101,6 +101,13 @@ impl Bits {
         words::end_run(&mut self.words, from, to);
     }
 
+    /// Clears all bits.
+    pub fn clear_all(&mut self)
+        ensures { self.new ≡ replicate (length self.old) false }
+    {
+        self.words.fill(0);
+    }
+
     /// Clears the `count` bits from `from` on, and then sets as many from `to` on. In `ends` the last of these is set, and the others are
     /// cleared. If both runs lie in one word each, that takes three short steps.
     #[inline(always)]
@@ -200,6 +207,15 @@ impl Bits {
         ensures { result ≡ lowest_clear_run self.now from to count }
     {
         words::lowest_clear_run(&self.words, from, to, count)
+    }
+
+    /// Whether all bits from `from` up to, but not at, `to` are set.
+    pub fn are_all_set(&self, from: usize, to: usize) -> bool
+        requires { to ≤ length self.now }
+        ensures sound { result ≡ true → (i : ℕ) → from ≤ i → i < to → bit self.now i ≡ true }
+        ensures complete { ((i : ℕ) → from ≤ i → i < to → bit self.now i ≡ true) → result ≡ true }
+    {
+        words::are_all_set(&self.words, from, to)
     }
 
     /// Clears the bits from `from` up to, but not at, `to` that are clear in `others`, 64 a step, and returns how many of them were set.

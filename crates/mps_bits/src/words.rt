@@ -1,10 +1,10 @@
 // Words in a row as one row of bits: bit i is bit i % 64 of word i / 64.
 #![tactic(auto)]
 
-ghost use Rattle.std.specs.Prelude.{false, ◌≡◌, ◌≢◌, ◌==◌, ℕ, ◌+◌, ◌-◌, ◌*◌, ◌/◌, ◌%◌, ◌^◌, ◌<◌, ◌≤◌, ◌⊎◌, length, min, if◌then◌else◌, MatchOption};
+ghost use Rattle.std.specs.Prelude.{true, false, ◌≡◌, ◌≢◌, ◌==◌, ℕ, ◌+◌, ◌-◌, ◌*◌, ◌/◌, ◌%◌, ◌^◌, ◌<◌, ◌≤◌, ◌⊎◌, length, min, if◌then◌else◌, MatchOption};
 ghost use Rattle.std.specs.Int.{bit_at};
 ghost use Rattle.mps_bits.specs.OpenRuns.{is_one, is_one_in, is_one_unless, in_run, AreRunsApart};
-ghost use Rattle.mps_bits.specs.Row.{bit_in, sum_over, IsClear, IsLowestSet, IsHighestSet, HasNoRun, IsLowestRun};
+ghost use Rattle.mps_bits.specs.Row.{bit_in, sum_over, IsClear, IsSet, IsLowestSet, IsHighestSet, HasNoRun, IsLowestRun};
 
 use crate::word::{
     bits_from, clear_run, highest_one, lowest_one, runs_between, with_bits, with_last,
@@ -205,6 +205,33 @@ pub(crate) fn lowest_clear_run(words: &[u64], from: usize, to: usize, count: usi
         at += width;
     }
     None
+}
+
+/// Whether all bits from `from` up to `to` are set. Whole words are one short step each.
+pub(crate) fn are_all_set(words: &[u64], from: usize, to: usize) -> bool
+    requires { to ≤ 64 * length words.now }
+    ensures sound { result ≡ true → IsSet words.now from to }
+    ensures complete { IsSet words.now from to → result ≡ true }
+{
+    if from % 64 == 0 && to % 64 == 0 {
+        are_full(words, from / 64, to / 64)
+    } else {
+        lowest_clear_run(words, from, to, 1).is_none()
+    }
+}
+
+/// Whether all bits of the words from `from` up to `to` are set.
+fn are_full(words: &[u64], from: usize, to: usize) -> bool
+    requires { to ≤ length words.now }
+    ensures sound { result ≡ true → IsSet words.now (64 * from) (64 * to) }
+    ensures complete { IsSet words.now (64 * from) (64 * to) → result ≡ true }
+{
+    for at in from..to {
+        if words[at] != u64::MAX {
+            return false;
+        }
+    }
+    true
 }
 
 /// The word of a number, without the bits that are set in `others`.
