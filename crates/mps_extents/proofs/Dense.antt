@@ -1,11 +1,10 @@
 -- Blocks have all words of a range exactly if none of these is free and no reservation begins there.
-use Rattle.std.proofs.Common.{ℕ, ◌+◌, ◌-◌, ◌<◌, ◌≤◌, ◌≡◌, ◌||◌, Bool, true, false, not, Option, Some, None, List, length, Contains, refl, sym, ap, ◌∙◌, subst, inl, inr, is_some, arith}
-use Rattle.std.proofs.lemmas.Bool.{cases_Bool, both_ways, false_from_ne_true, false≢true}
+use Rattle.std.proofs.Common.{ℕ, ◌+◌, ◌-◌, ◌<◌, ◌≤◌, ◌≡◌, ◌||◌, Bool, true, false, Option, Some, None, List, length, Contains, refl, sym, ap, ◌∙◌, subst, inl, inr, is_some, arith}
+use Rattle.std.proofs.lemmas.Bool.{both_ways, false_from_ne_true, false≢true}
 use Rattle.mps_base.proofs.Runs.{contained_bounds}
 use Rattle.mps_base.specs.Run.{Run, runs_within}
-use Rattle.mps_bits.proofs.Ranges.{clear_run_at, clear_run_from}
 use Rattle.mps_bits.proofs.Searches.{found, missing, lowest_cases, lowest_from_none}
-use Rattle.mps_bits.specs.Table.{bit, is_clear_run, lowest_clear_run, next_set_below}
+use Rattle.mps_bits.specs.Table.{bit, next_set_below}
 use Rattle.mps_extents.specs.Extents.{has_word, is_covered, AreWhole}
 use Rattle.mps_extents.specs.Inside.{either, extents, length_at, AreApart, AreSoundTables}
 use Rattle.mps_extents.proofs.ApartRuns.{apart_each, covered_by, covers_contained, has_word-parts}
@@ -19,10 +18,6 @@ pub none_of : (o : Option ℕ) → is_some o ≡ false → None ≡ o
 none_of None none = refl
 none_of (Some n) none = absurd (false≢true (sym none))
 
-pub known_none : (b : Bool) → false ≡ not b → b ≡ true
-known_none true is = refl
-known_none false is = absurd (false≢true is)
-
 none_set : (bits : List Bool) (low high : ℕ) → None ≡ next_set_below bits low high → (i : ℕ) → low ≤ i → i < high → bit bits i ≡ false
 unfolding next_set_below
 none_set bits low high none i above below =
@@ -31,34 +26,11 @@ none_set bits low high none i above below =
       | missing is clear ↦ clear i above (omega (arith, above, below))
     ]
 
-none_clear : (bits : List Bool) (low high : ℕ) → None ≡ lowest_clear_run bits low high 1 → (i : ℕ) → low ≤ i → i < high
-    → bit bits i ≡ true
-unfolding lowest_clear_run
-none_clear bits low high none i above below =
-    elim (lowest_cases (λ p. is_clear_run bits p 1) low (high + 1 - (low + 1))) [
-      | found index is lowest ↦ let never : None ≡ Some index = none ∙ is in cc
-      | missing is set ↦
-          elim (cases_Bool (bit bits i)) [
-            | inl here ↦ here
-            | inr clear ↦
-                let alone = clear_run_from bits i 1 (λ j from to. let e : j ≡ i = omega arith in ap (λ (k : ℕ). bit bits k) e ∙ clear) in
-                absurd (both_ways (is_clear_run bits i 1) (set i above (omega (arith, above, below))) alone)
-          ]
-    ]
-
 -- ---- what is found where blocks have all words
 
 pub no_set : (bits : List Bool) (low high : ℕ) → ((i : ℕ) → low ≤ i → i < high → bit bits i ≡ false) → next_set_below bits low high ≡ None
 unfolding next_set_below
 no_set bits low high clear = lowest_from_none (bit bits) low (high - low) (λ i above below. clear i above (omega (arith, above, below)))
-
-pub no_clear : (bits : List Bool) (low high : ℕ) → ((i : ℕ) → low ≤ i → i < high → bit bits i ≡ true)
-    → lowest_clear_run bits low high 1 ≡ None
-unfolding lowest_clear_run
-no_clear bits low high set =
-    lowest_from_none (λ p. is_clear_run bits p 1) low (high + 1 - (low + 1)) (λ p above below.
-    false_from_ne_true (is_clear_run bits p 1) (λ clear.
-    both_ways (bit bits p) (clear_run_at bits p 1 clear p (omega arith) (omega arith)) (set p above (omega (arith, above, below)))))
 
 module _
     (covered opens ends blocks : List Bool) (low high : ℕ) (sound : AreSoundTables covered (either opens blocks) ends blocks)
@@ -109,14 +81,14 @@ module _
 module _
     (covered opens ends blocks : List Bool) (low high : ℕ) (sound : AreSoundTables covered (either opens blocks) ends blocks)
     (whole : AreWhole low high (extents (either opens blocks) ends)) (no_open : None ≡ next_set_below opens low high)
-    (no_gap : None ≡ lowest_clear_run covered low high 1)
+    (full : (word : ℕ) → low ≤ word → word < high → bit covered word ≡ true)
   where
     abbrev begins : List Bool
     begins = either opens blocks
 
     pub dense : (word : ℕ) → low ≤ word → word < high → is_covered (runs_within low high (extents blocks ends)) word ≡ true
     dense word above below =
-        let over = covered_by (extents begins ends) word (sym (sound.covered_is word) ∙ none_clear covered low high no_gap word above below)
+        let over = covered_by (extents begins ends) word (sym (sound.covered_is word) ∙ full word above below)
         in
         let r = over.0 in
         let parts = has_word-parts r word over.2 in

@@ -1,12 +1,13 @@
 -- The bits of two tables, of which one or both are written.
-use Rattle.std.proofs.Common.{ℕ, ◌-◌, ◌<◌, ◌≤◌, ◌≡◌, ◌≢◌, ◌||◌, min, Bool, true, false, Option, Some, List, length, map, set, sym, ap, ◌∙◌, inl, inr, arith, length-set}
+use Rattle.std.proofs.Common.{ℕ, ◌-◌, ◌<◌, ◌≤◌, ◌≡◌, ◌≢◌, ◌||◌, Bool, true, false, Option, Some, None, List, length, map, set, sym, ap, ◌∙◌, inl, inr, arith, length-set}
 use Rattle.std.specs.List.{range_with_len}
+use Rattle.std.specs.Option.{option_or, unwrap_or}
 use Rattle.std.proofs.lemmas.Bool.{cases_lt, cases_eq, both_ways, false_from_ne_true, or_left, or_right, or_from}
 use Rattle.std.proofs.lemmas.List.FromFn.{length-map-range_with_len, get_or-map-range_with_len}
 use Rattle.mps_bits.specs.Table.{bit, next_set_below}
 use Rattle.mps_bits.proofs.Searches.{IsLowest, found, missing, lowest_cases, lowest_from_is, lowest_from_none}
 use Rattle.mps_extents.specs.declared.extents.Extents.TheInside.{Inside}
-use Rattle.mps_extents.specs.Inside.{either, lower_of, AreApart}
+use Rattle.mps_extents.specs.Inside.{either, AreApart}
 use Rattle.mps_extents.proofs.WrittenBits.{bit_is, bit-set_same, bit-set_other, same_bits}
 
 pub length-either : (xs ys : List Bool) → length (either xs ys) ≡ length xs
@@ -59,65 +60,72 @@ either_moved xs ys i within within' some =
 
 -- ---- the lowest bit of both
 
-pub either_lowest : (xs ys : List Bool) (low high : ℕ) → high ≤ length xs
-    → next_set_below (either xs ys) low high ≡ lower_of (next_set_below ys low high) (next_set_below xs low high)
+pub search_ends : (bits : List Bool) (low high : ℕ) → unwrap_or (next_set_below bits low high) high ≤ high
+unfolding next_set_below
+search_ends bits low high =
+    elim (lowest_cases (bit bits) low (high - low)) [
+      | missing is_none none ↦ omega (arith, ap (λ (o : Option ℕ). unwrap_or o high) is_none)
+      | found at is_some is ↦ omega (arith, ap (λ (o : Option ℕ). unwrap_or o high) is_some, is.above, is.below)
+    ]
+
+-- the first table is searched up to the lowest bit of the second
+either_lowest : (xs ys : List Bool) (low high : ℕ) → high ≤ length xs
+    → option_or (next_set_below xs low (unwrap_or (next_set_below ys low high) high)) (next_set_below ys low high)
+    ≡ next_set_below (either xs ys) low high
 unfolding next_set_below
 either_lowest xs ys low high within =
     elim (lowest_cases (bit ys) low (high - low)) [
-      | missing is_none none ↦ elim (lowest_cases (bit xs) low (high - low)) [
-        | missing is_none' none' ↦
-            lowest_from_none (bit (either xs ys)) low (high - low) (λ i above below.
-            bit-either xs ys i (omega arith) ∙ or_from (bit xs i) (bit ys i) (none' i above below) (none i above below))
-            ∙ sym is_none' ∙ ap (λ (o : Option ℕ). lower_of o (next_set_below xs low high)) (sym is_none)
-        | found index is_some is ↦
-            lowest_from_is (bit (either xs ys)) low (high - low) index (record {
-              above = is.above;
-              below = is.below;
-              passes = bit-either xs ys index (omega (arith, is.below, is.above)) ∙ or_left (bit xs index) (bit ys index) is.passes;
-              lower = λ i above below. bit-either xs ys i (omega (arith, is.below, below, above)) ∙ or_from (bit xs i) (bit ys i)
-                  (is.lower i above below)
-                  (none i above (omega (arith, is.below, below)));
-            })
-            ∙ sym is_some ∙ ap (λ (o : Option ℕ). lower_of o (next_set_below xs low high)) (sym is_none)
-      ]
-      | found first first_is is ↦ elim (lowest_cases (bit xs) low (high - low)) [
-        | missing is_none none ↦
-            lowest_from_is (bit (either xs ys)) low (high - low) first (record {
-              above = is.above;
-              below = is.below;
-              passes = bit-either xs ys first (omega (arith, is.below, is.above)) ∙ or_right (bit xs first) (bit ys first) is.passes;
-              lower = λ i above below. bit-either xs ys i (omega (arith, is.below, below, above)) ∙ or_from (bit xs i) (bit ys i)
-                  (none i above (omega (arith, is.below, below)))
-                  (is.lower i above below);
-            })
-            ∙ sym (ap (λ (o : Option ℕ). lower_of o (next_set_below xs low high)) first_is
-            ∙ ap (λ (o : Option ℕ). lower_of (Some first) o) is_none)
-        | found second second_is is' ↦
-            lowest_from_is (bit (either xs ys)) low (high - low) (min first second) (lower_one first second is is')
-            ∙ sym (ap (λ (o : Option ℕ). lower_of o (next_set_below xs low high)) first_is
-            ∙ ap (λ (o : Option ℕ). lower_of (Some first) o) second_is)
-      ]
+      | missing is_none none ↦
+          ap (λ (o : Option ℕ). option_or (next_set_below xs low (unwrap_or o high)) o) is_none
+          ∙ elim (lowest_cases (bit xs) low (high - low)) [
+            | missing is_none' none' ↦
+                ap (λ (o : Option ℕ). option_or o None) is_none'
+                ∙ sym (lowest_from_none (bit (either xs ys)) low (high - low) (λ i above below.
+                bit-either xs ys i (omega arith) ∙ or_from (bit xs i) (bit ys i) (none' i above below) (none i above below)))
+            | found index is_some is ↦
+                ap (λ (o : Option ℕ). option_or o None) is_some
+                ∙ sym (lowest_from_is (bit (either xs ys)) low (high - low) index (record {
+                  above = is.above;
+                  below = is.below;
+                  passes = bit-either xs ys index (omega (arith, is.below, is.above)) ∙ or_left (bit xs index) (bit ys index) is.passes;
+                  lower = λ i above below. bit-either xs ys i (omega (arith, is.below, below, above)) ∙ or_from (bit xs i) (bit ys i)
+                      (is.lower i above below)
+                      (none i above (omega (arith, is.below, below)));
+                }))
+          ]
+      | found at is_some is ↦
+          ap (λ (o : Option ℕ). option_or (next_set_below xs low (unwrap_or o high)) o) is_some
+          ∙ elim (lowest_cases (bit xs) low (at - low)) [
+            | missing is_none none ↦
+                ap (λ (o : Option ℕ). option_or o (Some at)) is_none
+                ∙ sym (lowest_from_is (bit (either xs ys)) low (high - low) at (record {
+                  above = is.above;
+                  below = is.below;
+                  passes = bit-either xs ys at (omega (arith, is.below, is.above)) ∙ or_right (bit xs at) (bit ys at) is.passes;
+                  lower = λ i above below. bit-either xs ys i (omega (arith, is.below, below, above)) ∙ or_from (bit xs i) (bit ys i)
+                      (none i above (omega (arith, below, above)))
+                      (is.lower i above below);
+                }))
+            | found index is_some' is' ↦
+                let before : index < at = omega (arith, is'.above, is'.below) in
+                ap (λ (o : Option ℕ). option_or o (Some at)) is_some'
+                ∙ sym (lowest_from_is (bit (either xs ys)) low (high - low) index (record {
+                  above = is'.above;
+                  below = omega (arith, before, is.below);
+                  passes = bit-either xs ys index (omega (arith, before, is.below, is.above))
+                      ∙ or_left (bit xs index) (bit ys index) is'.passes;
+                  lower = λ i above below. bit-either xs ys i (omega (arith, before, is.below, below, above))
+                      ∙ or_from (bit xs i) (bit ys i) (is'.lower i above below) (is.lower i above (omega (arith, before, below)));
+                }))
+          ]
     ]
-  where
-    lower_one : (first second : ℕ) → IsLowest (bit ys) low (high - low) first → IsLowest (bit xs) low (high - low) second
-        → IsLowest (bit (either xs ys)) low (high - low) (min first second)
-    lower_one first second is is' = record {
-      above = omega (arith, is.above, is'.above);
-      below = omega (arith, is.below);
-      passes = elim (cases_lt first second) [
-        | inl before ↦
-            let here : min first second ≡ first = omega arith in
-            ap (bit (either xs ys)) here ∙ bit-either xs ys first (omega (arith, is.below, is.above))
-            ∙ or_right (bit xs first) (bit ys first) is.passes
-        | inr after ↦
-            let here : min first second ≡ second = omega arith in
-            ap (bit (either xs ys)) here ∙ bit-either xs ys second (omega (arith, is'.below, is'.above))
-            ∙ or_left (bit xs second) (bit ys second) is'.passes
-      ];
-      lower = λ i above below.
-          bit-either xs ys i (omega (arith, is.below, below, above))
-          ∙ or_from (bit xs i) (bit ys i) (is'.lower i above (omega arith)) (is.lower i above (omega arith));
-    }
+
+pub lowest_of_both : (xs ys : List Bool) (low high to : ℕ) (x y r : Option ℕ) → high ≤ length xs → y ≡ next_set_below ys low high
+    → to ≡ unwrap_or y high → x ≡ next_set_below xs low to → r ≡ option_or x y → r ≡ next_set_below (either xs ys) low high
+lowest_of_both xs ys low high to x y r within y_is to_is x_is is =
+    is ∙ ap (λ (o : Option ℕ). option_or o y) x_is ∙ ap (λ (n : ℕ). option_or (next_set_below xs low n) y) to_is
+    ∙ ap (λ (o : Option ℕ). option_or (next_set_below xs low (unwrap_or o high)) o) y_is
+    ∙ either_lowest xs ys low high within
 
 -- ---- no reservation begins where a block does
 

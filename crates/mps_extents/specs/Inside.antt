@@ -1,5 +1,5 @@
 -- How tables of bits represent extents.
-use Rattle.std.specs.Prelude.{ℕ, suc, ◌+◌, ◌-◌, ◌<◌, ◌^◌, ◌≡◌, Bool, true, false, not, ◌&&◌, ◌||◌, min, Option, Some, None, List, [], ◌∷◌, length, map}
+use Rattle.std.specs.Prelude.{ℕ, suc, ◌+◌, ◌-◌, ◌<◌, ◌^◌, ◌≡◌, Bool, true, false, not, ◌&&◌, ◌||◌, Option, Some, None, List, [], ◌∷◌, length, map}
 use Rattle.std.specs.List.{range_with_len}
 use Rattle.mps_base.specs.Run.{Run, IsAscending, total}
 use Rattle.mps_bits.specs.Table.{bit, next_set}
@@ -28,12 +28,6 @@ minus xs ys = map (λ i. bit xs i && not (bit ys i)) (range_with_len 0 (length x
 -- the bits of two tables
 unfoldable pub either : List Bool → List Bool → List Bool
 either xs ys = map (λ i. bit xs i || bit ys i) (range_with_len 0 (length xs))
-
--- the lower of two numbers, where there are two
-abbrev pub lower_of : Option ℕ → Option ℕ → Option ℕ
-lower_of None b = b
-lower_of (Some x) None = Some x
-lower_of (Some x) (Some y) = Some (min x y)
 
 abbrev pub extents : List Bool → List Bool → List Run
 extents begins ends = runs_with (length_at ends) 0 begins

@@ -4,7 +4,6 @@
 ghost use Rattle.std.specs.Prelude.{◌≡◌, ℕ, ◌+◌, ◌^◌, ◌<◌, ◌≤◌, true, [], length, IfOk, IfSome, IfNone, Contains};
 ghost use Rattle.mps_base.specs.Run.{Run, IsAscending, with_run, without_run, gaps, lowest_fitting, runs_within, total};
 ghost use Rattle.mps_extents.specs.Extents.{ExtentLists, nothing_covered, is_covered, run_over, first_run, IsFirstWithin, AreWhole};
-ghost use Rattle.mps_extents.specs.Inside.{lower_of};
 
 mod sweeping;
 
@@ -222,8 +221,8 @@ impl Extents {
         ensures none { IfNone result (runs_within low high self.now.covered ≡ []) }
     {
         let block = self.blocks.next_set_below(low, high);
-        let open = self.opens.next_set_below(low, high);
-        lower_of(block, open)
+        let open = self.opens.next_set_below(low, block.unwrap_or(high));
+        open.or(block)
     }
 
     /// Whether blocks have all words from `low` on and below `high`: none of these is free, and no reservation begins there.
@@ -239,7 +238,7 @@ impl Extents {
         if self.opens.next_set_below(low, high).is_some() {
             return false;
         }
-        self.covered.lowest_clear_run(low, high, 1).is_none()
+        self.covered.are_all_set(low, high)
     }
 
     /// Where the lowest gap of at least `words` words begins among the words from `low` on and below `high`.
@@ -252,16 +251,5 @@ impl Extents {
         ensures fits { IfSome result (λ at. at + words ≤ high) }
     {
         self.covered.lowest_clear_run(low, high, words)
-    }
-}
-
-/// The lower of two numbers, where there are two.
-fn lower_of(a: Option<usize>, b: Option<usize>) -> Option<usize>
-    ensures { result ≡ lower_of a b }
-{
-    match (a, b) {
-        (Some(x), Some(y)) => Some(x.min(y)),
-        (Some(x), None) => Some(x),
-        (None, found) => found,
     }
 }

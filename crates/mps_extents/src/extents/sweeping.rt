@@ -26,10 +26,11 @@ impl Extents {
         } }
         ensures moves { trail.new ≡ frees (lost_runs low high kept.now self.old.blocks) trail.old }
     {
-        let Some(_) = self.first_block(low, high) else {
-            return;
-        };
+        let moves = trail.moves().len();
         free_lost(trail, &self.blocks, kept, low, high);
+        if trail.moves().len() == moves {
+            return;
+        }
         let words = self
             .covered
             .clear_runs(&self.blocks, kept, &self.ends, low, high);

@@ -1,7 +1,7 @@
-use Rattle.std.proofs.Common.{ℕ, ◌≡◌, ◌<◌, ◌≤◌, Bool, true, not, Option, None, is_some, sym, ap, ◌∙◌, subst}
+use Rattle.std.proofs.Common.{ℕ, ◌≡◌, ◌<◌, ◌≤◌, true, Option, None, is_some, sym, ap, ◌∙◌, subst}
 use Rattle.mps_base.specs.Run.{runs_within}
 use Rattle.mps_extents.specs.Extents.{ExtentLists, AreWhole, is_covered}
-use Rattle.mps_extents.proofs.Dense.{none_of, known_none, dense, no_set, no_clear, none_opens, each_covered}
+use Rattle.mps_extents.proofs.Dense.{none_of, dense, no_set, none_opens, each_covered}
 use Rattle.mps_extents.proofs.extents.Extents.are_dense.Goals as goal
 
 pub returns-clause-sound : goal.returns-clause-sound
@@ -12,11 +12,9 @@ returns-clause-sound c = λ known word above below.
     let P : ExtentLists → Type 0 = λ e. AreWhole low high e.covered in
     let Q : ExtentLists → Type 0 = λ e. is_covered (runs_within low high e.blocks) word ≡ true in
     let no_open = none_of c.next_set_below.result (sym c.if-is_some.ensures) ∙ c.next_set_below.ensures in
-    let no_gap =
-    none_of c.lowest_clear_run.result (c.is_none.ensures ∙ ap (λ (b : Bool). not b) known) ∙ c.lowest_clear_run.ensures
-    in
     subst Q c.self.view_is
-    (dense t.covered t.opens t.ends t.blocks low high c.self.invariant.0 (subst P (sym c.self.view_is) c.requires.whole) no_open no_gap
+    (dense t.covered t.opens t.ends t.blocks low high c.self.invariant.0 (subst P (sym c.self.view_is) c.requires.whole) no_open
+    (c.are_all_set.ensures.sound known)
     word above below)
 
 -- blocks have all words between the bounds
@@ -41,8 +39,5 @@ returns-clause-complete c = λ all.
     let low = c.args.low in
     let high = c.args.high in
     let P : ExtentLists → Type 0 = λ e. AreCovered low high e in
-    let set =
-    each_covered t.covered t.opens t.ends t.blocks low high c.self.invariant.0 c.self.invariant.1 (subst P (sym c.self.view_is) all)
-    in
-    let none : c.lowest_clear_run.result ≡ None = c.lowest_clear_run.ensures ∙ no_clear t.covered low high set in
-    known_none c.is_none.result (sym (ap (λ (o : Option ℕ). is_some o) none) ∙ c.is_none.ensures)
+    c.are_all_set.ensures.complete
+    (each_covered t.covered t.opens t.ends t.blocks low high c.self.invariant.0 c.self.invariant.1 (subst P (sym c.self.view_is) all))
