@@ -124,26 +124,24 @@ impl GreyBlocks {
     }
 
     /// No block is grey. Their table is gone over only where one is.
-    #[tactic(auto, using(crate::proofs::Tally::all_blocks_cleared, crate::proofs::Tally::cleared, crate::proofs::Tally::all_clear))]
+    #[tactic(auto, using(crate::proofs::Tally::all_blocks_cleared, crate::proofs::Tally::all_clear))]
     fn clear_blocks(&mut self)
         ensures { self.new ≡ replicate (length self.old) false }
     {
         if self.count > 0 {
-            let words = self.blocks.len();
-            self.blocks.clear_range(0, words);
+            self.blocks.clear_all();
             self.count = 0;
         }
     }
 
     /// Where no block is grey: takes away the bits that are left of grains.
-    #[tactic(auto, using(crate::proofs::Tally::all_grains_cleared, crate::proofs::Tally::cleared))]
+    #[tactic(auto, using(crate::proofs::Tally::all_grains_cleared))]
     fn clear_grains(&mut self)
         requires { count_by (λ b. b) self.old ≡ 0 }
         ensures { self.new ≡ self.old }
     {
         if self.is_any_marked {
-            let grains = self.grains.len();
-            self.grains.clear_range(0, grains);
+            self.grains.clear_all();
             self.is_any_marked = false;
         }
     }

@@ -122,13 +122,11 @@ impl Marks {
     }
 
     /// No block is kept. Its table is gone over only if one was.
-    #[tactic(auto, using(crate::proofs::Tally::cleared))]
     fn clear_kept(&mut self)
         ensures { self.new ≡ record self.old { kept = replicate (length self.old.kept) false } }
     {
         if self.is_any_kept {
-            let words = self.kept.len();
-            self.kept.clear_range(0, words);
+            self.kept.clear_all();
             self.is_any_kept = false;
         }
     }
