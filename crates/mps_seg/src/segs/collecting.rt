@@ -162,8 +162,7 @@ impl Segs {
     pub fn end_collection(&mut self)
         ensures { self.new ≡ collected self.old }
     {
-        let grains = self.condemned.len();
-        self.condemned.clear_range(0, grains);
+        self.condemned.clear_all();
         self.white.fill(None);
         self.marks.clear_all();
     }
