@@ -40,7 +40,7 @@ in_it false at words offset h =
     let none = eqb-true offset 0 h in eq-eqb (at + offset) at (omega (arith, none))
 
 module _ (w : World) (id : ℕ) (live : is_live w id ≡ true) where
-  hold_lies_in : (offset : ℕ) → is_sound_word w (Hold id offset) ≡ true → lies_in w (shown_word w (Hold id offset)) id ≡ true
+  pub hold_lies_in : (offset : ℕ) → is_sound_word w (Hold id offset) ≡ true → lies_in w (shown_word w (Hold id offset)) id ≡ true
   hold_lies_in offset sound =
       let parts = and_parts (auto w id) (if is_copying_object w id then nat_lt offset (8 * words_of w id) else offset == 0) sound in
       and_from (auto w id) (is_live_and (λ at. is_word_in (is_copying_object w id) at (words_of w id)

@@ -12,7 +12,7 @@ pub mod RefusedSteps
 pub mod Addresses
 pub mod Slots
 pub mod Substituted
-pub mod SlotsOfCalls
+pub mod RootsOfCalls
 pub mod SlotsStay
 pub mod Contained
 pub mod Collecting
@@ -23,6 +23,10 @@ pub mod Automatic
 pub mod CollectFlips
 pub mod Completed
 pub mod AreaWordsStay
+pub mod AreaWords
+pub mod Pinned
+pub mod Poking
+pub mod Pinning
 pub mod Complete
 pub mod EndOfCollection
 pub mod Condemned
@@ -31,6 +35,7 @@ pub mod LiveBlocks
 pub mod SegmentsStand
 pub mod SegmentsInUse
 pub mod SegmentsFreed
+pub mod FreesOfCalls
 pub mod SegmentsOfSteps
 pub mod SegmentsOfBlocks
 pub mod SegmentsHeld

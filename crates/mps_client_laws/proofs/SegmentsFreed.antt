@@ -259,7 +259,7 @@ manual_after : (w : World) (ms : List Move) (id : ℕ) → manual w id ≡ true 
 manual_after w [] id is = is
 manual_after w (m ∷ ms) id is = manual_after (world_after_move w m) ms id (same_manual w m id ∙ is)
 
-all_after : (w : World) (ms : List Move) (ids : List ℕ) → All (manual w) ids → All (manual (world_after_moves w ms)) ids
+pub all_after : (w : World) (ms : List Move) (ids : List ℕ) → All (manual w) ids → All (manual (world_after_moves w ms)) ids
 all_after w ms [] all = refl
 all_after w ms (id ∷ ids) all =
     let parts = and_parts (manual w id) (list_all (manual w) ids) all in

@@ -1,6 +1,6 @@
 -- In each held segment of a pool of blocks of any sizes lies a manual block, after each step of a legal history.
 use Rattle.std.proofs.Common.{◌≡◌, ◌⊎◌, inl, inr, ℕ, ◌+◌, Bool, true, false, refl, sym, ◌∙◌, ap, subst, List, [], length, Option, Some, None, Ok, Err}
-use Rattle.std.proofs.lemmas.Bool.{true≢false, false≢true}
+use Rattle.std.proofs.lemmas.Bool.{true≢false}
 use Rattle.std.proofs.lemmas.Option.{none-some}
 use Rattle.std.specs.Prelude.{not, if◌then◌else◌, is_some, slice_get}
 use Rattle.std.specs.Option.{option_map_or}
@@ -10,32 +10,27 @@ use Rattle.mps_base.specs.Segment.{Segment, with_segment, words_of_segment}
 use Rattle.mps_base.specs.declared.moves.Move.{Move}
 use Rattle.mps_base.specs.declared.moves.Move.TheVariants as moves
 use Rattle.mps_base.specs.declared.names.Name.{Name}
-use Rattle.mps_base.specs.declared.names.Slot.{Slot}
 use Rattle.mps_base.specs.declared.refusal.Refusal.TheVariants as refusal
 use Rattle.mps_model.specs.declared.call.Call.{Call}
 use Rattle.mps_model.specs.declared.call.Call.TheVariants as call
-use Rattle.mps_model.specs.Answer.{Answer, is_accepted, is_refused}
-use Rattle.mps_model.specs.Graph.{new_cells, Cache, CacheClass, Object, Point, PoolFrames, Reservation, contains, entries, entry_at, ids_in_frames, ids_of_cache, is_automatic, object_at}
+use Rattle.mps_model.specs.Answer.{Answer, is_accepted}
+use Rattle.mps_model.specs.Graph.{new_cells, Object, Point, Reservation, contains, entry_at, ids_in_frames, is_automatic, object_at}
 use Rattle.mps_model.specs.Collection.{Collection}
 use Rattle.mps_model.specs.World.{World, Pool, is_any_size_kind, is_automatic_kind, is_copying_pool, pool_at}
-use Rattle.mps_model.specs.Checked.{Checked, Found, Numbered, required, refuse_when, as_blocks, as_point, block_place_in, cache_named, number_named, point_named}
-use Rattle.mps_model.specs.Accessing.{address_or_null}
+use Rattle.mps_model.specs.Checked.{Checked, Numbered, required, refuse_when, as_point, number_named, point_named}
 use Rattle.mps_model.specs.Allocating.{Reserving, layout_of, takes_head, check_reserve}
-use Rattle.mps_model.specs.Caches.{flushed, kept_by}
-use Rattle.mps_model.specs.Frames.{blocks_popped, frame_in, frames_named}
 use Rattle.mps_model.specs.Placement.{ForReserve, placement_of}
 use Rattle.mps_model.specs.Policy.{units_asked}
 use Rattle.mps_model.specs.Effect.{holding, segment_of_move, world_after_moves}
 use Rattle.mps_model.specs.LegalMove.{AreLegalMoves, first_move}
-use Rattle.mps_model.specs.History.{AreMovesOf, after_own_segment, asking, commit_of, free_of, if_accepted, moved_world, moves_if_not_kept, moves_of_cache_flush, moves_of_cache_free, moves_of_collector, moves_of_commit, moves_of_frame, moves_of_free, moves_of_pop, moves_of_poll, own_segment, rank_of_point, segment_of_reserve, segment_taken, unless_refused, with_buffer, with_segment_for_point}
-use Rattle.mps_changes.proofs.Checks.{cache_named-is, frames_named-is, point_named-is}
-use Rattle.mps_changes.proofs.Frames.{found_blocks_pass, popped_pass}
-use Rattle.mps_changes.proofs.OneMore.{flushed_pass}
-use Rattle.mps_laws.proofs.FoundBy.{found_by}
+use Rattle.mps_model.specs.History.{AreMovesOf, after_own_segment, asking, commit_of, if_accepted, moved_world, moves_of_collector, moves_of_commit, moves_of_poll, own_segment, rank_of_point, segment_of_reserve, segment_taken, with_buffer, with_segment_for_point}
+use Rattle.mps_changes.proofs.Checks.{point_named-is}
 use Rattle.mps_laws.proofs.Positions.Segments.{IsAmong, among_cases}
 use Rattle.mps_laws.proofs.Reading.{bind_ok, next_ok}
-use Rattle.mps_laws.proofs.Replays.FreeSteps.{BlocksAreLive, block_is_live}
-use Rattle.mps_laws.proofs.Sound.SoundGraph.{All, IsSoundGraph, PassesOrNull, all-at, auto, entry-passes, manual, manual_parts}
+use Rattle.mps_laws.proofs.Replays.FreeSteps.{BlocksAreLive}
+use Rattle.mps_laws.proofs.Sound.SoundGraph.{All, auto, manual}
+use Rattle.mps_client_laws.specs.Addresses.{frees_blocks}
+use Rattle.mps_client_laws.proofs.FreesOfCalls.{left_by_frees}
 use Rattle.mps_client_laws.proofs.SegmentsFreed.{frees_in_use, not_both_kinds, object_in_use}
 use Rattle.mps_client_laws.proofs.SegmentsInUse.{AreInUse, IsInUse, used, for_move, for_return, any_size, condemned_of, mapped, moves_in_use}
 
@@ -190,14 +185,6 @@ module _ (limit : ℕ) (v after : World) (h : AreInUse limit v None) where
 
 -- ---- the moves of calls that make no block
 
--- the block in a place is manual
-placed_is_manual : (w : World) (place : Slot) (found : Found (Option ℕ)) (id : ℕ) → IsSoundGraph w → block_place_in w place ≡ Ok found
-    → found.value ≡ Some id → manual w id ≡ true
-placed_is_manual w place found id s e f =
-    let g = found_by (number_named w place.name as_blocks) (λ n. slice_get w.graph.blocks n) place.index found e in
-    subst (PassesOrNull (manual w)) f (entry-passes (manual w) found.list found.index found.value
-    (all-at (manual w) entries w.graph.blocks found.number found.list (manual_parts w s).0 g.0) g.1)
-
 abbrev pub makes_block : Call → Bool
 makes_block (call.Alloc pool words into) = true
 makes_block (call.CacheAlloc cache words into) = true
@@ -206,13 +193,6 @@ makes_block _ = false
 module _ (limit : ℕ) (w : World) (h : AreInUse limit w None) where
   abbrev Left : List Move → Type 0
   Left ms = AreInUse limit (world_after_moves w ms) None
-
-  unless_used : (answer : Answer) (ms : List Move) → Left ms → Left (unless_refused answer ms)
-  unless_used answer ms left = by_case (is_refused answer)
-    where
-      by_case : (b : Bool) → Left (if b then [] else ms)
-      by_case true = h
-      by_case false = left
 
   commit_used : (answer : Answer) (x : Checked (Numbered Point)) → Left (if_accepted answer (moves_of_commit w x))
   commit_used answer x = by_case (is_accepted answer) x
@@ -226,64 +206,9 @@ module _ (limit : ℕ) (w : World) (h : AreInUse limit w None) where
       by_case true (Err why) = h
       by_case true (Ok p) = of_reservation p p.value.reservation
 
-  free_used : (place : Slot) → BlocksAreLive w → Left (moves_of_free w (block_place_in w place))
-  free_used place live = of_place (block_place_in w place) refl
-    where
-      of_live : (id : ℕ) → (o : Option ℕ) → is_some o ≡ true → Left (option_map_or (free_of w) o [])
-          → Left (free_of w (option_map_or (λ at. at) o 0))
-      of_live id None some left = absurd (false≢true some)
-      of_live id (Some at) some left = left
-
-      of_value : (found : Found (Option ℕ)) (o : Option ℕ) → block_place_in w place ≡ Ok found → found.value ≡ o
-          → Left (option_map_or (λ id. free_of w (address_or_null w id)) o [])
-      of_value found None e f = h
-      of_value found (Some id) e f =
-          of_live id (entry_at w.addresses id) (block_is_live w place found id live e f)
-          (object_in_use limit w h id (placed_is_manual w place found id h.sound e f))
-
-      of_place : (x : Checked (Found (Option ℕ))) → block_place_in w place ≡ x → Left (moves_of_free w x)
-      of_place (Err why) e = h
-      of_place (Ok found) e = of_value found found.value e refl
-
-  cache_free_used : (q : Checked (Numbered Cache)) (place : Slot) → Left (moves_of_cache_free w q (block_place_in w place))
-  cache_free_used q place = of_both q (block_place_in w place) refl
-    where
-      of_kept : (id : ℕ) → manual w id ≡ true → (o : Option (List CacheClass)) → Left (moves_if_not_kept w id o)
-      of_kept id kind None = object_in_use limit w h id kind
-      of_kept id kind (Some classes) = h
-
-      of_value : (q : Numbered Cache) (found : Found (Option ℕ)) (o : Option ℕ) → block_place_in w place ≡ Ok found → found.value ≡ o
-          → Left (option_map_or (λ id. moves_if_not_kept w id (kept_by w q.value id)) o [])
-      of_value q found None e f = h
-      of_value q found (Some id) e f = of_kept id (placed_is_manual w place found id h.sound e f) (kept_by w q.value id)
-
-      of_both : (q : Checked (Numbered Cache)) (x : Checked (Found (Option ℕ))) → block_place_in w place ≡ x
-          → Left (moves_of_cache_free w q x)
-      of_both (Ok q) (Ok found) e = of_value q found found.value e refl
-      of_both (Ok q) (Err why) e = h
-      of_both (Err why) x e = h
-
-  cache_flush_used : (name : Name) → Left (moves_of_cache_flush w (cache_named w name))
-  cache_flush_used name = of_cache (cache_named w name) refl
-    where
-      of_cache : (x : Checked (Numbered Cache)) → cache_named w name ≡ x → Left (moves_of_cache_flush w x)
-      of_cache (Err why) e = h
-      of_cache (Ok q) e =
-          frees_in_use limit w h (flushed q.value)
-          (flushed_pass (manual w) q.value.classes
-          (all-at (manual w) ids_of_cache w.graph.caches q.number q.value (manual_parts w h.sound).1 (cache_named-is w name q e)))
-
-  pop_used : (pool : Name) (frame : ℕ) → All (manual w) (ids_in_frames w.graph) → Left (moves_of_pop w (frames_named w pool) frame)
-  pop_used pool frame framed = of_pool (frames_named w pool) refl
-    where
-      of_frame : (f : PoolFrames) → All (manual w) f.blocks → (y : Checked ℕ) → Left (moves_of_frame w f y)
-      of_frame f kind (Ok before) = frees_in_use limit w h (blocks_popped f before) (popped_pass (manual w) f before kind)
-      of_frame f kind (Err why) = h
-
-      of_pool : (x : Checked PoolFrames) → frames_named w pool ≡ x → Left (moves_of_pop w x frame)
-      of_pool (Err why) e = h
-      of_pool (Ok f) e =
-          of_frame f (found_blocks_pass (manual w) w.graph.frames f.pool f (frames_named-is w pool f e) framed) (frame_in f frame)
+  free_used : (c : Call) (ms : List Move) (answer : Answer) → frees_blocks c ≡ true → BlocksAreLive w
+      → All (manual w) (ids_in_frames w.graph) → AreMovesOf w c answer ms → Left ms
+  free_used = left_by_frees w h.sound Left h (object_in_use limit w h) (frees_in_use limit w h)
 
   pub moved_used : (after : World) (c : Call) (ms : List Move) (answer : Answer) → makes_block c ≡ false → BlocksAreLive w
       → All (manual w) (ids_in_frames w.graph) → AreLegalMoves w None (moves_of_collector c ms) → AreMovesOf w c answer ms
@@ -298,14 +223,13 @@ module _ (limit : ℕ) (w : World) (h : AreInUse limit w None) where
   moved_used after (call.Commit point target) ms answer plain live framed legal due =
       asked_used limit None (world_after_moves w ms) after (subst Left (sym due) (commit_used answer (point_named w point)))
   moved_used after (call.Free place) ms answer plain live framed legal due =
-      asked_used limit None (world_after_moves w ms) after (subst Left (sym due) (unless_used answer _ (free_used place live)))
+      asked_used limit None (world_after_moves w ms) after (free_used (call.Free place) ms answer refl live framed due)
   moved_used after (call.CacheFree cache place) ms answer plain live framed legal due =
-      asked_used limit None (world_after_moves w ms) after
-      (subst Left (sym due) (unless_used answer _ (cache_free_used (cache_named w cache) place)))
+      asked_used limit None (world_after_moves w ms) after (free_used (call.CacheFree cache place) ms answer refl live framed due)
   moved_used after (call.CacheFlush cache) ms answer plain live framed legal due =
-      asked_used limit None (world_after_moves w ms) after (subst Left (sym due) (unless_used answer _ (cache_flush_used cache)))
+      asked_used limit None (world_after_moves w ms) after (free_used (call.CacheFlush cache) ms answer refl live framed due)
   moved_used after (call.Pop pool frame) ms answer plain live framed legal due =
-      asked_used limit None (world_after_moves w ms) after (subst Left (sym due) (unless_used answer _ (pop_used pool frame framed)))
+      asked_used limit None (world_after_moves w ms) after (free_used (call.Pop pool frame) ms answer refl live framed due)
   moved_used after c ms answer plain live framed legal due =
       asked_used limit (units_asked w c) (world_after_moves w ms) after
       (moves_in_use limit w None ms (any_next (first_move ms) h) legal)

@@ -24,7 +24,7 @@ use Rattle.mps_laws.proofs.Entries.{entry_at-written, entry_at-append}
 use Rattle.mps_laws.proofs.Naming.{same_name_equal}
 use Rattle.mps_laws.proofs.Reading.{slot_is, slot_in_is}
 use Rattle.mps_client_laws.specs.Slots.{SlotsStay, drops_table, is_same_slot, leave_slot, slot_value, slot_written_by, value_found, writes_slot}
-use Rattle.mps_client_laws.proofs.SlotsOfCalls.{WritesSlots, Names, AsNamed, OneNamed, OneUnnamed, Tables, AsBefore, OneMore, ASlot, ATable, ReplacedSlots, slots_of_act}
+use Rattle.mps_client_laws.proofs.RootsOfCalls.{WritesRoots, Names, IsNoRoot, AsNamed, OneNamed, OneUnnamed, Tables, AsBefore, OneMore, ASlot, ATable, ReplacedSlots, roots_of_act}
 use Rattle.mps_client_laws.proofs.WritesOfMoves.{moved_world_leaves, moves_leave_objects, same_replaced}
 use Rattle.mps_client_laws.proofs.Substituted.{target_stays}
 use Rattle.mps_client_laws.specs.Objects.{pairs_named, replaces}
@@ -140,8 +140,8 @@ module _ (c : Call) (judged v : World) (slot : Slot) (value : Option ℕ) (same_
   named_after u (OneUnnamed name why e) =
       ap (λ ns. thing_in ns slot.name) e ∙ unnamed_kept v.graph.names name slot.name (differs why) ∙ s.named
     where
-      differs : (number_named v name as_table ≡ None) ⊎ (c ≡ call.DropRoot name) → name ≡ slot.name → ⊥
-      differs (inl none) same = none-some s.number (sym none ∙ ap (λ n. number_named v n as_table) same ∙ number_of_slot)
+      differs : IsNoRoot v name ⊎ (c ≡ call.DropRoot name) → name ≡ slot.name → ⊥
+      differs (inl none) same = none-some s.number (sym none.no_table ∙ ap (λ n. number_named v n as_table) same ∙ number_of_slot)
       differs (inr is) same = not_dropped name is (ap (λ n. number_named v n as_table) same ∙ number_of_slot)
 
   -- what is found in the world in which the call was judged is found in this one
@@ -215,7 +215,7 @@ module _ (c : Call) (judged v : World) (slot : Slot) (value : Option ℕ) (same_
             ∙ ap (λ x. Some x) (not_replaced transform pairs is pairs_are),
       )
 
-  stands_after : (u : World) → WritesSlots c judged v u → Stands u.graph.names u.graph.tables slot value
+  stands_after : (u : World) → WritesRoots c judged v u → Stands u.graph.names u.graph.tables slot value
   stands_after u writes =
       let t = table_after u writes.tables in
       record {
@@ -268,7 +268,7 @@ slot_after_step w s slot value unwritten there =
     let now = subst (λ ts. Stands moved.graph.names ts slot value) (sym left.tables)
     (subst (λ ns. Stands ns w.graph.tables slot value) (sym left.names) before) in
     by_act left.names left.tables now (act (is_block s.answer) judged moved s.call)
-    (slots_of_act (is_block s.answer) judged moved s.call)
+    (roots_of_act (is_block s.answer) judged moved s.call)
   where
     moved : World
     moved = moved_world w s.call s.moves
@@ -277,7 +277,7 @@ slot_after_step w s slot value unwritten there =
     judged = judged_world w s.call s.moves
 
     by_act : (names : moved.graph.names ≡ w.graph.names) (tables : moved.graph.tables ≡ w.graph.tables)
-        (now : Stands moved.graph.names moved.graph.tables slot value) (x : Checked Act) → ForAct (WritesSlots s.call judged moved) x
+        (now : Stands moved.graph.names moved.graph.tables slot value) (x : Checked Act) → ForAct (WritesRoots s.call judged moved) x
         → slot_value (world_from moved x) slot ≡ Some value
     by_act names tables now _ (accepted {a} writes) =
         let before = judged_leaves w s.call s.moves in

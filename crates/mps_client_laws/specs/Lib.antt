@@ -3,6 +3,7 @@ pub mod ReadingBack
 pub mod Refusals
 pub mod Addresses
 pub mod Slots
+pub mod Pinning
 pub mod Collecting
 pub mod Complete
 pub mod Committing

@@ -10,6 +10,7 @@ ghost use Rattle.mps_client_laws.specs.Committing.{CommitMakesTheObject, Flipped
 ghost use Rattle.mps_client_laws.specs.Dependents.{ValuesGoWithTheirKeys};
 ghost use Rattle.mps_client_laws.specs.Initialising.{InitWritesTheNumber, InitWritesTheReference};
 ghost use Rattle.mps_client_laws.specs.Numbers.{NumbersStayWords, ReachedNumbersAreWords};
+ghost use Rattle.mps_client_laws.specs.Pinning.{AddressesLieInside, PeekAnswersWhatIsShown, PinnedObjectsLieStill, PokeShowsItsNumber, ShownNumbersStay};
 ghost use Rattle.mps_client_laws.specs.Places.{AllocShowsZeros, AllocsShowAlike, CacheAllocShowsZeros, CacheFreeShowsNothing, FreeShowsNothing, FreesShowAlike};
 ghost use Rattle.mps_client_laws.specs.Popping.{PopFreesWhatWasMadeSince};
 ghost use Rattle.mps_client_laws.specs.ReadingBack.{GetGivesWhatWasPut, NumAnswersWhatWasSet, LoadAnswersWhatWasStored};
@@ -106,6 +107,17 @@ pub fn a_collect_is_complete()
     ensures moved { OthersWereKeptByMoves }
     ensures pinned { PinnedObjectsStay }
     ensures segments { SegmentsHaveLiveBlocks }
+{}
+
+/// Area words pin objects, as the words of a runtime's stack do. After a `poke` a word shows its number, and so it does until a step writes
+/// it or drops its area, whatever is moved meanwhile: a `peek` answers it. The address of an object lies in it. An object in which the
+/// number lies, and which the client holds at some moment, lives on from there and stays where it is, also if the client drops it.
+pub fn area_words_pin_objects()
+    ensures poke { PokeShowsItsNumber }
+    ensures shown { ShownNumbersStay }
+    ensures peek { PeekAnswersWhatIsShown }
+    ensures inside { AddressesLieInside }
+    ensures pinned { PinnedObjectsLieStill }
 {}
 
 /// An accepted `commit` makes one new object, with the head and just the cells of the reservation, and its slot refers to it. One that
