@@ -7,6 +7,7 @@ pub mod Popped
 pub mod Keyed
 pub mod Dependencies
 pub mod Located
+pub mod Pinned
 pub mod Refused
 pub mod Setting
 pub mod ReadBack

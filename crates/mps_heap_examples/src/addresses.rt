@@ -9,7 +9,7 @@ ghost use Rattle.mps_model.specs.World.{World};
 
 use crate::Tail;
 use crate::list::{NEXT, NUMBER, cursor, first, named};
-use mps_base::{Addr, Refusal, Trail};
+use mps_base::{Addr, Refusal, Slot, Trail};
 use mps_heap::Heap;
 
 /// Writes a number into the first item. It stays where it lies. There are four refusals, and after each the heap represents what it did:
@@ -57,6 +57,28 @@ pub fn set_and_collect(
     trail.clear();
     heap.collect(trail);
     heap.num(first(), NUMBER)
+}
+
+/// Writes the address of the first item into a word of an area, as a runtime's stack may hold it, and collects if that can be done. The
+/// item lies where it lay, since the word pins it.
+pub fn pin_and_collect(heap: &mut Heap<Tail>, trail: &mut Trail) -> Result<Addr, Refusal>
+    requires room { 2 * most_moves heap.old.segs.grains ≤ trail.old.spare + length trail.old.moves }
+    ensures room { KeepsRoom trail.old trail.new }
+    ensures grains { heap.new.segs.grains ≡ heap.old.segs.grains }
+    ensures there { (w : World) → Represents heap.old w → IfOk result (λ at. FirstLiesAt heap.new at.0) }
+{
+    let at = heap.addr(first())?;
+    let word = Slot {
+        name: named(b'a'),
+        index: 0,
+    };
+    heap.poke(word, at.0)?;
+    if !heap.can_collect() {
+        return Ok(at);
+    }
+    trail.clear();
+    heap.collect(trail);
+    Ok(at)
 }
 
 /// Reads the second item into slot 1, and returns where the first one lies. The address is taken before that. While a collection runs

@@ -5,7 +5,8 @@ ghost use Rattle.mps_heap.specs.Collect.{most_moves};
 use crate::list::named;
 use crate::{
     HEAD, Tail, add_to_first, collect, collect_often, find_again, is_where_noted, make, mark_new,
-    note_first, pop, push, read_second, set_and_collect, set_first, sum, sum_by_key, sum_of_two,
+    note_first, pin_and_collect, pop, push, read_second, set_and_collect, set_first, sum,
+    sum_by_key, sum_of_two,
 };
 use mps_base::{Addr, Kind, Rank, Refusal, Slot, Trail};
 use mps_format::{Format, Leaf};
@@ -355,6 +356,27 @@ fn use_addresses(rt: &impl Abort, alloc: Global, heap: &mut Heap<Tail>) {
     assert!(rt; is_where_noted(heap) == Ok(false));
 }
 
+/// Pins the first item and collects, with a trail of its own.
+fn pin_one(alloc: Global, heap: &mut Heap<Tail>) -> Result<Addr, Refusal> {
+    let mut trail = Trail::new(alloc, 2 * heap.most_moves() + 1).map_err(|_| Refusal::OutOfMemory)?;
+    pin_and_collect(heap, &mut trail)
+}
+
+/// The first item lies where it lay, since a word of an area has its address, and the second one is moved.
+fn pin_first(rt: &impl Abort, alloc: Global, heap: &mut Heap<Tail>) {
+    assert!(rt; make(heap).is_ok());
+    assert!(rt; push_five(alloc, heap) == Ok(true));
+    assert!(rt; pin_one(alloc, heap) == Err(Refusal::BadName));
+    assert!(rt; heap.area(named(b'a'), 1) == Ok(()));
+    let first = heap.addr(slot(0));
+    assert!(rt; read_one(alloc, heap) == first);
+    let second = heap.addr(slot(1));
+    assert!(rt; pin_one(alloc, heap) == first);
+    assert!(rt; heap.addr(slot(0)) == first);
+    assert!(rt; heap.addr(slot(1)) != second);
+    assert!(rt; sum_of(alloc, heap, 10) == Ok(15));
+}
+
 /// An item of a pool that doesn't move is found again.
 fn find_still(rt: &impl Abort, alloc: Global, heap: &mut Heap<Tail>) {
     assert!(rt; heap.pool(named(b'p'), Kind::Ams, Tail) == Ok(()));
@@ -370,6 +392,9 @@ fn addresses_of_the_first_item(rt: HostRuntime) -> Result<(), AllocError> {
     let mut heap = Heap::<Tail>::new(rt.alloc(), 8, 8)?;
     use_addresses(&rt, rt.alloc(), &mut heap);
     heap.finish();
+    let mut pinned = Heap::<Tail>::new(rt.alloc(), 8, 8)?;
+    pin_first(&rt, rt.alloc(), &mut pinned);
+    pinned.finish();
     let mut still = Heap::<Tail>::new(rt.alloc(), 8, 8)?;
     find_still(&rt, rt.alloc(), &mut still);
     still.finish();
