@@ -12,20 +12,25 @@ import sys
 from instructions import instructions
 
 GRAINS, WORDS_OF_GRAIN = 2048, 512
-SIZES = (8, 64, 512)    # words of an object
+SIZES = (3, 8, 64, 512)    # words of an object
 COLLECTIONS = 3
+
+
+def objects_of(words):
+    """How many objects of this size fill the arena. None lies in two grains."""
+    return GRAINS * (WORDS_OF_GRAIN // words)
 
 
 def script(pool, words, collections):
     """A list of objects, as many as fill the arena, which is then collected."""
     lines = [f"arena {GRAINS} {GRAINS}", "table t 1", f"pool p {pool} front", "ap x p exact"]
-    lines += [f"reserve x f:{words}:1", "init x 1 t.0", "commit x t.0"] * (GRAINS * WORDS_OF_GRAIN // words)
+    lines += [f"reserve x f:{words}:1", "init x 1 t.0", "commit x t.0"] * objects_of(words)
     return lines + ["collect"] * collections + ["committed", "live"]
 
 
 def cost(program, pool, words):
     """The instructions that a collection takes for each object."""
-    objects = GRAINS * WORDS_OF_GRAIN // words
+    objects = objects_of(words)
     answers = [str(GRAINS), f"{objects} {objects * words}"]
     once, often = (instructions(program, script(pool, words, n), answers) for n in (1, COLLECTIONS))
     return (often - once) / ((COLLECTIONS - 1) * objects)
@@ -35,7 +40,7 @@ def show(program):
     print(f"{program}\n{'words each':>10}{'objects':>10}{'amc':>10}{'ams':>10}{'ratio':>8}")
     for words in SIZES:
         moving, marking = (cost(program, pool, words) for pool in ("amc", "ams"))
-        print(f"{words:10}{GRAINS * WORDS_OF_GRAIN // words:10}{moving:10.0f}{marking:10.0f}{moving / marking:8.2f}")
+        print(f"{words:10}{objects_of(words):10}{moving:10.0f}{marking:10.0f}{moving / marking:8.2f}")
 
 
 def main():
