@@ -1,8 +1,9 @@
 -- Bits that are all set.
-use Rattle.std.proofs.Common.{ℕ, ◌+◌, ◌-◌, ◌*◌, ◌^◌, ◌<◌, ◌≤◌, ◌≡◌, Bool, true, false, not, Option, Some, None, is_some, MatchOption, List, get_or, refl, sym, ap, ◌∙◌, inl, inr, arith}
+use Rattle.std.proofs.Common.{ℕ, zero, suc, eqb, ◌+◌, ◌-◌, ◌*◌, ◌^◌, ◌<◌, ◌≤◌, ◌≡◌, Bool, true, false, not, Option, Some, None, is_some, MatchOption, List, get_or, refl, sym, ap, ◌∙◌, inl, inr, arith}
 use Rattle.std.specs.Int.{bit_at}
 use Rattle.std.proofs.lemmas.Bool.{cases_eq, true≢false, false≢true}
-use Rattle.std.proofs.lemmas.Nat.Bits.{bit_at_ones, same_from_bits_below}
+use Rattle.std.proofs.lemmas.Nat.Bits.{bit_at-lt, bit_at_ones, same_from_bits_below}
+use Rattle.mps_bits.specs.OpenRuns.{is_one}
 use Rattle.mps_bits.specs.Row.{bit_in, IsClear, IsSet, IsLowestRun}
 use Rattle.mps_bits.proofs.Row.{bit_in-lt}
 use Rattle.mps_bits.proofs.Clearing.{bit_in_row}
@@ -21,6 +22,21 @@ pub full_of_set : (words : List ℕ) (at : ℕ) → get_or words at 0 < 2 ^ 64 �
 full_of_set words at fits set =
     same_from_bits_below 64 (get_or words at 0) (2 ^ 64 - 1) fits (omega arith) (λ i h.
     sym (bit_in_row words at i h) ∙ set (64 * at + i) (omega arith) (omega arith) ∙ sym (bit_at_ones 64 i h))
+
+-- two words with the same bits are the same
+pub same_by_bits : (a b : ℕ) → a < 2 ^ 64 → b < 2 ^ 64 → ((k : ℕ) → k < 64 → is_one a k ≡ is_one b k) → a ≡ b
+same_by_bits a b fits fits' same =
+    same_from_bits_below 64 a b fits fits' (λ k within.
+    same_bit (bit_at a k) (bit_at b k) (bit_at-lt a k) (bit_at-lt b k) (same k within))
+  where
+    same_bit : (x y : ℕ) → x < 2 → y < 2 → eqb x 1 ≡ eqb y 1 → x ≡ y
+    same_bit zero zero few few' same = refl
+    same_bit zero (suc zero) few few' same = absurd (false≢true same)
+    same_bit (suc zero) zero few few' same = absurd (true≢false same)
+    same_bit (suc zero) (suc zero) few few' same = refl
+    same_bit zero (suc (suc y)) few few' same = absurd (omega (arith, few'))
+    same_bit (suc zero) (suc (suc y)) few few' same = absurd (omega (arith, few'))
+    same_bit (suc (suc x)) y few few' same = absurd (omega (arith, few))
 
 -- ---- where no bit is clear, as a search for one finds
 

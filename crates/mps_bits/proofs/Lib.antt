@@ -9,3 +9,4 @@ pub mod Runs
 pub mod RunsOfWords
 pub mod SweptTables
 pub mod Tables
+mod TwoTables

@@ -71,6 +71,7 @@ impl Bits {
     }
 
     /// Sets the bits from `from` up to, but not at, `to`.
+    #[inline(always)]
     pub fn set_range(&mut self, from: usize, to: usize)
         requires ordered { from ≤ to }
         requires in_table { to ≤ length self.old }
@@ -168,6 +169,7 @@ impl Bits {
     }
 
     /// Writes `value` into the bits from `from` up to, but not at, `to`.
+    #[inline(always)]
     fn write_range(&mut self, from: usize, to: usize, value: bool)
         requires ordered { from ≤ to }
         requires in_table { to ≤ length self.old }
@@ -274,6 +276,28 @@ impl Bits {
         ensures { (i : ℕ) → i < 64 → is_one result i ≡ is_set_unless self.now others.now at i }
     {
         words::word_unless(&self.words, &others.words, at / 64)
+    }
+
+    /// Whether each bit from `from` up to, but not at, `to` that is set is also set in `others`, 64 a step.
+    pub fn is_subset_of(&self, others: &Bits, from: usize, to: usize) -> bool
+        requires in_words { (from % 64 ≡ 0) × (to % 64 ≡ 0) }
+        requires in_table { to ≤ length self.now }
+        requires in_others { to ≤ length others.now }
+        ensures sound { result ≡ true → (i : ℕ) → from ≤ i → i < to → bit self.now i ≡ true → bit others.now i ≡ true }
+        ensures complete { ((i : ℕ) → from ≤ i → i < to → bit self.now i ≡ true → bit others.now i ≡ true) → result ≡ true }
+    {
+        words::are_words_unless(&self.words, &others.words, from / 64, to / 64, 0)
+    }
+
+    /// Whether all bits from `from` up to, but not at, `to` are set and clear in `others`, 64 a step.
+    pub fn are_all_set_unless(&self, others: &Bits, from: usize, to: usize) -> bool
+        requires in_words { (from % 64 ≡ 0) × (to % 64 ≡ 0) }
+        requires in_table { to ≤ length self.now }
+        requires in_others { to ≤ length others.now }
+        ensures sound { result ≡ true → (i : ℕ) → from ≤ i → i < to → (bit self.now i ≡ true) × (bit others.now i ≡ false) }
+        ensures complete { ((i : ℕ) → from ≤ i → i < to → (bit self.now i ≡ true) × (bit others.now i ≡ false)) → result ≡ true }
+    {
+        words::are_words_unless(&self.words, &others.words, from / 64, to / 64, u64::MAX)
     }
 
     /// How many bits from `from` up to, but not at, `to` are set.

@@ -4,7 +4,7 @@
 ghost use Rattle.std.specs.Prelude.{true, false, ◌≡◌, ◌≢◌, ◌==◌, ℕ, ◌+◌, ◌-◌, ◌*◌, ◌/◌, ◌%◌, ◌^◌, ◌<◌, ◌≤◌, ◌⊎◌, length, min, if◌then◌else◌, MatchOption};
 ghost use Rattle.std.specs.Int.{bit_at};
 ghost use Rattle.mps_bits.specs.OpenRuns.{is_one, is_one_in, is_one_unless, in_run, AreRunsApart};
-ghost use Rattle.mps_bits.specs.Row.{bit_in, sum_over, IsClear, IsSet, IsLowestSet, IsHighestSet, HasNoRun, IsLowestRun};
+ghost use Rattle.mps_bits.specs.Row.{bit_in, sum_over, IsClear, IsSet, IsLowestSet, IsHighestSet, IsLowestRun};
 
 use crate::word::{
     bits_from, clear_run, highest_one, lowest_one, runs_between, with_bits, with_last,
@@ -242,6 +242,29 @@ pub(crate) fn word_unless(words: &[u64], others: &[u64], at: usize) -> u64
     ensures { (i : ℕ) → i < 64 → is_one result i ≡ is_one_unless words.now others.now (64 * at) i }
 {
     words[at] & !others[at]
+}
+
+/// Whether each word from `from` up to `to`, without the bits that are set in `others`, is `value`.
+pub(crate) fn are_words_unless(
+    words: &[u64],
+    others: &[u64],
+    from: usize,
+    to: usize,
+    value: u64,
+) -> bool
+    requires in_row { to ≤ length words.now }
+    requires in_others { to ≤ length others.now }
+    ensures sound { result ≡ true → (at k : ℕ) → from ≤ at → at < to → k < 64
+        → is_one_unless words.now others.now (64 * at) k ≡ is_one value k }
+    ensures complete { ((at k : ℕ) → from ≤ at → at < to → k < 64 → is_one_unless words.now others.now (64 * at) k ≡ is_one value k)
+        → result ≡ true }
+{
+    for at in from..to {
+        if word_unless(words, others, at) != value {
+            return false;
+        }
+    }
+    true
 }
 
 /// Clears in one word the bits of a mask, and returns how many of them were set.

@@ -1,4 +1,4 @@
-use Rattle.std.proofs.Common.{◌+◌, ◌*◌, inl, inr, arith}
+use Rattle.std.proofs.Common.{◌*◌, inl, inr, arith}
 use Rattle.std.proofs.lemmas.Bool.{cases_lt}
 use Rattle.mps_bits.proofs.AllSet.{set_in_full, full_of_set}
 use Rattle.mps_bits.proofs.words.are_full.Goals as goal
