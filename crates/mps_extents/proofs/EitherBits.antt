@@ -2,10 +2,10 @@
 use Rattle.std.proofs.Common.{ℕ, ◌-◌, ◌<◌, ◌≤◌, ◌≡◌, ◌≢◌, ◌||◌, Bool, true, false, Option, Some, None, List, length, map, set, sym, ap, ◌∙◌, inl, inr, arith, length-set}
 use Rattle.std.specs.List.{range_with_len}
 use Rattle.std.specs.Option.{option_or, unwrap_or}
-use Rattle.std.proofs.lemmas.Bool.{cases_lt, cases_eq, both_ways, false_from_ne_true, or_left, or_right, or_from}
+use Rattle.std.proofs.lemmas.Bool.{cases_eq, both_ways, false_from_ne_true, or_left, or_right, or_from}
 use Rattle.std.proofs.lemmas.List.FromFn.{length-map-range_with_len, get_or-map-range_with_len}
 use Rattle.mps_bits.specs.Table.{bit, next_set_below}
-use Rattle.mps_bits.proofs.Searches.{IsLowest, found, missing, lowest_cases, lowest_from_is, lowest_from_none}
+use Rattle.mps_bits.proofs.Searches.{found, missing, lowest_cases, lowest_from_is, lowest_from_none}
 use Rattle.mps_extents.specs.declared.extents.Extents.TheInside.{Inside}
 use Rattle.mps_extents.specs.Inside.{either, AreApart}
 use Rattle.mps_extents.proofs.WrittenBits.{bit_is, bit-set_same, bit-set_other, same_bits}

@@ -1,3 +1,4 @@
+mod AnyLost
 pub mod ApartRuns
 pub mod BitRuns
 pub mod ContainedRuns
@@ -20,4 +21,5 @@ pub mod Swept
 pub mod Tables
 pub mod TakenExtent
 pub mod Tally
+mod Uncovered
 pub mod WrittenBits

@@ -74,7 +74,7 @@ within_is low high (r ∷ rs) =
           ∙ rest ∙ sym (filter_no p r rs fails)
     ]
 
-within_bounds : (low high : ℕ) (rs : List Run) (r : Run) → Contains (runs_within low high rs) r → (low ≤ r.from) × (r.from < high)
+pub within_bounds : (low high : ℕ) (rs : List Run) (r : Run) → Contains (runs_within low high rs) r → (low ≤ r.from) × (r.from < high)
 within_bounds low high rs r there =
     let P : List Run → Type 0 = λ xs. Contains xs r in
     let passes = (filter_member (λ r. leb low r.from && ltb r.from high) rs r (subst P (within_is low high rs) there)).1 in

@@ -74,7 +74,7 @@ runs_within_ascending a end low high b (r ∷ rs) ascending whole above below fr
       ]
     ]
 
-covered_within : (low high word : ℕ) (rs : List Run) → AreWhole low high rs → low ≤ word → word < high
+pub covered_within : (low high word : ℕ) (rs : List Run) → AreWhole low high rs → low ≤ word → word < high
     → is_covered rs word ≡ is_covered (runs_within low high rs) word
 covered_within low high word [] whole above below = refl
 covered_within low high word (r ∷ rs) whole above below =

@@ -1,5 +1,5 @@
 -- The indexes that pass a test, and a Free for each.
-use Rattle.std.proofs.Common.{ℕ, zero, suc, ◌+◌, ◌-◌, ◌<◌, ◌≤◌, ◌≡◌, ◌≢◌, ◌&&◌, leb, ltb, eqb, Bool, true, false, not, List, [], ◌∷◌, ◌++◌, length, map, get_or, refl, sym, ap, ◌∙◌, inl, inr, arith, length-append}
+use Rattle.std.proofs.Common.{ℕ, zero, suc, ◌+◌, ◌-◌, ◌<◌, ◌≤◌, ◌≡◌, ◌≢◌, ◌&&◌, leb, ltb, eqb, Bool, true, false, not, List, [], ◌∷◌, ◌++◌, length, map, get_or, refl, sym, ap, ◌∙◌, inl, inr, arith}
 use Rattle.std.specs.Prelude.{filter}
 use Rattle.std.proofs.lemmas.List.{append-nil}
 use Rattle.std.specs.Int.{bit_at}
@@ -9,7 +9,6 @@ use Rattle.std.proofs.lemmas.Bool.{eq-eqb, ne_eqb, cases_eq, cases_Bool, cond-tr
 use Rattle.mps_base.specs.Address.{address_of_word}
 use Rattle.mps_base.specs.Run.{Run, runs_within}
 use Rattle.mps_base.specs.Trail.{Moves, with_move}
-use Rattle.mps_base.specs.declared.moves.Move.{Move}
 use Rattle.mps_base.specs.declared.moves.Move.TheVariants.{Free}
 use Rattle.mps_bits.specs.Table.{bit}
 use Rattle.mps_bits.proofs.Searches.{IsLowest}
@@ -45,6 +44,17 @@ passing_none p from zero none = none_of_none p from
 passing_none p from (suc n) none =
     passing_no p from n (none from (omega arith) (omega arith))
     ∙ passing_none p (suc from) n (λ i above below. none i (omega arith) (omega arith))
+
+pub passing_empty : (p : ℕ → Bool) (from n : ℕ) → passing p from n ≡ [] → (i : ℕ) → from ≤ i → i < from + n → p i ≡ false
+passing_empty p from zero none i above below = absurd (omega arith)
+passing_empty p from (suc n) none i above below =
+    elim (cases_Bool (p from)) [
+      | inl is ↦ let never : from ∷ passing p (suc from) n ≡ [] = sym (passing_yes p from n is) ∙ none in cc
+      | inr is_not ↦ elim (cases_eq i from) [
+        | inl here ↦ ap p here ∙ is_not
+        | inr later ↦ passing_empty p (suc from) n (sym (passing_no p from n is_not) ∙ none) i (omega arith) (omega arith)
+      ]
+    ]
 
 pub passing_add : (p : ℕ → Bool) (from m n : ℕ) → passing p from (m + n) ≡ passing p from m ++ passing p (from + m) n
 passing_add p from zero n =
@@ -101,17 +111,6 @@ freed_more (x ∷ xs) ys moves = freed_more xs ys (with_move moves (Free (record
 pub spare_freed : (xs : List ℕ) (moves : Moves) → (freed_at xs moves).spare ≡ moves.spare - length xs
 spare_freed [] moves = omega arith
 spare_freed (x ∷ xs) moves = spare_freed xs (with_move moves (Free (record { 0 = address_of_word x }))) ∙ omega arith
-
-pub count_freed : (xs : List ℕ) (moves : Moves) → length (freed_at xs moves).moves ≡ length moves.moves + length xs
-count_freed [] moves = omega arith
-count_freed (x ∷ xs) moves =
-    let first : Move = Free (record { 0 = address_of_word x }) in
-    omega (arith, count_freed xs (with_move moves first), length-append moves.moves (first ∷ []))
-
--- where the trail didn't grow nothing was freed
-pub none_freed : (xs : List ℕ) (moves : Moves) → length (freed_at xs moves).moves ≡ length moves.moves → xs ≡ []
-none_freed [] moves same = refl
-none_freed (x ∷ xs) moves same = absurd (omega (arith, count_freed (x ∷ xs) moves, same))
 
 abbrev pub begin_words : List Run → List ℕ
 begin_words rs = map (λ (r : Run). r.from) rs

@@ -1,5 +1,5 @@
 -- The tables and the lists after a sweep.
-use Rattle.std.proofs.Common.{ℕ, ◌+◌, ◌-◌, ◌<◌, ◌≤◌, ◌≡◌, ◌⊎◌, ◌&&◌, Bool, false, List, [], ◌∷◌, length, refl, sym, ap, ◌∙◌, subst, arith}
+use Rattle.std.proofs.Common.{ℕ, ◌+◌, ◌-◌, ◌<◌, ◌≤◌, ◌≡◌, ◌⊎◌, ◌&&◌, Bool, false, List, length, sym, ap, ◌∙◌, subst, arith}
 use Rattle.std.specs.Prelude.{if◌then◌else◌}
 use Rattle.std.proofs.lemmas.List.{length-map}
 use Rattle.mps_base.specs.Run.{Run, total}
@@ -16,7 +16,7 @@ use Rattle.mps_extents.proofs.Tally.{blocks_ascend}
 use Rattle.mps_extents.proofs.LostRuns.{lost_ascends, lost_member}
 use Rattle.mps_extents.proofs.Dropping.{without_bits, without_words, dropped, same_tally, AreDropped, are_dropped}
 use Rattle.mps_extents.proofs.Sweep.{apart_runs, new_covered, new_blocks}
-use Rattle.mps_extents.proofs.Passing.{begin_words, none_freed, frees_are, lost_words}
+use Rattle.mps_extents.proofs.Passing.{begin_words, frees_are, lost_words}
 
 -- the lists without the lost blocks
 abbrev pub swept : (low high : ℕ) (kept : List Bool) → ExtentLists → ExtentLists
@@ -26,10 +26,6 @@ swept low high kept seen = dropped (lost_runs low high kept seen.blocks) seen
 abbrev pub Holds : Inside → (covered blocks : List Bool) (count words : ℕ) → Type 0
 Holds t covered blocks count words =
     AreSoundTables covered (either t.opens blocks) t.ends blocks × AreApart t.opens blocks × IsTally (extents blocks t.ends) count words
-
-no_runs : (rs : List Run) → begin_words rs ≡ [] → rs ≡ []
-no_runs [] none = refl
-no_runs (r ∷ rs) none = let never : r.from ∷ begin_words rs ≡ [] = none in cc
 
 module _
     (t : Inside) (seen : ExtentLists) (kept : List Bool) (low high : ℕ) (holds : Holds t t.covered t.blocks t.live_blocks t.live_words)
@@ -65,12 +61,6 @@ module _
     lost_words_are : begin_words (lost_runs low high kept seen.blocks) ≡ passing (begins_lost t.blocks kept) low (high - low)
     lost_words_are =
         ap begin_words (sym same_lost) ∙ lost_words t.ends t.blocks kept low high ordered in_blocks
-
-    pub none_lost : (moves : Moves)
-        → length (freed_at (passing (begins_lost t.blocks kept) low (high - low)) moves).moves ≡ length moves.moves
-        → lost_runs low high kept seen.blocks ≡ []
-    none_lost moves same =
-        no_runs (lost_runs low high kept seen.blocks) (lost_words_are ∙ none_freed (passing (begins_lost t.blocks kept) low (high - low)) moves same)
 
     pub room_for_frees : (spare : ℕ) → length (lost_runs low high kept seen.blocks) ≤ spare
         → length (passing (begins_lost t.blocks kept) low (high - low)) ≤ spare

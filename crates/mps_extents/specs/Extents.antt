@@ -1,5 +1,6 @@
 -- The words that blocks and reservations cover, as runs of words in ascending order.
-use Rattle.std.specs.Prelude.{ℕ, ◌+◌, ◌≤◌, ◌<◌, ◌≡◌, ◌&&◌, Bool, true, false, nat_le, nat_lt, if◌then◌else◌, Option, Some, None, List, [], ◌∷◌, refl}
+use Rattle.std.specs.Prelude.{ℕ, zero, suc, ◌+◌, ◌≤◌, ◌<◌, ◌≡◌, ◌&&◌, Bool, true, false, nat_le, nat_lt, if◌then◌else◌, Option, Some, None, List, [], ◌∷◌, refl}
+use Rattle.std.proofs.Common.{arith}
 use Rattle.mps_base.specs.Run.{Run, end_of, runs_within}
 
 -- which of n words are covered, by blocks and by reservations
@@ -40,6 +41,13 @@ pub record IsFirstWithin (low high : ℕ) (runs : List Run) (at : ℕ) : Type 0 
   pub begins : run.from ≡ at
   pub rest : runs_within low high runs ≡ run ∷ runs_within (at + 1) high runs
 
+-- a word from `low` on and below `high` that none of the runs has, and the words from `low` up to it have runs
+pub record IsLowestUncovered (low high : ℕ) (runs : List Run) (word : ℕ) : Type 0 where
+  pub above : low ≤ word
+  pub below : word < high
+  pub uncovered : is_covered runs word ≡ false
+  pub covered : (other : ℕ) → low ≤ other → other < word → is_covered runs other ≡ true
+
 -- no run has words on both sides of one of the two bounds
 abbrev pub AreWhole : ℕ → ℕ → List Run → Type 0
 AreWhole low high [] = Unit {0}
@@ -65,3 +73,21 @@ the_first_from_three = refl
 
 none_below_five : first_run 3 5 example ≡ None
 none_below_five = refl
+
+four_words : (word : ℕ) → 2 ≤ word → word < 6 → is_covered example word ≡ true
+four_words zero above below = absurd (omega (arith, above))
+four_words (suc zero) above below = absurd (omega (arith, above))
+four_words (suc (suc zero)) above below = refl
+four_words (suc (suc (suc zero))) above below = refl
+four_words (suc (suc (suc (suc zero)))) above below = refl
+four_words (suc (suc (suc (suc (suc zero))))) above below = refl
+four_words (suc (suc (suc (suc (suc (suc word)))))) above below = absurd (omega (arith, below))
+
+the_lowest_from_two : IsLowestUncovered 2 9 example 6
+the_lowest_from_two = record { above = omega arith; below = omega arith; uncovered = refl; covered = four_words }
+
+not_a_covered_one : IsLowestUncovered 2 9 example 5 → ⊥
+not_a_covered_one lowest = let never : true ≡ false = lowest.uncovered in cc
+
+not_the_second : IsLowestUncovered 0 9 example 1 → ⊥
+not_the_second lowest = let never : false ≡ true = lowest.covered 0 (omega arith) (omega arith) in cc

@@ -3,7 +3,7 @@
 
 ghost use Rattle.std.specs.Prelude.{◌≡◌, ℕ, ◌+◌, ◌^◌, ◌<◌, ◌≤◌, true, [], length, IfOk, IfSome, IfNone, Contains};
 ghost use Rattle.mps_base.specs.Run.{Run, IsAscending, with_run, without_run, gaps, lowest_fitting, runs_within, total};
-ghost use Rattle.mps_extents.specs.Extents.{ExtentLists, nothing_covered, is_covered, run_over, first_run, IsFirstWithin, AreWhole};
+ghost use Rattle.mps_extents.specs.Extents.{ExtentLists, nothing_covered, is_covered, run_over, first_run, IsFirstWithin, IsLowestUncovered, AreWhole};
 
 mod sweeping;
 
@@ -235,10 +235,23 @@ impl Extents {
         ensures complete { ((word : ℕ) → low ≤ word → word < high → is_covered (runs_within low high self.now.blocks) word ≡ true)
             → result ≡ true }
     {
-        if self.opens.next_set_below(low, high).is_some() {
-            return false;
+        if low % 64 == 0 && high % 64 == 0 {
+            return self.covered.are_all_set_unless(&self.opens, low, high);
         }
-        self.covered.are_all_set(low, high)
+        self.opens.next_set_below(low, high).is_none() && self.covered.are_all_set(low, high)
+    }
+
+    /// The lowest word from `low` on and below `high` that no block has: it is free, or a reservation has it.
+    pub fn first_without_block(&self, low: usize, high: usize) -> Option<usize>
+        requires ordered { low ≤ high }
+        requires in_table { high ≤ self.now.size }
+        requires whole { AreWhole low high self.now.covered }
+        ensures sound { IfSome result (λ at. IsLowestUncovered low high self.now.blocks at) }
+        ensures complete { IfNone result ((word : ℕ) → low ≤ word → word < high → is_covered self.now.blocks word ≡ true) }
+    {
+        let open = self.opens.next_set_below(low, high);
+        let end = open.unwrap_or(high);
+        self.covered.lowest_clear_run(low, end, 1).or(open)
     }
 
     /// Where the lowest gap of at least `words` words begins among the words from `low` on and below `high`.

@@ -1,7 +1,7 @@
 // The blocks that a collection didn't keep are dropped.
 #![tactic(auto)]
 
-ghost use Rattle.std.specs.Prelude.{◌≡◌, ℕ, ◌+◌, ◌-◌, ◌%◌, ◌^◌, ◌<◌, ◌≤◌, length};
+ghost use Rattle.std.specs.Prelude.{◌≡◌, ◌≢◌, ◌-◌, ◌%◌, ◌^◌, ◌<◌, ◌≤◌, true, false, [], length};
 ghost use Rattle.mps_bits.specs.OpenRuns.{is_one};
 ghost use Rattle.mps_extents.specs.Extents.{AreWhole};
 ghost use Rattle.mps_extents.specs.Lost.{lost_runs, without_runs, frees, freed_at, passing, begins_lost};
@@ -11,6 +11,18 @@ use mps_base::{Addr, BYTES_OF_WORD, Move, Trail};
 use mps_bits::{Bits, lowest_one, without_bit};
 
 impl Extents {
+    /// Whether a block that begins from `low` on and below `high` isn't kept: its bit in `kept` is clear. 64 words are one step.
+    pub fn is_any_lost(&self, kept: &Bits, low: usize, high: usize) -> bool
+        requires in_words { (low % 64 ≡ 0) × (high % 64 ≡ 0) }
+        requires ordered { low ≤ high }
+        requires in_table { high ≤ self.now.size }
+        requires in_kept { high ≤ length kept.now }
+        ensures some { result ≡ true → lost_runs low high kept.now self.now.blocks ≢ [] }
+        ensures none { result ≡ false → lost_runs low high kept.now self.now.blocks ≡ [] }
+    {
+        !self.blocks.is_subset_of(kept, low, high)
+    }
+
     /// Removes the blocks that begin from `low` on and below `high` and whose bits in `kept` are clear, 64 words a step. They have a Free
     /// each in the trail, in ascending order.
     pub fn drop_lost(&mut self, kept: &Bits, low: usize, high: usize, trail: &mut Trail)
@@ -26,11 +38,7 @@ impl Extents {
         } }
         ensures moves { trail.new ≡ frees (lost_runs low high kept.now self.old.blocks) trail.old }
     {
-        let moves = trail.moves().len();
         free_lost(trail, &self.blocks, kept, low, high);
-        if trail.moves().len() == moves {
-            return;
-        }
         let words = self
             .covered
             .clear_runs(&self.blocks, kept, &self.ends, low, high);

@@ -1,32 +1,6 @@
-use Rattle.std.proofs.Common.{List, length, sym, ap, ◌∙◌, arith}
-use Rattle.mps_base.specs.Run.{Run}
-use Rattle.mps_base.specs.Trail.{Moves}
-use Rattle.mps_base.specs.declared.moves.Move.{Move}
-use Rattle.mps_extents.specs.Lost.{frees}
-use Rattle.mps_extents.proofs.Dropping.{dropped}
-use Rattle.mps_extents.proofs.Swept.{size_of_table, in_blocks, none_lost, runs_are_apart, room_for_frees, freed_are, fewer, swept_holds, swept_lists}
+use Rattle.std.proofs.Common.{◌∙◌, arith}
+use Rattle.mps_extents.proofs.Swept.{size_of_table, in_blocks, runs_are_apart, room_for_frees, freed_are, fewer, swept_holds, swept_lists}
 use Rattle.mps_extents.proofs.extents.Extents.drop_lost.Goals as goal
-
--- where no Free was appended no block is lost
-pub returns-then-moves-clause-state : goal.returns-then-moves-clause-state
-returns-then-moves-clause-state c =
-    let none = none_lost c.self.inside c.args.self.now c.args.kept.now c.args.low c.args.high c.self.invariant c.self.view_is
-    c.requires.ordered c.requires.in_table c.requires.whole c.args.trail.now (omega (
-      arith,
-      c.if-moves.true,
-      ap (λ (ms : List Move). length ms) c.moves.ensures,
-      ap (λ (ms : List Move). length ms) c.moves-moves.ensures,
-      ap (λ (m : Moves). length m.moves) c.free_lost.ensures,
-    ))
-    in
-    ap (λ (rs : List Run). dropped rs c.args.self.now) (sym none)
-
-pub returns-then-moves-clause-moves : goal.returns-then-moves-clause-moves
-returns-then-moves-clause-moves c =
-    c.free_lost.ensures
-    ∙ freed_are c.self.inside c.args.self.now c.args.kept.now c.args.low c.args.high c.self.invariant c.self.view_is c.requires.ordered
-    c.requires.in_table c.requires.whole
-    c.args.trail.now
 
 pub free_lost-requires-clause-small : goal.free_lost-requires-clause-small
 free_lost-requires-clause-small c =
