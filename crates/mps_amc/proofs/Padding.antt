@@ -1,12 +1,11 @@
 -- The words around the blocks of a segment become pads, from its first word on.
-use Rattle.std.proofs.Common.{ℕ, ◌+◌, ◌<◌, ◌≤◌, ◌≡◌, ◌⊎◌, true, false, List, [], ◌∷◌, length, sym, ap, ◌∙◌, inl, inr, arith}
+use Rattle.std.proofs.Common.{ℕ, ◌+◌, ◌<◌, ◌≤◌, ◌≡◌, ◌⊎◌, true, false, List, length, sym, ◌∙◌, inl, inr, arith}
 use Rattle.std.proofs.lemmas.Bool.{cases_lt, true≢false}
 use Rattle.std.specs.Prelude.{slice_index}
-use Rattle.mps_base.specs.Run.{Run, end_of, runs_within}
+use Rattle.mps_base.specs.Run.{Run, runs_within}
 use Rattle.mps_extents.specs.Extents.{is_covered}
 use Rattle.mps_format.specs.Layout.{Layout}
 use Rattle.mps_amc.specs.Reclaiming.{LiesInPad, LiesInOpenPad, ArePadded}
-use Rattle.mps_seg.proofs.Within.{word_of_run, word_of_others, no_word_below}
 
 -- ---- a pad more
 
@@ -50,15 +49,29 @@ module _ (f : Layout) (low high at count : ℕ) (words words' : List ℕ)
 
 -- ---- the words around blocks
 
--- so far the words below a word are padded, where the runs that begin from there on are known
+-- so far the words below a word are padded
 pub record ArePaddedBelow (f : Layout) (low high : ℕ) (blocks : List Run) (words words' : List ℕ) (from : ℕ) : Type 0 where
   pub long : length words' ≡ length words
   pub above : low ≤ from
-  pub ahead : (k : ℕ) → from ≤ k → is_covered (runs_within low high blocks) k ≡ is_covered (runs_within from high blocks) k
   pub pads : (i : ℕ) → low ≤ i → i < from → i < high → is_covered (runs_within low high blocks) i ≡ false
       → LiesInOpenPad f low (runs_within low high blocks) words' i
   pub inside : (i : ℕ) → is_covered (runs_within low high blocks) i ≡ true → slice_index words' i ≡ slice_index words i
   pub outside : (i : ℕ) → (i < low) ⊎ (high ≤ i) → slice_index words' i ≡ slice_index words i
+
+-- words of runs are passed over
+pub padded_past : (f : Layout) (low high : ℕ) (blocks : List Run) (words words' : List ℕ) (from to : ℕ)
+    → ArePaddedBelow f low high blocks words words' from → from ≤ to
+    → ((k : ℕ) → from ≤ k → k < to → is_covered (runs_within low high blocks) k ≡ true) → ArePaddedBelow f low high blocks words words' to
+padded_past f low high blocks words words' from to so_far past covered = record {
+  long = so_far.long;
+  above = omega (arith, so_far.above, past);
+  pads = λ i after under below none. elim (cases_lt i from) [
+    | inl before ↦ so_far.pads i after before below none
+    | inr later ↦ absurd (true≢false (sym (covered i later under) ∙ none))
+  ];
+  inside = so_far.inside;
+  outside = so_far.outside;
+}
 
 -- the words from one to another become pads, none of which is in a run
 module _ (f : Layout) (low high : ℕ) (blocks : List Run) (words words' words'' : List ℕ) (from to : ℕ)
@@ -129,63 +142,35 @@ module _ (f : Layout) (low high : ℕ) (blocks : List Run) (words words' words''
     same_outside i (inl before) = others i (inl (omega (arith, before, so_far.above))) ∙ so_far.outside i (inl before)
     same_outside i (inr past) = others i (inr (omega (arith, past, below_end))) ∙ so_far.outside i (inr past)
 
--- up to the next block, and after it
-module _ (f : Layout) (low high : ℕ) (blocks : List Run) (words words' words'' : List ℕ) (from : ℕ) (r : Run)
+-- a hole becomes pads
+module _ (f : Layout) (low high : ℕ) (blocks : List Run) (words words' words'' : List ℕ) (from to : ℕ)
     (so_far : ArePaddedBelow f low high blocks words words' from)
-    (next : runs_within from high blocks ≡ r ∷ runs_within (end_of r) high blocks)
-    (above : from ≤ r.from) (below : r.from < high)
     (long : length words'' ≡ length words')
-    (pads : (i : ℕ) → from ≤ i → i < r.from → LiesInPad f from r.from words'' i)
-    (others : (i : ℕ) → (i < from) ⊎ (r.from ≤ i) → slice_index words'' i ≡ slice_index words' i)
+    (pads : (i : ℕ) → from ≤ i → i < to → LiesInPad f from to words'' i)
+    (others : (i : ℕ) → (i < from) ⊎ (to ≤ i) → slice_index words'' i ≡ slice_index words' i)
+    (open_words : (k : ℕ) → from ≤ k → k < to → is_covered (runs_within low high blocks) k ≡ false)
+    (past : from ≤ to) (below_end : to ≤ high)
   where
-    abbrev later : List Run
-    later = runs_within (end_of r) high blocks
-
-    seen : (k : ℕ) → from ≤ k → is_covered (runs_within low high blocks) k ≡ is_covered (r ∷ later) k
-    seen k past = so_far.ahead k past ∙ ap (λ (xs : List Run). is_covered xs k) next
-
-    gap : (k : ℕ) → from ≤ k → k < r.from → is_covered (runs_within low high blocks) k ≡ false
-    gap k past under =
-        seen k past ∙ word_of_others r later k (inl under) ∙ no_word_below (end_of r) high blocks k (omega (arith, under))
-
-    more : (i : ℕ) → low ≤ i → i < end_of r → i < high → is_covered (runs_within low high blocks) i ≡ false
-        → LiesInOpenPad f low (runs_within low high blocks) words'' i
-    more i after under inside none =
-        elim (cases_lt i r.from) [
-          | inl before ↦
-              padded_more f low high blocks words words' words'' from r.from so_far long pads others gap (omega (arith, below)) i after
-              (inr before) inside none
-          | inr past ↦
-              absurd (true≢false (sym (word_of_run r later i past under) ∙ sym (seen i (omega (arith, past, above))) ∙ none))
-        ]
-
-    pub padded_to : ArePaddedBelow f low high blocks words words'' (end_of r)
+    pub padded_to : ArePaddedBelow f low high blocks words words'' to
     padded_to = record {
       long = long ∙ so_far.long;
-      above = omega (arith, so_far.above, above);
-      ahead = λ k past. seen k (omega (arith, past, above)) ∙ word_of_others r later k (inr past);
-      pads = more;
-      inside = same_inside f low high blocks words words' words'' from r.from so_far long pads others gap (omega (arith, below));
-      outside = same_outside f low high blocks words words' words'' from r.from so_far long pads others gap (omega (arith, below));
+      above = omega (arith, so_far.above, past);
+      pads = λ i after under.
+          padded_more f low high blocks words words' words'' from to so_far long pads others open_words below_end i after (inr under);
+      inside = same_inside f low high blocks words words' words'' from to so_far long pads others open_words below_end;
+      outside = same_outside f low high blocks words words' words'' from to so_far long pads others open_words below_end;
     }
 
--- up to the end
-module _ (f : Layout) (low high : ℕ) (blocks : List Run) (words words' words'' : List ℕ) (from : ℕ)
-    (so_far : ArePaddedBelow f low high blocks words words' from)
-    (none : runs_within from high blocks ≡ [])
-    (long : length words'' ≡ length words')
-    (pads : (i : ℕ) → from ≤ i → i < high → LiesInPad f from high words'' i)
-    (others : (i : ℕ) → (i < from) ⊎ (high ≤ i) → slice_index words'' i ≡ slice_index words' i)
-  where
-    rest_is_open : (k : ℕ) → from ≤ k → k < high → is_covered (runs_within low high blocks) k ≡ false
-    rest_is_open k past under = so_far.ahead k past ∙ ap (λ (xs : List Run). is_covered xs k) none
-
-    pub padded_all : ArePadded f low high (runs_within low high blocks) words words''
-    padded_all = record {
-      long = long ∙ so_far.long;
-      pads = λ i after under open_word.
-          padded_more f low high blocks words words' words'' from high so_far long pads others rest_is_open (omega arith) i after
-          (inr under) under open_word;
-      inside = same_inside f low high blocks words words' words'' from high so_far long pads others rest_is_open (omega arith);
-      outside = same_outside f low high blocks words words' words'' from high so_far long pads others rest_is_open (omega arith);
+-- where no hole is left all is padded
+pub padded_all : (f : Layout) (low high : ℕ) (blocks : List Run) (words words' : List ℕ) (from : ℕ)
+    → ArePaddedBelow f low high blocks words words' from → from ≤ high
+    → ((k : ℕ) → from ≤ k → k < high → is_covered (runs_within low high blocks) k ≡ true)
+    → ArePadded f low high (runs_within low high blocks) words words'
+padded_all f low high blocks words words' from so_far below covered =
+    let all = padded_past f low high blocks words words' from high so_far below covered in
+    record {
+      long = all.long;
+      pads = λ i after under none. all.pads i after under under none;
+      inside = all.inside;
+      outside = all.outside;
     }

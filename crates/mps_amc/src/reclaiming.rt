@@ -4,7 +4,7 @@
 ghost use Rattle.std.specs.Prelude.{◌≡◌, ℕ, ◌+◌, ◌-◌, ◌%◌, ◌<◌, ◌≤◌, ◌⊎◌, length, slice_index};
 ghost use Rattle.mps_base.specs.Address.{word_of, bytes_of_word};
 ghost use Rattle.mps_base.specs.Run.{runs_within};
-ghost use Rattle.mps_extents.specs.Extents.{is_covered};
+ghost use Rattle.mps_extents.specs.Extents.{AreWhole};
 ghost use Rattle.mps_seg.specs.Segs.{LiesIn, held_runs};
 ghost use Rattle.mps_amc.specs.Moving.{run_at};
 ghost use Rattle.mps_amc.specs.Reclaiming.{IsSpan, CanReclaim, LiesInPad, ArePadded, IsReclaimed};
@@ -12,7 +12,7 @@ ghost use Rattle.mps_amc.specs.Reclaiming.{IsSpan, CanReclaim, LiesInPad, ArePad
 use crate::Amc;
 use mps_base::{Addr, BYTES_OF_GRAIN, BYTES_OF_WORD, Trail};
 use mps_format::Format;
-use mps_seg::{Block, Segs};
+use mps_seg::Segs;
 
 /// The most words that a pad has.
 const MAX_PAD_WORDS: u64 = 65_536;
@@ -29,6 +29,10 @@ impl Amc {
         let bytes = BYTES_OF_GRAIN * u64::from(segs.segment(base).grains);
         let end = Addr(base.0 + bytes);
         segs.drop_lost(trail, base);
+        if segs.is_full(base, end) {
+            segs.blocks_are_covered();
+            return;
+        }
         if segs.is_empty(base) {
             segs.give(trail, base);
         } else {
@@ -43,20 +47,17 @@ fn pad_around<F: Format>(segs: &mut Segs, format: &F, base: Addr, end: Addr)
     requires aligned { base.0 % bytes_of_word ≡ 0 }
     requires span { IsSpan segs.old base.0 end.0 }
     requires held { LiesIn (held_runs segs.old) (record { from = word_of base.0; count = word_of end.0 - word_of base.0 }) }
+    requires whole { AreWhole (word_of base.0) (word_of end.0) segs.old.covered }
     ensures state { segs.new ≡ record segs.old { words = segs.new.words } }
     ensures words { ArePadded (F.layout format.now) (word_of base.0) (word_of end.0)
         (runs_within (word_of base.0) (word_of end.0) segs.old.blocks) segs.old.words segs.new.words }
 {
-    if segs.is_full(base, end) {
-        return;
-    }
     let _ = segs.grains();
     let mut from = base;
-    while let Some(Block { at, words }) = segs.next_block(base, from, end) {
-        pad_words(segs, format, from, at);
-        from = Addr(at.0 + BYTES_OF_WORD * u64::from(words));
+    while let Some(hole) = segs.next_hole(base, from, end) {
+        pad_words(segs, format, hole.from, hole.to);
+        from = hole.to;
     }
-    pad_words(segs, format, from, end);
 }
 
 /// Turns the words from `from` on up to `to` into pads.

@@ -17,6 +17,7 @@ pub mod Giving
 pub mod HeldGrain
 pub mod HeldSegments
 pub mod HeldWords
+mod Holes
 pub mod Lost
 pub mod Marked
 pub mod NextSegment
@@ -33,5 +34,4 @@ pub mod Sweeping
 pub mod SegmentOver
 pub mod Taking
 pub mod Unmarked
-pub mod Walked
 pub mod Within

@@ -15,6 +15,7 @@ use Rattle.mps_seg.proofs.Seen.{seen_by, IsSoundInside}
 -- what a search of the words of a segment needs
 pub record IsSearchable (s : Inside) (base end : Address) : Type 0 where
   pub whole : AreWhole (word_of base) (word_of end) s.extents.covered
+  pub whole_part : (rs : List Run) → ((r : Run) → Contains rs r → Contains s.extents.covered r) → AreWhole (word_of base) (word_of end) rs
   pub in_table : word_of end ≤ s.extents.size
   pub ordered : word_of base ≤ word_of end
 
@@ -29,11 +30,13 @@ searchable s seen base end sound is span =
     let bounds = contained_bounds 1 (s.arena.grains + 1) s.arena.held own sound.0.ascending listed in
     let low : words_of_grain * grain_of base ≡ word_of base = omega (arith, at.aligned) in
     let high : words_of_grain * end_of own ≡ word_of end = omega (arith, at.aligned, span.ends, span.begins) in
-    let Q : ℕ → Type 0 = λ n. AreWhole n (words_of_grain * end_of own) s.extents.covered in
-    let R : ℕ → Type 0 = λ n. AreWhole (word_of base) n s.extents.covered in
+    let part = λ (rs : List Run) (among : (r : Run) → Contains rs r → Contains s.extents.covered r).
+    let Q : ℕ → Type 0 = λ n. AreWhole n (words_of_grain * end_of own) rs in
+    let R : ℕ → Type 0 = λ n. AreWhole (word_of base) n rs in
+    subst R high (subst Q low (whole_in s.arena s.table.items s.extents sound.0 own listed rs among)) in
     record {
-      whole = subst R high (subst Q low
-          (whole_in s.arena s.table.items s.extents sound.0 own listed s.extents.covered (λ r there. there)));
+      whole = part s.extents.covered (λ r there. there);
+      whole_part = part;
       in_table = omega (arith, high, bounds.2, sound.0.covered_size);
       ordered = omega (arith, low, high);
     }

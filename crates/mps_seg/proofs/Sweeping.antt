@@ -130,6 +130,11 @@ pub record IsSweepable (s : Inside) (seen : SegsState) (base : Address) (spare l
       ≡ freed_in seen t
   pub moves : (t : Segment) (moves : Moves) → segment_over seen.segments base ≡ Some t
       → frees (lost_in s low end) moves ≡ moves_freed_in seen t moves
+  -- where none of its blocks is lost
+  pub none_lost : {kept : List Bool} → kept ≡ s.marks.kept → lost_runs low end kept s.extents.blocks ≡ [] → lost_in s low end ≡ []
+  pub none_changed : (t : Segment) → segment_over seen.segments base ≡ Some t → lost_in s low end ≡ [] → seen_by s ≡ freed_in seen t
+  pub none_freed : (t : Segment) (moves : Moves) → segment_over seen.segments base ≡ Some t → lost_in s low end ≡ []
+      → moves ≡ moves_freed_in seen t moves
 
 module _
     (s : Inside) (seen : SegsState) (base : Address) (spare : ℕ) (can : CanReclaim seen base spare) (sound : IsSoundInside s)
@@ -284,6 +289,10 @@ module _
       sound = swept_is_sound (lost_in s low end) refl;
       state = λ t over. all_freed (lost_in s low end) (seen_by s) ∙ freed_seen t over;
       moves = λ t moves over. all_noted (lost_in s low end) moves ∙ moves_seen t moves over;
+      none_lost = λ {kept} is none. sym (ap (λ (ks : List Bool). lost_runs low end ks s.extents.blocks) is) ∙ none;
+      none_changed = λ t over none.
+          ap (λ (rs : List Run). without_blocks rs (seen_by s)) (sym none) ∙ freed_seen t over;
+      none_freed = λ t moves over none. ap (λ (rs : List Run). moves_freed rs moves) (sym none) ∙ moves_seen t moves over;
     }
 
 -- the words are those from the base on, as many as the segment is known to have

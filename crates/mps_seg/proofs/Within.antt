@@ -99,43 +99,9 @@ next_run a b low high (r ∷ rs) at ascending is =
     side s (inl before) above begins = inl (omega (arith, above, begins, before))
     side s (inr past) above begins = inr past
 
-pub no_run : (low high : ℕ) (rs : List Run) → None ≡ first_run low high rs → runs_within low high rs ≡ []
-no_run low high [] is = refl
-no_run low high (r ∷ rs) is =
-    elim (sides low high r.from) [
-      | inl (from, under) ↦ let both : None ≡ Some r.from = is ∙ first_here low high r rs from under in cc
-      | inr out ↦ within_later low high r rs out ∙ no_run low high rs (is ∙ first_later low high r rs out)
-    ]
-
-pub same_run : (r s : Run) → r.from ≡ s.from → r.count ≡ s.count → r ≡ s
-same_run r s from count =
-    let first : record { from = r.from; count = r.count } ≡ record { from = s.from; count = r.count } =
-    ap (λ (n : ℕ). let x : Run = record { from = n; count = r.count } in x) from
-    in
-    let second : record { from = s.from; count = r.count } ≡ record { from = s.from; count = s.count } =
-    ap (λ (n : ℕ). let x : Run = record { from = s.from; count = n } in x) count
-    in
-    first ∙ second
-
 -- ---- which words the runs have
 
 pub word_of_run : (r : Run) (rs : List Run) (k : ℕ) → r.from ≤ k → k < end_of r → is_covered (r ∷ rs) k ≡ true
 word_of_run r rs k from under =
     cond-true (has_word r k) true (is_covered rs k)
     (and_from (leb r.from k) (ltb k (end_of r)) (le-leb r.from k from) (lt-ltb k (end_of r) under))
-
-pub word_of_others : (r : Run) (rs : List Run) (k : ℕ) → (k < r.from) ⊎ (end_of r ≤ k) → is_covered (r ∷ rs) k ≡ is_covered rs k
-word_of_others r rs k (inl before) =
-    cond-false (has_word r k) true (is_covered rs k) (and_left (leb r.from k) (ltb k (end_of r)) (lt-leb r.from k before))
-word_of_others r rs k (inr past) =
-    cond-false (has_word r k) true (is_covered rs k) (and_right (leb r.from k) (ltb k (end_of r)) (le-ltb k (end_of r) past))
-
-pub no_word_below : (low high : ℕ) (rs : List Run) (k : ℕ) → k < low → is_covered (runs_within low high rs) k ≡ false
-no_word_below low high [] k below = refl
-no_word_below low high (r ∷ rs) k below =
-    elim (sides low high r.from) [
-      | inl (from, under) ↦
-          ap (λ (xs : List Run). is_covered xs k) (within_here low high r rs from under)
-          ∙ word_of_others r (runs_within low high rs) k (inl (omega (arith, from, below))) ∙ no_word_below low high rs k below
-      | inr out ↦ ap (λ (xs : List Run). is_covered xs k) (within_later low high r rs out) ∙ no_word_below low high rs k below
-    ]

@@ -1,7 +1,7 @@
 -- What a collection leaves of the blocks of a segment, whatever the policy of its pool.
-use Rattle.std.specs.Prelude.{◌≡◌, ℕ, ◌+◌, ◌*◌, ◌<◌, ◌≤◌, ◌⊎◌, Bool, true, not, Some, List, [], ◌∷◌, length, filter, slice_index, refl}
+use Rattle.std.specs.Prelude.{◌≡◌, ℕ, zero, suc, ◌+◌, ◌*◌, ◌%◌, ◌<◌, ◌≤◌, ◌⊎◌, Bool, true, false, not, Some, List, [], ◌∷◌, length, filter, slice_index, refl}
 use Rattle.std.proofs.Common.{inl, arith}
-use Rattle.mps_base.specs.Address.{Address, Word, word_of, words_of_grain}
+use Rattle.mps_base.specs.Address.{Address, Word, word_of, words_of_grain, bytes_of_word}
 use Rattle.mps_base.specs.Run.{Run, IsAscending, without_run, runs_within}
 use Rattle.mps_base.specs.Segment.{Segment, segment_over, end_of_segment, without_segment}
 use Rattle.mps_base.specs.Trail.{Moves, with_move}
@@ -11,6 +11,7 @@ use Rattle.mps_base.specs.declared.names.Rank.TheVariants.{Exact}
 use Rattle.mps_bits.specs.Table.{bit}
 use Rattle.mps_extents.specs.Extents.{is_covered}
 use Rattle.mps_marks.specs.Marks.{without_marks}
+use Rattle.mps_seg.specs.declared.segs.freeing.Hole.{Hole}
 use Rattle.mps_seg.specs.Segs.{SegsState, new_segments, IsEmptyAt, IsUsed, at_word}
 use Rattle.mps_seg.specs.Collecting.{keeping}
 
@@ -48,6 +49,15 @@ pub record IsSpan (s : SegsState) (base end : Address) : Type 0 where
   pub ends : word_of (end_of_segment segment) ≡ word_of end
   pub inside : word_of end ≤ words_of_grain * (s.grains + 1)
   pub ordered : IsAscending 0 (words_of_grain * (s.grains + 1)) s.blocks
+
+-- the lowest hole between two words: words that none of the runs has, up to the next run or the second word
+pub record IsNextHole (low high : Word) (runs : List Run) (hole : Hole) : Type 0 where
+  pub above : low ≤ word_of hole.from.0
+  pub nonempty : word_of hole.from.0 < word_of hole.to.0
+  pub below : word_of hole.to.0 ≤ high
+  pub aligned : (hole.from.0 % bytes_of_word ≡ 0) × (hole.to.0 % bytes_of_word ≡ 0)
+  pub before : (word : Word) → low ≤ word → word < word_of hole.from.0 → is_covered runs word ≡ true
+  pub inside : (word : Word) → word_of hole.from.0 ≤ word → word < word_of hole.to.0 → is_covered runs word ≡ false
 
 -- a segment of the arena begins at an address, the blocks are in order, and there is room for a move for each block of it that isn't
 -- kept, and one move more
@@ -130,3 +140,31 @@ a_block_that_is_written w = let e : 9 ≡ 8 = w.inside 1 refl in omega (arith, e
 -- a word outside the segment was written
 pub a_word_of_another_segment : AreBlocksUnwritten 1 2 [] (7 ∷ 8 ∷ []) (5 ∷ 8 ∷ []) → ⊥
 a_word_of_another_segment w = let e : 5 ≡ 7 = w.outside 0 (inl (omega arith)) in omega (arith, e)
+
+-- ---- vectors: two words before a block of three
+
+abbrev block_after : List Run
+block_after = record { from = 2; count = 3 } ∷ []
+
+two_words : (word : Word) → 0 ≤ word → word < 2 → is_covered block_after word ≡ false
+two_words zero above below = refl
+two_words (suc zero) above below = refl
+two_words (suc (suc word)) above below = absurd (omega (arith, below))
+
+pub a_hole_before_a_block : IsNextHole 0 8 block_after (record { from = record { 0 = 0 }; to = record { 0 = 0x10 } })
+a_hole_before_a_block = record {
+  above = omega arith;
+  nonempty = omega arith;
+  below = omega arith;
+  aligned = (refl, refl);
+  before = λ word above below. absurd (omega (arith, below));
+  inside = two_words;
+}
+
+-- it ends in the block
+pub a_hole_into_a_block : IsNextHole 0 8 block_after (record { from = record { 0 = 0 }; to = record { 0 = 0x18 } }) → ⊥
+a_hole_into_a_block hole = let never : true ≡ false = hole.inside 2 (omega arith) (omega arith) in cc
+
+-- words before it have no block either
+pub a_hole_that_begins_late : IsNextHole 0 8 block_after (record { from = record { 0 = 8 }; to = record { 0 = 0x10 } }) → ⊥
+a_hole_that_begins_late hole = let never : false ≡ true = hole.before 0 (omega arith) (omega arith) in cc

@@ -9,4 +9,4 @@ mod segs;
 
 pub use buffer::{Buffer, Placed};
 pub use segment_info::{Owner, SegmentInfo};
-pub use segs::{Block, Segs};
+pub use segs::{Hole, Segs};

@@ -7,7 +7,7 @@ ghost use Rattle.mps_base.specs.Address.{words_of_grain, word_of, grains_needed,
 ghost use Rattle.mps_base.specs.Segment.{Segment, end_of_segment, segment_over, without_segment};
 ghost use Rattle.mps_base.specs.Trail.{with_move};
 ghost use Rattle.mps_arena.specs.Arena.{answer_of_placement};
-ghost use Rattle.mps_extents.specs.Extents.{run_over, first_run};
+ghost use Rattle.mps_extents.specs.Extents.{run_over, first_run, AreWhole};
 ghost use Rattle.mps_marks.specs.Marks.{without_marks};
 ghost use Rattle.mps_seg.specs.Segs.{new_segments, placement_for, segments_after, noted_for, moves_after, held_runs, at_word, base_address, IsEmptyAt, IsUsed, CanCover, LiesIn};
 ghost use Rattle.mps_seg.specs.Table.{IsMarked};
@@ -23,7 +23,7 @@ mod words;
 use crate::SegmentInfo;
 use crate::entry::{CondemnedSegment, Entry, allow_any_gap, note_grains};
 use crate::grain_counts::GrainCounts;
-pub use freeing::Block;
+pub use freeing::Hole;
 use mps_arena::Arena;
 use mps_base::{Addr, BYTES_OF_GRAIN, BYTES_OF_WORD, Move, Rank, Refusal, Trail, WORDS_OF_GRAIN};
 use mps_bits::Bits;
@@ -321,10 +321,13 @@ impl Segs {
         let _ = &self.arena;
     }
 
-    /// Does nothing: a caller knows that each segment lies in grains that are held.
+    /// Does nothing: a caller knows that each segment lies in grains that are held, and that no block and no reservation lies across one of
+    /// its ends.
     pub fn segments_are_held(&self)
-        ensures { (t : Segment) → Contains self.now.segments t
+        ensures held { (t : Segment) → Contains self.now.segments t
             → LiesIn (held_runs self.now) (record { from = word_of t.base; count = words_of_grain * t.grains }) }
+        ensures whole { (t : Segment) → Contains self.now.segments t
+            → AreWhole (word_of t.base) (word_of (end_of_segment t)) self.now.covered }
     {
         let _ = &self.arena;
     }

@@ -1,30 +1,29 @@
 // The blocks of a segment that a collection didn't keep are freed.
 #![tactic(auto)]
 
-ghost use Rattle.std.specs.Prelude.{◌≡◌, ℕ, ◌+◌, ◌*◌, ◌%◌, ◌^◌, ◌<◌, ◌≤◌, true, false, Some, [], ◌∷◌, length, IfSome, IfNone, Contains};
-ghost use Rattle.mps_base.specs.Address.{word_of, bytes_of_word};
+ghost use Rattle.std.specs.Prelude.{◌≡◌, ℕ, ◌^◌, ◌<◌, ◌≤◌, true, false, Some, length, IfSome, IfNone};
+ghost use Rattle.mps_base.specs.Address.{word_of};
 ghost use Rattle.mps_base.specs.Run.{runs_within};
 ghost use Rattle.mps_base.specs.Segment.{Segment, segment_over};
 ghost use Rattle.mps_bits.specs.Table.{bit};
-ghost use Rattle.mps_extents.specs.Extents.{is_covered};
+ghost use Rattle.mps_extents.specs.Extents.{is_covered, AreWhole};
 ghost use Rattle.mps_extents.specs.Lost.{lost_runs};
 ghost use Rattle.mps_marks.specs.Marks.{without_marks};
-ghost use Rattle.mps_seg.specs.Moving.{run_at};
-ghost use Rattle.mps_seg.specs.Reclaiming.{IsSpan, CanReclaim, freed_in, moves_freed_in};
+ghost use Rattle.mps_seg.specs.Reclaiming.{IsSpan, IsNextHole, CanReclaim, freed_in, moves_freed_in};
 ghost use Rattle.mps_seg.specs.Unmarking.{unmarked};
 
 use super::Segs;
 use crate::SegmentInfo;
 use crate::entry::allow_any_gap;
-use mps_base::{Addr, Trail, WORDS_OF_GRAIN};
+use mps_base::{Addr, BYTES_OF_WORD, Trail, WORDS_OF_GRAIN};
 use mps_extents::Extents;
 use mps_marks::Marks;
 
-/// A block: where it begins, and how many words it has.
+/// A hole between blocks: words that no block has, from `from` on and below `to`. Reservations may have some of them.
 #[derive(Clone, Copy)]
-pub struct Block {
-    pub at: Addr,
-    pub words: u32,
+pub struct Hole {
+    pub from: Addr,
+    pub to: Addr,
 }
 
 impl Segs {
@@ -40,6 +39,9 @@ impl Segs {
         let SegmentInfo { grains, .. } = self.segment(base);
         let low = base.word();
         let high = low + WORDS_OF_GRAIN * grains as usize;
+        if !self.extents.is_any_lost(self.marks.kept(), low, high) {
+            return;
+        }
         clear_lost(&self.extents, &mut self.marks, low, high);
         allow_any_gap(&self.firsts, &mut self.bounds, base);
         self.extents.drop_lost(self.marks.kept(), low, high, trail);
@@ -56,22 +58,28 @@ impl Segs {
         self.extents.are_dense(base.word(), end.word())
     }
 
-    /// The lowest block of the segment at `base` that begins at `from` or above. The segment ends at `end`.
-    pub fn next_block(&self, base: Addr, from: Addr, end: Addr) -> Option<Block>
-        requires { IsSpan self.now base.0 end.0 }
-        ensures first { IfSome result (λ b. runs_within (word_of from.0) (word_of end.0) self.now.blocks
-            ≡ run_at b.at.0 b.words ∷ runs_within (word_of b.at.0 + b.words) (word_of end.0) self.now.blocks) }
-        ensures none { IfNone result (runs_within (word_of from.0) (word_of end.0) self.now.blocks ≡ []) }
-        ensures there { IfSome result (λ b. Contains self.now.blocks (run_at b.at.0 b.words)) }
-        ensures aligned { IfSome result (λ b. b.at.0 % bytes_of_word ≡ 0) }
-        ensures nonzero { IfSome result (λ b. 0 < b.words) }
-        ensures above { IfSome result (λ b. word_of from.0 ≤ word_of b.at.0) }
-        ensures below { IfSome result (λ b. word_of b.at.0 < word_of end.0) }
-        ensures in_arena { IfSome result (λ b. word_of b.at.0 + b.words ≤ length self.now.words) }
+    /// The lowest hole of the segment at `base` that begins at `from` or above, up to the next block or the segment's end. No block and no
+    /// reservation lies across `from`, and none lies across the end of the hole. The segment ends at `end`.
+    pub fn next_hole(&self, base: Addr, from: Addr, end: Addr) -> Option<Hole>
+        requires span { IsSpan self.now base.0 end.0 }
+        requires above { word_of base.0 ≤ word_of from.0 }
+        requires below { word_of from.0 ≤ word_of end.0 }
+        requires whole { AreWhole (word_of from.0) (word_of end.0) self.now.covered }
+        ensures found { IfSome result (λ hole. IsNextHole (word_of from.0) (word_of end.0)
+            (runs_within (word_of base.0) (word_of end.0) self.now.blocks) hole) }
+        ensures none { IfNone result ((word : ℕ) → word_of from.0 ≤ word → word < word_of end.0
+            → is_covered (runs_within (word_of base.0) (word_of end.0) self.now.blocks) word ≡ true) }
+        ensures whole { IfSome result (λ hole. AreWhole (word_of hole.to.0) (word_of end.0) self.now.covered) }
     {
-        let at = self.walk(base, from)?;
-        let words = self.block_words(at);
-        Some(Block { at, words })
+        self.extents.blocks_are_covered();
+        self.extents.blocks_are_in_order();
+        let high = end.word();
+        let low = self.extents.first_without_block(from.word(), high)?;
+        let next = self.extents.first_block(low, high).unwrap_or(high);
+        Some(Hole {
+            from: Addr(BYTES_OF_WORD * low as u64),
+            to: Addr(BYTES_OF_WORD * next as u64),
+        })
     }
 }
 

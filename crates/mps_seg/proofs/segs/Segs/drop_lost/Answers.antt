@@ -13,6 +13,41 @@ pub segment-grains-requires : goal.segment-grains-requires
 segment-grains-requires c =
     (c.requires.segment, listed c.args.self.now c.args.base.0 c.args.trail.now.spare c.requires, c.requires.begins)
 
+pub is_any_lost-requires-clause-in_words : goal.is_any_lost-requires-clause-in_words
+is_any_lost-requires-clause-in_words c =
+    (sweeping c.self.inside c.requires c.self.invariant c.self.view_is c.word-low.ensures c.segment-grains.ensures
+    c.blocks_are_covered.ensures c.blocks_are_in_order.ensures).in_words
+
+pub is_any_lost-requires-clause-in_table : goal.is_any_lost-requires-clause-in_table
+is_any_lost-requires-clause-in_table c =
+    (sweeping c.self.inside c.requires c.self.invariant c.self.view_is c.word-low.ensures c.segment-grains.ensures
+    c.blocks_are_covered.ensures c.blocks_are_in_order.ensures).in_table
+
+pub is_any_lost-requires-clause-in_kept : goal.is_any_lost-requires-clause-in_kept
+is_any_lost-requires-clause-in_kept c =
+    let swept = sweeping c.self.inside c.requires c.self.invariant c.self.view_is c.word-low.ensures c.segment-grains.ensures
+    c.blocks_are_covered.ensures c.blocks_are_in_order.ensures
+    in
+    omega (arith, swept.in_kept, ap (λ (ks : List Bool). length ks) c.kept.ensures)
+
+-- where no block is lost nothing changes
+pub returns-then-not-is_any_lost-clause-state : goal.returns-then-not-is_any_lost-clause-state
+returns-then-not-is_any_lost-clause-state c =
+    λ t over.
+    let swept = sweeping c.self.inside c.requires c.self.invariant c.self.view_is c.word-low.ensures c.segment-grains.ensures
+    c.blocks_are_covered.ensures c.blocks_are_in_order.ensures
+    in
+    sym c.self.view_is
+    ∙ swept.none_changed t over (swept.none_lost c.kept.ensures (c.is_any_lost.ensures.none c.if-not-is_any_lost.true))
+
+pub returns-then-not-is_any_lost-clause-moves : goal.returns-then-not-is_any_lost-clause-moves
+returns-then-not-is_any_lost-clause-moves c =
+    λ t over.
+    let swept = sweeping c.self.inside c.requires c.self.invariant c.self.view_is c.word-low.ensures c.segment-grains.ensures
+    c.blocks_are_covered.ensures c.blocks_are_in_order.ensures
+    in
+    swept.none_freed t c.args.trail.now over (swept.none_lost c.kept.ensures (c.is_any_lost.ensures.none c.if-not-is_any_lost.true))
+
 pub clear_lost-requires-clause-in_table : goal.clear_lost-requires-clause-in_table
 clear_lost-requires-clause-in_table c =
     (sweeping c.self.inside c.requires c.self.invariant c.self.view_is c.word-low.ensures c.segment-grains.ensures
@@ -67,7 +102,7 @@ drop_lost-requires-clause-in_kept c =
     let swept = sweeping c.self.inside c.requires c.self.invariant c.self.view_is c.word-low.ensures c.segment-grains.ensures
     c.blocks_are_covered.ensures c.blocks_are_in_order.ensures
     in
-    let kept_is = c.kept.ensures ∙ ap (λ (m : MarkTables). m.kept) c.clear_lost.ensures in
+    let kept_is = c.kept-2.ensures ∙ ap (λ (m : MarkTables). m.kept) c.clear_lost.ensures in
     omega (arith, swept.in_kept, ap (λ (ks : List Bool). length ks) (swept.same_kept kept_is))
 
 pub drop_lost-requires-clause-whole : goal.drop_lost-requires-clause-whole
@@ -80,7 +115,7 @@ drop_lost-requires-clause-fits c =
     let swept = sweeping c.self.inside c.requires c.self.invariant c.self.view_is c.word-low.ensures c.segment-grains.ensures
     c.blocks_are_covered.ensures c.blocks_are_in_order.ensures
     in
-    let kept_is = c.kept.ensures ∙ ap (λ (m : MarkTables). m.kept) c.clear_lost.ensures in
+    let kept_is = c.kept-2.ensures ∙ ap (λ (m : MarkTables). m.kept) c.clear_lost.ensures in
     omega (arith, swept.fits, ap (λ (rs : List Run). length rs) (swept.same_lost kept_is))
 
 pub invariant_of-self : goal.invariant_of-self
@@ -88,7 +123,7 @@ invariant_of-self c =
     let swept = sweeping c.self.inside c.requires c.self.invariant c.self.view_is c.word-low.ensures c.segment-grains.ensures
     c.blocks_are_covered.ensures c.blocks_are_in_order.ensures
     in
-    let kept_is = c.kept.ensures ∙ ap (λ (m : MarkTables). m.kept) c.clear_lost.ensures in
+    let kept_is = c.kept-2.ensures ∙ ap (λ (m : MarkTables). m.kept) c.clear_lost.ensures in
     let extents_are =
     c.drop_lost.ensures.state ∙ ap (λ (rs : List Run). dropped rs c.self.inside.extents) (swept.same_lost kept_is)
     in
@@ -103,7 +138,7 @@ returns-clause-state c =
     let swept = sweeping c.self.inside c.requires c.self.invariant c.self.view_is c.word-low.ensures c.segment-grains.ensures
     c.blocks_are_covered.ensures c.blocks_are_in_order.ensures
     in
-    let kept_is = c.kept.ensures ∙ ap (λ (m : MarkTables). m.kept) c.clear_lost.ensures in
+    let kept_is = c.kept-2.ensures ∙ ap (λ (m : MarkTables). m.kept) c.clear_lost.ensures in
     let extents_are =
     c.drop_lost.ensures.state ∙ ap (λ (rs : List Run). dropped rs c.self.inside.extents) (swept.same_lost kept_is)
     in
@@ -115,6 +150,6 @@ returns-clause-moves c =
     let swept = sweeping c.self.inside c.requires c.self.invariant c.self.view_is c.word-low.ensures c.segment-grains.ensures
     c.blocks_are_covered.ensures c.blocks_are_in_order.ensures
     in
-    let kept_is = c.kept.ensures ∙ ap (λ (m : MarkTables). m.kept) c.clear_lost.ensures in
+    let kept_is = c.kept-2.ensures ∙ ap (λ (m : MarkTables). m.kept) c.clear_lost.ensures in
     let same = ap (λ (rs : List Run). frees rs c.args.trail.now) (swept.same_lost kept_is) in
     c.drop_lost.ensures.moves ∙ same ∙ swept.moves t c.args.trail.now over
