@@ -43,8 +43,11 @@ pub(crate) fn reserve_at(
         → IfOk result (λ _. IsAtHand segs.new (buffer_after p.old (placement_at p.old segs.old words) words)) }
     ensures others { IfOk result (λ held. (r : Run) → CanCover segs.old r → AreApart r (run_of_held held) → CanCover segs.new r) }
 {
-    let buffer = p.buffer;
-    if p.is_copying && words <= buffer.count {
+    if p.is_copying && words <= p.buffer.count {
+        let buffer = Buffer {
+            from: p.buffer.from,
+            count: p.buffer.count,
+        };
         let placed = front(segs, buffer, words);
         let held = Held {
             at: placed.at,
@@ -55,6 +58,38 @@ pub(crate) fn reserve_at(
         hold(segs, p, held, placed.rest);
         return Ok(held);
     }
+    reserve_elsewhere(segs, trail, p, flips, head, words)
+}
+
+/// As `reserve_at`, of words that may lie anywhere. The place of the result is in this function, so that a reservation whose words are at
+/// hand doesn't clear it.
+#[inline(always)]
+fn reserve_elsewhere(
+    segs: &mut Segs,
+    trail: &mut Trail,
+    p: &mut Point,
+    flips: u64,
+    head: u64,
+    words: u32,
+) -> Result<Held, Refusal>
+    requires nonzero { 0 < words }
+    requires at_most { words ≤ max_block_words }
+    requires fits { 0 < trail.old.spare }
+    requires at_hand { IsAtHand segs.old p.old.buffer }
+    ensures value { MatchResult result
+        (λ held. (answer_of_placement (placement_at p.old segs.old words) ≡ Ok held.at)
+        × (held ≡ record { at = held.at; head = head; words = words; flips = flips }))
+        (λ why. answer_of_placement (placement_at p.old segs.old words) ≡ Err why) }
+    ensures state { MatchResult result
+        (λ held. segs.new ≡ with_reservation (with_place segs.old p.old (placement_at p.old segs.old words)) held)
+        (λ _. segs.new ≡ segs.old) }
+    ensures point { MatchResult result (λ held. p.new ≡ after_open p.old (placement_at p.old segs.old words) held) (λ _. p.new ≡ p.old) }
+    ensures moves { MatchResult result (λ _. trail.new ≡ moves_after (placement_at p.old segs.old words) p.old.pool 0 trail.old)
+        (λ _. trail.new ≡ trail.old) }
+    ensures at_hand { p.old.is_copying ≡ true
+        → IfOk result (λ _. IsAtHand segs.new (buffer_after p.old (placement_at p.old segs.old words) words)) }
+    ensures others { IfOk result (λ held. (r : Run) → CanCover segs.old r → AreApart r (run_of_held held) → CanCover segs.new r) }
+{
     let held = reserve_apart(segs, trail, p, flips, head, words)?;
     Ok(held)
 }
@@ -127,11 +162,12 @@ fn hold(segs: &mut Segs, p: &mut Point, held: Held, rest: Buffer)
     ensures state { segs.new ≡ with_reservation segs.old held }
     ensures point { p.new ≡ record p.old { buffer = rest; reservation = Some held } }
 {
+    p.buffer.from = rest.from;
+    p.buffer.count = rest.count;
+    p.reservation = Some(held);
     segs.cover(held.at, held.words);
     let _ = segs.grains(); // its words have the reservation
     segs.clear(held.at, held.words);
     let _ = segs.grains();
     segs.set_word(held.at, held.head);
-    p.buffer = rest;
-    p.reservation = Some(held);
 }

@@ -6,8 +6,8 @@ use Rattle.mps_seg.specs.Segs.{SegsState, CanCover}
 use Rattle.mps_buffer.proofs.StillOpen.{still_open}
 use Rattle.mps_buffer.proofs.reserving.reserve_at.Goals as goal
 
-pub returns-then-words-buffer-clause-others : goal.returns-then-words-buffer-clause-others
-returns-then-words-buffer-clause-others c = λ r free apart.
+pub returns-then-words-p-clause-others : goal.returns-then-words-p-clause-others
+returns-then-words-p-clause-others c = λ r free apart.
     let s = c.args.segs.now in
     let p = c.args.p.now in
     let q : Run = record { from = word_of c.front-placed.result.at.0; count = c.args.words } in
