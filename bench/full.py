@@ -5,15 +5,21 @@ objects of a pool that moves stay where they are. Beside it what the same arena 
 full.py PROGRAM [OTHER]: PROGRAM is the program `mps`, and OTHER one with the same command line, for which the same is printed after it.
 Instructions are counted by callgrind of valgrind. The objects are a list, by which each but the newest is held. The cost is that of the two
 collections after the first.
+
+full.py --clock PROGRAM OTHER: nanoseconds in place of instructions, of both programs and their ratio, on a quiet machine. The least of seven
+runs in turn with many collections, less the least of as many with one.
 """
 import os
+import subprocess
 import sys
+import time
 
 from instructions import instructions
 
 GRAINS, WORDS_OF_GRAIN = 2048, 512
 SIZES = (3, 8, 64, 512)    # words of an object
 COLLECTIONS = 3
+RUNS = 7
 
 
 def objects_of(words):
@@ -36,6 +42,32 @@ def cost(program, pool, words):
     return (often - once) / ((COLLECTIONS - 1) * objects)
 
 
+def seconds(program, lines):
+    began = time.perf_counter()
+    subprocess.run([program, "run"], input=lines, stdout=subprocess.DEVNULL, check=True)
+    return time.perf_counter() - began
+
+
+def nanoseconds(programs, pool, words):
+    """The nanoseconds that a collection takes for each object, of each program."""
+    more = max(4, 800_000 // objects_of(words))
+    scripts = ["".join(line + "\n" for line in script(pool, words, n)).encode() for n in (1, 1 + more)]
+    times = {program: ([], []) for program in programs}
+    for _ in range(RUNS):
+        for program in programs:
+            for lines, spent in zip(scripts, times[program]):
+                spent.append(seconds(program, lines))
+    return [(min(often) - min(once)) * 1e9 / (more * objects_of(words)) for once, often in times.values()]
+
+
+def show_clock(programs):
+    print(f"{'words each':>10}{'pool':>6}{'ns':>8}{'other':>8}{'ratio':>8}")
+    for words in SIZES:
+        for pool in ("amc", "ams"):
+            ours, other = nanoseconds(programs, pool, words)
+            print(f"{words:10}{pool:>6}{ours:8.1f}{other:8.1f}{ours / other:8.2f}", flush=True)
+
+
 def show(program):
     print(f"{program}\n{'words each':>10}{'objects':>10}{'amc':>10}{'ams':>10}{'ratio':>8}")
     for words in SIZES:
@@ -44,6 +76,9 @@ def show(program):
 
 
 def main():
+    if sys.argv[1:2] == ["--clock"]:
+        show_clock([os.path.abspath(name) for name in sys.argv[2:4]])
+        return
     for name in sys.argv[1:]:
         show(os.path.abspath(name))
 
