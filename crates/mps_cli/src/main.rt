@@ -4,15 +4,27 @@
 
 use mps_desk::HostDesk;
 use mps_program::{NoWords, start_over};
-use std::alloc::AllocError;
+use std::alloc::{AllocError, Global};
 use std::io::ErrorKind;
 use std::process::ExitCode;
 use std::random::RandomSource;
 use std::{env, io};
 
+/// More bytes than any table of an arena has, or its words.
+const LARGE_BLOCK: usize = 16 << 20;
+
 fn main(rt: HostRuntime) -> ExitCode {
+    share_one_heap(rt.alloc());
     let (status, _desk) = start_over(rt.alloc(), secret(&rt), words(&rt), HostDesk::new(&rt));
     ExitCode::from(status)
+}
+
+/// Takes a large block and gives it back, after which the C library takes the tables of an arena from one heap, where they follow each
+/// other. Before that it gives each block of 128 KiB or more pages of its own. Then all tables of a large arena begin at the same place of a
+/// page, and a load from one waits for a store to another at the same index. Only speed depends on it, so no memory is no fault.
+fn share_one_heap(alloc: Global) {
+    let block: Result<Vec<u8>, AllocError> = Vec::with_capacity(alloc, LARGE_BLOCK);
+    drop(block);
 }
 
 /// A number that the writer of a log can't foresee, or 0 if the system gives none.
