@@ -19,9 +19,10 @@ fn main(rt: HostRuntime) -> ExitCode {
     ExitCode::from(status)
 }
 
-/// Takes a large block and gives it back, after which the C library takes the tables of an arena from one heap, where they follow each
-/// other. Before that it gives each block of 128 KiB or more pages of its own. Then all tables of a large arena begin at the same place of a
-/// page, and a load from one waits for a store to another at the same index. Only speed depends on it, so no memory is no fault.
+/// Takes a large block and gives it back, after which the C library takes the tables of an arena from one heap, where they follow
+/// each other. Before that it gives each block of 128 KiB or more pages of its own. Then all tables of a large arena begin at the same
+/// place of a page, and a load from one may wait for a store to another at the same index. Only speed depends on it, so no memory is
+/// no fault.
 fn share_one_heap(alloc: Global) {
     let block: Result<Vec<u8>, AllocError> = Vec::with_capacity(alloc, LARGE_BLOCK);
     drop(block);
