@@ -45,13 +45,17 @@ pub(crate) fn first_entry_from(table: &[Entry], start: usize) -> Option<usize>
     None
 }
 
-/// The lowest grain from `start` on at which a condemned segment begins. Bits of other grains are passed over.
+/// The lowest grain from `start` on at which a condemned segment begins. Bits of other grains are passed over. `start` is tried by itself,
+/// since a collection reclaims one segment after another, and mostly there is no grain between two of them.
 pub(crate) fn condemned_entry_from(table: &[Entry], condemned: &Bits, start: usize) -> Option<usize>
     requires at_most { length table.now < 2 ^ 32 }
     requires in_bits { length table.now ≤ length condemned.now }
     ensures sound { IfSome result (λ grain. IsCondemnedFirst table.now condemned.now start grain) }
     ensures none { IfNone result (NoneCondemnedFirst table.now condemned.now start (length table.now)) }
 {
+    if begins_condemned(table, condemned, start) {
+        return Some(start);
+    }
     let mut from = start;
     while let Some(grain) = condemned.next_set_below(from, table.len()) {
         if is_first(table[grain]) {
@@ -60,6 +64,15 @@ pub(crate) fn condemned_entry_from(table: &[Entry], condemned: &Bits, start: usi
         from = grain + 1;
     }
     None
+}
+
+/// Whether a condemned segment begins at this grain.
+#[inline(always)]
+fn begins_condemned(table: &[Entry], condemned: &Bits, grain: usize) -> bool
+    requires in_bits { length table.now ≤ length condemned.now }
+    ensures sound { result ≡ true → IsCondemnedFirst table.now condemned.now grain grain }
+{
+    grain < table.len() && condemned.test(grain) && is_first(table[grain])
 }
 
 /// Whether a segment begins at the grain with this entry.
