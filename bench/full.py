@@ -1,18 +1,18 @@
 #!/usr/bin/env python3
-"""Prints the instructions that a collection of a full arena takes, for each object: of 2,048 grains none is free and each object is live, so
-objects of a pool that moves stay where they are. Beside it what the same arena takes with a pool that marks, and the ratio of the two.
+"""Prints the instructions that a collection of a full arena takes, for each object: of 2,048 grains none is free and each object is live,
+so objects of a pool that moves stay where they are. Beside it what the same arena takes with a pool that marks, and the ratio of the two.
 
 full.py PROGRAM [OTHER]: PROGRAM is the program `mps`, and OTHER one with the same command line, for which the same is printed after it.
 Instructions are counted by callgrind of valgrind. The objects are a list, by which each but the newest is held. The cost is that of the two
 collections after the first.
 
-full.py --clock PROGRAM OTHER: nanoseconds in place of instructions, of both programs and their ratio, on a quiet machine. The least of seven
-runs in turn with many collections, less the least of as many with one.
+full.py --clock PROGRAM OTHER: nanoseconds of the processor in place of instructions, of both programs and their ratio, on a quiet machine.
+The least of seven runs in turn with many collections, less the least of as many with one.
 """
 import os
 import subprocess
 import sys
-import time
+import tempfile
 
 from instructions import instructions
 
@@ -42,21 +42,33 @@ def cost(program, pool, words):
     return (often - once) / ((COLLECTIONS - 1) * objects)
 
 
-def seconds(program, lines):
-    began = time.perf_counter()
-    subprocess.run([program, "run"], input=lines, stdout=subprocess.DEVNULL, check=True)
-    return time.perf_counter() - began
+def seconds(program, script_file):
+    """What the processor has spent on a run of the script. It is written to a file first, so that no pipe is waited for."""
+    script_file.seek(0)
+    process = subprocess.Popen([program, "run"], stdin=script_file, stdout=subprocess.DEVNULL)
+    _, status, usage = os.wait4(process.pid, 0)
+    process.returncode = os.waitstatus_to_exitcode(status)
+    if process.returncode != 0:
+        sys.exit(f"{program}: status {process.returncode}")
+    return usage.ru_utime + usage.ru_stime
+
+
+def file_of(lines):
+    script_file = tempfile.TemporaryFile()
+    script_file.writelines(f"{line}\n".encode() for line in lines)
+    script_file.flush()
+    return script_file
 
 
 def nanoseconds(programs, pool, words):
     """The nanoseconds that a collection takes for each object, of each program."""
-    more = max(4, 800_000 // objects_of(words))
-    scripts = ["".join(line + "\n" for line in script(pool, words, n)).encode() for n in (1, 1 + more)]
+    more = max(8, 2_000_000 // objects_of(words))
+    files = [file_of(script(pool, words, n)) for n in (1, 1 + more)]
     times = {program: ([], []) for program in programs}
     for _ in range(RUNS):
-        for program in programs:
-            for lines, spent in zip(scripts, times[program]):
-                spent.append(seconds(program, lines))
+        for number, script_file in enumerate(files):
+            for program in programs:
+                times[program][number].append(seconds(program, script_file))
     return [(min(often) - min(once)) * 1e9 / (more * objects_of(words)) for once, often in times.values()]
 
 
